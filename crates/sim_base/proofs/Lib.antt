@@ -1,0 +1,10 @@
+pub mod LinkNumbers
+pub mod Below
+pub mod Each
+pub mod Arrived
+pub mod Made
+pub mod Added
+pub mod Same
+pub mod Served
+pub mod Kept
+pub mod Spans

@@ -1,0 +1,180 @@
+-- What was done, cycle by cycle, and the messages that it makes. Row t of a history is what was done in cycle t.
+--     core_rows c history, channel_rows k history      what one unit did
+--     retired_before rows, issued_before rows      how many entries a core retired and issued
+--     issued_commands channel rows      the commands of a channel, each with its cycle
+--     commands history      the commands of all channels, by cycle and then by channel
+--     request, reply, credit      a message of each kind
+--     core_messages, channel_messages, messages      the messages that rows make, wherever they are by now
+--     receiver s link      the unit that a link leads to
+--     by_age ms      messages in order of arrival, and then of link
+--     inbox s traces history unit      what was sent to a unit, by age
+use Rattle.std.specs.Prelude.{ℕ, not, insert, take_while, fold, ◌+◌, ◌-◌, length, sum_by, ◌/◌, ◌%◌, ◌==◌, nat_lt, Bool, true, false, ◌&&◌, ◌||◌, List, [], ◌∷◌, ◌++◌, map, filter, filter_map, flat_map, take, drop, slice_index_or, Option, Some, None, if◌then◌else◌}
+use Rattle.std.specs.List.{enumerate_from, range_with_len}
+use Rattle.sim_base.specs.declared.config.Config.{Config}
+use Rattle.sim_base.specs.Config.{request_link, reply_link, credit_link, latency}
+use Rattle.sim_base.specs.Row.{Row, core_row, channel_row}
+use Rattle.sim_base.specs.Places.{place_of}
+use Rattle.sim_base.specs.declared.command.Command.{Command}
+use Rattle.sim_base.specs.declared.command.Command.TheVariants.{Act, Rd, Wr, Pre, Prea, Ref}
+use Rattle.sim_base.specs.declared.command.CommandRow.{CommandRow}
+use Rattle.sim_base.specs.declared.command.Source.{Source}
+use Rattle.sim_base.specs.declared.history.CoreRow.{CoreRow}
+use Rattle.sim_base.specs.declared.message.Load.TheVariants as load
+use Rattle.sim_base.specs.declared.message.Message.{Message}
+use Rattle.sim_base.specs.declared.message.Unit.{Unit as MachineUnit}
+use Rattle.sim_base.specs.declared.message.Unit.TheVariants.{Core, Channel}
+use Rattle.sim_base.specs.declared.trace.Entry.{Entry}
+use Rattle.sim_base.specs.declared.trace.Entry.TheVariants.{Plain, Read, Write}
+
+-- what one core did, a row a cycle
+unfoldable pub core_rows : ℕ → List Row → List CoreRow
+core_rows core history = map (core_row core) history
+
+-- what one channel did, a command or none a cycle
+unfoldable pub channel_rows : ℕ → List Row → List (Option Command)
+channel_rows channel history = map (channel_row channel) history
+
+-- the numbers below n
+abbrev pub below : ℕ → List ℕ
+below n = range_with_len 0 n
+
+-- what a channel did in a cycle, as a command with its cycle
+abbrev pub issued_at : ℕ → ℕ → Option Command → Option CommandRow
+issued_at channel cycle None = None
+issued_at channel cycle (Some command) = Some (record { cycle = cycle; channel = channel; command = command })
+
+-- the commands of a channel, each with its cycle
+unfoldable pub issued_commands : ℕ → List (Option Command) → List CommandRow
+issued_commands channel rows = filter_map (λ e. issued_at channel e.0 e.1) (enumerate_from 0 rows)
+
+-- the commands of all channels in a cycle, by channel
+abbrev pub commands_in : ℕ → Row → List CommandRow
+commands_in cycle row = filter_map (λ e. issued_at e.0 cycle e.1) (enumerate_from 0 row.commands)
+
+-- the commands of all channels, by cycle and then by channel
+unfoldable pub commands : List Row → List CommandRow
+commands history = flat_map (λ e. commands_in e.0 e.1) (enumerate_from 0 history)
+
+-- a request that leaves in a cycle
+unfoldable pub request : Config → ℕ → ℕ → ℕ → Bool → ℕ → Message
+request s core cycle entry write address =
+    let place = place_of s address in
+    let link = request_link s core place.channel in
+    let arrival = cycle + latency s link in
+    record {
+      link = link;
+      arrival = arrival;
+      load = load.Request (record { core = core; entry = entry; write = write; address = address; place = place; arrival = arrival; link = link });
+    }
+
+-- the request of an entry that issues in a cycle, if it has one
+abbrev pub request_of : Config → ℕ → ℕ → ℕ → Entry → Option Message
+request_of s core cycle entry Plain = None
+request_of s core cycle entry (Read address) = Some (request s core cycle entry false address)
+request_of s core cycle entry (Write address) = Some (request s core cycle entry true address)
+
+-- how many entries were retired
+unfoldable pub retired_before : List CoreRow → ℕ
+retired_before rows = sum_by (λ row. row.retired) rows
+
+-- how many entries were issued
+unfoldable pub issued_before : List CoreRow → ℕ
+issued_before rows = sum_by (λ row. row.issued) rows
+
+-- the requests among the entries of these numbers, from first on and below end
+unfoldable pub requests_between : Config → ℕ → List Entry → ℕ → ℕ → ℕ → List Message
+requests_between s core trace cycle first end =
+    filter_map (λ e. request_of s core cycle e.0 e.1) (take (end - first) (drop first (enumerate_from 0 trace)))
+
+-- the requests of a core in a cycle: those among the entries that it issued by the end of the cycle, and not before
+unfoldable pub requests_in : Config → ℕ → List Entry → List CoreRow → ℕ → List Message
+requests_in s core trace rows cycle = requests_between s core trace cycle (issued_before (take cycle rows)) (issued_before (take (cycle + 1) rows))
+
+-- the requests that a core sent
+unfoldable pub core_messages : Config → ℕ → List Entry → List CoreRow → List Message
+core_messages s core trace rows = flat_map (requests_in s core trace rows) (below (length rows))
+
+-- the data of a read that is issued in a cycle: it leaves as soon as its burst is over
+unfoldable pub reply : Config → ℕ → ℕ → Source → Message
+reply s channel cycle source =
+    let link = reply_link s source.core channel in
+    record { link = link; arrival = cycle + s.timing.n_cl + 4 + latency s link; load = load.Reply source.entry }
+
+-- the credit for a request that is served in a cycle
+unfoldable pub credit : Config → ℕ → ℕ → Bool → Source → Message
+credit s channel cycle write source =
+    let link = credit_link s source.core channel in
+    record { link = link; arrival = cycle + latency s link; load = load.Credit write source.entry }
+
+-- what a channel sends for a command that it issues in a cycle
+unfoldable pub messages_of : Config → ℕ → ℕ → Command → List Message
+messages_of s channel cycle (Rd bank row column source) = reply s channel cycle source ∷ credit s channel cycle false source ∷ []
+messages_of s channel cycle (Wr bank row column source) = credit s channel cycle true source ∷ []
+messages_of s channel cycle (Act bank row source) = []
+messages_of s channel cycle (Pre bank source) = []
+messages_of s channel cycle (Prea rank) = []
+messages_of s channel cycle (Ref rank) = []
+
+-- the same, where it may issue none
+abbrev pub messages_at : Config → ℕ → ℕ → Option Command → List Message
+messages_at s channel cycle None = []
+messages_at s channel cycle (Some command) = messages_of s channel cycle command
+
+-- what a channel sends in a cycle
+unfoldable pub messages_in : Config → ℕ → List (Option Command) → ℕ → List Message
+messages_in s channel rows cycle = messages_at s channel cycle (slice_index_or rows cycle None)
+
+-- the replies and the credits that a channel sent
+unfoldable pub channel_messages : Config → ℕ → List (Option Command) → List Message
+channel_messages s channel rows = flat_map (messages_in s channel rows) (below (length rows))
+
+-- the trace of a core; a core with none has an empty one
+abbrev pub trace_of : List (List Entry) → ℕ → List Entry
+trace_of traces core = slice_index_or traces core []
+
+-- what a core of the machine sent
+unfoldable pub messages_of_core : Config → List (List Entry) → List Row → ℕ → List Message
+messages_of_core s traces history core = core_messages s core (trace_of traces core) (core_rows core history)
+
+-- what a channel of the machine sent
+unfoldable pub messages_of_channel : Config → List Row → ℕ → List Message
+messages_of_channel s history channel = channel_messages s channel (channel_rows channel history)
+
+-- each message that was sent, wherever it is by now
+unfoldable pub messages : Config → List (List Entry) → List Row → List Message
+messages s traces history = flat_map (messages_of_core s traces history) (below s.cores) ++ flat_map (messages_of_channel s history) (below s.channels)
+
+-- the unit that a link leads to
+abbrev pub receiver : Config → ℕ → MachineUnit
+receiver s link = if link % 3 == 0 then Channel (link / 3 % s.channels) else Core (link / 3 / s.channels)
+
+-- the same unit
+abbrev pub is_unit : MachineUnit → MachineUnit → Bool
+is_unit (Core a) (Core b) = a == b
+is_unit (Channel a) (Channel b) = a == b
+is_unit (Core a) (Channel b) = false
+is_unit (Channel a) (Core b) = false
+
+-- a message that is sent to this unit
+abbrev pub is_to : Config → MachineUnit → Message → Bool
+is_to s unit m = is_unit (receiver s m.link) unit
+
+-- a message arrives before another, or with it on a lower link
+abbrev pub is_before : Message → Message → Bool
+is_before a b = nat_lt a.arrival b.arrival || (a.arrival == b.arrival && nat_lt a.link b.link)
+
+-- the place of a message in such a list: after those that it is not before
+unfoldable pub place_by_age : Message → List Message → ℕ
+place_by_age m ns = length (take_while (λ n. not (is_before m n)) ns)
+
+-- a list in such an order with one message more
+abbrev pub insert_by_age : List Message → Message → List Message
+insert_by_age ns m = insert ns (place_by_age m ns) m
+
+-- messages in order of arrival, and then of link
+unfoldable pub by_age : List Message → List Message
+by_age ms = fold insert_by_age [] ms
+
+-- what was sent to a unit, by age
+unfoldable pub inbox : Config → List (List Entry) → List Row → MachineUnit → List Message
+inbox s traces history unit = by_age (filter (is_to s unit) (messages s traces history))

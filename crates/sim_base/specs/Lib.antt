@@ -1,0 +1,15 @@
+pub mod Ranges
+pub mod Keys
+pub mod Fields
+pub mod Relations
+pub mod Config
+pub mod Places
+pub mod Row
+pub mod History
+pub mod Rules
+pub mod Scheduling
+pub mod Windows
+pub mod Machine
+pub mod Counts
+pub mod Locality
+pub mod Faults

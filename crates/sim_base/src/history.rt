@@ -1,0 +1,8 @@
+//! What was done, cycle by cycle.
+
+/// What one core did in a cycle: how many entries it retired and issued.
+#[derive(Clone, Copy, PartialEq, Eq, Debug)]
+pub struct CoreRow {
+    pub retired: u16,
+    pub issued: u16,
+}

@@ -1,0 +1,16 @@
+//! What every layer speaks of: names of units and links, places, commands, messages and distances in time.
+#![tactic(auto)]
+
+pub mod command;
+pub mod config;
+pub mod fault;
+pub mod history;
+pub mod job;
+pub mod key;
+pub mod locality;
+pub mod message;
+pub mod overrides;
+pub mod place;
+pub mod rule;
+pub mod timing;
+pub mod trace;
