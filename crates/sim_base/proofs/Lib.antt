@@ -8,3 +8,5 @@ pub mod Same
 pub mod Served
 pub mod Kept
 pub mod Spans
+pub mod Ordered
+pub mod Grows

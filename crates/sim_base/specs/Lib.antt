@@ -6,6 +6,7 @@ pub mod Config
 pub mod Places
 pub mod Row
 pub mod History
+pub mod Sends
 pub mod Rules
 pub mod Scheduling
 pub mod Windows
