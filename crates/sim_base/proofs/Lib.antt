@@ -8,3 +8,4 @@ pub mod Same
 pub mod Served
 pub mod Kept
 pub mod Spans
+pub mod SameValues

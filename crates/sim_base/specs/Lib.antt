@@ -3,6 +3,7 @@ pub mod Keys
 pub mod Fields
 pub mod Relations
 pub mod Config
+pub mod Values
 pub mod Places
 pub mod Row
 pub mod History
