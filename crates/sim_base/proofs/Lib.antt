@@ -9,3 +9,6 @@ pub mod Served
 pub mod Kept
 pub mod Spans
 pub mod SameValues
+pub mod TableViews
+pub mod LinkTests
+pub mod DocumentTexts

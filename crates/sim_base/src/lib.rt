@@ -3,6 +3,7 @@
 
 pub mod command;
 pub mod config;
+pub mod document;
 pub mod fault;
 pub mod history;
 pub mod job;
