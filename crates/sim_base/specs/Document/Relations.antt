@@ -1,10 +1,13 @@
 -- The tests of what must hold between the numbers of a configuration, by their numbers from 1 to 12.
 --     relation n holds      refuses by the number of a relation that does not hold
---     distances_of, refresh_of, credits_of, links_of, ranks_of, drain_fits_of      the relations in their order
+--     relations_of v      the first relation that does not hold
+--     IsRelated v      each relation holds
+--     distances_of, refresh_of, credits_of, links_of, ranks_of, drain_fits_of      one relation after the other
 use Rattle.std.specs.Prelude.{ℕ, ◌+◌, ◌*◌, List, [], ◌∷◌, Bool, true, not, nat_lt, nat_le, ◌==◌, ◌&&◌, ◌||◌, if◌then◌else◌, count_by, Result, Ok, Err}
 use Rattle.std.specs.List.{list_any, list_all}
 use Rattle.sim_base.specs.Fields.{is_field}
-use Rattle.sim_base.specs.Relations.{refresh_slack_of}
+use Rattle.sim_base.specs.Relations.{refresh_slack_of, DistancesFit, RefreshFits, CreditsFit, LinksExist, LinksDiffer, RanksHaveField, DrainFits}
+use Rattle.sim_base.specs.Values.{Values}
 use Rattle.sim_base.specs.declared.fault.Fault.{Fault}
 use Rattle.sim_base.specs.declared.fault.Fault.TheVariants.{ConfigRelation}
 use Rattle.sim_base.specs.declared.overrides.Override.{Override}
@@ -54,3 +57,23 @@ unfoldable pub drain_fits_of : ℕ → ℕ → ℕ → ℕ → Result (Unit {0})
 drain_fits_of cores write_credits write_high write_low = do
   _ ← relation 11 ((write_high + write_low == 0) || nat_lt write_low write_high)
   relation 12 (nat_le write_high (cores * write_credits))
+
+-- the relations by their numbers: the fault is of the first that does not hold
+unfoldable pub relations_of : Values → Result (Unit {0}) Fault
+relations_of v = do
+  _ ← distances_of v.timing
+  _ ← refresh_of v.timing v.ranks
+  _ ← credits_of v.cores v.read_credits v.write_credits
+  _ ← links_of v.cores v.channels v.overrides
+  _ ← ranks_of v.ranks v.fields
+  drain_fits_of v.cores v.write_credits v.write_high v.write_low
+
+-- each relation holds, in the words of a configuration
+pub record IsRelated (v : Values) : Type 0 where
+  pub distances_fit : DistancesFit v.timing
+  pub refresh_fits : RefreshFits v.timing v.ranks
+  pub credits_fit : CreditsFit v.cores v.read_credits v.write_credits
+  pub links_exist : LinksExist v.cores v.channels v.overrides
+  pub links_differ : LinksDiffer v.overrides
+  pub ranks_have_field : RanksHaveField v.ranks v.fields
+  pub drain_fits : DrainFits v.cores v.write_credits v.write_high v.write_low
