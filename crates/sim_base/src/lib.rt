@@ -13,5 +13,7 @@ pub mod message;
 pub mod overrides;
 pub mod place;
 pub mod rule;
+#[cfg(test)]
+mod tests;
 pub mod timing;
 pub mod trace;
