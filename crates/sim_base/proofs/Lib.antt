@@ -10,3 +10,7 @@ pub mod Kept
 pub mod Spans
 pub mod Ordered
 pub mod Grows
+pub mod SameValues
+pub mod TableViews
+pub mod LinkTests
+pub mod DocumentTexts

@@ -3,6 +3,8 @@ pub mod Keys
 pub mod Fields
 pub mod Relations
 pub mod Config
+pub mod Values
+pub mod Document
 pub mod Places
 pub mod Row
 pub mod History

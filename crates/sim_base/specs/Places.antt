@@ -3,7 +3,7 @@
 --     place_of s address      where an address lies
 --     bank_in place      the bank of a place
 --     is_bank a b, is_line a b      the same bank, and the same line
-use Rattle.std.specs.Prelude.{ℕ, ◌/◌, ◌%◌, ◌==◌, Bool, true, false, ◌&&◌, List, [], ◌∷◌, if◌then◌else◌}
+use Rattle.std.specs.Prelude.{ℕ, ◌/◌, ◌%◌, ◌==◌, Bool, ◌&&◌, List, [], ◌∷◌, if◌then◌else◌}
 use Rattle.sim_base.specs.declared.config.Config.{Config}
 use Rattle.sim_base.specs.Fields.{is_field}
 use Rattle.sim_base.specs.declared.place.Field.{Field}

@@ -9,6 +9,7 @@ use crate::message::{ChannelId, CoreId, LinkId};
 use crate::overrides::{Override, Overrides};
 use crate::place::FieldOrder;
 use crate::timing::Timing;
+use std::alloc::{AllocError, Global};
 
 /// What a configuration says, once it has been read.
 #[derive(Drop)]
@@ -60,8 +61,38 @@ pub struct Config {
 }
 
 impl Config {
-    ghost use Rattle.std.specs.Prelude.{◌≡◌, ◌+◌, ◌*◌, ◌≤◌, ◌<◌, ◌==◌, find};
+    ghost use Rattle.std.specs.Prelude.{◌≡◌, ◌+◌, ◌*◌, ◌≤◌, ◌<◌, ◌==◌, find, IfOk};
     ghost use Rattle.sim_base.specs.Config.{request_link, reply_link, credit_link, usual_latency, latency};
+
+    /// The same configuration once more. Only memory can be refused.
+    #[tactic(auto, using(crate::proofs::SameValues::same_from_values))]
+    pub fn copy(&self, alloc: Global) -> Result<Config, AllocError>
+        ensures { IfOk result (λ c. c ≡ self.now) }
+    {
+        let fields = Vec::from_slice(alloc, self.fields.as_slice())?;
+        let overrides = Vec::from_slice(alloc, self.overrides.as_slice())?;
+        Ok(Config {
+            cores: self.cores,
+            channels: self.channels,
+            ranks: self.ranks,
+            groups: self.groups,
+            columns: self.columns,
+            rows: self.rows,
+            fields: FieldOrder::new(fields),
+            window: self.window,
+            width: self.width,
+            read_credits: self.read_credits,
+            write_credits: self.write_credits,
+            request_latency: self.request_latency,
+            reply_latency: self.reply_latency,
+            credit_latency: self.credit_latency,
+            timing: self.timing,
+            write_high: self.write_high,
+            write_low: self.write_low,
+            overrides: Overrides::new(overrides),
+            ends_drained: self.ends_drained,
+        })
+    }
 
     /// The link that carries the requests of a core to a channel.
     #[tactic(auto, using(crate::proofs::LinkNumbers::link_below))]

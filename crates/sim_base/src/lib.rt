@@ -3,6 +3,7 @@
 
 pub mod command;
 pub mod config;
+pub mod document;
 pub mod fault;
 pub mod history;
 pub mod job;
@@ -12,5 +13,7 @@ pub mod message;
 pub mod overrides;
 pub mod place;
 pub mod rule;
+#[cfg(test)]
+mod tests;
 pub mod timing;
 pub mod trace;
