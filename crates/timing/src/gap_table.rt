@@ -136,4 +136,11 @@ impl GapTable {
     {
         self.hold(earlier, later, relation).is_some()
     }
+    /// The cycles in which a rank takes four ACTs at most, from 1 to 100,000.
+    pub fn four_act_window(&self) -> u32
+        ensures value { result ≡ self.now.n_faw }
+        ensures range { (1 ≤ result) × (result ≤ 100000) }
+    {
+        self.timing.n_faw
+    }
 }

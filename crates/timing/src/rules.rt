@@ -3,6 +3,7 @@
 ghost use Rattle.std.specs.Prelude.{◌≡◌, ◌+◌, ◌==◌, ◌&&◌, ◌≤◌};
 ghost use Rattle.sim_base.specs.Rules.{rules, is_kind, covers, binds, is_bound, gap};
 ghost use Rattle.sim_base.specs.Rules.{relation_in_rank, relation_of};
+ghost use Rattle.timing.specs.Relation.{relation_to};
 ghost use Rattle.timing.specs.Holds.{hold};
 
 use sim_base::command::{Command, Kind, Relation};
@@ -27,15 +28,23 @@ fn relation_of_banks(earlier: Option<BankId>, later: Option<BankId>) -> Relation
     }
 }
 
-/// How the banks of two commands lie to one another. A command that names no bank speaks of each bank of its rank.
-pub fn relation(earlier: Command, later: Command) -> Relation
-    ensures { result ≡ relation_of earlier later }
+/// How the banks of a command lie to those of a later one in a rank, which names this bank, if it names one. A command that
+/// names no bank speaks of each bank of its rank.
+pub fn relation_to(earlier: Command, rank: u32, bank: Option<BankId>) -> Relation
+    ensures { result ≡ relation_to earlier rank bank }
 {
-    if earlier.rank() == later.rank() {
-        relation_of_banks(earlier.bank(), later.bank())
+    if earlier.rank() == rank {
+        relation_of_banks(earlier.bank(), bank)
     } else {
         Relation::OtherRank
     }
+}
+
+/// How the banks of two commands lie to one another.
+pub fn relation(earlier: Command, later: Command) -> Relation
+    ensures { result ≡ relation_of earlier later }
+{
+    relation_to(earlier, later.rank(), later.bank())
 }
 
 fn make_rule(number: u32, earlier: Kind, later: Kind, scope: Scope, cycles: u64) -> Rule
