@@ -16,3 +16,4 @@ pub mod Machine
 pub mod Counts
 pub mod Locality
 pub mod Faults
+pub mod PlaceRange

@@ -1,0 +1,12 @@
+-- The table holds each distance where it is looked for.
+use Rattle.timing.proofs.Found.{found, hold-le}
+use Rattle.timing.proofs.gap_table.GapTable.hold.Goals as goal
+
+pub returns-clause-value : goal.returns-clause-value
+returns-clause-value c =
+    rw (c.index_of_kind.ensures.value, c.index_of_kind-2.ensures.value, c.index_of_relation.ensures.value, c.self.invariant.0, ← c.self.view_is)
+    (found c.self.inside.timing c.args.earlier c.args.later c.args.relation _ _ _)
+
+pub returns-clause-range : goal.returns-clause-range
+returns-clause-range c =
+    rw (returns-clause-value c, ← c.self.view_is) (hold-le c.self.inside.timing c.args.earlier c.args.later c.args.relation c.self.invariant.1)
