@@ -13,3 +13,4 @@ pub mod Machine
 pub mod Counts
 pub mod Locality
 pub mod Faults
+pub mod TraceText
