@@ -3,4 +3,7 @@
 #![tactic(auto)]
 
 pub mod entries;
+pub mod line;
+pub mod number;
+pub mod reader;
 pub mod trace;
