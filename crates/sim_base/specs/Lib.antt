@@ -17,3 +17,4 @@ pub mod Counts
 pub mod Locality
 pub mod Faults
 pub mod PlaceRange
+pub mod TraceText

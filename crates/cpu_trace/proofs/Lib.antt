@@ -1,0 +1,6 @@
+pub mod Growth
+pub mod Digits
+pub mod Kept
+pub mod LineTurns
+pub mod Numbers
+pub mod Tokens

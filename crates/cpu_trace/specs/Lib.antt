@@ -1,0 +1,5 @@
+pub mod Entries
+pub mod NextMemory
+pub mod Numerals
+pub mod Lines
+pub mod Reading

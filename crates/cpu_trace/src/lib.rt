@@ -1,0 +1,9 @@
+//! The traces that cores read: their entries, in which a run of Plain entries takes no more room than one, and the
+//! reader of their text.
+#![tactic(auto)]
+
+pub mod entries;
+pub mod line;
+pub mod number;
+pub mod reader;
+pub mod trace;
