@@ -139,7 +139,7 @@ issued_before-push rows row =
     e ∙ ap (λ n. issued_before rows + n) (sum_by-cons (λ (r : CoreRow). r.issued) row [] ∙ add-zero row.issued)
 
 -- one row more of a core
-core-grows : (s : Config) (traces : List (List Entry)) (history : List Row) (row : Row) (core : ℕ)
+pub core-grows : (s : Config) (traces : List (List Entry)) (history : List Row) (row : Row) (core : ℕ)
     → messages_of_core s traces (history ++ row ∷ []) core ≡ messages_of_core s traces history core ++ core_sends s traces history row core
 unfolding messages_of_core core_rows core_sends requests_in
 core-grows s traces history row core =

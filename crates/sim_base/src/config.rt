@@ -61,7 +61,7 @@ pub struct Config {
 }
 
 impl Config {
-    ghost use Rattle.std.specs.Prelude.{◌≡◌, ◌+◌, ◌*◌, ◌≤◌, ◌<◌, ◌==◌, find, IfOk};
+    ghost use Rattle.std.specs.Prelude.{◌≡◌, ◌+◌, ◌*◌, ◌≤◌, ◌<◌, ◌^◌, ◌==◌, find, IfOk};
     ghost use Rattle.sim_base.specs.Config.{request_link, reply_link, credit_link, usual_latency, latency};
 
     /// The same configuration once more. Only memory can be refused.
@@ -95,32 +95,27 @@ impl Config {
     }
 
     /// The link that carries the requests of a core to a channel.
-    #[tactic(auto, using(crate::proofs::LinkNumbers::link_below))]
+    #[tactic(auto, using(crate::proofs::LinkNumbers::link_below, crate::proofs::LinkNumbers::link_fits))]
     pub fn request_link(&self, core: CoreId, channel: ChannelId) -> LinkId
-        requires core { core < self.now.cores }
-        requires channel { channel < self.now.channels }
         ensures value { result ≡ request_link self.now core channel }
-        ensures exists { result + 2 < 3 * self.now.cores * self.now.channels }
+        ensures exists { core < self.now.cores → channel < self.now.channels → result + 2 < 3 * self.now.cores * self.now.channels }
+        ensures fits { result + 2 < 2 ^ 64 }
     {
         3 * (u64::from(core) * u64::from(self.channels) + u64::from(channel))
     }
 
     /// The link that carries the data of reads back from a channel to a core.
     pub fn reply_link(&self, core: CoreId, channel: ChannelId) -> LinkId
-        requires core { core < self.now.cores }
-        requires channel { channel < self.now.channels }
         ensures value { result ≡ reply_link self.now core channel }
-        ensures exists { result < 3 * self.now.cores * self.now.channels }
+        ensures exists { core < self.now.cores → channel < self.now.channels → result < 3 * self.now.cores * self.now.channels }
     {
         self.request_link(core, channel) + 1
     }
 
     /// The link that carries credits back from a channel to a core.
     pub fn credit_link(&self, core: CoreId, channel: ChannelId) -> LinkId
-        requires core { core < self.now.cores }
-        requires channel { channel < self.now.channels }
         ensures value { result ≡ credit_link self.now core channel }
-        ensures exists { result < 3 * self.now.cores * self.now.channels }
+        ensures exists { core < self.now.cores → channel < self.now.channels → result < 3 * self.now.cores * self.now.channels }
     {
         self.request_link(core, channel) + 2
     }

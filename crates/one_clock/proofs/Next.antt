@@ -1,0 +1,509 @@
+-- What the machine keeps, one cycle more.
+use Rattle.std.proofs.Common.{◌≡◌, ℕ, zero, suc, ◌+◌, ◌-◌, ◌*◌, ◌<◌, ◌≤◌, Bool, true, false, cond, ltb, eqb, ◌%◌, ◌&&◌, ◌||◌, List, [], ◌∷◌, ◌++◌, length, map, take, Option, Some, None, refl, sym, ap, ap₂, subst, ◌∙◌, add-one, add-zero, zero-add, append_assoc, arith}
+use Rattle.std.specs.Prelude.{filter, filter_map, flat_map, fold, not, count_by, find, unwrap_or, option_map}
+use Rattle.std.specs.Option.{IfSome, option_to_list}
+use Rattle.std.specs.List.{list_all, list_any, enumerate_from, cons_option, range_with_len}
+use Rattle.std.proofs.Math.Seq.{take-length}
+use Rattle.std.proofs.lemmas.Bool.{cond_both, cond-true, cond-false}
+use Rattle.std.proofs.lemmas.Bool.Decides.{nat_tests}
+use Rattle.std.proofs.lemmas.List.{map-append, length-map, append-nil, take-append-le}
+use Rattle.std.proofs.lemmas.List.Elements.{filter-append, filter_map-append}
+use Rattle.std.proofs.lemmas.List.Folds.{list_any-append}
+use Rattle.std.proofs.lemmas.List.Concat.{flat_map-append}
+use Rattle.sim_base.specs.declared.config.Config.{Config}
+use Rattle.sim_base.specs.Config.{usual_latency, latency}
+use Rattle.sim_base.specs.Ranges.{LatencyInRange}
+use Rattle.sim_base.specs.declared.overrides.Override.{Override}
+use Rattle.sim_base.proofs.LinkNumbers.{found_in_range}
+use Rattle.sim_base.specs.Locality.{TravelsFor}
+use Rattle.sim_base.specs.Row.{Row, core_row, channel_row}
+use Rattle.sim_base.specs.History.{below, trace_of, core_rows, channel_rows, issued_at, issued_commands, commands_in, commands, core_messages, channel_messages, messages, messages_of_core, messages_of_channel, is_to, is_before, by_age, insert_by_age, inbox}
+use Rattle.sim_base.specs.Sends.{core_sends, channel_sends, sends}
+use Rattle.sim_base.specs.Scheduling.{request_in, serves, is_served, is_waiting, waiting, queue_in, writes_in, drains_with, drains_before, drains, candidates, lowest_due, choice_between, choice}
+use Rattle.sim_base.specs.Machine.{next_core_row, next_command, next_row, run, is_delivered}
+use Rattle.sim_base.specs.Counts.{is_in_flight, in_flight}
+use Rattle.sim_base.specs.declared.command.Command.{Command}
+use Rattle.sim_base.specs.declared.command.CommandRow.{CommandRow}
+use Rattle.sim_base.specs.declared.history.CoreRow.{CoreRow}
+use Rattle.sim_base.specs.declared.message.Message.{Message}
+use Rattle.sim_base.specs.declared.message.Request.{Request}
+use Rattle.sim_base.specs.declared.message.Unit.{Unit as MachineUnit}
+use Rattle.sim_base.specs.declared.message.Unit.TheVariants.{Core, Channel}
+use Rattle.sim_base.specs.declared.trace.Entry.{Entry}
+use Rattle.sim_base.proofs.Below.{flat_map_below_more as flat_map_below_suc}
+use Rattle.sim_base.proofs.Arrived.{put, puts, by_age-puts, fold-puts}
+use Rattle.sim_base.proofs.Ordered.{Sorted, Sorted-puts, filter-puts, filter-by_age}
+use Rattle.sim_base.proofs.Grows.{core-grows, inbox-grows, by_age-filter-grows}
+use Rattle.sim_base.proofs.Same.{AgreeUpTo, drains-same}
+use Rattle.sim_base.proofs.Spans.{length-run, core_row-next, channel_row-next, inbox-run, inbox-stamped, has_channels}
+use Rattle.one_clock.specs.declared.scheduling.ChannelStep.{ChannelStep}
+use Rattle.one_clock.proofs.Units.{filter_map_below_more}
+use Rattle.one_clock.specs.Plain.{CoreView, core_view, ChannelView, channel_view, channel_step_of, queue_of, is_request_left, is_left, is_passed_over, is_left_by, is_late}
+
+filter-both : {X : Type 0} (p q : X → Bool) (xs : List X) → filter (λ x. p x && q x) xs ≡ filter q (filter p xs)
+filter-both p q [] = refl
+filter-both p q (x ∷ xs) =
+    let both = filter (λ x. p x && q x) xs in
+    cond_both (p x) (x ∷ filter p xs) (filter p xs) (λ y. cond (p x && q x) (x ∷ both) both ≡ filter q y)
+    (λ e. ap (λ a. cond (a && q x) (x ∷ both) both) e ∙ ap (λ l. cond (q x) (x ∷ l) l) (filter-both p q xs))
+    (λ e. ap (λ a. cond (a && q x) (x ∷ both) both) e ∙ filter-both p q xs)
+
+pub filter-same : {X : Type 0} (p q : X → Bool) → ((x : X) → p x ≡ q x) → (xs : List X) → filter p xs ≡ filter q xs
+filter-same p q h [] = refl
+filter-same p q h (x ∷ xs) = ap₂ (λ b l. cond b (x ∷ l) l) (h x) (filter-same p q h xs)
+
+enumerate-append : {X : Type 0} (i : ℕ) (xs ys : List X) → enumerate_from i (xs ++ ys) ≡ enumerate_from i xs ++ enumerate_from (i + length xs) ys
+enumerate-append i [] ys = ap (λ n. enumerate_from n ys) (sym (add-zero i))
+enumerate-append i (x ∷ xs) ys =
+    let e : i + 1 + length xs ≡ i + suc (length xs) = omega arith in
+    ap (λ l. (i, x) ∷ l) (enumerate-append (i + 1) xs ys ∙ ap (λ n. enumerate_from (i + 1) xs ++ enumerate_from n ys) e)
+
+pub issued-push : (k : ℕ) (rows : List (Option Command)) (o : Option Command)
+    → issued_commands k (rows ++ o ∷ []) ≡ issued_commands k rows ++ option_to_list (issued_at k (length rows) o)
+unfolding issued_commands
+issued-push k rows o =
+    let f = λ (e : ℕ × Option Command). issued_at k e.0 e.1 in
+    ap (filter_map f) (enumerate-append 0 rows (o ∷ []))
+    ∙ filter_map-append f (enumerate_from 0 rows) (enumerate_from (0 + length rows) (o ∷ []))
+    ∙ ap (λ n. filter_map f (enumerate_from 0 rows) ++ cons_option (issued_at k n o) []) (zero-add (length rows))
+    ∙ ap (λ l. filter_map f (enumerate_from 0 rows) ++ l) (as_list (issued_at k (length rows) o))
+  where
+    as_list : (r : Option CommandRow) → cons_option r [] ≡ option_to_list r
+    as_list None = refl
+    as_list (Some r) = refl
+
+pub commands-push : (history : List Row) (row : Row) → commands (history ++ row ∷ []) ≡ commands history ++ commands_in (length history) row
+unfolding commands
+commands-push history row =
+    let f = λ (e : ℕ × Row). commands_in e.0 e.1 in
+    ap (flat_map f) (enumerate-append 0 history (row ∷ []))
+    ∙ flat_map-append f (enumerate_from 0 history) (enumerate_from (0 + length history) (row ∷ []))
+    ∙ ap (λ l. flat_map f (enumerate_from 0 history) ++ l) (append-nil (commands_in (0 + length history) row) ∙ ap (λ n. commands_in n row) (zero-add (length history)))
+
+-- requests that are left
+
+or_false : (a : Bool) → (a || false) ≡ a
+or_false true = refl
+or_false false = refl
+
+and_true : (a : Bool) → (a && true) ≡ a
+and_true true = refl
+and_true false = refl
+
+and_false : (a : Bool) → (a && false) ≡ false
+and_false true = refl
+and_false false = refl
+
+not_or : (a b : Bool) → not (a || b) ≡ (not a && not b)
+not_or true b = refl
+not_or false b = refl
+
+served-push : (h : List CommandRow) (i : CommandRow) (r : Request) → is_served (h ++ i ∷ []) r ≡ (is_served h r || serves r i.command)
+unfolding is_served
+served-push h i r =
+    let p = λ (i : CommandRow). serves r i.command in
+    list_any-append p h (i ∷ []) ∙ ap (λ b. list_any p h || b) (or_false (serves r i.command))
+
+request_left-push : (h : List CommandRow) (k n : ℕ) (c : Command) (o : Option Request)
+    → is_request_left (h ++ (record { cycle = n; channel = k; command = c }) ∷ []) o ≡ (is_request_left h o && is_passed_over (Some c) o)
+request_left-push h k n c None = refl
+request_left-push h k n c (Some r) = ap not (served-push h (record { cycle = n; channel = k; command = c }) r) ∙ not_or (is_served h r) (serves r c)
+
+left-push : (h : List CommandRow) (k n : ℕ) (o : Option Command) (m : Message)
+    → is_left (h ++ option_to_list (issued_at k n o)) m ≡ (is_left h m && is_left_by o m)
+left-push h k n None m = ap (λ x. is_left x m) (append-nil h) ∙ sym (and_true (is_left h m))
+left-push h k n (Some c) m = request_left-push h k n c (request_in m.load)
+
+pub left_after : (h : List CommandRow) (k n : ℕ) (o : Option Command) (mail : List Message)
+    → filter (is_left (h ++ option_to_list (issued_at k n o))) mail ≡ filter (is_left_by o) (filter (is_left h) mail)
+left_after h k n o mail = filter-same _ (λ m. is_left h m && is_left_by o m) (left-push h k n o) mail ∙ filter-both (is_left h) (is_left_by o) mail
+
+one_waiting : (h : List CommandRow) (until : ℕ) (rs ts : List Request) → filter (is_waiting h until) rs ≡ filter (λ r. ltb r.arrival until) ts → (o : Option Request)
+    → filter (is_waiting h until) (cons_option o rs) ≡ filter (λ r. ltb r.arrival until) (cond (is_request_left h o) (cons_option o ts) ts)
+one_waiting h until rs ts e None = e
+one_waiting h until rs ts e (Some r) =
+    let late = λ (r : Request). ltb r.arrival until in
+    let a = late r in
+    cond_both (not (is_served h r)) (r ∷ ts) ts (λ y. cond (a && not (is_served h r)) (r ∷ filter (is_waiting h until) rs) (filter (is_waiting h until) rs) ≡ filter late y)
+    (λ f. ap (λ b. cond (a && b) (r ∷ filter (is_waiting h until) rs) (filter (is_waiting h until) rs)) f
+    ∙ ap (λ b. cond b (r ∷ filter (is_waiting h until) rs) (filter (is_waiting h until) rs)) (and_true a)
+    ∙ ap (λ l. cond a (r ∷ l) l) e)
+    (λ f. ap (λ b. cond (a && b) (r ∷ filter (is_waiting h until) rs) (filter (is_waiting h until) rs)) f
+    ∙ ap (λ b. cond b (r ∷ filter (is_waiting h until) rs) (filter (is_waiting h until) rs)) (and_false a)
+    ∙ e)
+
+requests-cond : (b : Bool) (m : Message) (ms : List Message)
+    → filter_map (λ m. request_in m.load) (cond b (m ∷ ms) ms) ≡ cond b (cons_option (request_in m.load) (filter_map (λ m. request_in m.load) ms)) (filter_map (λ m. request_in m.load) ms)
+requests-cond true m ms = refl
+requests-cond false m ms = refl
+
+waiting-left : (h : List CommandRow) (until : ℕ) (mail : List Message)
+    → filter (is_waiting h until) (filter_map (λ m. request_in m.load) mail) ≡ filter (λ r. ltb r.arrival until) (filter_map (λ m. request_in m.load) (filter (is_left h) mail))
+waiting-left h until [] = refl
+waiting-left h until (m ∷ ms) =
+    one_waiting h until (filter_map (λ m. request_in m.load) ms) (filter_map (λ m. request_in m.load) (filter (is_left h) ms)) (waiting-left h until ms) (request_in m.load)
+    ∙ ap (filter (λ r. ltb r.arrival until)) (sym (requests-cond (is_left h m) m (filter (is_left h) ms)))
+
+pub waiting_is : (h : List CommandRow) (mail : List Message) (until : ℕ) → waiting h mail until ≡ queue_of (filter (is_left h) mail) until
+unfolding waiting queue_of
+waiting_is h mail until = waiting-left h until mail
+
+-- the queue of the next cycle
+queue_is : (k : ℕ) (rows : List (Option Command)) (mail : List Message) → queue_in k rows mail (length rows) ≡ queue_of (filter (is_left (issued_commands k rows)) mail) (length rows + 1)
+unfolding queue_in
+queue_is k rows mail = ap (λ x. waiting (issued_commands k x) mail (length rows + 1)) (take-length rows) ∙ waiting_is (issued_commands k rows) mail (length rows + 1)
+
+drains_next : (s : Config) (k : ℕ) (rows : List (Option Command)) (mail : List Message)
+    → drains s k rows mail (length rows) ≡ drains_with s (drains_before s k rows mail (length rows)) (count_by (λ r. r.write) (queue_of (filter (is_left (issued_commands k rows)) mail) (length rows + 1)))
+unfolding drains_before writes_in
+drains_next s k rows mail =
+    ap (λ n. drains_before s k rows mail n) (add-one (length rows))
+    ∙ ap (λ q. drains_with s (drains_before s k rows mail (length rows)) (count_by (λ r. r.write) q)) (queue_is k rows mail)
+
+choice_next : (s : Config) (k : ℕ) (rows : List (Option Command)) (mail : List Message)
+    → choice s k rows mail
+    ≡ choice_between s (issued_commands k rows) (length rows)
+    (candidates s (drains s k rows mail (length rows)) (queue_of (filter (is_left (issued_commands k rows)) mail) (length rows + 1)))
+    (lowest_due s (issued_commands k rows) (length rows))
+unfolding choice
+choice_next s k rows mail =
+    ap (λ q. choice_between s (issued_commands k rows) (length rows) (candidates s (drains s k rows mail (length rows)) q) (lowest_due s (issued_commands k rows) (length rows))) (queue_is k rows mail)
+
+length-channel_rows : (k : ℕ) (history : List Row) → length (channel_rows k history) ≡ length history
+unfolding channel_rows
+length-channel_rows k history = length-map history (channel_row k)
+
+pub length-core_rows : (core : ℕ) (history : List Row) → length (core_rows core history) ≡ length history
+unfolding core_rows
+length-core_rows core history = length-map history (core_row core)
+
+-- what a channel does next follows from what is kept of it
+pub step_draining : (s : Config) (traces : List (List Entry)) (history : List Row) (k : ℕ)
+    → (channel_step_of s traces history k).draining
+    ≡ drains_with s (channel_view s traces history k).draining (count_by (λ r. r.write) (queue_of (channel_view s traces history k).pending (length history + 1)))
+step_draining s traces history k =
+    let rows = channel_rows k history in
+    let mail = inbox s traces history (Channel k) in
+    subst (λ n. drains s k rows mail n ≡ drains_with s (drains_before s k rows mail n) (count_by (λ r. r.write) (queue_of (filter (is_left (issued_commands k rows)) mail) (n + 1))))
+    (length-channel_rows k history) (drains_next s k rows mail)
+
+pub step_command : (s : Config) (traces : List (List Entry)) (history : List Row) (k : ℕ)
+    → (channel_step_of s traces history k).command
+    ≡ choice_between s (channel_view s traces history k).commands (length history)
+    (candidates s (channel_step_of s traces history k).draining (queue_of (channel_view s traces history k).pending (length history + 1)))
+    (lowest_due s (channel_view s traces history k).commands (length history))
+unfolding next_command
+step_command s traces history k =
+    let rows = channel_rows k history in
+    let mail = inbox s traces history (Channel k) in
+    subst (λ n. choice s k rows mail
+    ≡ choice_between s (issued_commands k rows) n (candidates s (drains s k rows mail n) (queue_of (filter (is_left (issued_commands k rows)) mail) (n + 1))) (lowest_due s (issued_commands k rows) n))
+    (length-channel_rows k history) (choice_next s k rows mail)
+
+-- each latency is a cycle at least
+pub travels_one : (s : Config) → TravelsFor s 1
+unfolding latency
+travels_one s link l = latency_from (find (λ o. eqb o.link link) s.overrides) (found_in_range (λ o. eqb o.link link) s.overrides s.overrides_in_range)
+  where
+    usual : 1 ≤ usual_latency s link
+    usual =
+        cond_both (eqb (link % 3) 0) _ _ (λ n. 1 ≤ n)
+        (λ e. s.latencies_in_range.request_in.0)
+        (λ e. cond_both (eqb (link % 3) 1) _ _ (λ n. 1 ≤ n) (λ f. s.latencies_in_range.reply_in.0) (λ f. s.latencies_in_range.credit_in.0))
+
+    latency_from : (o : Option Override) → IfSome o (λ o. LatencyInRange o.latency) → 1 ≤ unwrap_or (option_map (λ o. o.latency) o) (usual_latency s link)
+    latency_from None h = usual
+    latency_from (Some o) h = h.0
+
+-- what a channel did and was sent later does not change whether it drained its writes
+drains-push : (s : Config) (k : ℕ) (rows : List (Option Command)) (o : Option Command) (mail : List Message) (m : ℕ) → m ≤ length rows + 1
+    → drains_before s k (rows ++ o ∷ []) mail m ≡ drains_before s k rows mail m
+unfolding drains_before writes_in queue_in
+drains-push s k rows o mail zero h = refl
+drains-push s k rows o mail (suc m) h =
+    ap₂ (λ d x. drains_with s d (count_by (λ r. r.write) (waiting (issued_commands k x) mail (m + 1))))
+    (drains-push s k rows o mail m (omega arith))
+    (take-append-le m rows (o ∷ []) (omega arith))
+
+channel_rows-next : (s : Config) (traces : List (List Entry)) (n k : ℕ) → k < s.channels
+    → channel_rows k (run s traces (n + 1)) ≡ channel_rows k (run s traces n) ++ next_command s traces (run s traces n) k ∷ []
+unfolding run channel_rows next_command
+channel_rows-next s traces n k l =
+    let history = run s traces n in
+    ap (λ i. map (channel_row k) (run s traces i)) (add-one n)
+    ∙ map-append (channel_row k) history (next_row s traces history ∷ [])
+    ∙ ap (λ o. map (channel_row k) history ++ o ∷ []) (channel_row-next s traces history k l)
+
+run_next : (s : Config) (traces : List (List Entry)) (n : ℕ) → run s traces (n + 1) ≡ run s traces n ++ next_row s traces (run s traces n) ∷ []
+unfolding run
+run_next s traces n = ap (λ i. run s traces i) (add-one n)
+
+draining_next : (s : Config) (traces : List (List Entry)) (n k : ℕ) → k < s.channels
+    → drains_before s k (channel_rows k (run s traces (n + 1))) (inbox s traces (run s traces (n + 1)) (Channel k)) (n + 1)
+    ≡ drains s k (channel_rows k (run s traces n)) (inbox s traces (run s traces n) (Channel k)) n
+draining_next s traces n k l =
+    let rows = channel_rows k (run s traces n) in
+    let e : length rows ≡ n = length-channel_rows k (run s traces n) ∙ length-run s traces n in
+    let now = inbox s traces (run s traces n) (Channel k) in
+    let then = inbox s traces (run s traces (n + 1)) (Channel k) in
+    ap (λ x. drains_before s k x then (n + 1)) (channel_rows-next s traces n k l)
+    ∙ drains-push s k rows (next_command s traces (run s traces n) k) then (n + 1) (omega arith)
+    ∙ drains-same s k rows then now (n + 1)
+    (record {
+      one = inbox-stamped s traces (run s traces (n + 1)) (Channel k);
+      other = inbox-stamped s traces (run s traces n) (Channel k);
+      same = λ u h. inbox-run s traces n 1 (Channel k) u (has_channels s) (travels_one s) h 1;
+    })
+
+inbox-sorted : (s : Config) (traces : List (List Entry)) (history : List Row) (unit : MachineUnit) → Sorted (inbox s traces history unit)
+unfolding inbox
+inbox-sorted s traces history unit =
+    let mine = filter (is_to s unit) (messages s traces history) in
+    subst Sorted (sym (by_age-puts mine)) (Sorted-puts [] mine tt)
+
+view_same : (a b : ChannelView) → a.commands ≡ b.commands → a.pending ≡ b.pending → a.draining ≡ b.draining → a ≡ b
+view_same a b e f g =
+    let view : List CommandRow → List Message → Bool → ChannelView = λ x y z. record { commands = x; pending = y; draining = z } in
+    ap (λ x. view x a.pending a.draining) e ∙ ap (λ y. view b.commands y a.draining) f ∙ ap (λ z. view b.commands b.pending z) g
+
+core_view_same : (a b : CoreView) → a.rows ≡ b.rows → a.sent ≡ b.sent → a.inbox ≡ b.inbox → a ≡ b
+core_view_same a b e f g =
+    let view : List CoreRow → List Message → List Message → CoreView = λ x y z. record { rows = x; sent = y; inbox = z } in
+    ap (λ x. view x a.sent a.inbox) e ∙ ap (λ y. view b.rows y a.inbox) f ∙ ap (λ z. view b.rows b.sent z) g
+
+rows-push : (c : ℕ) (history : List Row) (row : Row) → core_rows c (history ++ row ∷ []) ≡ core_rows c history ++ core_row c row ∷ []
+unfolding core_rows
+rows-push c history row = map-append (core_row c) history (row ∷ [])
+
+pub core_row_is : (s : Config) (traces : List (List Entry)) (history : List Row) (c : ℕ) → c < s.cores → core_row c (next_row s traces history) ≡ next_core_row s traces history c
+unfolding next_core_row
+core_row_is s traces history c l = core_row-next s traces history c l
+
+pub channel_row_is : (s : Config) (traces : List (List Entry)) (history : List Row) (k : ℕ) → k < s.channels → channel_row k (next_row s traces history) ≡ (channel_step_of s traces history k).command
+unfolding next_command
+channel_row_is s traces history k l = channel_row-next s traces history k l
+
+pub length_run : (s : Config) (traces : List (List Entry)) (n : ℕ) → length (run s traces n) ≡ n
+length_run s traces n = length-run s traces n
+
+pub length_rows : (s : Config) (traces : List (List Entry)) (n c : ℕ) (view : CoreView) → view ≡ core_view s traces (run s traces n) c → length view.rows ≡ n
+length_rows s traces n c view e = ap (λ v. length v.rows) e ∙ length-core_rows c (run s traces n) ∙ length-run s traces n
+
+-- the channel's part of the run, one cycle more
+pub channel_view_next : (s : Config) (traces : List (List Entry)) (n k : ℕ) → k < s.channels
+    → channel_view s traces (run s traces (n + 1)) k
+    ≡ (let view = channel_view s traces (run s traces n) k in
+    let step = channel_step_of s traces (run s traces n) k in
+    let issued = view.commands ++ option_to_list (issued_at k n step.command) in
+    record {
+      commands = issued;
+      pending = fold insert_by_age (filter (is_left_by step.command) view.pending) (filter (is_left issued) (filter (is_to s (Channel k)) (sends s traces (run s traces n) (next_row s traces (run s traces n)))));
+      draining = step.draining;
+    })
+channel_view_next s traces n k l =
+    let history = run s traces n in
+    let rows = channel_rows k history in
+    let o = next_command s traces history k in
+    let mail = inbox s traces history (Channel k) in
+    let fresh = filter (is_to s (Channel k)) (sends s traces history (next_row s traces history)) in
+    let e : length rows ≡ n = length-channel_rows k history ∙ length-run s traces n in
+    let h = issued_commands k rows in
+    let issued = h ++ option_to_list (issued_at k n o) in
+    let commands_are : issued_commands k (channel_rows k (run s traces (n + 1))) ≡ issued =
+    ap (issued_commands k) (channel_rows-next s traces n k l) ∙ issued-push k rows o ∙ ap (λ i. h ++ option_to_list (issued_at k i o)) e in
+    let mail_is : inbox s traces (run s traces (n + 1)) (Channel k) ≡ fold insert_by_age mail fresh =
+    ap (λ x. inbox s traces x (Channel k)) (run_next s traces n) ∙ inbox-grows s traces history (next_row s traces history) (Channel k) in
+    let pending_is : filter (is_left (issued_commands k (channel_rows k (run s traces (n + 1))))) (inbox s traces (run s traces (n + 1)) (Channel k))
+    ≡ fold insert_by_age (filter (is_left_by o) (filter (is_left h) mail)) (filter (is_left issued) fresh) =
+    ap₂ (λ a b. filter (is_left a) b) commands_are (mail_is ∙ fold-puts mail fresh)
+    ∙ filter-puts (is_left issued) mail fresh (inbox-sorted s traces history (Channel k))
+    ∙ ap (λ x. puts x (filter (is_left issued) fresh)) (left_after h k n o mail)
+    ∙ sym (fold-puts _ (filter (is_left issued) fresh)) in
+    let f : length (run s traces (n + 1)) ≡ n + 1 = length-run s traces (n + 1) in
+    let g : length history ≡ n = length-run s traces n in
+    view_same _ _ commands_are pending_is
+    (ap (λ i. drains_before s k (channel_rows k (run s traces (n + 1))) (inbox s traces (run s traces (n + 1)) (Channel k)) i) f
+    ∙ draining_next s traces n k l
+    ∙ ap (λ i. drains s k rows mail i) (sym g))
+
+-- the core's part of the run, one cycle more
+pub core_view_next : (s : Config) (traces : List (List Entry)) (n c : ℕ) → c < s.cores
+    → core_view s traces (run s traces (n + 1)) c
+    ≡ (let view = core_view s traces (run s traces n) c in
+    let row = next_core_row s traces (run s traces n) c in
+    record {
+      rows = view.rows ++ row ∷ [];
+      sent = view.sent ++ core_sends s traces (run s traces n) (next_row s traces (run s traces n)) c;
+      inbox = fold insert_by_age view.inbox (filter (is_to s (Core c)) (sends s traces (run s traces n) (next_row s traces (run s traces n))));
+    })
+core_view_next s traces n c l =
+    let history = run s traces n in
+    let row = next_row s traces history in
+    core_view_same _ _
+    (ap (core_rows c) (run_next s traces n) ∙ rows-push c history row ∙ ap (λ r. core_rows c history ++ r ∷ []) (core_row_is s traces history c l))
+    (ap (λ x. messages_of_core s traces x c) (run_next s traces n) ∙ core-grows s traces history row c)
+    (ap (λ x. inbox s traces x (Core c)) (run_next s traces n) ∙ inbox-grows s traces history row (Core c))
+
+late_twice : (now : ℕ) (m : Message) → is_late (now + 1) m ≡ (is_late now m && is_late (now + 1) m)
+late_twice now m = grind (arith, nat_tests)
+
+-- the messages in flight, one cycle more
+pub flight_next : (s : Config) (traces : List (List Entry)) (n : ℕ)
+    → in_flight s traces (run s traces (n + 1))
+    ≡ fold insert_by_age (filter (is_late (n + 1)) (in_flight s traces (run s traces n))) (filter (is_late (n + 1)) (sends s traces (run s traces n) (next_row s traces (run s traces n))))
+unfolding in_flight
+flight_next s traces n =
+    let history = run s traces n in
+    let row = next_row s traces history in
+    let fresh = filter (is_late (n + 1)) (sends s traces history row) in
+    ap (λ i. by_age (filter (is_late i) (messages s traces (run s traces (n + 1))))) (length-run s traces (n + 1))
+    ∙ ap (λ x. by_age (filter (is_late (n + 1)) (messages s traces x))) (run_next s traces n)
+    ∙ by_age-filter-grows s traces history row (is_late (n + 1))
+    ∙ ap (λ x. fold insert_by_age (by_age x) fresh)
+    (filter-same _ _ (late_twice n) (messages s traces history) ∙ filter-both (is_late n) (is_late (n + 1)) (messages s traces history))
+    ∙ ap (λ x. fold insert_by_age x fresh)
+    (sym (filter-by_age (is_late (n + 1)) (filter (is_late n) (messages s traces history)))
+    ∙ ap (λ i. filter (is_late (n + 1)) (by_age (filter (is_late i) (messages s traces history)))) (sym (length-run s traces n)))
+
+step_same : (a b : ChannelStep) → a.command ≡ b.command → a.draining ≡ b.draining → a ≡ b
+step_same a b e f =
+    let make : Option Command → Bool → ChannelStep = λ x y. record { command = x; draining = y } in
+    ap (λ x. make x a.draining) e ∙ ap (λ y. make b.command y) f
+
+-- what a channel does next is known by its two parts
+pub step_is : (s : Config) (traces : List (List Entry)) (n k : ℕ) (view : ChannelView) (step : ChannelStep)
+    → view ≡ channel_view s traces (run s traces n) k
+    → step.draining ≡ drains_with s view.draining (count_by (λ r. r.write) (queue_of view.pending (n + 1)))
+    → step.command ≡ choice_between s view.commands n (candidates s step.draining (queue_of view.pending (n + 1))) (lowest_due s view.commands n)
+    → step ≡ channel_step_of s traces (run s traces n) k
+step_is s traces n k view step e f g =
+    let history = run s traces n in
+    let kept = channel_view s traces history k in
+    let d : step.draining ≡ (channel_step_of s traces history k).draining =
+    f
+    ∙ ap (λ (v : ChannelView). drains_with s v.draining (count_by (λ r. r.write) (queue_of v.pending (n + 1)))) e
+    ∙ ap (λ i. drains_with s kept.draining (count_by (λ r. r.write) (queue_of kept.pending (i + 1)))) (sym (length-run s traces n))
+    ∙ sym (step_draining s traces history k) in
+    step_same step (channel_step_of s traces history k)
+    (g
+    ∙ ap (λ (v : ChannelView). choice_between s v.commands n (candidates s step.draining (queue_of v.pending (n + 1))) (lowest_due s v.commands n)) e
+    ∙ ap (λ b. choice_between s kept.commands n (candidates s b (queue_of kept.pending (n + 1))) (lowest_due s kept.commands n)) d
+    ∙ ap (λ i. choice_between s kept.commands i (candidates s (channel_step_of s traces history k).draining (queue_of kept.pending (i + 1))) (lowest_due s kept.commands i)) (sym (length-run s traces n))
+    ∙ sym (step_command s traces history k))
+    d
+
+-- the commands of the first channels in a cycle
+abbrev pub issued_below : Config → List (List Entry) → ℕ → ℕ → List CommandRow
+issued_below s traces n k = filter_map (λ i. issued_at i n (channel_step_of s traces (run s traces n) i).command) (below k)
+
+pub issued_none : (s : Config) (traces : List (List Entry)) (n : ℕ) → commands (run s traces n) ++ issued_below s traces n 0 ≡ commands (run s traces n)
+issued_none s traces n = append-nil (commands (run s traces n))
+
+pub issued_more : (s : Config) (traces : List (List Entry)) (n k : ℕ)
+    → commands (run s traces n) ++ issued_below s traces n (k + 1)
+    ≡ (commands (run s traces n) ++ issued_below s traces n k) ++ option_to_list (issued_at k n (channel_step_of s traces (run s traces n) k).command)
+issued_more s traces n k =
+    ap (λ l. commands (run s traces n) ++ l) (filter_map_below_more (λ i. issued_at i n (channel_step_of s traces (run s traces n) i).command) k)
+    ∙ sym (append_assoc (commands (run s traces n)) _ _)
+
+numbered : {X Y : Type 0} (f : ℕ → X → Option Y) (g : ℕ → X) (a m : ℕ)
+    → filter_map (λ (e : ℕ × X). f e.0 e.1) (enumerate_from a (map g (range_with_len a m))) ≡ filter_map (λ i. f i (g i)) (range_with_len a m)
+numbered f g a zero = refl
+numbered f g a (suc m) = ap (λ l. cons_option (f a (g a)) l) (numbered f g (a + 1) m)
+
+pub issued_all : (s : Config) (traces : List (List Entry)) (n : ℕ)
+    → commands (run s traces n) ++ issued_below s traces n s.channels ≡ commands (run s traces (n + 1))
+unfolding next_row
+issued_all s traces n =
+    let history = run s traces n in
+    ap (λ l. commands history ++ l) (sym (numbered (λ i o. issued_at i n o) (next_command s traces history) 0 s.channels))
+    ∙ ap (λ i. commands history ++ filter_map (λ (e : ℕ × Option Command). issued_at e.0 i e.1) (enumerate_from 0 (map (next_command s traces history) (below s.channels)))) (sym (length-run s traces n))
+    ∙ sym (commands-push history (next_row s traces history))
+    ∙ ap commands (sym (run_next s traces n))
+
+-- before the first cycle nothing is kept
+
+flat_map_nothing : {X : Type 0} (f : ℕ → List X) (n : ℕ) → ((k : ℕ) → f k ≡ []) → flat_map f (below n) ≡ []
+flat_map_nothing f zero h = refl
+flat_map_nothing f (suc n) h = flat_map_below_suc f n ∙ ap₂ (λ a b. a ++ b) (flat_map_nothing f n h) (h n)
+
+no_core_messages : (s : Config) (traces : List (List Entry)) (c : ℕ) → messages_of_core s traces [] c ≡ []
+unfolding messages_of_core core_rows core_messages
+no_core_messages s traces c = refl
+
+no_channel_messages : (s : Config) (k : ℕ) → messages_of_channel s [] k ≡ []
+unfolding messages_of_channel channel_rows channel_messages
+no_channel_messages s k = refl
+
+no_messages : (s : Config) (traces : List (List Entry)) → messages s traces [] ≡ []
+unfolding messages
+no_messages s traces =
+    ap₂ (λ a b. a ++ b) (flat_map_nothing _ s.cores (no_core_messages s traces)) (flat_map_nothing _ s.channels (no_channel_messages s))
+
+no_mail : (s : Config) (traces : List (List Entry)) (unit : MachineUnit) → inbox s traces [] unit ≡ []
+unfolding inbox by_age
+no_mail s traces unit = ap (λ ms. by_age (filter (is_to s unit) ms)) (no_messages s traces)
+
+run_none : (s : Config) (traces : List (List Entry)) → run s traces 0 ≡ []
+unfolding run
+run_none s traces = refl
+
+pub core_view_none : (s : Config) (traces : List (List Entry)) (c : ℕ) → core_view s traces (run s traces 0) c ≡ record { rows = []; sent = []; inbox = [] }
+unfolding core_rows
+core_view_none s traces c =
+    ap (λ h. core_view s traces h c) (run_none s traces)
+    ∙ core_view_same (core_view s traces [] c) (record { rows = []; sent = []; inbox = [] }) refl (no_core_messages s traces c) (no_mail s traces (Core c))
+
+pub channel_view_none : (s : Config) (traces : List (List Entry)) (k : ℕ) → channel_view s traces (run s traces 0) k ≡ record { commands = []; pending = []; draining = false }
+unfolding channel_rows issued_commands drains_before
+channel_view_none s traces k =
+    ap (λ h. channel_view s traces h k) (run_none s traces)
+    ∙ view_same (channel_view s traces [] k) (record { commands = []; pending = []; draining = false }) refl (ap (filter (is_left [])) (no_mail s traces (Channel k))) refl
+
+pub commands_none : (s : Config) (traces : List (List Entry)) → commands (run s traces 0) ≡ []
+unfolding commands
+commands_none s traces = ap commands (run_none s traces)
+
+pub flight_none : (s : Config) (traces : List (List Entry)) → in_flight s traces (run s traces 0) ≡ []
+unfolding in_flight by_age
+flight_none s traces = ap (in_flight s traces) (run_none s traces) ∙ ap (λ ms. by_age (filter (is_in_flight []) ms)) (no_messages s traces)
+
+-- nothing is in flight exactly where each message has arrived
+
+length-put : (m : Message) (ns : List Message) → length (put m ns) ≡ suc (length ns)
+length-put m [] = refl
+length-put m (n ∷ ns) = cond_both (is_before m n) _ _ (λ x. length x ≡ suc (length (n ∷ ns))) (λ e. refl) (λ e. ap suc (length-put m ns))
+
+length-puts : (acc ms : List Message) → length (puts acc ms) ≡ length acc + length ms
+length-puts acc [] = sym (add-zero (length acc))
+length-puts acc (m ∷ ms) =
+    let e : length (puts acc (m ∷ ms)) ≡ length (put m acc) + length ms = length-puts (put m acc) ms in
+    let f : length (put m acc) ≡ suc (length acc) = length-put m acc in
+    omega arith
+
+length-by_age : (ms : List Message) → length (by_age ms) ≡ length ms
+length-by_age ms = ap length (by_age-puts ms) ∙ length-puts [] ms ∙ zero-add (length ms)
+
+none-late : (p : Message → Bool) (ms : List Message) → list_all p ms ≡ eqb (length (filter (λ m. not (p m)) ms)) 0
+none-late p [] = refl
+none-late p (m ∷ ms) =
+    cond_both (not (p m)) (m ∷ filter (λ m. not (p m)) ms) (filter (λ m. not (p m)) ms) (λ x. (p m && list_all p ms) ≡ eqb (length x) 0)
+    (λ e. ap (λ b. b && list_all p ms) (not_true (p m) e) ∙ sym (suc_not_zero (length (filter (λ m. not (p m)) ms))))
+    (λ e. ap (λ b. b && list_all p ms) (not_false (p m) e) ∙ none-late p ms)
+  where
+    not_true : (b : Bool) → not b ≡ true → b ≡ false
+    not_true true e = sym e
+    not_true false e = refl
+
+    not_false : (b : Bool) → not b ≡ false → b ≡ true
+    not_false true e = refl
+    not_false false e = sym e
+
+    suc_not_zero : (n : ℕ) → eqb (suc n) 0 ≡ false
+    suc_not_zero n = grind (arith, nat_tests)
+
+pub delivered_is : (s : Config) (traces : List (List Entry)) (history : List Row) → is_delivered s traces history ≡ eqb (length (in_flight s traces history)) 0
+unfolding is_delivered in_flight
+delivered_is s traces history =
+    none-late (λ m. ltb m.arrival (length history)) (messages s traces history)
+    ∙ ap (λ n. eqb n 0) (sym (length-by_age (filter (is_in_flight history) (messages s traces history))))

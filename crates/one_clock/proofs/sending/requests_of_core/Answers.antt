@@ -1,0 +1,10 @@
+-- The core has a row for each cycle.
+use Rattle.std.proofs.Common.{◌≡◌, ℕ, length, ap, ◌∙◌, arith}
+use Rattle.one_clock.proofs.Next.{length_rows}
+use Rattle.one_clock.proofs.sending.requests_of_core.Goals as goal
+
+pub issued_count-first-requires : goal.issued_count-first-requires
+issued_count-first-requires c =
+    let f : length c.rows.result.now ≡ c.args.cycle =
+    ap length c.rows.ensures ∙ length_rows c.args.s.now c.args.traces.now c.args.cycle c.args.core c.args.past.now c.requires.past in
+    omega arith

@@ -1,0 +1,11 @@
+//! The one-clock machine, as slow and as plain as its definition: every core, link and channel, one cycle at a time, with
+//! their whole past kept and searched.
+#![tactic(auto)]
+
+pub mod cores;
+pub mod machine;
+pub mod mail;
+pub mod rules;
+pub mod scheduling;
+pub mod sending;
+pub mod state;

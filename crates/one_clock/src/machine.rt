@@ -1,0 +1,472 @@
+//! The one-clock machine: every core, link and channel, one cycle at a time.
+
+ghost use Rattle.std.specs.Prelude.{◌≡◌, ◌+◌, ◌<◌, ◌≤◌, ◌^◌, ◌&&◌, length, map, filter, IfOk, OnOk};
+ghost use Rattle.std.specs.List.{list_all};
+ghost use Rattle.sim_base.specs.History.{below, trace_of, commands};
+ghost use Rattle.sim_base.specs.Machine.{next_core_row, next_row, run, is_retired, has_served, is_delivered, is_over, cycles_run};
+ghost use Rattle.sim_base.specs.Sends.{sends};
+ghost use Rattle.sim_base.specs.Counts.{in_flight};
+ghost use Rattle.one_clock.specs.Plain.{core_view, channel_view, channel_step_of, is_late};
+ghost use Rattle.one_clock.specs.Held.{HoldsRun};
+
+use crate::scheduling::ChannelStep;
+use crate::sending::{self, trace_of_core};
+use crate::state::{ChannelPast, CorePast, issued_row, push_row};
+use crate::{cores, mail, scheduling};
+use cpu_trace::trace::Trace;
+use sim_base::command::CommandRow;
+use sim_base::config::Config;
+use sim_base::history::CoreRow;
+use sim_base::message::{ChannelId, CoreId, Message, Unit};
+use std::alloc::{AllocError, Global};
+use timing::gap_table::GapTable;
+
+/// What is kept of the machine's past.
+#[derive(Drop)]
+pub struct Machine {
+    pub cores: Vec<CorePast>,
+    pub channels: Vec<ChannelPast>,
+    pub commands: Vec<CommandRow>,
+    pub flight: Vec<Message>,
+}
+
+#[tactic(auto, unfolding(sim_base::specs::Machine::next_core_row, sim_base::specs::History::messages_of_core), using(crate::proofs::Next::length_rows))]
+fn next_row_of_core(
+    s: &Config,
+    traces: &[Trace],
+    cycle: u64,
+    core: CoreId,
+    past: &CorePast,
+) -> CoreRow
+    requires core_in { core < s.now.cores }
+    requires traces { length traces.now ≡ s.now.cores }
+    requires early { cycle ≤ 10 ^ 12 }
+    requires past { past.now ≡ core_view s.now traces.now (run s.now traces.now cycle) core }
+    ensures { result ≡ next_core_row s.now traces.now (run s.now traces.now cycle) core }
+{
+    let trace = trace_of_core(traces, core);
+    let step = cores::core_step(s, core, trace, past.rows(), past.sent(), past.inbox());
+    step.0
+}
+
+#[tactic(auto, using(crate::proofs::Units::length_units, crate::proofs::Units::at_unit_of, crate::proofs::Units::map_below_more))]
+fn next_rows_of_cores(
+    alloc: Global,
+    s: &Config,
+    traces: &[Trace],
+    cycle: u64,
+    cores: &[CorePast],
+) -> Result<Vec<CoreRow>, AllocError>
+    requires traces { length traces.now ≡ s.now.cores }
+    requires early { cycle ≤ 10 ^ 12 }
+    requires cores { cores.now ≡ map (core_view s.now traces.now (run s.now traces.now cycle)) (below s.now.cores) }
+    ensures { IfOk result (λ v. v.items ≡ map (next_core_row s.now traces.now (run s.now traces.now cycle)) (below s.now.cores)) }
+{
+    let mut rows = Vec::new(alloc);
+    for core in 0..s.cores {
+        let row = next_row_of_core(s, traces, cycle, core, &cores[core as usize]);
+        rows.push(row)?;
+    }
+    Ok(rows)
+}
+
+#[tactic(auto, using(crate::proofs::Next::step_is))]
+fn next_step_of_channel(
+    alloc: Global,
+    s: &Config,
+    gaps: &GapTable,
+    traces: &[Trace],
+    cycle: u64,
+    channel: ChannelId,
+    past: &ChannelPast,
+) -> Result<ChannelStep, AllocError>
+    requires gaps { gaps.now ≡ s.now.timing }
+    requires early { cycle ≤ 10 ^ 12 }
+    requires past { past.now ≡ channel_view s.now traces.now (run s.now traces.now cycle) channel }
+    ensures { IfOk result (λ step. step ≡ channel_step_of s.now traces.now (run s.now traces.now cycle) channel) }
+{
+    scheduling::channel_step(
+        alloc,
+        s,
+        gaps,
+        cycle,
+        past.commands(),
+        past.pending(),
+        past.is_draining(),
+    )
+}
+
+#[tactic(auto, using(crate::proofs::Units::length_units, crate::proofs::Units::at_unit_of, crate::proofs::Units::map_below_more))]
+fn next_steps_of_channels(
+    alloc: Global,
+    s: &Config,
+    gaps: &GapTable,
+    traces: &[Trace],
+    cycle: u64,
+    channels: &[ChannelPast],
+) -> Result<Vec<ChannelStep>, AllocError>
+    requires gaps { gaps.now ≡ s.now.timing }
+    requires early { cycle ≤ 10 ^ 12 }
+    requires channels { channels.now ≡ map (channel_view s.now traces.now (run s.now traces.now cycle)) (below s.now.channels) }
+    ensures { IfOk result (λ v. v.items ≡ map (channel_step_of s.now traces.now (run s.now traces.now cycle)) (below s.now.channels)) }
+{
+    let mut steps = Vec::new(alloc);
+    for channel in 0..u32::from(s.channels) {
+        let past = &channels[channel as usize];
+        steps.push(next_step_of_channel(alloc, s, gaps, traces, cycle, channel, past)?)?;
+    }
+    Ok(steps)
+}
+
+#[tactic(auto, using(crate::proofs::Next::core_view_next))]
+fn note_core(
+    alloc: Global,
+    s: &Config,
+    traces: &[Trace],
+    cycle: u64,
+    core: CoreId,
+    row: CoreRow,
+    fresh: &[Message],
+    past: &mut CorePast,
+) -> Result<(), AllocError>
+    requires core_in { core < s.now.cores }
+    requires traces { length traces.now ≡ s.now.cores }
+    requires early { cycle ≤ 10 ^ 12 }
+    requires row { row ≡ next_core_row s.now traces.now (run s.now traces.now cycle) core }
+    requires fresh { fresh.now ≡ sends s.now traces.now (run s.now traces.now cycle) (next_row s.now traces.now (run s.now traces.now cycle)) }
+    requires past { past.old ≡ core_view s.now traces.now (run s.now traces.now cycle) core }
+    ensures { OnOk result (past.new ≡ core_view s.now traces.now (run s.now traces.now (cycle + 1)) core) }
+{
+    let requests = sending::requests_of_core(alloc, s, traces, cycle, core, past, row)?;
+    let arrivals = mail::messages_to(alloc, s, Unit::Core(core), fresh)?;
+    past.note(row, &requests, &arrivals)
+}
+
+#[tactic(auto, using(crate::proofs::Units::length_units, crate::proofs::Units::at_unit_of))]
+fn note_cores(
+    alloc: Global,
+    s: &Config,
+    traces: &[Trace],
+    cycle: u64,
+    rows: &[CoreRow],
+    fresh: &[Message],
+    cores: &mut Vec<CorePast>,
+) -> Result<(), AllocError>
+    requires traces { length traces.now ≡ s.now.cores }
+    requires early { cycle ≤ 10 ^ 12 }
+    requires rows { rows.now ≡ map (next_core_row s.now traces.now (run s.now traces.now cycle)) (below s.now.cores) }
+    requires fresh { fresh.now ≡ sends s.now traces.now (run s.now traces.now cycle) (next_row s.now traces.now (run s.now traces.now cycle)) }
+    requires cores { cores.old.items ≡ map (core_view s.now traces.now (run s.now traces.now cycle)) (below s.now.cores) }
+    ensures { OnOk result (cores.new.items ≡ map (core_view s.now traces.now (run s.now traces.now (cycle + 1))) (below s.now.cores)) }
+{
+    for core in 0..s.cores {
+        let i = core as usize;
+        note_core(alloc, s, traces, cycle, core, rows[i], fresh, &mut cores[i])?;
+    }
+    Ok(())
+}
+
+#[tactic(auto, using(crate::proofs::Next::channel_view_next))]
+fn note_channel(
+    alloc: Global,
+    s: &Config,
+    traces: &[Trace],
+    cycle: u64,
+    channel: ChannelId,
+    step: ChannelStep,
+    fresh: &[Message],
+    past: &mut ChannelPast,
+) -> Result<(), AllocError>
+    requires channel_in { channel < s.now.channels }
+    requires step { step ≡ channel_step_of s.now traces.now (run s.now traces.now cycle) channel }
+    requires fresh { fresh.now ≡ sends s.now traces.now (run s.now traces.now cycle) (next_row s.now traces.now (run s.now traces.now cycle)) }
+    requires past { past.old ≡ channel_view s.now traces.now (run s.now traces.now cycle) channel }
+    ensures { OnOk result (past.new ≡ channel_view s.now traces.now (run s.now traces.now (cycle + 1)) channel) }
+{
+    let arrivals = mail::messages_to(alloc, s, Unit::Channel(channel), fresh)?;
+    past.note(alloc, channel, cycle, step, &arrivals)
+}
+
+#[tactic(auto, using(crate::proofs::Units::length_units, crate::proofs::Units::at_unit_of))]
+fn note_channels(
+    alloc: Global,
+    s: &Config,
+    traces: &[Trace],
+    cycle: u64,
+    steps: &[ChannelStep],
+    fresh: &[Message],
+    channels: &mut Vec<ChannelPast>,
+) -> Result<(), AllocError>
+    requires steps { steps.now ≡ map (channel_step_of s.now traces.now (run s.now traces.now cycle)) (below s.now.channels) }
+    requires fresh { fresh.now ≡ sends s.now traces.now (run s.now traces.now cycle) (next_row s.now traces.now (run s.now traces.now cycle)) }
+    requires channels { channels.old.items ≡ map (channel_view s.now traces.now (run s.now traces.now cycle)) (below s.now.channels) }
+    ensures { OnOk result (channels.new.items ≡ map (channel_view s.now traces.now (run s.now traces.now (cycle + 1))) (below s.now.channels)) }
+{
+    for channel in 0..u32::from(s.channels) {
+        let i = channel as usize;
+        note_channel(
+            alloc,
+            s,
+            traces,
+            cycle,
+            channel,
+            steps[i],
+            fresh,
+            &mut channels[i],
+        )?;
+    }
+    Ok(())
+}
+
+fn late_messages(alloc: Global, messages: &[Message], now: u64) -> Result<Vec<Message>, AllocError>
+    ensures { IfOk result (λ v. v.items ≡ filter (is_late now) messages.now) }
+{
+    messages
+        .iter()
+        .copied()
+        .filter(|m| !(m.arrival < now))
+        .collect(alloc)
+}
+
+/// The messages in flight, one cycle later.
+#[tactic(auto, using(crate::proofs::Next::flight_next))]
+fn note_flight(
+    alloc: Global,
+    s: &Config,
+    traces: &[Trace],
+    cycle: u64,
+    fresh: &[Message],
+    flight: &mut Vec<Message>,
+) -> Result<(), AllocError>
+    requires early { cycle ≤ 10 ^ 12 }
+    requires fresh { fresh.now ≡ sends s.now traces.now (run s.now traces.now cycle) (next_row s.now traces.now (run s.now traces.now cycle)) }
+    requires flight { flight.old.items ≡ in_flight s.now traces.now (run s.now traces.now cycle) }
+    ensures { OnOk result (flight.new.items ≡ in_flight s.now traces.now (run s.now traces.now (cycle + 1))) }
+{
+    let mut left = late_messages(alloc, flight, cycle + 1)?;
+    let more = late_messages(alloc, fresh, cycle + 1)?;
+    mail::insert_all(&mut left, &more)?;
+    *flight = left;
+    Ok(())
+}
+
+/// The commands of all channels, one cycle later.
+#[tactic(auto, using(crate::proofs::Units::length_units, crate::proofs::Units::at_unit_of, crate::proofs::Next::issued_none, crate::proofs::Next::issued_more, crate::proofs::Next::issued_all))]
+fn note_commands(
+    s: &Config,
+    traces: &[Trace],
+    cycle: u64,
+    steps: &[ChannelStep],
+    issued: &mut Vec<CommandRow>,
+) -> Result<(), AllocError>
+    requires steps { steps.now ≡ map (channel_step_of s.now traces.now (run s.now traces.now cycle)) (below s.now.channels) }
+    requires issued { issued.old.items ≡ commands (run s.now traces.now cycle) }
+    ensures { OnOk result (issued.new.items ≡ commands (run s.now traces.now (cycle + 1))) }
+{
+    for channel in 0..u32::from(s.channels) {
+        let step = steps[channel as usize];
+        push_row(issued, issued_row(channel, cycle, step.command))?;
+    }
+    Ok(())
+}
+
+#[tactic(auto, unfolding(sim_base::specs::Machine::is_retired), using(crate::proofs::Next::length_rows))]
+fn is_core_retired(s: &Config, traces: &[Trace], cycle: u64, core: CoreId, past: &CorePast) -> bool
+    requires core_in { core < s.now.cores }
+    requires traces { length traces.now ≡ s.now.cores }
+    requires early { cycle ≤ 10 ^ 12 }
+    requires past { past.now ≡ core_view s.now traces.now (run s.now traces.now cycle) core }
+    ensures { result ≡ is_retired traces.now (run s.now traces.now cycle) core }
+{
+    cores::retired_count(past.rows()) == trace_of_core(traces, core).len()
+}
+
+#[tactic(auto, using(crate::proofs::Units::length_units, crate::proofs::Units::at_unit_of, crate::proofs::Units::list_all_below_more))]
+fn are_cores_retired(s: &Config, traces: &[Trace], cycle: u64, cores: &[CorePast]) -> bool
+    requires traces { length traces.now ≡ s.now.cores }
+    requires early { cycle ≤ 10 ^ 12 }
+    requires cores { cores.now ≡ map (core_view s.now traces.now (run s.now traces.now cycle)) (below s.now.cores) }
+    ensures { result ≡ list_all (is_retired traces.now (run s.now traces.now cycle)) (below s.now.cores) }
+{
+    let mut all = true;
+    for core in 0..s.cores {
+        let retired = is_core_retired(s, traces, cycle, core, &cores[core as usize]);
+        all = all && retired;
+    }
+    all
+}
+
+#[tactic(auto, unfolding(sim_base::specs::Machine::has_served), using(crate::proofs::Next::waiting_is, crate::proofs::Next::length_run))]
+fn has_channel_served(
+    alloc: Global,
+    s: &Config,
+    traces: &[Trace],
+    cycle: u64,
+    channel: ChannelId,
+    past: &ChannelPast,
+) -> Result<bool, AllocError>
+    requires past { past.now ≡ channel_view s.now traces.now (run s.now traces.now cycle) channel }
+    ensures { IfOk result (λ b. b ≡ has_served s.now traces.now (run s.now traces.now cycle) channel) }
+{
+    let waiting = scheduling::queue(alloc, past.pending(), cycle)?;
+    Ok(waiting.len() == 0)
+}
+
+#[tactic(auto, using(crate::proofs::Units::length_units, crate::proofs::Units::at_unit_of, crate::proofs::Units::list_all_below_more))]
+fn have_channels_served(
+    alloc: Global,
+    s: &Config,
+    traces: &[Trace],
+    cycle: u64,
+    channels: &[ChannelPast],
+) -> Result<bool, AllocError>
+    requires channels { channels.now ≡ map (channel_view s.now traces.now (run s.now traces.now cycle)) (below s.now.channels) }
+    ensures { IfOk result (λ b. b ≡ list_all (has_served s.now traces.now (run s.now traces.now cycle)) (below s.now.channels)) }
+{
+    let mut all = true;
+    for channel in 0..u32::from(s.channels) {
+        let past = &channels[channel as usize];
+        let served = has_channel_served(alloc, s, traces, cycle, channel, past)?;
+        all = all && served;
+    }
+    Ok(all)
+}
+
+#[tactic(auto, using(crate::proofs::Next::delivered_is))]
+fn is_all_delivered(s: &Config, traces: &[Trace], cycle: u64, flight: &[Message]) -> bool
+    requires { flight.now ≡ in_flight s.now traces.now (run s.now traces.now cycle) }
+    ensures { result ≡ is_delivered s.now traces.now (run s.now traces.now cycle) }
+{
+    flight.len() == 0
+}
+
+/// Whether each trace is retired, each message has arrived, and each request is served.
+#[tactic(auto, unfolding(sim_base::specs::Machine::is_over))]
+fn is_run_over(
+    alloc: Global,
+    s: &Config,
+    traces: &[Trace],
+    cycle: u64,
+    machine: &Machine,
+) -> Result<bool, AllocError>
+    requires traces { length traces.now ≡ s.now.cores }
+    requires early { cycle ≤ 10 ^ 12 }
+    requires machine { HoldsRun s.now traces.now cycle machine.now }
+    ensures { IfOk result (λ b. b ≡ is_over s.now traces.now (run s.now traces.now cycle)) }
+{
+    let retired = are_cores_retired(s, traces, cycle, &machine.cores);
+    let delivered = is_all_delivered(s, traces, cycle, &machine.flight);
+    let served = have_channels_served(alloc, s, traces, cycle, &machine.channels)?;
+    Ok(retired && delivered && served)
+}
+
+/// Whether the run ends before the next cycle.
+fn ends_here(
+    alloc: Global,
+    s: &Config,
+    traces: &[Trace],
+    cycle: u64,
+    machine: &Machine,
+) -> Result<bool, AllocError>
+    requires traces { length traces.now ≡ s.now.cores }
+    requires early { cycle ≤ 10 ^ 12 }
+    requires machine { HoldsRun s.now traces.now cycle machine.now }
+    ensures { IfOk result (λ b. b ≡ (s.now.ends_drained && is_over s.now traces.now (run s.now traces.now cycle))) }
+{
+    if s.ends_drained {
+        is_run_over(alloc, s, traces, cycle, machine)
+    } else {
+        Ok(false)
+    }
+}
+
+#[tactic(auto, using(crate::proofs::Next::core_view_none, crate::proofs::Units::map_below_more))]
+fn start_cores(alloc: Global, s: &Config, traces: &[Trace]) -> Result<Vec<CorePast>, AllocError>
+    ensures { IfOk result (λ v. v.items ≡ map (core_view s.now traces.now (run s.now traces.now 0)) (below s.now.cores)) }
+{
+    let mut cores = Vec::new(alloc);
+    for core in 0..s.cores {
+        cores.push(CorePast::new(alloc))?;
+    }
+    Ok(cores)
+}
+
+#[tactic(auto, using(crate::proofs::Next::channel_view_none, crate::proofs::Units::map_below_more))]
+fn start_channels(
+    alloc: Global,
+    s: &Config,
+    traces: &[Trace],
+) -> Result<Vec<ChannelPast>, AllocError>
+    ensures { IfOk result (λ v. v.items ≡ map (channel_view s.now traces.now (run s.now traces.now 0)) (below s.now.channels)) }
+{
+    let mut channels = Vec::new(alloc);
+    for channel in 0..u32::from(s.channels) {
+        channels.push(ChannelPast::new(alloc))?;
+    }
+    Ok(channels)
+}
+
+impl Machine {
+    /// The machine before its first cycle.
+    #[tactic(auto, using(crate::proofs::Next::commands_none, crate::proofs::Next::flight_none))]
+    fn start(alloc: Global, s: &Config, traces: &[Trace]) -> Result<Machine, AllocError>
+        ensures { IfOk result (HoldsRun s.now traces.now 0) }
+    {
+        Ok(Machine {
+            cores: start_cores(alloc, s, traces)?,
+            channels: start_channels(alloc, s, traces)?,
+            commands: Vec::new(alloc),
+            flight: Vec::new(alloc),
+        })
+    }
+
+    /// Runs one cycle.
+    fn advance(
+        &mut self,
+        alloc: Global,
+        s: &Config,
+        gaps: &GapTable,
+        traces: &[Trace],
+        cycle: u64,
+    ) -> Result<(), AllocError>
+        requires gaps { gaps.now ≡ s.now.timing }
+        requires traces { length traces.now ≡ s.now.cores }
+        requires early { cycle ≤ 10 ^ 12 }
+        requires machine { HoldsRun s.now traces.now cycle self.old }
+        ensures { OnOk result (HoldsRun s.now traces.now (cycle + 1) self.new) }
+    {
+        let rows = next_rows_of_cores(alloc, s, traces, cycle, &self.cores)?;
+        let steps = next_steps_of_channels(alloc, s, gaps, traces, cycle, &self.channels)?;
+        let fresh = sending::all_sends(alloc, s, traces, cycle, &self.cores, &rows, &steps)?;
+        note_cores(alloc, s, traces, cycle, &rows, &fresh, &mut self.cores)?;
+        note_channels(alloc, s, traces, cycle, &steps, &fresh, &mut self.channels)?;
+        note_commands(s, traces, cycle, &steps, &mut self.commands)?;
+        note_flight(alloc, s, traces, cycle, &fresh, &mut self.flight)
+    }
+}
+
+/// Runs the one-clock machine, cycle by cycle, and gives the commands that all channels issue, by cycle and then by channel.
+/// The run has as many cycles as the limit, or, where the configuration ends it drained, as many as it takes until all is
+/// retired, served and delivered. There is one trace for each core, and the limit is at most 10^12 cycles. The only error is
+/// want of memory.
+#[tactic(auto, using(crate::proofs::Runs::cycles_run_none, crate::proofs::Runs::cycles_run_more, crate::proofs::Runs::cycles_run_ends))]
+pub fn run_plain(
+    alloc: Global,
+    s: &Config,
+    traces: &[Trace],
+    cycles: u64,
+) -> Result<Vec<CommandRow>, AllocError>
+    requires one_trace_a_core { length traces.now ≡ s.now.cores }
+    requires limit { cycles ≤ 10 ^ 12 }
+    ensures { IfOk result (λ v. v.items ≡ commands (run s.now traces.now (cycles_run s.now traces.now cycles))) }
+{
+    let gaps = GapTable::of(s);
+    let mut machine = Machine::start(alloc, s, traces)?;
+    for cycle in 0..cycles {
+        if ends_here(alloc, s, traces, cycle, &machine)? {
+            return Ok(machine.commands);
+        }
+        machine.advance(alloc, s, &gaps, traces, cycle)?;
+    }
+    Ok(machine.commands)
+}
