@@ -3,7 +3,7 @@ use crate::key::Key;
 use crate::message::Unit;
 use std::test::Fail;
 
-fn trace_line(cause: LineCause) -> Fault {
+fn line_fault(cause: LineCause) -> Fault {
     Fault::TraceLine {
         core: 1,
         line: 3,
@@ -29,19 +29,19 @@ fn prints_faults(rt: HostRuntime) -> Result<(), Fail> {
             "fault 4: configuration relation 12",
         ),
         (
-            trace_line(LineCause::TooFew),
+            line_fault(LineCause::TooFew),
             "fault 5: trace 1 line 3 too-few",
         ),
         (
-            trace_line(LineCause::TooMany),
+            line_fault(LineCause::TooMany),
             "fault 5: trace 1 line 3 too-many",
         ),
         (
-            trace_line(LineCause::NotANumber),
+            line_fault(LineCause::NotANumber),
             "fault 5: trace 1 line 3 not-a-number",
         ),
         (
-            trace_line(LineCause::TooLarge),
+            line_fault(LineCause::TooLarge),
             "fault 5: trace 1 line 3 too-large",
         ),
         (Fault::TraceTooLong { core: 1 }, "fault 6: trace 1 too long"),

@@ -1,7 +1,5 @@
 use super::read_config;
-use crate::config::Config;
 use crate::fault::Fault;
-use crate::overrides::Override;
 use crate::place::Field;
 use crate::timing::Timing;
 use std::alloc::Global;
@@ -264,20 +262,33 @@ fn with_links(alloc: Global, links: &str) -> Result<String, Fail> {
     Ok(document)
 }
 
+const OWN_LINK: &str = "[[link]]\nid = 2\nlatency = 1\n";
+
 #[test]
 fn reads_links(rt: HostRuntime) -> Result<(), Fail> {
     let alloc = rt.alloc();
-    let document = with_links(alloc, "[[link]]\nid = 2\nlatency = 1\n")?;
+    let document = with_links(alloc, OWN_LINK)?;
     let config = read_config(alloc, document.as_bytes())?;
-    let overrides = [Override {
-        link: 2,
-        latency: 1,
-    }];
-    assert_eq!(rt; config.overrides.as_slice(), overrides.as_slice());
-    assert_eq!(rt; (config.latency(1), config.latency(2)), (2, 1));
+    assert_eq!(rt; config.overrides.as_slice().len(), 1);
+    assert_eq!(rt; config.latency(1), 2);
+    assert_eq!(rt; config.latency(2), 1);
+    Ok(())
+}
+
+#[test]
+fn copies(rt: HostRuntime) -> Result<(), Fail> {
+    let alloc = rt.alloc();
+    let document = with_links(alloc, OWN_LINK)?;
+    let config = read_config(alloc, document.as_bytes())?;
     let copy = config.copy(alloc)?;
-    assert_eq!(rt; copy.overrides.as_slice(), overrides.as_slice());
+    assert_eq!(rt; copy.latency(2), 1);
     assert_eq!(rt; copy.timing, TIMING);
+    Ok(())
+}
+
+#[test]
+fn refuses_links(rt: HostRuntime) -> Result<(), Fail> {
+    let alloc = rt.alloc();
     for (links, want) in [
         (
             "[[link]]\nid = 3\nlatency = 1\n",
