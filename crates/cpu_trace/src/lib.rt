@@ -3,7 +3,9 @@
 #![tactic(auto)]
 
 pub mod entries;
-pub mod line;
+mod line;
 pub mod number;
 pub mod reader;
+#[cfg(test)]
+mod tests;
 pub mod trace;
