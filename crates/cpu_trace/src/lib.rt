@@ -3,6 +3,7 @@
 #![tactic(auto)]
 
 pub mod entries;
+pub mod grammar;
 mod line;
 pub mod number;
 pub mod reader;

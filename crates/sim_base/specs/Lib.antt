@@ -14,3 +14,4 @@ pub mod Counts
 pub mod Locality
 pub mod Faults
 pub mod TraceText
+pub mod TraceGrammar
