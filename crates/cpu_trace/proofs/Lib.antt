@@ -1,6 +1,10 @@
 pub mod Growth
 pub mod Digits
+pub mod GrammarLemmas
+pub mod Joining
 pub mod Kept
 pub mod LineTurns
+pub mod Meaning
 pub mod Numbers
+pub mod Spelling
 pub mod Tokens

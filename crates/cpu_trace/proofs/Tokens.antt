@@ -11,11 +11,11 @@ abbrev is_some_token : List ℕ → Bool
 is_some_token token = ltb 0 (length token)
 
 -- how long the token is with which a line begins
-abbrev token_len : List ℕ → ℕ
+abbrev pub token_len : List ℕ → ℕ
 token_len line = prefix_len (λ byte. not (is_separator byte)) line
 
 -- a separator at the start tells nothing
-tokens_of-separator : (byte : ℕ) (line : List ℕ) → is_separator byte ≡ true → tokens_of (byte ∷ line) ≡ tokens_of line
+pub tokens_of-separator : (byte : ℕ) (line : List ℕ) → is_separator byte ≡ true → tokens_of (byte ∷ line) ≡ tokens_of line
 unfolding tokens_of
 tokens_of-separator byte line e = rw e refl
 

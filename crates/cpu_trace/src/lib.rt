@@ -3,7 +3,10 @@
 #![tactic(auto)]
 
 pub mod entries;
-pub mod line;
+pub mod grammar;
+mod line;
 pub mod number;
 pub mod reader;
+#[cfg(test)]
+mod tests;
 pub mod trace;

@@ -11,7 +11,7 @@ use sim_base::fault::LineCause;
 
 /// The numbers of a line: how many Plain entries there are, and then the addresses of a Read and of a Write.
 #[derive(Clone, Copy, PartialEq, Eq, Debug)]
-pub struct Line {
+pub(crate) struct Line {
     pub plain: u64,
     pub read: u64,
     pub write: Option<u64>,
@@ -77,7 +77,7 @@ fn read_tokens(plain: &[u8], read: &[u8], write: Option<&[u8]>) -> Result<Line, 
 ///
 /// Of what is wrong with a line, the number of its tokens comes first, and then each token from the left.
 #[tactic(auto, unfolding(sim_base::specs::TraceText::line_entries, sim_base::specs::TraceText::entries_of_tokens))]
-pub fn read_line(line: &[u8]) -> Result<Option<Line>, LineCause>
+pub(crate) fn read_line(line: &[u8]) -> Result<Option<Line>, LineCause>
     ensures { MatchResult result (λ numbers. line_entries line.now ≡ Ok (entries_in numbers)) (λ cause. line_entries line.now ≡ Err cause) }
 {
     let Some((plain, rest)) = split_token(line) else {

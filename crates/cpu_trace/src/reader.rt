@@ -1,6 +1,7 @@
 //! The reader of a trace's text.
 
 ghost use Rattle.std.specs.Prelude.{◌≡◌, ◌≢◌, ◌+◌, ◌^◌, ◌≤◌, ◌↔◌, Ok, Err, ◌++◌, length, IsTrue, IfOk, IfErr, OnOk};
+ghost use Rattle.sim_base.specs.TraceGrammar.{StandsForTrace, IsRefusedBy};
 ghost use Rattle.sim_base.specs.TraceText.{trace_entries, trace_answer};
 ghost use Rattle.cpu_trace.specs.Lines.{entries_in};
 ghost use Rattle.cpu_trace.specs.Reading.{appended};
@@ -58,9 +59,11 @@ fn extended(so_far: Option<Entries>, line: Option<Line>) -> Result<Option<Entrie
 /// Refuses by `TraceLine` for the first bad line, by `TraceTooLong` where no line is bad and there are more than 2^62
 /// entries, and else by `Memory` alone, which may come at any time.
 pub fn read_trace(alloc: Global, core: CoreId, text: &[u8]) -> Result<Trace, Fault>
+    ensures meaning { IfOk result (StandsForTrace text.now) }
     ensures entries { IfOk result (λ trace. trace_entries text.now ≡ Ok trace) }
     ensures answer { IfOk result (λ trace. trace_answer core text.now ≡ Ok trace) }
     ensures refused { IfErr result (λ fault. fault ≢ Fault.Memory → trace_answer core text.now ≡ Err fault) }
+    ensures no_meaning { IfErr result (IsRefusedBy text.now) }
 {
     let mut so_far = Some(Entries::new(alloc));
     for (index, line) in text.split(|byte| *byte == b'\n').enumerate() {

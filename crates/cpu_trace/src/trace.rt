@@ -54,7 +54,7 @@ impl Trace {
     pub fn is_empty(&self) -> bool
         ensures { IsTrue result ↔ (self.now ≡ []) }
     {
-        self.entries.len() == 0
+        self.len() == 0
     }
 
     /// The entry of a number.

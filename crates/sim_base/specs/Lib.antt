@@ -18,3 +18,4 @@ pub mod Locality
 pub mod Faults
 pub mod PlaceRange
 pub mod TraceText
+pub mod TraceGrammar

@@ -5,6 +5,7 @@ use Rattle.sim_base.specs.declared.fault.Fault.TheVariants.{TraceTooLong}
 use Rattle.sim_base.specs.TraceText.{lines_of, trace_answer}
 use Rattle.cpu_trace.specs.Lines.{entries_in}
 use Rattle.cpu_trace.proofs.Kept.{answer_from-first, answer_from-good, answer_from-bad, answer_from-end, trace_entries-from_answer}
+use Rattle.cpu_trace.proofs.Meaning.{StandsForTrace-entries, IsRefusedBy-answer}
 use Rattle.cpu_trace.proofs.LineTurns.{line_turn, line_end}
 use Rattle.cpu_trace.proofs.reader.read_trace.Goals as goal
 
@@ -42,3 +43,13 @@ returns-in-None-so_far-clause-refused c =
     let ended = line_end text _ c.loop-index.yielded _ c.loop-index.yielded_by _ _ c.in-None.is c.next.ensures.steps _ c.into_iter-index-iterator.ensures.into_iter_gives c.enumerate-index-items.ensures.count _ c.enumerate-index-items.ensures.source c.split.ensures.rest c.split.ensures.done c.split.ensures.closure (λ byte r q called. search rules) in
     λ other. sym (answer_from-first c.args.core text) ∙ c.loop-index.invariant ∙ answer_from-end c.args.core c.loop-index.so_far (lines_of text) _ ended
     ∙ ap (λ so_far. ok_or so_far (TraceTooLong c.args.core)) c.in-None-so_far.is
+
+pub returns-in_ok-new-in-Some-so_far-clause-meaning : goal.returns-in_ok-new-in-Some-so_far-clause-meaning
+returns-in_ok-new-in-Some-so_far-clause-meaning c =
+    StandsForTrace-entries c.args.text.now _ (trace_entries-from_answer c.args.core c.args.text.now _ (answered c))
+
+pub returns-in-Err-clause-no_meaning : goal.returns-in-Err-clause-no_meaning
+returns-in-Err-clause-no_meaning c = IsRefusedBy-answer c.args.core c.args.text.now _ (returns-in-Err-clause-refused c (λ e. cc))
+
+pub returns-in-None-so_far-clause-no_meaning : goal.returns-in-None-so_far-clause-no_meaning
+returns-in-None-so_far-clause-no_meaning c = IsRefusedBy-answer c.args.core c.args.text.now _ (returns-in-None-so_far-clause-refused c (λ e. cc))
