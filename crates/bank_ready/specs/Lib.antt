@@ -1,2 +1,3 @@
 pub mod Ready
+pub mod Words
 pub mod Stands

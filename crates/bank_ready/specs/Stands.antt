@@ -1,25 +1,33 @@
 -- What a `Banks` stands for.
---     bank_at k      the bank with this number: (rank * 4 + group) * 4 + bank
---     names_bank kind, names_rank kind      a command of this kind names a bank, or a rank alone
 --     rank_count banks      how many ranks it was made for
---     StandsFor banks s history      each of its words is what the commands of a history make of it
-use Rattle.std.specs.Prelude.{◌≡◌, ℕ, ◌+◌, ◌*◌, ◌/◌, ◌%◌, ◌≤◌, Bool, true, false, List, map, length, Option, Some, None}
-use Rattle.std.specs.List.{AllPairs}
-use Rattle.circular_buffer.specs.Buffer.{Buffer, buffer, keep_last}
+--     Ascends history      each command is later than those before it
+--     StandsFor banks s history      all that it keeps is what the commands of a history make of it
+use Rattle.std.specs.Prelude.{◌≡◌, ℕ, ◌*◌, ◌<◌, List, [], ◌∷◌, map, length}
+use Rattle.std.specs.List.{AllByRecursion as Each}
+use Rattle.circular_buffer.specs.Buffer.{buffer, keep_last}
 use Rattle.sim_base.specs.declared.config.Config.{Config}
-use Rattle.sim_base.specs.declared.timing.Timing.{Timing}
-use Rattle.sim_base.specs.declared.place.BankId.{BankId}
-use Rattle.sim_base.specs.declared.command.Kind.{Kind}
-use Rattle.sim_base.specs.declared.command.Kind.TheVariants.{Act, Rd, Wr, Pre, Prea, Ref}
 use Rattle.sim_base.specs.declared.command.CommandRow.{CommandRow}
 use Rattle.sim_base.specs.History.{below}
-use Rattle.sim_base.specs.Rules.{open_row}
-use Rattle.bank_ready.specs.Ready.{ready_from, window_ends}
-use Rattle.bank_ready.specs.declared.words.BankWords.{BankWords}
-use Rattle.bank_ready.specs.declared.words.RankWords.{RankWords}
-use Rattle.bank_ready.specs.declared.words.BankState.{BankState}
+use Rattle.bank_ready.specs.Ready.{window_ends}
+use Rattle.bank_ready.specs.Words.{state_from, rank_words_from, bank_at}
 use Rattle.bank_ready.specs.declared.banks.Banks.{Banks}
 
--- the bank with this number
-abbrev pub bank_at : ℕ → BankId
-bank_at k = record { rank = k / 16; group = k / 4 % 4; bank = k % 4 }
+-- how many ranks it was made for
+abbrev pub rank_count : Banks → ℕ
+rank_count banks = length banks.ranks.items
+
+-- each command is later than those before it
+abbrev pub Ascends : List CommandRow → Type 0
+Ascends [] = Unit {0}
+Ascends (i ∷ history) = Each (λ (j : CommandRow). i.cycle < j.cycle) history × Ascends history
+
+-- Commands whose cycles ascend made each word the least cycle from which on none of them holds back such a command, each row
+-- the one that is open, and each ring the last four ACTs of its rank, by the cycle from which on each no longer counts for the
+-- four-activate window.
+pub record StandsFor (banks : Banks) (s : Config) (history : List CommandRow) : Type 0 where
+  pub timing : banks.gaps ≡ s.timing
+  pub ranks : rank_count banks ≡ s.ranks
+  pub bank_states : banks.banks.items ≡ map (λ k. state_from s.timing history (bank_at k)) (below (16 * s.ranks))
+  pub rank_words : banks.ranks.items ≡ map (rank_words_from s.timing history) (below s.ranks)
+  pub windows : banks.windows.items ≡ map (λ rank. buffer (keep_last 4 (window_ends s.timing rank history)) 4) (below s.ranks)
+  pub ascending : Ascends history
