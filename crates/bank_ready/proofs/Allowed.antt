@@ -1,5 +1,5 @@
 -- When the commands of a history and the four-activate window allow another.
-use Rattle.std.proofs.Common.{◌≡◌, ℕ, ◌≤◌, ◌↔◌, ◌∙◌, Bool, true, false, not, ◌||◌, ◌&&◌, leb, max, List, Option, Some, None, refl, sym, arith, inl, inr}
+use Rattle.std.proofs.Common.{◌≡◌, ℕ, ◌≤◌, ◌↔◌, true, false, leb, max, List, Some, None, refl, arith}
 use Rattle.std.specs.Prelude.{IsTrue}
 use Rattle.std.proofs.lemmas.Bool.{and_parts, and_from, leb-true, le-leb}
 use Rattle.circular_buffer.specs.Buffer.{buffer, keep_last}
@@ -13,7 +13,7 @@ use Rattle.sim_base.specs.declared.command.CommandRow.{CommandRow}
 use Rattle.sim_base.specs.declared.command.Source.{Source}
 use Rattle.sim_base.specs.Rules.{is_kind, kind_of, rank_of, bank_of, keeps_distances, recent_acts, is_allowed}
 use Rattle.bank_ready.specs.Ready.{ready_from, window_ends}
-use Rattle.bank_ready.specs.Words.{names_bank, names_rank, window_end}
+use Rattle.bank_ready.specs.Words.{names_rank, window_end}
 use Rattle.bank_ready.specs.Stands.{Ascends}
 use Rattle.bank_ready.proofs.Readiness.{ready_from-keeps}
 use Rattle.bank_ready.proofs.Window.{three-ahead, recent_acts-ahead, window_ends-ascending}
@@ -50,28 +50,30 @@ other : (t : Timing) (history : List CommandRow) (now : ℕ) (command : Command)
 unfolding is_allowed
 other t history now command h =
     let keeps = ready_from-keeps t history now command in
-    rw h
-    (λ k. and_from (keeps_distances t history now command) true (keeps.0 k) refl,
-     λ k. keeps.1 (and_parts (keeps_distances t history now command) true k).0)
+    rw h (
+      λ k. and_from (keeps_distances t history now command) true (keeps.0 k) refl,
+      λ k. keeps.1 (and_parts (keeps_distances t history now command) true k).0,
+    )
 
 -- an ACT
 act : (t : Timing) (history : List CommandRow) (now : ℕ) (command : Command) → Ascends history → is_kind (kind_of command) kind.Act ≡ true
     → (max (ready_from t history (kind_of command) (rank_of command) (bank_of command)) (window_end (buffer (keep_last 4 (window_ends t (rank_of command) history)) 4)) ≤ now)
-      ↔ IsTrue (is_allowed t history now command)
+    ↔ IsTrue (is_allowed t history now command)
 unfolding is_allowed
 act t history now command up h =
     let keeps = ready_from-keeps t history now command in
     let count = recent_acts t (rank_of command) now history in
     let same = recent_acts-ahead t (rank_of command) now history in
     let three = three-ahead now (window_ends t (rank_of command) history) (window_ends-ascending t (rank_of command) history up) in
-    rw h
-    (λ k.
-      let few : count ≤ 3 = rw same (three.1 (omega arith)) in
-      and_from (keeps_distances t history now command) (leb count 3) (keeps.0 (omega arith)) (le-leb count 3 few),
-     λ k.
-      let parts = and_parts (keeps_distances t history now command) (leb count 3) k in
-      let few = rw same at (leb-true count 3 parts.1) in
-      omega (arith, keeps.1 parts.0, three.0 few))
+    rw h (
+      λ k.
+          let few : count ≤ 3 = rw same (three.1 (omega arith)) in
+          and_from (keeps_distances t history now command) (leb count 3) (keeps.0 (omega arith)) (le-leb count 3 few),
+      λ k.
+          let parts = and_parts (keeps_distances t history now command) (leb count 3) k in
+          let few = rw same at (leb-true count 3 parts.1) in
+          omega (arith, keeps.1 parts.0, three.0 few),
+    )
 
 pub allowed-other : (t : Timing) (history : List CommandRow) (now : ℕ) (command : Command) (later : Kind) (bank : BankId)
     → kind_of command ≡ later → bank_of command ≡ Some bank → is_kind later kind.Act ≡ false
@@ -82,7 +84,7 @@ allowed-other t history now command later bank e f h =
 pub allowed-act : (t : Timing) (history : List CommandRow) (now : ℕ) (command : Command) (bank : BankId)
     → Ascends history → kind_of command ≡ kind.Act → bank_of command ≡ Some bank
     → (max (ready_from t history kind.Act bank.rank (Some bank)) (window_end (buffer (keep_last 4 (window_ends t bank.rank history)) 4)) ≤ now)
-      ↔ IsTrue (is_allowed t history now command)
+    ↔ IsTrue (is_allowed t history now command)
 allowed-act t history now command bank up e f =
     rw (← f, ← rank_of-bank command bank f, ← e) (act t history now command up (rw e refl))
 

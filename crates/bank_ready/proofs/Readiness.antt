@@ -1,5 +1,5 @@
 -- When the commands of a history let another follow.
-use Rattle.std.proofs.Common.{◌≡◌, ℕ, ◌+◌, ◌≤◌, ◌↔◌, ◌++◌, ◌∙◌, Bool, true, false, not, ◌||◌, ◌&&◌, leb, cond, max, List, [], ◌∷◌, map, Option, Some, None, refl, arith, inl, inr}
+use Rattle.std.proofs.Common.{◌≡◌, ℕ, ◌+◌, ◌≤◌, ◌↔◌, ◌++◌, Bool, true, false, not, ◌||◌, leb, cond, max, List, [], ◌∷◌, map, Option, Some, None, refl, arith}
 use Rattle.std.specs.Prelude.{IsTrue, fold, option_map, unwrap_or}
 use Rattle.std.specs.List.{list_all}
 use Rattle.std.proofs.lemmas.Bool.{leb-true, le-leb, and_parts, and_from}
@@ -8,10 +8,9 @@ use Rattle.std.proofs.lemmas.List.Sums.{fold-append}
 use Rattle.sim_base.specs.declared.timing.Timing.{Timing}
 use Rattle.sim_base.specs.declared.place.BankId.{BankId}
 use Rattle.sim_base.specs.declared.command.Kind.{Kind}
-use Rattle.sim_base.specs.declared.command.Relation.{Relation}
 use Rattle.sim_base.specs.declared.command.Command.{Command}
 use Rattle.sim_base.specs.declared.command.CommandRow.{CommandRow}
-use Rattle.sim_base.specs.Rules.{is_bound, gap, kind_of, rank_of, bank_of, is_past_gap, keeps_distances, row_after, open_row}
+use Rattle.sim_base.specs.Rules.{kind_of, rank_of, bank_of, is_past_gap, keeps_distances, row_after, open_row}
 use Rattle.timing.specs.Holds.{hold}
 use Rattle.bank_ready.specs.Ready.{held_until, held_by, ready_from}
 
@@ -58,6 +57,7 @@ pub ready_from-keeps : (t : Timing) (history : List CommandRow) (now : ℕ) (com
 unfolding ready_from
 ready_from-keeps t history now command =
     let f = held_by t (kind_of command) (rank_of command) (bank_of command) in
-    let p = is_past_gap t now command in
-    (λ h. (greatest-down f p now 0 history (λ i k. (held_by-past t now command i).0 k) h).1,
-     λ h. greatest-up f p now 0 history (λ i k. (held_by-past t now command i).1 k) (omega arith) h)
+    let p = is_past_gap t now command in (
+      λ h. (greatest-down f p now 0 history (λ i k. (held_by-past t now command i).0 k) h).1,
+      λ h. greatest-up f p now 0 history (λ i k. (held_by-past t now command i).1 k) (omega arith) h,
+    )

@@ -1,5 +1,5 @@
 -- What a `Banks` keeps, word by word, and how one command more changes it.
-use Rattle.std.proofs.Common.{◌≡◌, ℕ, ◌+◌, ◌*◌, ◌/◌, ◌%◌, ◌<◌, ◌≤◌, ◌++◌, ◌∙◌, ◌≢◌, Bool, true, false, max, List, [], ◌∷◌, length, map, get_or, set, replicate, Option, Some, None, refl, sym, ap, arith, inl, inr}
+use Rattle.std.proofs.Common.{◌≡◌, ℕ, ◌+◌, ◌*◌, ◌/◌, ◌%◌, ◌<◌, ◌++◌, ◌∙◌, true, false, List, [], ◌∷◌, length, map, get_or, set, replicate, Some, None, sym, ap, arith, inl, inr}
 use Rattle.std.specs.List.{All, AllByRecursion as Each}
 use Rattle.std.proofs.lemmas.Bool.{and_from, and_left, and_right, eq-eqb, ne_eqb, cases_eq}
 use Rattle.std.specs.Vec.{with_items}
@@ -65,9 +65,9 @@ state_after-from t history i bank =
         act = sym (ready_from-more t history i kind.Act bank.rank (Some bank)) x;
         rd = sym (ready_from-more t history i kind.Rd bank.rank (Some bank)) x;
         wr = sym (ready_from-more t history i kind.Wr bank.rank (Some bank)) x;
-        pre = sym (ready_from-more t history i kind.Pre bank.rank (Some bank)) x
+        pre = sym (ready_from-more t history i kind.Pre bank.rank (Some bank)) x;
       };
-      row = sym (open_row-more bank history i) x
+      row = sym (open_row-more bank history i) x;
     }
 
 rank_words_after-from : (t : Timing) (history : List CommandRow) (i : CommandRow) (rank : ℕ)
@@ -82,9 +82,9 @@ changed f g after n xs ys d made long each step =
     let count : length xs ≡ n = ap length made ∙ length-map-range_with_len f 0 n in
     fill_by_all g ys n d (long ∙ count)
     (λ k l.
-      each k (rw count l)
-      ∙ ap (after k) (ap (λ zs. get_or zs k d) made ∙ get_or-map-range_with_len f 0 n k k d l (omega arith))
-      ∙ step k)
+    each k (rw count l)
+    ∙ ap (after k) (ap (λ zs. get_or zs k d) made ∙ get_or-map-range_with_len f 0 n k k d l (omega arith))
+    ∙ step k)
 
 -- the windows after an ACT
 windows-act : (t : Timing) (history : List CommandRow) (i : CommandRow) (n rank : ℕ) (ws : List (Buffer ℕ)) (window : Buffer ℕ)
@@ -97,8 +97,8 @@ windows-act t history i n rank ws window made inside act here is =
     let count : length ws ≡ n = ap length made ∙ length-map-range_with_len before 0 n in
     fill_by_all after (set ws rank window) n window (omega (arith, length-set ws rank window))
     (λ k l.
-      elim (cases_eq k rank) [
-        inl same ↦
+    elim (cases_eq k rank) [
+      | inl same ↦
           let mine : is_act_in k i ≡ true = and_from _ _ act (eq-eqb (rank_of i.command) k (here ∙ sym same)) in
           ap (λ m. get_or (set ws rank window) m window) same
           ∙ get_or-set_same ws rank window window (omega arith)
@@ -111,7 +111,7 @@ windows-act t history i n rank ws window made inside act here is =
           ∙ ap (λ zs. get_or zs k window) made
           ∙ get_or-map-range_with_len before 0 n k k window l (omega arith)
           ∙ ap (λ es. buffer (keep_last 4 es) 4) (sym (window_ends-other t k history i not_mine))
-      ])
+    ])
 
 -- the windows after another command
 windows-other : (t : Timing) (history : List CommandRow) (i : CommandRow) (n : ℕ) (ws : List (Buffer ℕ))
@@ -154,12 +154,12 @@ is_noted banks after i lent states lent_ranks words gaps put put_ranks is is_ran
       gaps = gaps;
       all_banks = ap length items ∙ long ∙ ap length is;
       each_bank = λ k d l.
-        ap (λ (xs : List BankState). get_or xs k d) items ∙ each k d (rw is l)
-        ∙ ap (λ (xs : List BankState). state_after banks.gaps i.cycle i.command (bank_at k) (get_or xs k d)) is;
+          ap (λ (xs : List BankState). get_or xs k d) items ∙ each k d (rw is l)
+          ∙ ap (λ (xs : List BankState). state_after banks.gaps i.cycle i.command (bank_at k) (get_or xs k d)) is;
       all_ranks = ap length items_ranks ∙ long_ranks ∙ ap length is_ranks;
       each_rank = λ k d l.
-        ap (λ (xs : List RankWords). get_or xs k d) items_ranks ∙ each_rank k d (rw is_ranks l)
-        ∙ ap (λ (xs : List RankWords). rank_words_after banks.gaps i.cycle i.command k (get_or xs k d)) is_ranks
+          ap (λ (xs : List RankWords). get_or xs k d) items_ranks ∙ each_rank k d (rw is_ranks l)
+          ∙ ap (λ (xs : List RankWords). rank_words_after banks.gaps i.cycle i.command k (get_or xs k d)) is_ranks;
     }
 
 noted : (banks after : Banks) (s : Config) (history : List CommandRow) (i : CommandRow) → StandsFor banks s history → All (λ (j : CommandRow). j.cycle < i.cycle) history
@@ -172,17 +172,17 @@ noted banks after s history i h later e w =
       timing = e.gaps ∙ h.timing;
       ranks = e.all_ranks ∙ h.ranks;
       bank_states =
-        changed (λ k. state_from s.timing history (bank_at k)) _ (λ k. state_after s.timing i.cycle i.command (bank_at k)) (16 * s.ranks) banks.banks.items after.banks.items state
-        h.bank_states e.all_banks
-        (λ k l. e.each_bank k state l ∙ ap (λ t. state_after t i.cycle i.command (bank_at k) (get_or banks.banks.items k state)) h.timing)
-        (λ k. state_after-from s.timing history i (bank_at k));
+          changed (λ k. state_from s.timing history (bank_at k)) _ (λ k. state_after s.timing i.cycle i.command (bank_at k)) (16 * s.ranks) banks.banks.items after.banks.items state
+          h.bank_states e.all_banks
+          (λ k l. e.each_bank k state l ∙ ap (λ t. state_after t i.cycle i.command (bank_at k) (get_or banks.banks.items k state)) h.timing)
+          (λ k. state_after-from s.timing history i (bank_at k));
       rank_words =
-        changed (rank_words_from s.timing history) _ (rank_words_after s.timing i.cycle i.command) s.ranks banks.ranks.items after.ranks.items words
-        h.rank_words e.all_ranks
-        (λ k l. e.each_rank k words l ∙ ap (λ t. rank_words_after t i.cycle i.command k (get_or banks.ranks.items k words)) h.timing)
-        (λ k. rank_words_after-from s.timing history i k);
+          changed (rank_words_from s.timing history) _ (rank_words_after s.timing i.cycle i.command) s.ranks banks.ranks.items after.ranks.items words
+          h.rank_words e.all_ranks
+          (λ k l. e.each_rank k words l ∙ ap (λ t. rank_words_after t i.cycle i.command k (get_or banks.ranks.items k words)) h.timing)
+          (λ k. rank_words_after-from s.timing history i k);
       windows = w;
-      ascending = Ascends-more history i h.ascending later
+      ascending = Ascends-more history i h.ascending later;
     }
 
 -- a command that is no ACT
@@ -201,7 +201,7 @@ noted-act banks after s history i rank window window' h later e act here inside 
     let found = window-read banks s history rank window h inside read in
     let end : i.cycle + banks.gaps.n_faw ≡ i.cycle + s.timing.n_faw = ap (λ (t : Timing). i.cycle + t.n_faw) h.timing in
     let window_is : window' ≡ buffer (keep_last 4 (keep_last 4 (window_ends s.timing rank history) ++ (i.cycle + s.timing.n_faw) ∷ [])) 4
-                  = is ∙ (λ x. buffer (keep_last (found x).capacity ((found x).items ++ end x ∷ [])) (found x).capacity) in
+    = is ∙ (λ x. buffer (keep_last (found x).capacity ((found x).items ++ end x ∷ [])) (found x).capacity) in
     noted banks after s history i h later e
     (put ∙ windows-act s.timing history i s.ranks rank banks.windows.items window' h.windows (omega (arith, h.ranks)) act here window_is)
 
@@ -218,5 +218,5 @@ stands-first banks s t b r w =
       bank_states = b ∙ fill_by_all (λ k. state_from s.timing [] (bank_at k)) _ (16 * s.ranks) (state_from s.timing [] (bank_at 0)) (length-replicate (16 * s.ranks) _) (λ k l. get_or-replicate (16 * s.ranks) k _ _ l);
       rank_words = r ∙ fill_by_all (rank_words_from s.timing []) _ s.ranks (rank_words_from s.timing [] 0) (length-replicate s.ranks _) (λ k l. get_or-replicate s.ranks k _ _ l);
       windows = w ∙ fill_by_all (λ r. buffer (keep_last 4 (window_ends s.timing r [])) 4) _ s.ranks (buffer [] 4) (length-replicate s.ranks _) (λ k l. get_or-replicate s.ranks k _ _ l);
-      ascending = tt
+      ascending = tt;
     }

@@ -1,8 +1,8 @@
 -- The last four ACTs of a rank decide when one more is allowed.
-use Rattle.std.proofs.Common.{◌≡◌, ℕ, suc, ◌+◌, ◌-◌, ◌≤◌, ◌<◌, ◌↔◌, ◌++◌, ◌∙◌, ◌&&◌, Bool, true, false, ltb, eqb, cond, List, [], ◌∷◌, length, drop, map, refl, sym, ap, arith, inl, inr, length-append, length-drop, drop-drop, append-nil}
-use Rattle.std.specs.Prelude.{count_by, filter, nat_lt, slice_index}
+use Rattle.std.proofs.Common.{◌≡◌, ℕ, suc, ◌+◌, ◌-◌, ◌≤◌, ◌<◌, ◌↔◌, ◌++◌, ◌∙◌, ◌&&◌, true, false, cond, List, [], ◌∷◌, length, drop, map, refl, sym, ap, arith, inl, inr, length-append, length-drop, drop-drop, append-nil}
+use Rattle.std.specs.Prelude.{count_by, filter, nat_lt}
 use Rattle.std.specs.List.{AllByRecursion as Each}
-use Rattle.std.proofs.lemmas.Bool.{cond_both, cases_lt, cases_Bool, lt-ltb, le-ltb, cond-true, cond-false, ne_eqb}
+use Rattle.std.proofs.lemmas.Bool.{cond_both, cases_lt, lt-ltb, le-ltb, cond-true, cond-false}
 use Rattle.std.proofs.lemmas.List.{map-append, drop-append-le}
 use Rattle.std.proofs.lemmas.List.Elements.{filter-append}
 use Rattle.std.proofs.lemmas.List.Sums.{sum_by-cons, count_by-le-length}
@@ -47,22 +47,23 @@ three-ahead now [] h = (λ k. omega arith, λ k. few-ahead now [] (omega arith))
 three-ahead now (a ∷ []) h = (λ k. omega arith, λ k. few-ahead now (a ∷ []) (omega arith))
 three-ahead now (a ∷ b ∷ []) h = (λ k. omega arith, λ k. few-ahead now (a ∷ b ∷ []) (omega arith))
 three-ahead now (a ∷ b ∷ c ∷ []) h = (λ k. omega arith, λ k. few-ahead now (a ∷ b ∷ c ∷ []) (omega arith))
-three-ahead now (a ∷ b ∷ c ∷ d ∷ []) h =
-    (λ k. elim (cases_lt now a) [
-        inl lt ↦ absurd (omega (arith, ahead-in now a (b ∷ c ∷ d ∷ []) lt, all-ahead now a (b ∷ c ∷ d ∷ []) lt h.0))
-      | inr le ↦ le
-    ],
-    λ k. omega (arith, ahead-out now a (b ∷ c ∷ d ∷ []) k, few-ahead now (b ∷ c ∷ d ∷ []) (omega arith)))
+three-ahead now (a ∷ b ∷ c ∷ d ∷ []) h = (
+  λ k. elim (cases_lt now a) [
+    | inl lt ↦ absurd (omega (arith, ahead-in now a (b ∷ c ∷ d ∷ []) lt, all-ahead now a (b ∷ c ∷ d ∷ []) lt h.0))
+    | inr le ↦ le
+  ],
+  λ k. omega (arith, ahead-out now a (b ∷ c ∷ d ∷ []) k, few-ahead now (b ∷ c ∷ d ∷ []) (omega arith)),
+)
 three-ahead now (a ∷ b ∷ c ∷ d ∷ e ∷ es) h =
     let tail = b ∷ c ∷ d ∷ e ∷ es in
     let rest = three-ahead now (b ∷ c ∷ d ∷ e ∷ es) h.1 in
     let same = keep_last-tail a tail (omega arith) in
     rw same
     (elim (cases_lt now a) [
-      inl lt ↦
-        let all : ahead now tail ≡ length tail = all-ahead now a tail lt h.0 in
-        (λ k. absurd (omega (arith, ahead-in now a tail lt)), λ k. absurd (omega (arith, rest.1 k)))
-    | inr le ↦ (λ k. rest.0 (omega (arith, ahead-out now a tail le)), λ k. omega (arith, ahead-out now a tail le, rest.1 k))
+      | inl lt ↦
+          let all : ahead now tail ≡ length tail = all-ahead now a tail lt h.0 in
+          (λ k. absurd (omega (arith, ahead-in now a tail lt)), λ k. absurd (omega (arith, rest.1 k)))
+      | inr le ↦ (λ k. rest.0 (omega (arith, ahead-out now a tail le)), λ k. omega (arith, ahead-out now a tail le, rest.1 k))
     ])
 
 -- the ACTs that count are those whose ends are ahead
@@ -76,8 +77,8 @@ recent_acts-ahead t rank now (i ∷ history) =
     let step : recent_acts t rank now (i ∷ history) ≡ cond (p i) 1 0 + recent_acts t rank now history = sum_by-cons (λ j. cond (p j) 1 0) i history in
     step ∙ ap (λ n. cond (p i) 1 0 + n) rest
     ∙ (elim (is_act_in rank i) as (λ b. cond (b && nat_lt now (f i)) 1 0 + ahead now (map f (filter (is_act_in rank) history))
-        ≡ ahead now (map f (cond b (i ∷ filter (is_act_in rank) history) (filter (is_act_in rank) history)))) [
-        true ↦ sym (sum_by-cons (λ e. cond (nat_lt now e) 1 0) (f i) (map f (filter (is_act_in rank) history)))
+    ≡ ahead now (map f (cond b (i ∷ filter (is_act_in rank) history) (filter (is_act_in rank) history)))) [
+      | true ↦ sym (sum_by-cons (λ e. cond (nat_lt now e) 1 0) (f i) (map f (filter (is_act_in rank) history)))
       | false ↦ omega arith
     ])
 

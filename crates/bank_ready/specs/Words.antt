@@ -7,7 +7,7 @@
 --     window_end window      from which cycle on the four-activate window allows one ACT more
 --     bank_at k, number_of bank      the bank with a number, and the number of a bank
 --     names_bank kind, names_rank kind      a command of this kind names a bank, or a rank alone
-use Rattle.std.specs.Prelude.{ℕ, ◌+◌, ◌*◌, ◌/◌, ◌%◌, ◌==◌, max, Bool, true, false, List, length, slice_index, Option, Some, None, if◌then◌else◌}
+use Rattle.std.specs.Prelude.{ℕ, ◌+◌, ◌*◌, ◌/◌, ◌%◌, ◌==◌, max, Bool, true, false, List, length, slice_index, Some, None, if◌then◌else◌}
 use Rattle.circular_buffer.specs.Buffer.{Buffer}
 use Rattle.sim_base.specs.declared.timing.Timing.{Timing}
 use Rattle.sim_base.specs.declared.place.BankId.{BankId}

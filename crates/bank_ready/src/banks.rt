@@ -26,10 +26,7 @@ pub struct Banks {
     ghost all_windows: { length windows.items ≡ length ranks.items },
 }
 
-fn new_windows(
-    alloc: Global,
-    ranks: usize,
-) -> Result<Vec<HeapCircularBuffer<Cycle>>, AllocError>
+fn new_windows(alloc: Global, ranks: usize) -> Result<Vec<HeapCircularBuffer<Cycle>>, AllocError>
     ensures { IfOk result (λ v. v.items ≡ replicate ranks (buffer [] 4)) }
 {
     let mut windows = Vec::new(alloc);
@@ -61,7 +58,8 @@ impl Banks {
 
     /// Banks that were never used.
     pub fn new(alloc: Global, config: &Config) -> Result<Self, AllocError>
-        ensures { IfOk result (λ banks. StandsFor banks config.now []) }
+        ensures stands { IfOk result (λ banks. StandsFor banks config.now []) }
+        ensures ranks { IfOk result (λ banks. rank_count banks ≡ config.now.ranks) }
     {
         let ranks = config.ranks as usize;
         let state = BankState {

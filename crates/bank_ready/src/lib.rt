@@ -2,6 +2,6 @@
 #![tactic(auto)]
 
 pub mod banks;
-pub mod words;
 #[cfg(test)]
 mod tests;
+pub mod words;

@@ -39,7 +39,13 @@ pub(crate) struct RankWords {
 
 /// From which cycle on a command holds back a later one no more; 0 where no rule binds them.
 #[tactic(auto, unfolding(crate::specs::Ready::held_until))]
-fn held_until(gaps: &GapTable, cycle: Cycle, earlier: Kind, later: Kind, relation: Relation) -> Cycle
+fn held_until(
+    gaps: &GapTable,
+    cycle: Cycle,
+    earlier: Kind,
+    later: Kind,
+    relation: Relation,
+) -> Cycle
     requires { cycle < 2 ^ 62 }
     ensures { result ≡ held_until gaps.now cycle earlier later relation }
 {
@@ -160,7 +166,12 @@ fn until_at(untils: &Untils, relation: Relation) -> BankWords
 }
 
 /// Notes a command in each bank.
-pub(crate) fn note_in_banks(gaps: &GapTable, banks: &mut [BankState], command: Command, cycle: Cycle)
+pub(crate) fn note_in_banks(
+    gaps: &GapTable,
+    banks: &mut [BankState],
+    command: Command,
+    cycle: Cycle,
+)
     requires few { length banks.old ≤ 64 }
     requires cycle { cycle < 2 ^ 62 }
     ensures each { (k : ℕ) (d : BankState) → k < length banks.old → slice_index_or banks.new k d ≡ state_after gaps.now cycle command (bank_at k) (slice_index_or banks.old k d) }
@@ -175,7 +186,12 @@ pub(crate) fn note_in_banks(gaps: &GapTable, banks: &mut [BankState], command: C
 }
 
 /// Notes a command in each rank.
-pub(crate) fn note_in_ranks(gaps: &GapTable, ranks: &mut [RankWords], command: Command, cycle: Cycle)
+pub(crate) fn note_in_ranks(
+    gaps: &GapTable,
+    ranks: &mut [RankWords],
+    command: Command,
+    cycle: Cycle,
+)
     requires few { length ranks.old ≤ 4 }
     requires cycle { cycle < 2 ^ 62 }
     ensures each { (k : ℕ) (d : RankWords) → k < length ranks.old → slice_index_or ranks.new k d ≡ rank_words_after gaps.now cycle command k (slice_index_or ranks.old k d) }

@@ -1,5 +1,5 @@
 -- The command is noted in each bank and each rank, and an ACT in the window of its rank as well.
-use Rattle.std.proofs.Common.{◌≡◌, ◌∙◌, ◌+◌, ◌<◌, ◌++◌, ◌∷◌, [], ℕ, refl, ap, subst}
+use Rattle.std.proofs.Common.{◌∙◌, ◌+◌, ◌<◌, ◌++◌, ◌∷◌, [], ℕ, refl, ap, subst}
 use Rattle.circular_buffer.specs.Buffer.{buffer, keep_last}
 use Rattle.sim_base.specs.declared.command.Command.{Command}
 use Rattle.sim_base.specs.declared.command.CommandRow.{CommandRow}
@@ -16,16 +16,16 @@ returns-in-Act-clause-stands c s history channel h later =
     let ring = c.index_mut.result.now in
     noted-act c.args.self.now _ s history i c.in-Act.bank.rank ring c.push_back.new.self h later
     (is_noted c.args.self.now _ i c.deref_mut.result.now c.note_in_banks.new.banks c.deref_mut-2.result.now c.note_in_ranks.new.ranks refl refl refl
-      c.deref_mut.ensures.value c.deref_mut-2.ensures.value c.note_in_banks.auto.banks c.note_in_ranks.auto.ranks c.note_in_banks.ensures.each c.note_in_ranks.ensures.each)
+    c.deref_mut.ensures.value c.deref_mut-2.ensures.value c.note_in_banks.auto.banks c.note_in_ranks.auto.ranks c.note_in_banks.ensures.each c.note_in_ranks.ensures.each)
     (ap (λ (command : Command). is_kind (kind_of command) kind.Act) c.in-Act.is) (ap rank_of c.in-Act.is)
     (subst (λ (n : ℕ). n < rank_count c.args.self.now) (ap rank_of c.in-Act.is) c.requires.rank) refl c.index_mut.ensures.value
     (c.push_back.ensures.items
-      ∙ ap (λ (n : ℕ). buffer (keep_last ring.capacity (ring.items ++ (c.args.cycle + n) ∷ [])) ring.capacity) (c.from.ensures ∙ c.four_act_window.ensures.value))
+    ∙ ap (λ (n : ℕ). buffer (keep_last ring.capacity (ring.items ++ (c.args.cycle + n) ∷ [])) ring.capacity) (c.from.ensures ∙ c.four_act_window.ensures.value))
 
 pub returns-in_default-clause-stands : goal.returns-in_default-clause-stands
 returns-in_default-clause-stands c s history channel h later =
     let i : CommandRow = record { cycle = c.args.cycle; channel = channel; command = c.args.command } in
     noted-other c.args.self.now _ s history i h later
     (is_noted c.args.self.now _ i c.deref_mut.result.now c.note_in_banks.new.banks c.deref_mut-2.result.now c.note_in_ranks.new.ranks refl refl refl
-      c.deref_mut.ensures.value c.deref_mut-2.ensures.value c.note_in_banks.auto.banks c.note_in_ranks.auto.ranks c.note_in_banks.ensures.each c.note_in_ranks.ensures.each)
+    c.deref_mut.ensures.value c.deref_mut-2.ensures.value c.note_in_banks.auto.banks c.note_in_ranks.auto.ranks c.note_in_banks.ensures.each c.note_in_ranks.ensures.each)
     (is_kind-no_act c.args.command c.in_default.not-Act) refl

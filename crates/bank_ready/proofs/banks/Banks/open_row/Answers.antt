@@ -1,5 +1,4 @@
-use Rattle.std.proofs.Common.{◌≡◌, ap}
-use Rattle.bank_ready.proofs.Allowed.{allowed-rank}
+use Rattle.std.proofs.Common.{ap}
 use Rattle.bank_ready.proofs.Stood.{state-read}
 use Rattle.bank_ready.specs.declared.words.BankState.{BankState}
 use Rattle.bank_ready.proofs.banks.Banks.open_row.Goals as goal
