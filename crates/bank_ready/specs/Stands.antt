@@ -1,13 +1,16 @@
 -- What a `Banks` stands for.
 --     rank_count banks      how many ranks it was made for
+--     IsAllowedFrom s history command cycle      from which cycle on a command is allowed after a history
 --     Ascends history      each command is later than those before it
 --     StandsFor banks s history      all that it keeps is what the commands of a history make of it
-use Rattle.std.specs.Prelude.{◌≡◌, ℕ, ◌*◌, ◌<◌, List, [], ◌∷◌, map, length}
+use Rattle.std.specs.Prelude.{◌≡◌, ℕ, ◌*◌, ◌<◌, ◌≤◌, ◌↔◌, IsTrue, List, [], ◌∷◌, map, length}
 use Rattle.std.specs.List.{AllByRecursion as Each}
 use Rattle.circular_buffer.specs.Buffer.{buffer, keep_last}
 use Rattle.sim_base.specs.declared.config.Config.{Config}
+use Rattle.sim_base.specs.declared.command.Command.{Command}
 use Rattle.sim_base.specs.declared.command.CommandRow.{CommandRow}
 use Rattle.sim_base.specs.History.{below}
+use Rattle.sim_base.specs.Rules.{is_allowed}
 use Rattle.bank_ready.specs.Ready.{window_ends}
 use Rattle.bank_ready.specs.Words.{state_from, rank_words_from, bank_at}
 use Rattle.bank_ready.specs.declared.banks.Banks.{Banks}
@@ -15,6 +18,10 @@ use Rattle.bank_ready.specs.declared.banks.Banks.{Banks}
 -- how many ranks it was made for
 abbrev pub rank_count : Banks → ℕ
 rank_count banks = length banks.ranks.items
+
+-- From this cycle on, and not before, the distances and the four-activate window allow a command after a history.
+abbrev pub IsAllowedFrom : Config → List CommandRow → Command → ℕ → Type 0
+IsAllowedFrom s history command cycle = (now : ℕ) → (cycle ≤ now) ↔ IsTrue (is_allowed s.timing history now command)
 
 -- each command is later than those before it
 abbrev pub Ascends : List CommandRow → Type 0

@@ -48,13 +48,13 @@ fn window_end(window: &HeapCircularBuffer<Cycle>) -> Cycle
 }
 
 impl Banks {
-    ghost use Rattle.std.specs.Prelude.{ℕ, ◌≡◌, ◌+◌, ◌^◌, ◌<◌, ◌≤◌, ◌↔◌, List, [], ◌∷◌, ◌++◌, All, Some, None, IsTrue, IfOk};
+    ghost use Rattle.std.specs.Prelude.{ℕ, ◌≡◌, ◌+◌, ◌^◌, ◌<◌, List, [], ◌∷◌, ◌++◌, All, Some, None, IsTrue, IfOk};
     ghost use Rattle.sim_base.specs.declared.config.Config.{Config};
     ghost use Rattle.sim_base.specs.declared.command.Command.{Command};
     ghost use Rattle.sim_base.specs.declared.command.CommandRow.{CommandRow};
-    ghost use Rattle.sim_base.specs.Rules.{kind_of, bank_of, rank_of, open_row, is_allowed};
+    ghost use Rattle.sim_base.specs.Rules.{kind_of, bank_of, rank_of, open_row};
     ghost use Rattle.bank_ready.specs.Words.{names_bank, names_rank};
-    ghost use Rattle.bank_ready.specs.Stands.{rank_count, StandsFor};
+    ghost use Rattle.bank_ready.specs.Stands.{rank_count, IsAllowedFrom, StandsFor};
 
     /// Banks that were never used.
     pub fn new(alloc: Global, config: &Config) -> Result<Self, AllocError>
@@ -90,7 +90,9 @@ impl Banks {
         requires rank { bank.rank < rank_count self.now }
         requires group { bank.group < 4 }
         requires bank { bank.bank < 4 }
-        ensures least { (s : Config) (history : List CommandRow) (command : Command) (now : ℕ) → StandsFor self.now s history → kind_of command ≡ kind → bank_of command ≡ Some bank → (result ≤ now) ↔ IsTrue (is_allowed s.timing history now command) }
+        ensures least { (s : Config) (history : List CommandRow) (command : Command)
+            → StandsFor self.now s history → kind_of command ≡ kind → bank_of command ≡ Some bank
+            → IsAllowedFrom s history command result }
     {
         let ready = self.banks[number_of(bank)].ready;
         match kind {
@@ -106,7 +108,9 @@ impl Banks {
     pub fn earliest_all(&self, kind: Kind, rank: u32) -> Cycle
         requires kind { IsTrue (names_rank kind) }
         requires rank { rank < rank_count self.now }
-        ensures least { (s : Config) (history : List CommandRow) (command : Command) (now : ℕ) → StandsFor self.now s history → kind_of command ≡ kind → rank_of command ≡ rank → (result ≤ now) ↔ IsTrue (is_allowed s.timing history now command) }
+        ensures least { (s : Config) (history : List CommandRow) (command : Command)
+            → StandsFor self.now s history → kind_of command ≡ kind → rank_of command ≡ rank
+            → IsAllowedFrom s history command result }
     {
         let words = self.ranks[rank as usize];
         match kind {
@@ -121,7 +125,8 @@ impl Banks {
         requires rank { bank.rank < rank_count self.now }
         requires group { bank.group < 4 }
         requires bank { bank.bank < 4 }
-        ensures { (s : Config) (history : List CommandRow) → StandsFor self.now s history → result ≡ open_row bank history }
+        ensures { (s : Config) (history : List CommandRow)
+            → StandsFor self.now s history → result ≡ open_row bank history }
     {
         self.banks[number_of(bank)].row
     }
@@ -130,7 +135,9 @@ impl Banks {
     pub fn note(&mut self, command: Command, cycle: Cycle)
         requires rank { rank_of command < rank_count self.old }
         requires cycle { cycle < 2 ^ 62 }
-        ensures stands { (s : Config) (history : List CommandRow) (channel : ℕ) → StandsFor self.old s history → All (λ i. i.cycle < cycle) history → StandsFor self.new s (history ++ record { cycle = cycle; channel = channel; command = command } ∷ []) }
+        ensures stands { (s : Config) (history : List CommandRow) (channel : ℕ)
+            → StandsFor self.old s history → All (λ i. i.cycle < cycle) history
+            → StandsFor self.new s (history ++ record { cycle = cycle; channel = channel; command = command } ∷ []) }
         ensures ranks { rank_count self.new ≡ rank_count self.old }
     {
         note_in_banks(&self.gaps, &mut self.banks, command, cycle);

@@ -174,7 +174,9 @@ pub(crate) fn note_in_banks(
 )
     requires few { length banks.old ≤ 64 }
     requires cycle { cycle < 2 ^ 62 }
-    ensures each { (k : ℕ) (d : BankState) → k < length banks.old → slice_index_or banks.new k d ≡ state_after gaps.now cycle command (bank_at k) (slice_index_or banks.old k d) }
+    ensures each { (k : ℕ) (d : BankState) → k < length banks.old
+        → slice_index_or banks.new k d
+        ≡ state_after gaps.now cycle command (bank_at k) (slice_index_or banks.old k d) }
 {
     let untils = all_untils(gaps, cycle, command.kind());
     for (number, state) in banks.iter_mut().enumerate() {
@@ -194,7 +196,9 @@ pub(crate) fn note_in_ranks(
 )
     requires few { length ranks.old ≤ 4 }
     requires cycle { cycle < 2 ^ 62 }
-    ensures each { (k : ℕ) (d : RankWords) → k < length ranks.old → slice_index_or ranks.new k d ≡ rank_words_after gaps.now cycle command k (slice_index_or ranks.old k d) }
+    ensures each { (k : ℕ) (d : RankWords) → k < length ranks.old
+        → slice_index_or ranks.new k d
+        ≡ rank_words_after gaps.now cycle command k (slice_index_or ranks.old k d) }
 {
     for (rank, words) in ranks.iter_mut().enumerate() {
         let relation = relation_to(command, rank as u32, None);

@@ -9,7 +9,7 @@ use Rattle.bank_ready.proofs.banks.Banks.earliest.Goals as goal
 
 pub returns-in-Act : goal.returns-in-Act
 returns-in-Act c = record {
-  least = λ s history command now h e f.
+  least = λ s history command h e f now.
       let state = state-read c.args.self.now s history c.args.bank c.number_of.result c.index.result.now h c.requires.rank c.requires.group c.requires.bank c.number_of.ensures c.index.ensures in
       let word = ap (λ (b : BankState). b.ready.act) state in
       let window = ap window_end (window-read c.args.self.now s history c.args.bank.rank c.index-in-Act.result.now h c.requires.rank c.index-in-Act.ensures) in
@@ -20,7 +20,7 @@ returns-in-Act c = record {
 
 pub returns-in-Rd : goal.returns-in-Rd
 returns-in-Rd c = record {
-  least = λ s history command now h e f.
+  least = λ s history command h e f now.
       let state = state-read c.args.self.now s history c.args.bank c.number_of.result c.index.result.now h c.requires.rank c.requires.group c.requires.bank c.number_of.ensures c.index.ensures in
       let word = ap (λ (b : BankState). b.ready.rd) state in
       rw word (allowed-other s.timing history now command kind.Rd c.args.bank (e ∙ c.in-Rd.is) f refl);
@@ -28,7 +28,7 @@ returns-in-Rd c = record {
 
 pub returns-in-Wr : goal.returns-in-Wr
 returns-in-Wr c = record {
-  least = λ s history command now h e f.
+  least = λ s history command h e f now.
       let state = state-read c.args.self.now s history c.args.bank c.number_of.result c.index.result.now h c.requires.rank c.requires.group c.requires.bank c.number_of.ensures c.index.ensures in
       let word = ap (λ (b : BankState). b.ready.wr) state in
       rw word (allowed-other s.timing history now command kind.Wr c.args.bank (e ∙ c.in-Wr.is) f refl);
@@ -36,7 +36,7 @@ returns-in-Wr c = record {
 
 pub returns-in-Pre : goal.returns-in-Pre
 returns-in-Pre c = record {
-  least = λ s history command now h e f.
+  least = λ s history command h e f now.
       let state = state-read c.args.self.now s history c.args.bank c.number_of.result c.index.result.now h c.requires.rank c.requires.group c.requires.bank c.number_of.ensures c.index.ensures in
       let word = ap (λ (b : BankState). b.ready.pre) state in
       rw word (allowed-other s.timing history now command kind.Pre c.args.bank (e ∙ c.in-Pre.is) f refl);

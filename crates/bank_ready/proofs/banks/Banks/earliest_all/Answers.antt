@@ -8,7 +8,7 @@ use Rattle.bank_ready.proofs.banks.Banks.earliest_all.Goals as goal
 
 pub returns-in-Prea : goal.returns-in-Prea
 returns-in-Prea c = record {
-  least = λ s history command now h e f.
+  least = λ s history command h e f now.
       let words = rank_words-read c.args.self.now s history c.args.rank c.index-words.result.now h c.requires.rank c.index-words.ensures in
       let word = ap (λ (w : RankWords). w.prea) words in
       rw word (allowed-rank s.timing history now command kind.Prea c.args.rank (e ∙ c.in-Prea.is) f refl refl);
@@ -16,7 +16,7 @@ returns-in-Prea c = record {
 
 pub returns-in-Ref : goal.returns-in-Ref
 returns-in-Ref c = record {
-  least = λ s history command now h e f.
+  least = λ s history command h e f now.
       let words = rank_words-read c.args.self.now s history c.args.rank c.index-words.result.now h c.requires.rank c.index-words.ensures in
       let word = ap (λ (w : RankWords). w.refresh) words in
       rw word (allowed-rank s.timing history now command kind.Ref c.args.rank (e ∙ c.in-Ref.is) f refl refl);
