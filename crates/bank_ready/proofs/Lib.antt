@@ -1,0 +1,4 @@
+pub mod Readiness
+pub mod Window
+pub mod Allowed
+pub mod Stood

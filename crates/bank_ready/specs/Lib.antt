@@ -1,0 +1,3 @@
+pub mod Ready
+pub mod Words
+pub mod Stands

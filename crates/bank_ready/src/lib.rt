@@ -1,0 +1,7 @@
+//! From which cycle on each command may be issued, as far as the commands before it hold it back.
+#![tactic(auto)]
+
+pub mod banks;
+#[cfg(test)]
+mod tests;
+pub mod words;
