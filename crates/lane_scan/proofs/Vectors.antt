@@ -1,7 +1,8 @@
 -- What the operations on vectors give, lane by lane.
-use Rattle.std.proofs.Common.{◌≡◌, ℕ, ◌-◌, ◌^◌, List, [], ◌∷◌, Bool, true, false, ◌&&◌, cond, length, map, replicate, refl, ap, subst, ◌∙◌, bit_and, w64}
+use Rattle.std.proofs.Common.{◌≡◌, ℕ, min, eqb, ltb, inl, inr, sym, arith, ◌-◌, ◌^◌, List, [], ◌∷◌, Bool, true, false, ◌&&◌, cond, length, map, replicate, refl, ap, subst, ◌∙◌, bit_and, w64}
 use Rattle.std.specs.Simd.Lanes.{zip2, sel_l, top}
-use Rattle.std.proofs.lemmas.Simd.{tops_compared}
+use Rattle.std.proofs.lemmas.Simd.{tops_compared, zip2_splat}
+use Rattle.std.proofs.lemmas.Bool.{cases_lt, cond-true, cond-false, lt-ltb, le-ltb}
 use Rattle.lane_scan.specs.Marks.{mark}
 
 sel-zip2 : (t : ℕ → ℕ → Bool) (p q : ℕ) (xs ys : List ℕ)
@@ -29,3 +30,34 @@ pub bit_and-marks : (f g : ℕ → Bool) (xs ys : List ℕ)
 bit_and-marks f g [] ys = refl
 bit_and-marks f g (x ∷ xs) [] = refl
 bit_and-marks f g (x ∷ xs) (y ∷ ys) = λ i. bit_and-mark (f x) (g y) i ∷ bit_and-marks f g xs ys i
+
+sel-by_marks : (p : ℕ → Bool) (d : ℕ) (times words : List ℕ) → length times ≡ length words
+    → sel_l (map p words) times (replicate (length words) d) ≡ zip2 (λ time word. cond (p word) time d) times words
+sel-by_marks p d [] [] same = refl
+sel-by_marks p d [] (w ∷ words) same = absurd (omega arith)
+sel-by_marks p d (t ∷ times) [] same = absurd (omega arith)
+sel-by_marks p d (t ∷ times) (w ∷ words) same = ap (λ rest. cond (p w) t d ∷ rest) (sel-by_marks p d times words (omega arith))
+
+-- a choice between a vector and a number, by a test of another vector
+pub select-by_marks : (words times : List ℕ) (n mark d : ℕ) → length words ≡ n → length times ≡ n
+    → sel_l (map (top 63) (zip2 (λ a b. cond (eqb a b) (2 ^ 64 - 1) 0) words (replicate n mark))) times (replicate n d)
+        ≡ zip2 (λ time word. cond (eqb word mark) time d) times words
+select-by_marks words times n mark d long same =
+    ap (λ ms. sel_l ms times (replicate n d)) (tops_compared w64 eqb words (replicate n mark) ∙ zip2_splat eqb words n mark long)
+    ∙ subst (λ m. sel_l (map (λ word. eqb word mark) words) times (replicate m d) ≡ zip2 (λ time word. cond (eqb word mark) time d) times words) long
+        (sel-by_marks (λ word. eqb word mark) d times words (same ∙ sym long))
+
+least_of_two : (x y : ℕ) → cond (ltb x y) x y ≡ min x y
+least_of_two x y = elim (cases_lt x y) [
+    | inl below ↦ cond-true _ _ _ (lt-ltb x y below) ∙ omega arith
+    | inr above ↦ cond-false _ _ _ (le-ltb x y above) ∙ omega arith
+  ]
+
+sel-lesser : (xs ys : List ℕ) → sel_l (zip2 ltb xs ys) xs ys ≡ zip2 min xs ys
+sel-lesser [] ys = refl
+sel-lesser (x ∷ xs) [] = refl
+sel-lesser (x ∷ xs) (y ∷ ys) = λ i. least_of_two x y i ∷ sel-lesser xs ys i
+
+-- a choice of the lesser of two vectors
+pub select-lesser : (xs ys : List ℕ) → sel_l (map (top 63) (zip2 (λ a b. cond (ltb a b) (2 ^ 64 - 1) 0) xs ys)) xs ys ≡ zip2 min xs ys
+select-lesser xs ys = ap (λ ms. sel_l ms xs ys) (tops_compared w64 ltb xs ys) ∙ sel-lesser xs ys

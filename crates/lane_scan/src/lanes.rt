@@ -1,8 +1,9 @@
 //! Vectors of words, lane by lane.
 
-ghost use Rattle.std.specs.Prelude.{◌≡◌, ◌+◌, ◌≤◌, ◌<◌, ◌==◌, nat_le, not, ◌&&◌, length, map};
-ghost use Rattle.std.specs.Simd.Lanes.{chunk, zip2};
+ghost use Rattle.std.specs.Prelude.{◌≡◌, ◌+◌, ◌≤◌, ◌<◌, ◌==◌, min, nat_le, not, ◌&&◌, length, map};
+ghost use Rattle.std.specs.Simd.Lanes.{chunk, zip2, mask_l};
 ghost use Rattle.lane_scan.specs.Marks.{is_marked, mark};
+ghost use Rattle.lane_scan.specs.Scans.{time_if_marked};
 
 use std::simd::prelude::*;
 
@@ -60,4 +61,31 @@ pub(crate) fn first_only<const N: usize>(a: Simd<u64, N>, b: Simd<u64, N>) -> Si
     ensures { result ≡ zip2 (λ x y. mark (is_marked x && not (is_marked y))) a.entry b.entry }
 {
     marked(a) & unmarked(b)
+}
+
+/// A bit for each word, which is set where the word is a mark; the lowest bit is that of the first word.
+pub(crate) fn mark_bits<const N: usize>(words: Simd<u64, N>) -> u64
+    requires { N ≤ 64 }
+    ensures { result ≡ mask_l (map is_marked words.entry) }
+{
+    words.simd_eq(Simd::splat(1)).to_bitmask()
+}
+
+/// The times whose words are marks, and the latest time in place of the others.
+pub(crate) fn marked_times<const N: usize>(
+    times: Simd<u64, N>,
+    words: Simd<u64, N>,
+) -> Simd<u64, N>
+    ensures { result ≡ zip2 time_if_marked times.entry words.entry }
+{
+    words
+        .simd_eq(Simd::splat(1))
+        .select(times, Simd::splat(u64::MAX))
+}
+
+/// The lesser word of each lane.
+pub(crate) fn lesser<const N: usize>(a: Simd<u64, N>, b: Simd<u64, N>) -> Simd<u64, N>
+    ensures { result ≡ zip2 min a.entry b.entry }
+{
+    a.simd_min(b)
 }

@@ -5,3 +5,4 @@
 mod fill;
 mod lanes;
 pub mod masks;
+pub mod searches;
