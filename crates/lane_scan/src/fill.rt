@@ -5,8 +5,8 @@ ghost use Rattle.std.specs.Simd.Lanes.{chunk};
 
 use std::simd::prelude::*;
 
-/// The words of a full vector.
-pub(crate) const LANES: usize = 8;
+/// The words of a vector register of 128 bits. A comparison of longer vectors that meets another one is packed and unpacked.
+const LANES: usize = 2;
 
 /// A column of words that is computed from other columns.
 pub(crate) trait Column {
@@ -21,22 +21,45 @@ pub(crate) trait Lanes<const N: usize>: Column {
         ensures { result ≡ chunk at N (Self.words self.now) };
 }
 
-/// Writes the words from a place on, as long as N of them are left, and says where it stopped.
-fn fill_from<const N: usize, C: Lanes<N>>(column: &C, from: usize, out: &mut [u64]) -> usize
+/// Writes N words at a place, up to which the column is written.
+fn store<const N: usize, C: Lanes<N>>(column: &C, at: usize, out: &mut [u64])
+    requires lengths { length out.old ≡ length (C.words column.now) }
+    requires room { at + N ≤ length out.old }
+    requires filled { take at out.old ≡ take at (C.words column.now) }
+    ensures { take (at + N) out.new ≡ take (at + N) (C.words column.now) }
+{
+    column.lanes(at).copy_to_slice(&mut out[at..]);
+}
+
+/// Writes four vectors of N words, over and over, as long as so many words are left, and says where it stopped.
+fn store_blocks<const N: usize, C: Lanes<N>>(column: &C, out: &mut [u64]) -> usize
+    requires lengths { length out.old ≡ length (C.words column.now) }
+    requires some { 0 < N }
+    requires few { N ≤ 64 }
+    ensures stop { result ≤ length out.old }
+    ensures filled { take result out.new ≡ take result (C.words column.now) }
+{
+    let mut at = 0;
+    while 4 * N <= out.len() - at {
+        store::<N, C>(column, at, out);
+        store::<N, C>(column, at + N, out);
+        store::<N, C>(column, at + 2 * N, out);
+        store::<N, C>(column, at + 3 * N, out);
+        at += 4 * N;
+    }
+    at
+}
+
+/// Writes what is left from a place on, word by word.
+fn store_rest<C: Lanes<1>>(column: &C, from: usize, out: &mut [u64])
     requires lengths { length out.old ≡ length (C.words column.now) }
     requires begun { from ≤ length out.old }
     requires filled { take from out.old ≡ take from (C.words column.now) }
-    requires some { 0 < N }
-    ensures stop { result ≤ length out.old }
-    ensures rest { length out.old < result + N }
-    ensures filled { take result out.new ≡ take result (C.words column.now) }
+    ensures { out.new ≡ C.words column.now }
 {
-    let mut at = from;
-    while N <= out.len() - at {
-        column.lanes(at).copy_to_slice(&mut out[at..]);
-        at += N;
+    for at in from..out.len() {
+        store::<1, C>(column, at, out);
     }
-    at
 }
 
 /// Writes the whole column.
@@ -44,6 +67,6 @@ pub(crate) fn fill<C: Lanes<LANES> + Lanes<1>>(column: &C, out: &mut [u64])
     requires { length out.old ≡ length (C.words column.now) }
     ensures { out.new ≡ C.words column.now }
 {
-    let whole = fill_from::<LANES, C>(column, 0, out);
-    fill_from::<1, C>(column, whole, out);
+    let whole = store_blocks::<LANES, C>(column, out);
+    store_rest(column, whole, out);
 }

@@ -6,9 +6,11 @@ ghost use Rattle.std.specs.Simd.Lanes.{chunk};
 ghost use Rattle.lane_scan.specs.Marks.{is_marked, least_marked};
 ghost use Rattle.lane_scan.specs.Scans.{NoMarkBefore, times_of_marks, earliest};
 
-use crate::fill::LANES;
 use crate::lanes::{lesser, load, mark_bits, marked_times};
 use std::simd::prelude::*;
+
+/// The words of a full vector.
+const LANES: usize = 8;
 
 /// How many words come before the first mark among N words from a place on.
 fn unmarked_in<const N: usize>(marks: &[u64], at: usize) -> usize

@@ -1,5 +1,5 @@
 use Rattle.std.proofs.Common.{◌≡◌, ◌-◌, ◌≤◌, length, take}
-use Rattle.lane_scan.proofs.fill.fill_from.Given as goal
+use Rattle.lane_scan.proofs.fill.store_blocks.Given as goal
 
 -- what stands before the place is written
 abbrev pub invariant-loop-out : goal.invariant-loop-out
