@@ -41,17 +41,17 @@ sel-by_marks p d (t ∷ times) (w ∷ words) same = ap (λ rest. cond (p w) t d 
 -- a choice between a vector and a number, by a test of another vector
 pub select-by_marks : (words times : List ℕ) (n mark d : ℕ) → length words ≡ n → length times ≡ n
     → sel_l (map (top 63) (zip2 (λ a b. cond (eqb a b) (2 ^ 64 - 1) 0) words (replicate n mark))) times (replicate n d)
-        ≡ zip2 (λ time word. cond (eqb word mark) time d) times words
+    ≡ zip2 (λ time word. cond (eqb word mark) time d) times words
 select-by_marks words times n mark d long same =
     ap (λ ms. sel_l ms times (replicate n d)) (tops_compared w64 eqb words (replicate n mark) ∙ zip2_splat eqb words n mark long)
     ∙ subst (λ m. sel_l (map (λ word. eqb word mark) words) times (replicate m d) ≡ zip2 (λ time word. cond (eqb word mark) time d) times words) long
-        (sel-by_marks (λ word. eqb word mark) d times words (same ∙ sym long))
+    (sel-by_marks (λ word. eqb word mark) d times words (same ∙ sym long))
 
 least_of_two : (x y : ℕ) → cond (ltb x y) x y ≡ min x y
 least_of_two x y = elim (cases_lt x y) [
-    | inl below ↦ cond-true _ _ _ (lt-ltb x y below) ∙ omega arith
-    | inr above ↦ cond-false _ _ _ (le-ltb x y above) ∙ omega arith
-  ]
+  | inl below ↦ cond-true _ _ _ (lt-ltb x y below) ∙ omega arith
+  | inr above ↦ cond-false _ _ _ (le-ltb x y above) ∙ omega arith
+]
 
 sel-lesser : (xs ys : List ℕ) → sel_l (zip2 ltb xs ys) xs ys ≡ zip2 min xs ys
 sel-lesser [] ys = refl

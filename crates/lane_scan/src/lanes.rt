@@ -72,10 +72,7 @@ pub(crate) fn mark_bits<const N: usize>(words: Simd<u64, N>) -> u64
 }
 
 /// The times whose words are marks, and the latest time in place of the others.
-pub(crate) fn marked_times<const N: usize>(
-    times: Simd<u64, N>,
-    words: Simd<u64, N>,
-) -> Simd<u64, N>
+pub(crate) fn marked_times<const N: usize>(times: Simd<u64, N>, words: Simd<u64, N>) -> Simd<u64, N>
     ensures { result ≡ zip2 time_if_marked times.entry words.entry }
 {
     words

@@ -4,5 +4,11 @@
 
 mod fill;
 mod lanes;
-pub mod masks;
-pub mod searches;
+mod masks;
+mod searches;
+
+pub use masks::{and_mask, and_not_mask, equal_mask, ready_mask};
+pub use searches::{first_marked, least_marked};
+
+#[cfg(test)]
+mod tests;

@@ -19,5 +19,5 @@ loop-at-preserved g c =
     let fits : at + g.row.N ≤ length (times_of_marks times marks) = omega (arith, length-zip2 time_if_marked times marks c.requires.same_length) in
     let loaded = c.marked_times.ensures ∙ (λ i. zip2 time_if_marked (c.load.ensures i) (c.load-in-loop-at.ensures i)) ∙ chunk_zip2 time_if_marked at g.row.N times marks in
     let more = earliest_more (times_of_marks times marks) at g.row.N c.loop-at.lanes c.lesser-lanes.result c.args.least fits c.loop-at.invariant.1
-            (c.lesser-lanes.ensures ∙ ap (zip2 min c.loop-at.lanes) loaded) c.loop-at.invariant.2 in
+    (c.lesser-lanes.ensures ∙ ap (zip2 min c.loop-at.lanes) loaded) c.loop-at.invariant.2 in
     (room, more.0, more.1)

@@ -20,7 +20,7 @@ returns c =
     let scan = c.earliest_from-least in
     let whole = earliest_whole times marks scan.result.0 scan.result.1 c.requires scan.ensures.rest scan.ensures.least in
     let late : earliest (times_of_marks times marks) ≡ latest =
-            omega (arith, whole, c.if-least-lt18446744073709551615.false, earliest-le (times_of_marks times marks)) in
+    omega (arith, whole, c.if-least-lt18446744073709551615.false, earliest-le (times_of_marks times marks)) in
     c.and.ensures
     ∙ (λ i. option_and (c.first_marked.ensures i) (Some ((whole ∙ late) i)))
     ∙ least_latest times marks c.requires (all_times times c.type_inv.times) late
