@@ -1,4 +1,4 @@
-use Rattle.std.proofs.Common.{◌∙◌, eqb, not, cond, replicate}
+use Rattle.std.proofs.Common.{◌∙◌, eqb, cond, replicate}
 use Rattle.std.proofs.lemmas.Simd.{zip2_splat}
 use Rattle.lane_scan.proofs.Vectors.{select-compared}
 use Rattle.lane_scan.proofs.lanes.marked.Goals as goal

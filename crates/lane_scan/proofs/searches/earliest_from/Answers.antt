@@ -1,4 +1,4 @@
-use Rattle.std.proofs.Common.{◌≡◌, ◌+◌, ◌≤◌, length, take, ap, ◌∙◌, min, arith}
+use Rattle.std.proofs.Common.{◌+◌, ◌≤◌, length, take, ap, ◌∙◌, min, arith}
 use Rattle.std.proofs.lemmas.Simd.{length-replicate, length-zip2}
 use Rattle.std.specs.Simd.Lanes.{zip2}
 use Rattle.lane_scan.specs.Scans.{latest, time_if_marked, times_of_marks}

@@ -1,4 +1,4 @@
-use Rattle.std.proofs.Common.{◌≡◌, ◌<◌, ◌∙◌, Some, sym, ap, arith}
+use Rattle.std.proofs.Common.{◌≡◌, ◌<◌, ◌∙◌, Some, ap, arith}
 use Rattle.std.specs.Option.{option_and}
 use Rattle.lane_scan.specs.Scans.{latest, earliest, times_of_marks}
 use Rattle.lane_scan.proofs.LeastTime.{earliest_whole, least_early, least_latest, all_times, earliest-le}

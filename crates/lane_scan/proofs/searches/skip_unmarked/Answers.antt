@@ -1,4 +1,4 @@
-use Rattle.std.proofs.Common.{◌≡◌, ◌+◌, ◌≤◌, length, arith}
+use Rattle.std.proofs.Common.{◌+◌, ◌≤◌, length, arith}
 use Rattle.lane_scan.proofs.FirstMark.{no_mark_more, no_mark_all, mark_found}
 use Rattle.lane_scan.proofs.searches.skip_unmarked.Goals as goal
 
