@@ -1,0 +1,130 @@
+//! The time of a call, over many of them.
+
+ghost use Rattle.std.specs.Prelude.{◌≡◌, ◌<◌, ◌≤◌, ◌*◌, ◌^◌};
+
+use crate::kernels::{
+    Columns, Kernel, LanesBoth, LanesEqual, LanesFirst, LanesFirstOnly, LanesLeast, LanesReady,
+    PlainBoth, PlainEqual, PlainFirst, PlainFirstOnly, PlainLeast, PlainReady,
+};
+use anyhow::{Result, ensure};
+use std::rt::Clock;
+use std::time::Instant;
+
+/// Words scanned in a run.
+const SCANNED: u64 = 1 << 23;
+
+/// Runs, of which the fastest counts.
+const RUNS: u32 = 25;
+
+/// What the calls of a run gave and took.
+#[derive(Clone, Copy)]
+struct Measured {
+    sum: u64,
+    /// Tenths of a nanosecond a call.
+    tenths: u128,
+}
+
+/// A column of N words with a mark at the end of each so many words.
+fn column<const N: usize>(period: usize) -> [u64; N]
+    requires { 0 < period }
+{
+    let mut words = [0u64; N];
+    for (i, word) in words.iter_mut().enumerate() {
+        *word = u64::from(i % period == period - 1);
+    }
+    words
+}
+
+/// Calls a kernel over and over on two sets of columns of N words, in turn: no word is written that a call reads, since a
+/// vector that is read right after one of its words was written waits for the memory.
+fn run<K: Kernel, const N: usize>(rt: &impl Clock) -> Result<Measured>
+    requires some { 0 < N }
+    requires few { N ≤ 1024 }
+{
+    let mut times = [0u64; N];
+    for (i, time) in times.iter_mut().enumerate() {
+        *time = (i as u64).wrapping_mul(0x9e37_79b9_7f4a_7c15) >> 32;
+    }
+    let marks: [u64; N] = column(2);
+    let others: [u64; N] = column(3);
+    let last: [u64; N] = column(N);
+    let again: [u64; N] = column(N);
+    let mut out = [0u64; N];
+    let calls = SCANNED / N as u64;
+    let even = Columns {
+        times: &times,
+        marks: &marks,
+        others: &others,
+        last: &last,
+    };
+    let odd = Columns {
+        times: &times,
+        marks: &others,
+        others: &last,
+        last: &again,
+    };
+    let mut sum = 0u64;
+    let start = Instant::now(rt)?;
+    for call in 0..calls {
+        let columns = if call % 2 == 0 { even } else { odd };
+        sum = sum.wrapping_add(K::call(columns, call << 8, &mut out));
+        sum = sum.wrapping_add(out[N / 2]);
+    }
+    let spent = start.elapsed(rt)?.as_nanos();
+    Ok(Measured {
+        sum,
+        tenths: spent * 10 / u128::from(calls.max(1)),
+    })
+}
+
+/// The fastest of many runs.
+fn measure<K: Kernel, const N: usize>(rt: &impl Clock) -> Result<Measured>
+    requires some { 0 < N }
+    requires few { N ≤ 1024 }
+{
+    let mut best = run::<K, N>(rt)?;
+    for _ in 1..RUNS {
+        let next = run::<K, N>(rt)?;
+        if next.tenths < best.tenths {
+            best = next;
+        }
+    }
+    Ok(best)
+}
+
+/// Prints one row: the kernel, the words, and the time of a call by the plain loop and by lanes.
+fn print_row<R: Clock + Print, P: Kernel, L: Kernel, const N: usize>(rt: &R) -> Result<()>
+    requires some { 0 < N }
+    requires few { N ≤ 1024 }
+{
+    let plain = measure::<P, N>(rt)?;
+    let lanes = measure::<L, N>(rt)?;
+    ensure!(plain.sum == lanes.sum, "the two differ");
+    println!(rt;
+        "{:>12} {:>5} {:>5}.{} {:>5}.{}",
+        P::NAME,
+        N,
+        plain.tenths / 10,
+        plain.tenths % 10,
+        lanes.tenths / 10,
+        lanes.tenths % 10
+    )?;
+    Ok(())
+}
+
+fn print_kernel<R: Clock + Print, P: Kernel, L: Kernel>(rt: &R) -> Result<()> {
+    print_row::<R, P, L, 8>(rt)?;
+    print_row::<R, P, L, 64>(rt)?;
+    print_row::<R, P, L, 1024>(rt)
+}
+
+/// Prints a row for each kernel at 8, 64 and 1024 words.
+pub fn print_all<R: Clock + Print>(rt: &R) -> Result<()> {
+    println!(rt; "      kernel words   plain   lanes   ns a call")?;
+    print_kernel::<R, PlainReady, LanesReady>(rt)?;
+    print_kernel::<R, PlainEqual, LanesEqual>(rt)?;
+    print_kernel::<R, PlainBoth, LanesBoth>(rt)?;
+    print_kernel::<R, PlainFirstOnly, LanesFirstOnly>(rt)?;
+    print_kernel::<R, PlainFirst, LanesFirst>(rt)?;
+    print_kernel::<R, PlainLeast, LanesLeast>(rt)
+}

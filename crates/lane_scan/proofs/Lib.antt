@@ -1,0 +1,4 @@
+pub mod Vectors
+pub mod Chunks
+pub mod FirstMark
+pub mod LeastTime

@@ -1,0 +1,127 @@
+-- What is due by the counts is what is due by the commands that they stand for.
+use Rattle.std.proofs.Common.{◌≡◌, ℕ, zero, suc, ◌+◌, ◌-◌, ◌*◌, ◌/◌, ◌<◌, ◌≤◌, Bool, true, false, cond, eqb, ltb, max, eq-eqb, ne_eqb, rules, List, [], ◌∷◌, ◌++◌, length, Option, Some, None, refl, sym, ap, subst, ◌∙◌, inl, inr, arith}
+use Rattle.std.proofs.lemmas.Bool.{cond-true, cond-false, cases_lt, cases_eq, false≢true, lt-ltb, le-ltb}
+use Rattle.std.proofs.lemmas.List.Sums.{sum_by_push}
+use Rattle.std.proofs.lemmas.List.{get_or-set_same, get_or-set_other}
+use Rattle.std.proofs.Math.Nat.{div-lt_iff_lt-mul}
+use Rattle.std.specs.Prelude.{find, count_by, slice_index, slice_set, IsSome}
+use Rattle.std.specs.List.{range_with_len}
+use Rattle.sim_base.specs.declared.config.Config.{Config}
+use Rattle.sim_base.specs.declared.command.CommandRow.{CommandRow}
+use Rattle.sim_base.specs.declared.command.Command.TheVariants.{Ref}
+use Rattle.sim_base.specs.History.{below}
+use Rattle.sim_base.specs.Scheduling.{due, lowest_due, refreshes}
+use Rattle.refresh.specs.Refreshes.{RefreshCounts, owed, lowest_owed, IsFirstDue, IsFewest, IsNoRefresh, StandsFor}
+
+-- what is due to a rank
+pub due_from_owed : (counts : RefreshCounts) (s : Config) (rank : ℕ) (history : List CommandRow) (now : ℕ) → StandsFor counts s history → rank < counts.ranks
+    → due s rank history now ≡ owed counts rank now
+unfolding due
+due_from_owed counts s rank history now stands exists =
+    let below_ranks : rank < s.ranks = omega (arith, stands.ranks_are) in
+    λ i. cond (eqb (sym stands.interval_is i) 0) 0 (now / sym stands.interval_is i - sym (stands.issued_are rank below_ranks) i)
+
+find_same : (p q : ℕ → Bool) (a n : ℕ) → ((k : ℕ) → k < a + n → p k ≡ q k) → find p (range_with_len a n) ≡ find q (range_with_len a n)
+find_same p q a zero same = refl
+find_same p q a (suc n) same = λ i. cond (same a (omega arith) i) (Some a) (find_same p q (a + 1) n (λ k l. same k (omega arith)) i)
+
+-- the lowest rank to which something is due
+pub lowest_due_from_owed : (counts : RefreshCounts) (s : Config) (history : List CommandRow) (now : ℕ) → StandsFor counts s history
+    → lowest_due s history now ≡ lowest_owed counts now
+unfolding lowest_due
+lowest_due_from_owed counts s history now stands =
+    find_same (λ rank. ltb 0 (due s rank history now)) (λ rank. ltb 0 (owed counts rank now)) 0 s.ranks
+    (λ rank l. ap (ltb 0) (due_from_owed counts s rank history now stands (omega (arith, stands.ranks_are))))
+    ∙ ap (λ n. find (λ rank. ltb 0 (owed counts rank now)) (below n)) (sym stands.ranks_are)
+
+find_none : (p : ℕ → Bool) (a n : ℕ) → ((k : ℕ) → k < a + n → p k ≡ false) → find p (range_with_len a n) ≡ None
+find_none p a zero none = refl
+find_none p a (suc n) none =
+    cond-false (p a) (Some a) (find p (range_with_len (a + 1) n)) (none a (omega arith)) ∙ find_none p (a + 1) n (λ k l. none k (omega arith))
+
+some_first : (b : Bool) (a : ℕ) (rest : Option ℕ) → ((b ≡ false) → IsSome rest) → IsSome (cond b (Some a) rest)
+some_first true a rest later = search rules
+some_first false a rest later = later refl
+
+find_some : (p : ℕ → Bool) (a n k : ℕ) → a ≤ k → k < a + n → p k ≡ true → IsSome (find p (range_with_len a n))
+find_some p a zero k from to holds = absurd (omega arith)
+find_some p a (suc n) k from to holds =
+    some_first (p a) a (find p (range_with_len (a + 1) n)) (λ fails.
+    elim (cases_lt a k) [
+      | inl after ↦ find_some p (a + 1) n k (omega arith) (omega arith) holds
+      | inr at ↦ let here : k ≡ a = omega arith in absurd (false≢true (sym fails ∙ ap p (sym here) ∙ holds))
+    ])
+
+-- where there are refreshes, one is due to a rank as soon as more intervals are over than it had refreshes
+owed_is : (counts : RefreshCounts) (rank now : ℕ) → 0 < counts.interval → owed counts rank now ≡ now / counts.interval - slice_index counts.issued rank
+owed_is counts rank now some = cond-false _ _ _ (ne_eqb counts.interval 0 (λ none. omega arith))
+
+-- The first refresh falls due to the rank that had the fewest.
+pub first_due : (counts : RefreshCounts) (now fewest next : ℕ) → 0 < counts.interval → IsFewest counts fewest → next ≡ max now ((fewest + 1) * counts.interval)
+    → IsFirstDue (lowest_owed counts) now next
+first_due counts now fewest next some least is =
+    let reached = least.reached in
+    let interval = counts.interval in
+    let last : (fewest + 1) * interval ≤ next = omega arith in
+    let over : fewest < next / interval =
+    elim (cases_lt fewest (next / interval)) [
+      | inl before ↦ before
+      | inr after ↦ let short : next < (fewest + 1) * interval = (div-lt_iff_lt-mul some).0 (omega arith) in absurd (omega arith)
+    ] in
+    record {
+      from_now = omega arith;
+      due = find_some (λ rank. ltb 0 (owed counts rank next)) 0 counts.ranks reached.0 (omega arith) (omega (arith, reached.1))
+          (lt-ltb 0 _ (omega (arith, owed_is counts reached.0 next some, reached.2, over)));
+      none_before = λ cycle from before.
+          let early : cycle < (fewest + 1) * interval = omega arith in
+          let few : cycle / interval < fewest + 1 = (div-lt_iff_lt-mul some).1 early in
+          find_none (λ rank. ltb 0 (owed counts rank cycle)) 0 counts.ranks
+          (λ rank l. le-ltb 0 _ (omega (arith, owed_is counts rank cycle some, few, least.at_most rank (omega arith))));
+    }
+
+-- the same by the commands that the counts stand for
+pub first_due_from_owed : (counts : RefreshCounts) (s : Config) (history : List CommandRow) (now next : ℕ) → StandsFor counts s history → IsFirstDue (lowest_owed counts) now next
+    → IsFirstDue (lowest_due s history) now next
+first_due_from_owed counts s history now next stands first = record {
+  from_now = first.from_now;
+  due = subst IsSome (sym (lowest_due_from_owed counts s history next stands)) first.due;
+  none_before = λ cycle from before. lowest_due_from_owed counts s history cycle stands ∙ first.none_before cycle from before;
+}
+
+one_more : {X : Type 0} (p : X → Bool) (xs : List X) (x : X) → count_by p (xs ++ x ∷ []) ≡ count_by p xs + cond (p x) 1 0
+one_more p xs x = sum_by_push (λ y. cond (p y) 1 0) xs x
+
+-- A refresh is counted to its rank.
+pub stands_with_refresh : (counts : RefreshCounts) (s : Config) (history : List CommandRow) (i : CommandRow) (rank : ℕ) → rank < length counts.issued → i.command ≡ Ref rank
+    → StandsFor counts s history
+    → StandsFor (record counts { issued = slice_set counts.issued rank (slice_index counts.issued rank + 1) }) s (history ++ i ∷ [])
+stands_with_refresh counts s history i rank exists is stands = record {
+  interval_is = stands.interval_is;
+  ranks_are = stands.ranks_are;
+  issued_are = λ other below.
+      let before = stands.issued_are other below in
+      let more = one_more (λ r. refreshes other r.command) history i ∙ ap (λ command. count_by (λ r. refreshes other r.command) history + cond (refreshes other command) 1 0) is in
+      elim (cases_eq rank other) [
+        | inl same ↦
+            let one = cond-true {A = ℕ} (eqb rank other) 1 0 (eq-eqb rank other same) in
+            let counted = get_or-set_same counts.issued rank (slice_index counts.issued rank + 1) 0 exists in
+            let at_rank = ap (λ k. slice_index counts.issued k) same in
+            subst (λ k. slice_index (slice_set counts.issued rank (slice_index counts.issued rank + 1)) k ≡ count_by (λ r. refreshes other r.command) (history ++ i ∷ [])) same
+            (omega (arith, counted, one, more, at_rank, before))
+        | inr apart ↦
+            let none = cond-false {A = ℕ} (eqb rank other) 1 0 (ne_eqb rank other apart) in
+            let kept = get_or-set_other counts.issued rank other (slice_index counts.issued rank + 1) 0 (λ e. apart (sym e)) in
+            omega (arith, kept, none, more, before)
+      ];
+}
+
+-- Any other command leaves the counts as they are.
+pub stands_without_refresh : (counts : RefreshCounts) (s : Config) (history : List CommandRow) (i : CommandRow)
+    → IsNoRefresh s i.command → StandsFor counts s history → StandsFor counts s (history ++ i ∷ [])
+stands_without_refresh counts s history i other stands = record {
+  interval_is = stands.interval_is;
+  ranks_are = stands.ranks_are;
+  issued_are = λ rank below.
+      let none = cond-false {A = ℕ} (refreshes rank i.command) 1 0 (other rank below) in
+      omega (arith, one_more (λ r. refreshes rank r.command) history i, none, stands.issued_are rank below);
+}

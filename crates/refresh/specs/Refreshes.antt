@@ -1,0 +1,55 @@
+-- The refreshes that are due to the ranks of a channel.
+--     RefreshCounts      how often a rank is to be refreshed, and how often each was
+--     owed counts rank now      refreshes of a rank that are due
+--     lowest_owed counts now      the lowest rank with a refresh that is due
+--     IsFirstDue lowest now time      the first cycle from now on with a refresh that is due
+--     IsFewest counts fewest      the refreshes of the rank that had the fewest
+--     StandsFor counts s history      the refreshes of a list of commands were counted, and no others
+use Rattle.std.specs.Prelude.{◌≡◌, ℕ, ◌-◌, ◌*◌, ◌^◌, ◌/◌, ◌<◌, ◌≤◌, ◌==◌, nat_lt, List, slice_index, find, count_by, false, Option, IsSome, None, if◌then◌else◌}
+use Rattle.sim_base.specs.declared.config.Config.{Config}
+use Rattle.sim_base.specs.declared.command.Command.{Command}
+use Rattle.sim_base.specs.declared.command.CommandRow.{CommandRow}
+use Rattle.sim_base.specs.History.{below}
+use Rattle.sim_base.specs.Scheduling.{refreshes}
+
+-- the cycles from one refresh of a rank to the next, 0 where there are none; the ranks; and how often each rank was refreshed
+pub record RefreshCounts : Type 0 where
+  pub interval : ℕ
+  pub ranks : ℕ
+  pub issued : List ℕ
+
+-- how many refreshes of a rank are due: one more after each interval, and one less after each refresh
+abbrev pub owed : RefreshCounts → ℕ → ℕ → ℕ
+owed counts rank now = if counts.interval == 0 then 0 else now / counts.interval - slice_index counts.issued rank
+
+-- the lowest rank with a refresh that is due
+abbrev pub lowest_owed : RefreshCounts → ℕ → Option ℕ
+lowest_owed counts now = find (λ rank. nat_lt 0 (owed counts rank now)) (below counts.ranks)
+
+-- the first cycle from now on in which a refresh is due to some rank, where the lowest such rank is told for each cycle
+pub record IsFirstDue (lowest : ℕ → Option ℕ) (now time : ℕ) : Type 0 where
+  pub from_now : now ≤ time
+  pub due : IsSome (lowest time)
+  pub none_before : (cycle : ℕ) → now ≤ cycle → cycle < time → lowest cycle ≡ None
+
+-- the least number of refreshes that a rank has had
+pub record IsFewest (counts : RefreshCounts) (fewest : ℕ) : Type 0 where
+  pub at_most : (rank : ℕ) → rank < counts.ranks → fewest ≤ slice_index counts.issued rank
+  pub reached : (rank : ℕ) × (rank < counts.ranks) × (slice_index counts.issued rank ≡ fewest)
+
+-- The refreshes that a list of commands has for each rank of a configuration were counted, and no others.
+pub record StandsFor (counts : RefreshCounts) (s : Config) (history : List CommandRow) : Type 0 where
+  pub interval_is : counts.interval ≡ s.timing.n_refi
+  pub ranks_are : counts.ranks ≡ s.ranks
+  pub issued_are : (rank : ℕ) → rank < s.ranks → slice_index counts.issued rank ≡ count_by (λ i. refreshes rank i.command) history
+
+-- a command that refreshes no rank of a configuration
+abbrev pub IsNoRefresh : Config → Command → Type 0
+IsNoRefresh s command = (rank : ℕ) → rank < s.ranks → refreshes rank command ≡ false
+
+-- the numbers are in their ranges, and the last refresh of each rank that was counted fell due in a cycle below 2^62
+pub record IsCountable (counts : RefreshCounts) : Type 0 where
+  pub interval_in : counts.interval ≤ 100000
+  pub ranks_some : 1 ≤ counts.ranks
+  pub ranks_in : counts.ranks ≤ 4
+  pub issued_in : (rank : ℕ) → slice_index counts.issued rank * counts.interval < 2 ^ 62
