@@ -1,0 +1,4 @@
+pub mod Values
+pub mod Cores
+pub mod Channels
+pub mod Runs
