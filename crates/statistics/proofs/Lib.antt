@@ -1,0 +1,9 @@
+pub mod Lists
+pub mod Messages
+pub mod CoreSteps
+pub mod CoreMail
+pub mod CoreStretches
+pub mod ChannelSteps
+pub mod ChannelChoices
+pub mod ChannelMail
+pub mod ChannelStretches
