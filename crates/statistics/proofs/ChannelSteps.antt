@@ -22,8 +22,9 @@ use Rattle.sim_base.specs.declared.command.CommandRow.{CommandRow}
 use Rattle.sim_base.specs.declared.command.Source.{Source}
 use Rattle.sim_base.specs.declared.message.Message.{Message}
 use Rattle.sim_base.specs.declared.place.BankId.{BankId}
-use Rattle.statistics.specs.Cores.{one_if}
-use Rattle.statistics.specs.Channels.{draining_of, channel_stats, issues, moves_hit, channel_cycle_with, channel_cycle, sum_of_counts, channel_joined, is_entry, moves_data_of, is_late_act}
+use Rattle.statistics.specs.Counts.{one_if}
+use Rattle.statistics.specs.Channels.{draining_of, channel_stats, issues, moves_hit, channel_cycle_with, channel_cycle, channel_joined, is_entry, moves_data_of, is_late_act}
+use Rattle.statistics.specs.Counts.{sum_of_counts}
 use Rattle.statistics.proofs.Lists.{length-push_suc, take-push, map_below_more, map_below_same, count_below_more, count_below_same, sum_push}
 
 enumerate_from-push : {X : Type 0} (n : ℕ) (xs : List X) (x : X) → enumerate_from n (xs ++ x ∷ []) ≡ enumerate_from n xs ++ (n + length xs, x) ∷ []

@@ -9,7 +9,8 @@ use Rattle.sim_base.specs.History.{issued_commands}
 use Rattle.sim_base.specs.declared.command.Command.{Command}
 use Rattle.sim_base.specs.declared.message.Message.{Message}
 use Rattle.statistics.specs.declared.channels.ChannelStats.{ChannelStats}
-use Rattle.statistics.specs.Channels.{channel_stats, channel_cycle, channel_none, sum_of_counts, channel_joined, channel_stretch, is_late_act, ActsComeFirst}
+use Rattle.statistics.specs.Channels.{channel_stats, channel_cycle, channel_none, channel_joined, channel_stretch, is_late_act, ActsComeFirst}
+use Rattle.statistics.specs.Counts.{sum_of_counts}
 use Rattle.statistics.proofs.Lists.{length-push_suc}
 use Rattle.statistics.proofs.ChannelSteps.{channel_stats-push}
 

@@ -20,7 +20,8 @@ use Rattle.sim_base.specs.declared.message.Message.{Message}
 use Rattle.sim_base.specs.declared.trace.Entry.{Entry}
 use Rattle.sim_base.specs.declared.trace.Stop.{Stop}
 use Rattle.sim_base.specs.declared.trace.Stop.TheVariants as stop
-use Rattle.statistics.specs.Cores.{one_if, issued_in, is_reply_in, replies_in, waited, finish_in, core_stats, core_cycle_with, core_cycle, core_joined, RepliesFollowReads}
+use Rattle.statistics.specs.Cores.{issued_in, is_reply_in, replies_in, waited, finish_in, core_stats, core_cycle_with, core_cycle, core_joined, RepliesFollowReads}
+use Rattle.statistics.specs.Counts.{one_if}
 use Rattle.statistics.proofs.Lists.{length-push_suc, take-push, map_below_more, map_below_same, find_below_more, find_below_same, option_or-none, prefix_len-append_stop}
 
 pub issued_before-push : (rows : List CoreRow) (row : CoreRow) → issued_before (rows ++ row ∷ []) ≡ issued_before rows + row.issued

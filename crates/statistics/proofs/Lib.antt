@@ -7,3 +7,4 @@ pub mod ChannelSteps
 pub mod ChannelChoices
 pub mod ChannelMail
 pub mod ChannelStretches
+pub mod Repeats

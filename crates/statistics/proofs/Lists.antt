@@ -8,7 +8,7 @@ use Rattle.std.proofs.lemmas.List.Folds.{find-append}
 use Rattle.std.proofs.lemmas.List.Sums.{sum_by_push}
 use Rattle.sim_base.proofs.Below.{below_more}
 use Rattle.sim_base.specs.History.{below}
-use Rattle.statistics.specs.Cores.{one_if}
+use Rattle.statistics.specs.Counts.{one_if}
 
 pub length-push_suc : {X : Type 0} (xs : List X) (x : X) → length (xs ++ x ∷ []) ≡ suc (length xs)
 length-push_suc xs x = length_push xs x ∙ add-one (length xs)

@@ -4,9 +4,10 @@
 --     channel_none      of no cycle
 --     channel_joined a b      of two stretches of cycles, the first and what follows it
 --     channel_stretch s channel rows inbox more      of the cycles after these rows, in which the channel does this, one after the other
---     ChannelSumsFit a b      the sums of two stretches fit
+--     channel_times n a      of so many cycles that are each like this one
+--     ChannelFits a      each count fits
 --     ActsComeFirst channel rows      no ACT is issued for an entry whose data was moved before
-use Rattle.std.specs.Prelude.{◌≡◌, ℕ, ◌+◌, ◌^◌, ◌<◌, ◌==◌, nat_lt, max, Bool, false, ◌&&◌, List, [], ◌∷◌, ◌++◌, length, take, slice_index_or, Option, Some, None, if◌then◌else◌}
+use Rattle.std.specs.Prelude.{◌≡◌, ℕ, ◌+◌, ◌*◌, ◌^◌, ◌<◌, ◌==◌, nat_lt, max, Bool, false, ◌&&◌, List, [], ◌∷◌, ◌++◌, length, take, slice_index_or, option_map, Option, Some, None, if◌then◌else◌}
 use Rattle.std.specs.List.{list_any}
 use Rattle.std.specs.Option.{IfSome}
 use Rattle.sim_base.specs.declared.config.Config.{Config}
@@ -22,7 +23,7 @@ use Rattle.sim_base.specs.declared.command.CommandRow.{CommandRow}
 use Rattle.sim_base.specs.declared.command.Source.{Source}
 use Rattle.sim_base.specs.declared.message.Message.{Message}
 use Rattle.statistics.specs.declared.channels.ChannelStats.{ChannelStats}
-use Rattle.statistics.specs.Cores.{one_if}
+use Rattle.statistics.specs.Counts.{one_if, sum_of_counts}
 
 -- a count of cycles of draining: there is none where the channel never drains
 abbrev pub draining_of : Config → ℕ → Option ℕ
@@ -100,12 +101,6 @@ channel_none =
       draining = None;
     }
 
--- two counts, of which one or both may not be there
-abbrev pub sum_of_counts : Option ℕ → Option ℕ → Option ℕ
-sum_of_counts (Some a) (Some b) = Some (a + b)
-sum_of_counts (Some a) None = Some a
-sum_of_counts None other = other
-
 -- the statistics of two stretches of cycles: each count is the sum of both, and the greatest length of the queue the greater
 abbrev pub channel_joined : ChannelStats → ChannelStats → ChannelStats
 channel_joined a b =
@@ -124,19 +119,39 @@ channel_joined a b =
       draining = sum_of_counts a.draining b.draining;
     }
 
--- the sums of two stretches fit: they are below 2^64, and that of the queue's lengths below 2^128
-pub record ChannelSumsFit (a b : ChannelStats) : Type 0 where
-  pub act : a.act + b.act < 2 ^ 64
-  pub rd : a.rd + b.rd < 2 ^ 64
-  pub wr : a.wr + b.wr < 2 ^ 64
-  pub pre : a.pre + b.pre < 2 ^ 64
-  pub prea : a.prea + b.prea < 2 ^ 64
-  pub refs : a.refs + b.refs < 2 ^ 64
-  pub hits : a.hits + b.hits < 2 ^ 64
-  pub queued : a.queued + b.queued < 2 ^ 128
-  pub idle : a.idle + b.idle < 2 ^ 64
-  pub refreshing : a.refreshing + b.refreshing < 2 ^ 64
-  pub draining : IfSome (sum_of_counts a.draining b.draining) (λ n. n < 2 ^ 64)
+-- the statistics of so many cycles that are each like this one: each count is as many times as great, but for the greatest
+-- length of the queue
+abbrev pub channel_times : ℕ → ChannelStats → ChannelStats
+channel_times n a =
+    record {
+      act = n * a.act;
+      rd = n * a.rd;
+      wr = n * a.wr;
+      pre = n * a.pre;
+      prea = n * a.prea;
+      refs = n * a.refs;
+      hits = n * a.hits;
+      queued = n * a.queued;
+      queued_max = if n == 0 then 0 else a.queued_max;
+      idle = n * a.idle;
+      refreshing = n * a.refreshing;
+      draining = if n == 0 then None else option_map (λ count. n * count) a.draining;
+    }
+
+-- each count fits: it is below 2^64, and the sum of the queue's lengths below 2^128
+pub record ChannelFits (a : ChannelStats) : Type 0 where
+  pub act : a.act < 2 ^ 64
+  pub rd : a.rd < 2 ^ 64
+  pub wr : a.wr < 2 ^ 64
+  pub pre : a.pre < 2 ^ 64
+  pub prea : a.prea < 2 ^ 64
+  pub refs : a.refs < 2 ^ 64
+  pub hits : a.hits < 2 ^ 64
+  pub queued : a.queued < 2 ^ 128
+  pub queued_max : a.queued_max < 2 ^ 64
+  pub idle : a.idle < 2 ^ 64
+  pub refreshing : a.refreshing < 2 ^ 64
+  pub draining : IfSome a.draining (λ count. count < 2 ^ 64)
 
 -- the statistics of the cycles after these rows, in which the channel does this, one after the other
 unfoldable pub channel_stretch : Config → ℕ → List (Option Command) → List Message → List (Option Command) → ChannelStats

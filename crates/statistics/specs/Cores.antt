@@ -4,9 +4,10 @@
 --     core_none      of no cycle
 --     core_joined a b      of two stretches of cycles, the first and what follows it
 --     core_stretch s core trace rows inbox more      of the cycles after these rows, in which the core does this, one after the other
---     CoreSumsFit a b      the sums of two stretches fit
+--     core_times n a      of so many cycles that are each like this one
+--     CoreFits a      each count fits
 --     RepliesFollowReads rows inbox      each reply that arrived is of an entry that was issued before
-use Rattle.std.specs.Prelude.{ℕ, ◌+◌, ◌^◌, ◌<◌, ◌==◌, nat_lt, nat_le, Bool, ◌&&◌, List, [], ◌∷◌, ◌++◌, length, take, drop, filter, count_by, sum_by, Option, Some, None, if◌then◌else◌}
+use Rattle.std.specs.Prelude.{ℕ, ◌+◌, ◌*◌, ◌^◌, ◌<◌, ◌==◌, nat_lt, nat_le, Bool, ◌&&◌, List, [], ◌∷◌, ◌++◌, length, take, drop, filter, count_by, sum_by, Option, Some, None, if◌then◌else◌}
 use Rattle.std.specs.Option.{IfSome, option_or}
 use Rattle.std.specs.List.{AllByRecursion as Each}
 use Rattle.sim_base.specs.declared.config.Config.{Config}
@@ -18,6 +19,7 @@ use Rattle.sim_base.specs.declared.message.Message.{Message}
 use Rattle.sim_base.specs.declared.trace.Entry.{Entry}
 use Rattle.sim_base.specs.declared.trace.Stop.{Stop}
 use Rattle.sim_base.specs.declared.trace.Stop.TheVariants as stop
+use Rattle.statistics.specs.Counts.{one_if}
 use Rattle.statistics.specs.declared.cores.CoreStats.{CoreStats}
 
 -- the statistics of all the cycles of these rows
@@ -53,10 +55,6 @@ replies_in cycle inbox = filter (is_reply_in cycle) inbox
 -- how long these replies were waited for, after these rows
 unfoldable pub waited : List CoreRow → List Message → ℕ
 waited rows ms = sum_by (λ m. wait_of rows m.arrival (replied_entry m.load)) ms
-
--- one, where this is the cause
-abbrev pub one_if : Bool → ℕ
-one_if b = if b then 1 else 0
 
 -- the cycle after these rows, if the last entry retires in it
 unfoldable pub finish_in : List Entry → List CoreRow → CoreRow → Option ℕ
@@ -122,19 +120,37 @@ core_joined a b =
       finish = option_or b.finish a.finish;
     }
 
--- the sums of two stretches fit: they are below 2^64, and the latency's below 2^128
-pub record CoreSumsFit (a b : CoreStats) : Type 0 where
-  pub issued : a.issued + b.issued < 2 ^ 64
-  pub retired : a.retired + b.retired < 2 ^ 64
-  pub reads : a.reads + b.reads < 2 ^ 64
-  pub writes : a.writes + b.writes < 2 ^ 64
-  pub replies : a.replies + b.replies < 2 ^ 64
-  pub read_latency : a.read_latency + b.read_latency < 2 ^ 128
-  pub stop_end : a.stop_end + b.stop_end < 2 ^ 64
-  pub stop_width : a.stop_width + b.stop_width < 2 ^ 64
-  pub stop_window : a.stop_window + b.stop_window < 2 ^ 64
-  pub stop_memory : a.stop_memory + b.stop_memory < 2 ^ 64
-  pub stop_credit : a.stop_credit + b.stop_credit < 2 ^ 64
+-- the statistics of so many cycles that are each like this one: each count is as many times as great
+abbrev pub core_times : ℕ → CoreStats → CoreStats
+core_times n a =
+    record {
+      issued = n * a.issued;
+      retired = n * a.retired;
+      reads = n * a.reads;
+      writes = n * a.writes;
+      replies = n * a.replies;
+      read_latency = n * a.read_latency;
+      stop_end = n * a.stop_end;
+      stop_width = n * a.stop_width;
+      stop_window = n * a.stop_window;
+      stop_memory = n * a.stop_memory;
+      stop_credit = n * a.stop_credit;
+      finish = if n == 0 then None else a.finish;
+    }
+
+-- each count fits: it is below 2^64, and the latency below 2^128
+pub record CoreFits (a : CoreStats) : Type 0 where
+  pub issued : a.issued < 2 ^ 64
+  pub retired : a.retired < 2 ^ 64
+  pub reads : a.reads < 2 ^ 64
+  pub writes : a.writes < 2 ^ 64
+  pub replies : a.replies < 2 ^ 64
+  pub read_latency : a.read_latency < 2 ^ 128
+  pub stop_end : a.stop_end < 2 ^ 64
+  pub stop_width : a.stop_width < 2 ^ 64
+  pub stop_window : a.stop_window < 2 ^ 64
+  pub stop_memory : a.stop_memory < 2 ^ 64
+  pub stop_credit : a.stop_credit < 2 ^ 64
 
 -- the statistics of the cycles after these rows, in which the core does this, one after the other
 unfoldable pub core_stretch : Config → ℕ → List Entry → List CoreRow → List Message → List CoreRow → CoreStats

@@ -1,4 +1,5 @@
 pub mod Values
+pub mod Counts
 pub mod Cores
 pub mod Channels
 pub mod Runs

@@ -6,3 +6,5 @@ pub mod cores;
 pub mod final_state;
 pub mod outcome;
 pub mod stats;
+#[cfg(test)]
+mod tests;
