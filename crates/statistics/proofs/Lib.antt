@@ -8,3 +8,5 @@ pub mod ChannelChoices
 pub mod ChannelMail
 pub mod ChannelStretches
 pub mod Repeats
+pub mod Replies
+pub mod RunSteps
