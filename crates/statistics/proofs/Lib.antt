@@ -10,3 +10,4 @@ pub mod ChannelStretches
 pub mod Repeats
 pub mod Replies
 pub mod RunSteps
+pub mod RunStretches

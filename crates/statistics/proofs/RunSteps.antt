@@ -43,7 +43,7 @@ pub core_stats-step : (s : Config) (core : ℕ) (trace : List Entry) (rows : Lis
     ≡ core_joined (core_stats s core trace rows inbox) (core_cycle s core trace rows inbox (step s core trace rows inbox).0)
 core_stats-step s core trace rows inbox h = core_stats-push s core trace rows (step s core trace rows inbox).0 inbox h
 
-travels : (s : Config) → TravelsFor s 1
+pub travels : (s : Config) → TravelsFor s 1
 travels s = λ link l. latency_positive s link
 
 -- what was sent in the next cycle does not arrive in it
@@ -53,7 +53,7 @@ inbox-next s traces n unit =
     ap (λ i. arrived (inbox s traces (run s traces i) unit) (n + 1)) (sym (add-one n))
     ∙ inbox-run s traces n 1 unit (n + 1) (has_channels s) (travels s) (omega arith) 1
 
-core_rows-next : (s : Config) (traces : List (List Entry)) (n core : ℕ) → core < s.cores
+pub core_rows-next : (s : Config) (traces : List (List Entry)) (n core : ℕ) → core < s.cores
     → core_rows core (run s traces (suc n))
     ≡ core_rows core (run s traces n) ++ (step s core (trace_of traces core) (core_rows core (run s traces n)) (inbox s traces (run s traces n) (Core core))).0 ∷ []
 unfolding run
@@ -62,7 +62,7 @@ core_rows-next s traces n core l =
     core_rows-push core history (next_row s traces history)
     ∙ ap (λ row. core_rows core history ++ row ∷ []) (core_row-next s traces history core l)
 
-channel_rows-next : (s : Config) (traces : List (List Entry)) (n channel : ℕ) → channel < s.channels
+pub channel_rows-next : (s : Config) (traces : List (List Entry)) (n channel : ℕ) → channel < s.channels
     → channel_rows channel (run s traces (suc n))
     ≡ channel_rows channel (run s traces n) ++ choice s channel (channel_rows channel (run s traces n)) (inbox s traces (run s traces n) (Channel channel)) ∷ []
 unfolding run

@@ -3,3 +3,4 @@ pub mod Counts
 pub mod Cores
 pub mod Channels
 pub mod Runs
+pub mod Joining

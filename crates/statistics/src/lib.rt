@@ -4,6 +4,7 @@
 pub mod channels;
 pub mod cores;
 pub mod final_state;
+pub mod laws;
 pub mod outcome;
 pub mod stats;
 #[cfg(test)]
