@@ -11,3 +11,6 @@ pub mod Repeats
 pub mod Replies
 pub mod RunSteps
 pub mod RunStretches
+pub mod CoreBounds
+pub mod ReplyBounds
+pub mod ChannelBounds
