@@ -5,7 +5,7 @@ ghost use Rattle.std.specs.Prelude.{◌≡◌, ◌*◌, ◌^◌, ◌<◌, option
 ghost use Rattle.statistics.specs.Counts.{sum_of_counts};
 
 /// What a channel did in some cycles: counts of commands and of cycles.
-#[derive(Clone, Copy, PartialEq, Eq, Debug)]
+#[derive(Clone, Copy, PartialEq, Eq, Debug, Default)]
 pub struct ChannelStats {
     /// ACTs that the channel issued.
     pub act: u64,
@@ -63,20 +63,7 @@ impl ChannelStats {
     pub fn new() -> Self
         ensures { result ≡ channel_none }
     {
-        ChannelStats {
-            act: 0,
-            rd: 0,
-            wr: 0,
-            pre: 0,
-            prea: 0,
-            refs: 0,
-            hits: 0,
-            queued: 0,
-            queued_max: 0,
-            idle: 0,
-            refreshing: 0,
-            draining: None,
-        }
+        Self::default()
     }
 
     /// The statistics of these cycles and of those that follow them: each count is the sum of both, and the greatest length

@@ -3,7 +3,7 @@
 use sim_base::message::Cycle;
 
 /// What a core did in some cycles: counts of entries, of replies and of cycles.
-#[derive(Clone, Copy, PartialEq, Eq, Debug)]
+#[derive(Clone, Copy, PartialEq, Eq, Debug, Default)]
 pub struct CoreStats {
     /// Entries that the core issued.
     pub issued: u64,
@@ -39,20 +39,7 @@ impl CoreStats {
     pub fn new() -> Self
         ensures { result ≡ core_none }
     {
-        CoreStats {
-            issued: 0,
-            retired: 0,
-            reads: 0,
-            writes: 0,
-            replies: 0,
-            read_latency: 0,
-            stop_end: 0,
-            stop_width: 0,
-            stop_window: 0,
-            stop_memory: 0,
-            stop_credit: 0,
-            finish: None,
-        }
+        Self::default()
     }
 
     /// The statistics of these cycles and of those that follow them: each count is the sum of both, and the finish is the
