@@ -14,6 +14,7 @@ pub mod Scheduling
 pub mod Windows
 pub mod Machine
 pub mod Counts
+pub mod Final
 pub mod Locality
 pub mod Faults
 pub mod PlaceRange

@@ -1,0 +1,89 @@
+-- A channel issues no ACT for a request whose data was moved: what it chooses is for a request that waits.
+use Rattle.std.proofs.Common.{◌≡◌, ℕ, ◌+◌, Bool, true, false, eqb, ◌||◌, List, [], ◌∷◌, length, take, Option, Some, None, refl, ap₂, subst, ◌∙◌}
+use Rattle.std.specs.Prelude.{filter, filter_map, option_map}
+use Rattle.std.specs.List.{AllByRecursion as Each, list_any}
+use Rattle.std.specs.Option.{IfSome}
+use Rattle.std.proofs.Math.Seq.{take-length}
+use Rattle.std.proofs.lemmas.Bool.{cond_both, and_parts, not-true}
+use Rattle.sim_base.proofs.Each.{IfSome-find}
+use Rattle.sim_base.proofs.Ordered.{Each-weaker}
+use Rattle.sim_base.proofs.Served.{candidates-each, or_else-each}
+use Rattle.sim_base.specs.declared.config.Config.{Config}
+use Rattle.sim_base.specs.History.{issued_commands}
+use Rattle.sim_base.specs.Rules.{is_legal, has_open_bank, open_row}
+use Rattle.sim_base.specs.Places.{bank_in}
+use Rattle.sim_base.specs.Scheduling.{request_in, serves, source_of, is_served, is_waiting, waiting, queue_in, column_command, needed_at, needed, ready_hit, ready_row, first_ready, refresh_command, if_legal, choice_between, drains, lowest_due, choice}
+use Rattle.sim_base.specs.declared.command.Command.{Command}
+use Rattle.sim_base.specs.declared.command.Command.TheVariants.{Act, Rd, Wr, Pre, Prea, Ref}
+use Rattle.sim_base.specs.declared.command.CommandRow.{CommandRow}
+use Rattle.sim_base.specs.declared.message.Message.{Message}
+use Rattle.sim_base.specs.declared.message.Request.{Request}
+use Rattle.statistics.specs.Channels.{moves_data_of, is_late_act}
+
+passes : {X : Type 0} (p : X → Bool) (xs : List X) → Each (λ x. p x ≡ true) (filter p xs)
+passes p [] = tt
+passes p (x ∷ xs) = cond_both (p x) (x ∷ filter p xs) (filter p xs) (Each (λ y. p y ≡ true)) (λ e. (e, passes p xs)) (λ e. passes p xs)
+
+-- the data of a request was not moved
+abbrev pub Unserved : List CommandRow → Request → Type 0
+Unserved history r = is_served history r ≡ false
+
+waiting-unserved : (history : List CommandRow) (inbox : List Message) (until : ℕ) → Each (Unserved history) (waiting history inbox until)
+unfolding waiting
+waiting-unserved history inbox until =
+    let requests = filter_map (λ m. request_in m.load) inbox in
+    Each-weaker (λ (r : Request). is_waiting history until r ≡ true) (Unserved history) (λ r e. not-true _ (and_parts _ _ e).1)
+    (filter (is_waiting history until) requests) (passes (is_waiting history until) requests)
+
+pub queue-unserved : (channel : ℕ) (rows : List (Option Command)) (inbox : List Message)
+    → Each (Unserved (issued_commands channel rows)) (queue_in channel rows inbox (length rows))
+unfolding queue_in
+queue-unserved channel rows inbox =
+    subst (λ x. Each (Unserved (issued_commands channel x)) (waiting (issued_commands channel (take (length rows) rows)) inbox (length rows + 1)))
+    (take-length rows) (waiting-unserved (issued_commands channel (take (length rows) rows)) inbox (length rows + 1))
+
+moves-serves : (r : Request) (command : Command) → moves_data_of (source_of r) command ≡ serves r command
+moves-serves r (Rd bank row column source) = refl
+moves-serves r (Wr bank row column source) = refl
+moves-serves r (Act bank row source) = refl
+moves-serves r (Pre bank source) = refl
+moves-serves r (Prea rank) = refl
+moves-serves r (Ref rank) = refl
+
+moved-served : (r : Request) (history : List CommandRow) → list_any (λ i. moves_data_of (source_of r) i.command) history ≡ list_any (λ i. serves r i.command) history
+moved-served r [] = refl
+moved-served r (i ∷ history) = ap₂ (λ a b. a || b) (moves-serves r i.command) (moved-served r history)
+
+needed_at-not_late : (history : List CommandRow) (r : Request) → Unserved history r → (row : Option ℕ) → is_late_act history (Some (needed_at row r)) ≡ false
+unfolding is_served
+needed_at-not_late history r h None = moved-served r history ∙ h
+needed_at-not_late history r h (Some row) =
+    cond_both (eqb row r.place.row) (column_command r) (Pre (bank_in r.place) (source_of r)) (λ c. is_late_act history (Some c) ≡ false)
+    (λ e. cond_both r.write (Wr (bank_in r.place) r.place.row r.place.column (source_of r)) (Rd (bank_in r.place) r.place.row r.place.column (source_of r))
+    (λ c. is_late_act history (Some c) ≡ false) (λ f. refl) (λ f. refl))
+    (λ e. refl)
+
+needed-not_late : (history : List CommandRow) (o : Option Request) → IfSome o (Unserved history) → is_late_act history (option_map (needed history) o) ≡ false
+unfolding needed
+needed-not_late history None h = refl
+needed-not_late history (Some r) h = needed_at-not_late history r h (open_row (bank_in r.place) history)
+
+between-not_late : (s : Config) (history : List CommandRow) (now : ℕ) (requests : List Request) → Each (Unserved history) requests → (due : Option ℕ)
+    → is_late_act history (choice_between s history now requests due) ≡ false
+unfolding choice_between first_ready if_legal refresh_command
+between-not_late s history now requests h None =
+    needed-not_late history _ (or_else-each (Unserved history) _ _ (IfSome-find _ (ready_hit s history now) requests h) (IfSome-find _ (ready_row s history now requests) requests h))
+between-not_late s history now requests h (Some rank) =
+    cond_both (is_legal s history now (refresh_command s history rank)) _ _ (λ o. is_late_act history o ≡ false)
+    (λ e. cond_both (has_open_bank s history rank) _ _ (λ c. is_late_act history (Some c) ≡ false) (λ f. refl) (λ f. refl))
+    (λ e. refl)
+
+-- what a channel chooses is no ACT for an entry whose data was moved
+pub choice-not_late : (s : Config) (channel : ℕ) (rows : List (Option Command)) (inbox : List Message)
+    → is_late_act (issued_commands channel rows) (choice s channel rows inbox) ≡ false
+unfolding choice
+choice-not_late s channel rows inbox =
+    let history = issued_commands channel rows in
+    between-not_late s history (length rows) _
+    (candidates-each (Unserved history) s (drains s channel rows inbox (length rows)) (queue_in channel rows inbox (length rows)) (queue-unserved channel rows inbox))
+    (lowest_due s history (length rows))

@@ -1,0 +1,255 @@
+-- What one cycle more adds to each statistic of a channel.
+use Rattle.std.proofs.Common.{◌≡◌, ℕ, zero, suc, ◌+◌, ◌≤◌, Bool, true, false, cond, eqb, ltb, ◌||◌, List, [], ◌∷◌, ◌++◌, length, map, Option, Some, None, refl, sym, ap, ap₂, ◌∙◌, add-zero, zero-add, arith}
+use Rattle.std.specs.Prelude.{count_by, sum, fold, max, filter_map, not, is_some}
+use Rattle.std.specs.List.{AllByRecursion as Each, cons_option, enumerate_from, list_any}
+use Rattle.std.proofs.lemmas.Bool.{or_parts}
+use Rattle.std.proofs.lemmas.Bool.Decides.{nat_tests}
+use Rattle.std.proofs.lemmas.List.{append-nil}
+use Rattle.std.proofs.lemmas.List.Elements.{filter_map-append}
+use Rattle.std.proofs.lemmas.List.Folds.{list_any-append}
+use Rattle.std.proofs.lemmas.List.Sums.{sum_by-cons, sum_by_push, fold_push}
+use Rattle.sim_base.proofs.Each.{Each-all}
+use Rattle.sim_base.specs.declared.config.Config.{Config}
+use Rattle.sim_base.specs.Counts.{is_act_for, is_hit_of, is_hit, hits, issued_of_kind, queue_length, queue_lengths, queued, queued_max, idle, has_refresh_due, refreshing, draining}
+use Rattle.sim_base.specs.History.{below, issued_at, issued_commands}
+use Rattle.sim_base.specs.Rules.{is_kind, kind_of}
+use Rattle.sim_base.specs.Scheduling.{waiting, queue_in, writes_in, drains_with, drains_before, drains, lowest_due}
+use Rattle.sim_base.specs.declared.command.Kind.{Kind}
+use Rattle.sim_base.specs.declared.command.Kind.TheVariants as kind
+use Rattle.sim_base.specs.declared.command.Command.{Command}
+use Rattle.sim_base.specs.declared.command.Command.TheVariants.{Act, Rd, Wr, Pre, Prea, Ref}
+use Rattle.sim_base.specs.declared.command.CommandRow.{CommandRow}
+use Rattle.sim_base.specs.declared.command.Source.{Source}
+use Rattle.sim_base.specs.declared.message.Message.{Message}
+use Rattle.sim_base.specs.declared.place.BankId.{BankId}
+use Rattle.statistics.specs.Counts.{one_if}
+use Rattle.statistics.specs.Channels.{draining_of, channel_stats, issues, moves_hit, channel_cycle_with, channel_cycle, channel_joined, is_entry, moves_data_of, is_late_act}
+use Rattle.statistics.specs.Counts.{sum_of_counts}
+use Rattle.statistics.proofs.Lists.{length-push_suc, take-push, map_below_more, map_below_same, count_below_more, count_below_same, sum_push}
+
+enumerate_from-push : {X : Type 0} (n : ℕ) (xs : List X) (x : X) → enumerate_from n (xs ++ x ∷ []) ≡ enumerate_from n xs ++ (n + length xs, x) ∷ []
+enumerate_from-push n [] x = ap (λ k. (k, x) ∷ []) (sym (add-zero n))
+enumerate_from-push n (y ∷ ys) x =
+    let e : n + 1 + length ys ≡ n + suc (length ys) = omega arith in
+    ap (λ l. (n, y) ∷ l) (enumerate_from-push (n + 1) ys x ∙ ap (λ k. enumerate_from (n + 1) ys ++ (k, x) ∷ []) e)
+
+-- the command of one cycle as a list
+abbrev pub issued_now : ℕ → ℕ → Option Command → List CommandRow
+issued_now channel cycle o = cons_option (issued_at channel cycle o) []
+
+pub issued_commands-push : (channel : ℕ) (rows : List (Option Command)) (o : Option Command)
+    → issued_commands channel (rows ++ o ∷ []) ≡ issued_commands channel rows ++ issued_now channel (length rows) o
+unfolding issued_commands
+issued_commands-push channel rows o =
+    let at = λ (e : ℕ × Option Command). issued_at channel e.0 e.1 in
+    ap (filter_map at) (enumerate_from-push 0 rows o)
+    ∙ filter_map-append at (enumerate_from 0 rows) ((0 + length rows, o) ∷ [])
+    ∙ ap (λ n. filter_map at (enumerate_from 0 rows) ++ issued_now channel n o) (zero-add (length rows))
+
+pub issued_of_kind-push : (kind : Kind) (channel : ℕ) (rows : List (Option Command)) (o : Option Command)
+    → issued_of_kind kind (issued_commands channel (rows ++ o ∷ [])) ≡ issued_of_kind kind (issued_commands channel rows) + one_if (issues kind o)
+unfolding issued_of_kind
+issued_of_kind-push kind channel rows o =
+    let p = λ (i : CommandRow). is_kind (kind_of i.command) kind in
+    ap (count_by p) (issued_commands-push channel rows o) ∙ by o
+  where
+    by : (o : Option Command) → count_by (λ (i : CommandRow). is_kind (kind_of i.command) kind) (issued_commands channel rows ++ issued_now channel (length rows) o)
+        ≡ count_by (λ (i : CommandRow). is_kind (kind_of i.command) kind) (issued_commands channel rows) + one_if (issues kind o)
+    by None = ap (count_by (λ (i : CommandRow). is_kind (kind_of i.command) kind)) (append-nil (issued_commands channel rows)) ∙ sym (add-zero _)
+    by (Some command) = sum_by_push (λ (i : CommandRow). one_if (is_kind (kind_of i.command) kind)) (issued_commands channel rows) _
+
+queue_in-push : (channel : ℕ) (rows : List (Option Command)) (o : Option Command) (inbox : List Message) (cycle : ℕ) → cycle ≤ length rows
+    → queue_in channel (rows ++ o ∷ []) inbox cycle ≡ queue_in channel rows inbox cycle
+unfolding queue_in
+queue_in-push channel rows o inbox cycle l = ap (λ x. waiting (issued_commands channel x) inbox (cycle + 1)) (take-push rows o cycle l)
+
+queue_length-push : (channel : ℕ) (rows : List (Option Command)) (o : Option Command) (inbox : List Message) (cycle : ℕ) → cycle ≤ length rows
+    → queue_length channel (rows ++ o ∷ []) inbox cycle ≡ queue_length channel rows inbox cycle
+unfolding queue_length
+queue_length-push channel rows o inbox cycle l = ap length (queue_in-push channel rows o inbox cycle l)
+
+pub queue_lengths-push : (channel : ℕ) (rows : List (Option Command)) (o : Option Command) (inbox : List Message)
+    → queue_lengths channel (rows ++ o ∷ []) inbox ≡ queue_lengths channel rows inbox ++ queue_length channel rows inbox (length rows) ∷ []
+unfolding queue_lengths
+queue_lengths-push channel rows o inbox =
+    let after = queue_length channel (rows ++ o ∷ []) inbox in
+    ap (λ n. map after (below n)) (length-push_suc rows o)
+    ∙ map_below_more after (length rows)
+    ∙ ap₂ (λ xs x. xs ++ x ∷ [])
+    (map_below_same after (queue_length channel rows inbox) (length rows) (λ k l. queue_length-push channel rows o inbox k (omega arith)))
+    (queue_length-push channel rows o inbox (length rows) (omega arith))
+
+pub queued-push : (channel : ℕ) (rows : List (Option Command)) (o : Option Command) (inbox : List Message)
+    → queued channel (rows ++ o ∷ []) inbox ≡ queued channel rows inbox + queue_length channel rows inbox (length rows)
+unfolding queued
+queued-push channel rows o inbox = ap sum (queue_lengths-push channel rows o inbox) ∙ sum_push (queue_lengths channel rows inbox) _
+
+pub queued_max-push : (channel : ℕ) (rows : List (Option Command)) (o : Option Command) (inbox : List Message)
+    → queued_max channel (rows ++ o ∷ []) inbox ≡ max (queued_max channel rows inbox) (queue_length channel rows inbox (length rows))
+unfolding queued_max
+queued_max-push channel rows o inbox = ap (fold max 0) (queue_lengths-push channel rows o inbox) ∙ fold_push max 0 (queue_lengths channel rows inbox) _
+
+pub idle-push : (channel : ℕ) (rows : List (Option Command)) (o : Option Command) (inbox : List Message)
+    → idle channel (rows ++ o ∷ []) inbox ≡ idle channel rows inbox + one_if (eqb (queue_length channel rows inbox (length rows)) 0)
+unfolding idle
+idle-push channel rows o inbox =
+    ap (count_by (λ n. eqb n 0)) (queue_lengths-push channel rows o inbox) ∙ sum_by_push (λ n. one_if (eqb n 0)) (queue_lengths channel rows inbox) _
+
+has_refresh_due-push : (s : Config) (channel : ℕ) (rows : List (Option Command)) (o : Option Command) (cycle : ℕ) → cycle ≤ length rows
+    → has_refresh_due s channel (rows ++ o ∷ []) cycle ≡ has_refresh_due s channel rows cycle
+unfolding has_refresh_due
+has_refresh_due-push s channel rows o cycle l = ap (λ x. is_some (lowest_due s (issued_commands channel x) cycle)) (take-push rows o cycle l)
+
+pub refreshing-push : (s : Config) (channel : ℕ) (rows : List (Option Command)) (o : Option Command)
+    → refreshing s channel (rows ++ o ∷ []) ≡ refreshing s channel rows + one_if (has_refresh_due s channel rows (length rows))
+unfolding refreshing
+refreshing-push s channel rows o =
+    let after = has_refresh_due s channel (rows ++ o ∷ []) in
+    ap (λ n. count_by after (below n)) (length-push_suc rows o)
+    ∙ count_below_more after (length rows)
+    ∙ ap₂ (λ a b. a + one_if b)
+    (count_below_same after (has_refresh_due s channel rows) (length rows) (λ k l. has_refresh_due-push s channel rows o k (omega arith)))
+    (has_refresh_due-push s channel rows o (length rows) (omega arith))
+
+drains_before-push : (s : Config) (channel : ℕ) (rows : List (Option Command)) (o : Option Command) (inbox : List Message) (n : ℕ) → n ≤ suc (length rows)
+    → drains_before s channel (rows ++ o ∷ []) inbox n ≡ drains_before s channel rows inbox n
+unfolding drains_before writes_in
+drains_before-push s channel rows o inbox zero l = refl
+drains_before-push s channel rows o inbox (suc n) l =
+    ap₂ (λ d q. drains_with s d (count_by (λ r. r.write) q))
+    (drains_before-push s channel rows o inbox n (omega arith))
+    (queue_in-push channel rows o inbox n (omega arith))
+
+pub draining-push : (s : Config) (channel : ℕ) (rows : List (Option Command)) (o : Option Command) (inbox : List Message)
+    → draining s channel (rows ++ o ∷ []) inbox ≡ draining s channel rows inbox + one_if (drains s channel rows inbox (length rows))
+unfolding draining
+draining-push s channel rows o inbox =
+    let after = drains s channel (rows ++ o ∷ []) inbox in
+    ap (λ n. count_by after (below n)) (length-push_suc rows o)
+    ∙ count_below_more after (length rows)
+    ∙ ap₂ (λ a b. a + one_if b)
+    (count_below_same after (drains s channel rows inbox) (length rows) (λ k l. drains_before-push s channel rows o inbox (k + 1) (omega arith)))
+    (drains_before-push s channel rows o inbox (length rows + 1) (omega arith))
+
+-- a command is an ACT for the entry whose data another moves
+abbrev opens_for : Command → Command → Bool
+opens_for command (Rd bank row column source) = is_act_for source command
+opens_for command (Wr bank row column source) = is_act_for source command
+opens_for command (Act bank row source) = false
+opens_for command (Pre bank source) = false
+opens_for command (Prea rank) = false
+opens_for command (Ref rank) = false
+
+or-false : (x : Bool) → (x || false) ≡ x
+or-false true = refl
+or-false false = refl
+
+no_act_added : (history : List CommandRow) (i : CommandRow) (source : Source) → is_act_for source i.command ≡ false
+    → is_hit_of (history ++ i ∷ []) (Some source) ≡ is_hit_of history (Some source)
+no_act_added history i source e =
+    let p = λ (j : CommandRow). is_act_for source j.command in
+    ap not (list_any-append p history (i ∷ []) ∙ ap (λ b. list_any p history || (b || false)) e ∙ or-false (list_any p history))
+
+-- one command more leaves a hit a hit, if it is no ACT for its entry
+is_hit-push : (history : List CommandRow) (i : CommandRow) (command : Command) → opens_for i.command command ≡ false → is_hit (history ++ i ∷ []) command ≡ is_hit history command
+is_hit-push history i (Rd bank row column source) e = no_act_added history i source e
+is_hit-push history i (Wr bank row column source) e = no_act_added history i source e
+is_hit-push history i (Act bank row source) e = refl
+is_hit-push history i (Pre bank source) e = refl
+is_hit-push history i (Prea rank) e = refl
+is_hit-push history i (Ref rank) e = refl
+
+opens_for-itself : (command : Command) → opens_for command command ≡ false
+opens_for-itself (Rd bank row column source) = refl
+opens_for-itself (Wr bank row column source) = refl
+opens_for-itself (Act bank row source) = refl
+opens_for-itself (Pre bank source) = refl
+opens_for-itself (Prea rank) = refl
+opens_for-itself (Ref rank) = refl
+
+opens_none : (command : Command) → ((source : Source) → is_act_for source command ≡ false) → (other : Command) → opens_for command other ≡ false
+opens_none command h (Rd bank row column source) = h source
+opens_none command h (Wr bank row column source) = h source
+opens_none command h (Act bank row source) = refl
+opens_none command h (Pre bank source) = refl
+opens_none command h (Prea rank) = refl
+opens_none command h (Ref rank) = refl
+
+entries_swap : (a b : Source) → is_entry a b ≡ false → is_entry b a ≡ false
+entries_swap a b h = grind (arith, nat_tests)
+
+opens_for-act : (bank : BankId) (row : ℕ) (source : Source) (other : Command) → moves_data_of source other ≡ false → opens_for (Act bank row source) other ≡ false
+opens_for-act bank row source (Rd b r c x) h = entries_swap source x h
+opens_for-act bank row source (Wr b r c x) h = entries_swap source x h
+opens_for-act bank row source (Act b r x) h = refl
+opens_for-act bank row source (Pre b x) h = refl
+opens_for-act bank row source (Prea rank) h = refl
+opens_for-act bank row source (Ref rank) h = refl
+
+acts_for_none : (bank : BankId) (row : ℕ) (source : Source) (history : List CommandRow) → list_any (λ i. moves_data_of source i.command) history ≡ false
+    → Each (λ (i : CommandRow). opens_for (Act bank row source) i.command ≡ false) history
+acts_for_none bank row source [] h = tt
+acts_for_none bank row source (i ∷ history) h =
+    let parts = or_parts (moves_data_of source i.command) (list_any (λ i. moves_data_of source i.command) history) h in
+    (opens_for-act bank row source i.command parts.0, acts_for_none bank row source history parts.1)
+
+not_late : (history : List CommandRow) (command : Command) → is_late_act history (Some command) ≡ false
+    → Each (λ (i : CommandRow). opens_for command i.command ≡ false) history
+not_late history (Act bank row source) h = acts_for_none bank row source history h
+not_late history (Rd bank row column source) h = Each-all _ (λ i. opens_none (Rd bank row column source) (λ x. refl) i.command) history
+not_late history (Wr bank row column source) h = Each-all _ (λ i. opens_none (Wr bank row column source) (λ x. refl) i.command) history
+not_late history (Pre bank source) h = Each-all _ (λ i. opens_none (Pre bank source) (λ x. refl) i.command) history
+not_late history (Prea rank) h = Each-all _ (λ i. opens_none (Prea rank) (λ x. refl) i.command) history
+not_late history (Ref rank) h = Each-all _ (λ i. opens_none (Ref rank) (λ x. refl) i.command) history
+
+hits_among : (history : List CommandRow) (i : CommandRow) (some : List CommandRow) → Each (λ (j : CommandRow). opens_for i.command j.command ≡ false) some
+    → count_by (λ j. is_hit (history ++ i ∷ []) j.command) some ≡ count_by (λ j. is_hit history j.command) some
+hits_among history i [] h = refl
+hits_among history i (j ∷ some) h =
+    sum_by-cons (λ x. one_if (is_hit (history ++ i ∷ []) x.command)) j some
+    ∙ ap₂ (λ b n. one_if b + n) (is_hit-push history i j.command h.0) (hits_among history i some h.1)
+    ∙ sym (sum_by-cons (λ x. one_if (is_hit history x.command)) j some)
+
+-- one command more, which is no ACT for an entry whose data was moved
+pub hits-one_more : (history : List CommandRow) (i : CommandRow) → is_late_act history (Some i.command) ≡ false
+    → hits (history ++ i ∷ []) ≡ hits history + one_if (is_hit history i.command)
+unfolding hits
+hits-one_more history i h =
+    sum_by_push (λ j. one_if (is_hit (history ++ i ∷ []) j.command)) history i
+    ∙ ap₂ (λ n b. n + one_if b) (hits_among history i history (not_late history i.command h)) (is_hit-push history i i.command (opens_for-itself i.command))
+
+pub hits-push : (channel : ℕ) (rows : List (Option Command)) (o : Option Command) → is_late_act (issued_commands channel rows) o ≡ false
+    → hits (issued_commands channel (rows ++ o ∷ [])) ≡ hits (issued_commands channel rows) + one_if (moves_hit (issued_commands channel rows) o)
+hits-push channel rows o h = ap hits (issued_commands-push channel rows o) ∙ by o h
+  where
+    by : (o : Option Command) → is_late_act (issued_commands channel rows) o ≡ false
+        → hits (issued_commands channel rows ++ issued_now channel (length rows) o) ≡ hits (issued_commands channel rows) + one_if (moves_hit (issued_commands channel rows) o)
+    by None k = ap hits (append-nil (issued_commands channel rows)) ∙ sym (add-zero _)
+    by (Some command) k = hits-one_more (issued_commands channel rows) (record { cycle = length rows; channel = channel; command = command }) k
+
+draining_of-sum : (s : Config) (a b : ℕ) → draining_of s (a + b) ≡ sum_of_counts (draining_of s a) (draining_of s b)
+draining_of-sum s a b = by (ltb 0 s.write_high)
+  where
+    by : (t : Bool) → cond t (Some (a + b)) None ≡ sum_of_counts (cond t (Some a) None) (cond t (Some b) None)
+    by true = refl
+    by false = refl
+
+-- the statistics with one cycle more are joined with those of the cycle
+pub channel_stats-push : (s : Config) (channel : ℕ) (rows : List (Option Command)) (o : Option Command) (inbox : List Message)
+    → is_late_act (issued_commands channel rows) o ≡ false
+    → channel_stats s channel (rows ++ o ∷ []) inbox ≡ channel_joined (channel_stats s channel rows inbox) (channel_cycle s channel rows inbox o)
+unfolding channel_stats channel_cycle channel_cycle_with
+channel_stats-push s channel rows o inbox h =
+    let e0 = issued_of_kind-push kind.Act channel rows o in
+    let e1 = issued_of_kind-push kind.Rd channel rows o in
+    let e2 = issued_of_kind-push kind.Wr channel rows o in
+    let e3 = issued_of_kind-push kind.Pre channel rows o in
+    let e4 = issued_of_kind-push kind.Prea channel rows o in
+    let e5 = issued_of_kind-push kind.Ref channel rows o in
+    let e6 = hits-push channel rows o h in
+    let e7 = queued-push channel rows o inbox in
+    let e8 = queued_max-push channel rows o inbox in
+    let e9 = idle-push channel rows o inbox in
+    let e10 = refreshing-push s channel rows o in
+    let e11 = ap (draining_of s) (draining-push s channel rows o inbox) ∙ draining_of-sum s _ _ in
+    cc

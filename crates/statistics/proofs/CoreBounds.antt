@@ -1,0 +1,177 @@
+-- How great the statistics of a core get: what lets each count fit.
+use Rattle.std.proofs.Common.{◌≡◌, ℕ, zero, suc, ◌+◌, ◌-◌, ◌*◌, ◌^◌, ◌<◌, ◌≤◌, Bool, true, cond, eqb, ltb, min, List, [], ◌∷◌, ◌++◌, length, take, Option, Some, None, sym, ap, subst, ◌∙◌, ⊎_elim, arith}
+use Rattle.std.specs.Prelude.{count_by, sum_by, filter, find, unwrap_or, is_some}
+use Rattle.std.specs.List.{range_with_len}
+use Rattle.std.specs.Option.{IfSome, option_or}
+use Rattle.std.proofs.lemmas.Bool.{cond_both, cond-true, cases_lt, and_parts, ltb-true, eq-eqb}
+use Rattle.std.proofs.lemmas.List.{length-map, length-take}
+use Rattle.std.proofs.lemmas.List.Folds.{length-prefix_len}
+use Rattle.std.proofs.lemmas.List.FromFn.{length-range_with_len}
+use Rattle.std.proofs.lemmas.List.Sums.{sum_by-cons, count_by-le-length, prefix_len-le-length}
+use Rattle.std.proofs.lemmas.Nat.{mul-le}
+use Rattle.sim_base.specs.declared.config.Config.{Config}
+use Rattle.sim_base.specs.Counts.{is_read, is_write, reads, writes, replied_entry, is_reply, is_reply_before, replies, wait_of, read_latency, stop_in, stops, is_stop, stopped_by}
+use Rattle.sim_base.specs.History.{below, trace_of, core_rows, retired_before, issued_before, core_messages, inbox}
+use Rattle.sim_base.specs.Machine.{run, core_run}
+use Rattle.sim_base.specs.Windows.{done_from, is_done, retires, stop_after, has_cause, first_stop, step}
+use Rattle.sim_base.specs.declared.history.CoreRow.{CoreRow}
+use Rattle.sim_base.specs.declared.message.Message.{Message}
+use Rattle.sim_base.specs.declared.message.Unit.TheVariants.{Core}
+use Rattle.sim_base.specs.declared.trace.Entry.{Entry}
+use Rattle.sim_base.specs.declared.trace.Stop.{Stop}
+use Rattle.sim_base.specs.declared.trace.Stop.TheVariants as stop
+use Rattle.statistics.specs.Cores.{core_stats, CoreFits}
+use Rattle.statistics.proofs.CoreSteps.{issued_before-push, retired_before-push}
+use Rattle.statistics.proofs.Lists.{find_below_more}
+use Rattle.statistics.proofs.RunSteps.{core_rows-next}
+
+count-take-le : (p : Entry → Bool) (n : ℕ) (trace : List Entry) → count_by p (take n trace) ≤ n
+count-take-le p n trace = omega (arith, count_by-le-length p (take n trace), length-take n trace)
+
+wait_of-le : (rows : List CoreRow) (arrival : ℕ) (o : Option ℕ) → wait_of rows arrival o ≤ arrival
+wait_of-le rows arrival None = omega arith
+wait_of-le rows arrival (Some entry) = omega arith
+
+waits-le : (rows : List CoreRow) (cycles : ℕ) (ms : List Message)
+    → sum_by (λ m. wait_of rows m.arrival (replied_entry m.load)) (filter (is_reply_before cycles) ms) ≤ length (filter (is_reply_before cycles) ms) * cycles
+waits-le rows cycles [] = omega arith
+waits-le rows cycles (m ∷ ms) =
+    let kept = filter (is_reply_before cycles) ms in
+    let wait = λ (x : Message). wait_of rows x.arrival (replied_entry x.load) in
+    cond_both (is_reply_before cycles m) (m ∷ kept) kept (λ x. sum_by wait x ≤ length x * cycles)
+    (λ e.
+    let l : m.arrival < cycles = ltb-true m.arrival cycles (and_parts (is_reply m) (ltb m.arrival cycles) e).1 in
+    let rest : sum_by wait kept ≤ length kept * cycles = waits-le rows cycles ms in
+    let one : suc (length kept) * cycles ≡ length kept * cycles + cycles = grind arith in
+    omega (arith, sum_by-cons wait m kept, wait_of-le rows m.arrival (replied_entry m.load)))
+    (λ e. waits-le rows cycles ms)
+
+pub read_latency-le : (rows : List CoreRow) (inbox : List Message) → read_latency rows inbox ≤ length (replies rows inbox) * length rows
+unfolding read_latency replies
+read_latency-le rows inbox = waits-le rows (length rows) inbox
+
+pub stopped_by-le : (s : Config) (core : ℕ) (trace : List Entry) (rows : List CoreRow) (inbox : List Message) (why : Stop) → stopped_by s core trace rows inbox why ≤ length rows
+unfolding stopped_by stops
+stopped_by-le s core trace rows inbox why =
+    omega (arith, count_by-le-length (is_stop why) (stops s core trace rows inbox), length-map (below (length rows)) (stop_in s core trace rows inbox), length-range_with_len 0 (length rows))
+
+-- the counts of a run fit, since a cycle and the length of a trace do
+pub core_stats-fit : (s : Config) (core : ℕ) (trace : List Entry) (rows : List CoreRow) (inbox : List Message) → length rows ≤ 2 ^ 62 → issued_before rows ≤ 2 ^ 62
+    → retired_before rows ≤ 2 ^ 62 → length (replies rows inbox) ≤ 2 ^ 62 → CoreFits (core_stats s core trace rows inbox)
+unfolding core_stats reads writes
+core_stats-fit s core trace rows inbox cycles issued retired replied =
+    let most : length (replies rows inbox) * length rows ≤ 2 ^ 62 * 2 ^ 62 = mul-le _ _ (2 ^ 62) (2 ^ 62) replied cycles in
+    record {
+      issued = omega arith;
+      retired = omega arith;
+      reads = omega (arith, count-take-le is_read (issued_before rows) trace);
+      writes = omega (arith, count-take-le is_write (issued_before rows) trace);
+      replies = omega arith;
+      read_latency = omega (arith, read_latency-le rows inbox);
+      stop_end = omega (arith, stopped_by-le s core trace rows inbox stop.End);
+      stop_width = omega (arith, stopped_by-le s core trace rows inbox stop.Width);
+      stop_window = omega (arith, stopped_by-le s core trace rows inbox stop.Window);
+      stop_memory = omega (arith, stopped_by-le s core trace rows inbox stop.Memory);
+      stop_credit = omega (arith, stopped_by-le s core trace rows inbox stop.Credit);
+    }
+
+-- a core retires no more than it issued
+pub retires-le : (s : Config) (trace : List Entry) (rows : List CoreRow) (inbox : List Message) → retires s trace rows inbox ≤ issued_before rows - retired_before rows
+unfolding retires done_from
+retires-le s trace rows inbox =
+    let first = retired_before rows in
+    let most = min s.width (issued_before rows - first) in
+    let p = is_done trace inbox (length rows) in
+    omega (arith, length-prefix_len p (range_with_len first most), prefix_len-le-length p (range_with_len first most), length-range_with_len first most)
+
+-- what is found below n is below n
+find_below_small : (p : ℕ → Bool) (n : ℕ) → IfSome (find p (below n)) (λ i. i < n)
+find_below_small p zero = tt
+find_below_small p (suc n) = subst (λ o. IfSome o (λ i. i < suc n)) (sym (find_below_more p n)) (by (find p (below n)) (find_below_small p n))
+  where
+    by : (o : Option ℕ) → IfSome o (λ i. i < n) → IfSome (option_or o (cond (p n) (Some n) None)) (λ i. i < suc n)
+    by None h = cond_both (p n) (Some n) None (λ x. IfSome x (λ i. i < suc n)) (λ e. omega arith) (λ e. tt)
+    by (Some i) h = omega arith
+
+-- the first number that passes is no greater than another one
+find_below_le : (p : ℕ → Bool) (at : ℕ) → p at ≡ true → (n : ℕ) → at < n → (d : ℕ) → unwrap_or (find p (below n)) d ≤ at
+find_below_le p at h zero l d = absurd (omega arith)
+find_below_le p at h (suc n) l d =
+    subst (λ o. unwrap_or o d ≤ at) (sym (find_below_more p n))
+    (⊎_elim
+    (λ (earlier : at < n). found (find p (below n)) (find_below_le p at h n earlier))
+    (λ (last : n ≤ at). let e : at ≡ n = omega arith in here e (find p (below n)) (find_below_small p n))
+    (cases_lt at n))
+  where
+    found : (o : Option ℕ) → ((x : ℕ) → unwrap_or o x ≤ at) → unwrap_or (option_or o (cond (p n) (Some n) None)) d ≤ at
+    found None k = let wrong : suc at ≤ at = k (suc at) in absurd (omega arith)
+    found (Some i) k = k 0
+
+    here : at ≡ n → (o : Option ℕ) → IfSome o (λ i. i < n) → unwrap_or (option_or o (cond (p n) (Some n) None)) d ≤ at
+    here e None k =
+        let passes : p n ≡ true = sym (ap p e) ∙ h in
+        subst (λ b. unwrap_or (cond b (Some n) None) d ≤ at) (sym passes) (omega arith)
+    here e (Some i) k = omega arith
+
+find_below_width : (p : ℕ → Bool) (n : ℕ) → unwrap_or (find p (below (n + 1))) n ≤ n
+find_below_width p n = by (find p (below (n + 1))) (find_below_small p (n + 1))
+  where
+    by : (o : Option ℕ) → IfSome o (λ i. i < n + 1) → unwrap_or o n ≤ n
+    by None h = omega arith
+    by (Some i) h = omega arith
+
+pub first_stop-le_width : (s : Config) (core : ℕ) (trace : List Entry) (inbox sent : List Message) (now first gone : ℕ)
+    → first_stop s core trace inbox sent now first gone ≤ s.width
+unfolding first_stop
+first_stop-le_width s core trace inbox sent now first gone = find_below_width (has_cause s core trace inbox sent now first gone) s.width
+
+-- a core stops where its trace ends
+pub first_stop-le : (s : Config) (core : ℕ) (trace : List Entry) (inbox sent : List Message) (now first gone : ℕ) → first ≤ length trace
+    → first + first_stop s core trace inbox sent now first gone ≤ length trace
+unfolding first_stop has_cause stop_after
+first_stop-le s core trace inbox sent now first gone l =
+    let m = first_stop s core trace inbox sent now first gone in
+    let left = length trace - first in
+    let p = has_cause s core trace inbox sent now first gone in
+    let ends : eqb (first + left) (length trace) ≡ true = eq-eqb (first + left) (length trace) (omega arith) in
+    let cause : p left ≡ true = ap is_some (cond-true _ _ _ ends) in
+    ⊎_elim
+    (λ (near : left < s.width + 1). let k : unwrap_or (find p (below (s.width + 1))) s.width ≤ left = find_below_le p left cause (s.width + 1) near s.width in omega arith)
+    (λ (far : s.width + 1 ≤ left). let k : unwrap_or (find p (below (s.width + 1))) s.width ≤ s.width = find_below_width p s.width in omega arith)
+    (cases_lt left (s.width + 1))
+
+-- a core issues no more than its trace has
+pub issues-le : (s : Config) (core : ℕ) (trace : List Entry) (rows : List CoreRow) (inbox : List Message) → issued_before rows ≤ length trace
+    → issued_before rows + (step s core trace rows inbox).0.issued ≤ length trace
+unfolding step
+issues-le s core trace rows inbox l = first_stop-le s core trace inbox (core_messages s core trace rows) (length rows) (issued_before rows) _ l
+
+-- what a core issued and retired keeps to its trace
+pub record KeepsToTrace (trace : List Entry) (rows : List CoreRow) : Type 0 where
+  pub issued : issued_before rows ≤ length trace
+  pub retired : retired_before rows ≤ issued_before rows
+
+pub KeepsToTrace-step : (s : Config) (core : ℕ) (trace : List Entry) (rows : List CoreRow) (inbox : List Message) → KeepsToTrace trace rows
+    → KeepsToTrace trace (rows ++ (step s core trace rows inbox).0 ∷ [])
+unfolding step
+KeepsToTrace-step s core trace rows inbox h =
+    let row = (step s core trace rows inbox).0 in
+    let issued : issued_before rows + row.issued ≤ length trace = issues-le s core trace rows inbox h.issued in
+    let retired : row.retired ≤ issued_before rows - retired_before rows = retires-le s trace rows inbox in
+    record {
+      issued = omega (arith, issued_before-push rows row);
+      retired = omega (arith, issued_before-push rows row, retired_before-push rows row);
+    }
+
+pub KeepsToTrace-core_run : (s : Config) (core : ℕ) (trace : List Entry) (rows : List CoreRow) (mail : List Message) → KeepsToTrace trace rows
+    → (n : ℕ) → KeepsToTrace trace (core_run s core trace rows mail n)
+unfolding core_run
+KeepsToTrace-core_run s core trace rows mail h zero = h
+KeepsToTrace-core_run s core trace rows mail h (suc n) = KeepsToTrace-step s core trace (core_run s core trace rows mail n) mail (KeepsToTrace-core_run s core trace rows mail h n)
+
+pub KeepsToTrace-run : (s : Config) (traces : List (List Entry)) (core : ℕ) → core < s.cores → (n : ℕ) → KeepsToTrace (trace_of traces core) (core_rows core (run s traces n))
+unfolding run core_rows issued_before retired_before
+KeepsToTrace-run s traces core l zero = record { issued = omega arith; retired = omega arith }
+KeepsToTrace-run s traces core l (suc n) =
+    subst (KeepsToTrace (trace_of traces core)) (sym (core_rows-next s traces n core l))
+    (KeepsToTrace-step s core (trace_of traces core) (core_rows core (run s traces n)) (inbox s traces (run s traces n) (Core core)) (KeepsToTrace-run s traces core l n))

@@ -1,0 +1,16 @@
+pub mod Lists
+pub mod Messages
+pub mod CoreSteps
+pub mod CoreMail
+pub mod CoreStretches
+pub mod ChannelSteps
+pub mod ChannelChoices
+pub mod ChannelMail
+pub mod ChannelStretches
+pub mod Repeats
+pub mod Replies
+pub mod RunSteps
+pub mod RunStretches
+pub mod CoreBounds
+pub mod ReplyBounds
+pub mod ChannelBounds

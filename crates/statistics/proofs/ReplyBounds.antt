@@ -1,0 +1,70 @@
+-- How many replies a core gets: no more than the entries that it issued, where no entry is answered twice.
+use Rattle.std.proofs.Common.{◌≡◌, ℕ, suc, ◌<◌, ◌≤◌, true, eqb, ltb, List, [], ◌∷◌, length, take, Option, Some, None, refl, ap, ⊎_elim, arith}
+use Rattle.std.specs.Prelude.{filter, filter_map, is_some}
+use Rattle.std.specs.List.{AllByRecursion as Each, IsDistinct, cons_option, list_any}
+use Rattle.std.specs.Option.{IfSome}
+use Rattle.std.proofs.lemmas.Bool.{cond_both, and_parts, ltb-true, eqb-true, or_cases, false≢true}
+use Rattle.std.proofs.lemmas.List.Sums.{length-filter, count_by-le-length}
+use Rattle.std.proofs.lemmas.Map.Steps.{length-le_from_distinct_below}
+use Rattle.std.proofs.lemmas.Option.{IfSome_then}
+use Rattle.sim_base.proofs.Each.{Each-filter_map}
+use Rattle.sim_base.specs.Counts.{replied_entry, is_reply, is_reply_before, replies}
+use Rattle.sim_base.specs.History.{issued_before}
+use Rattle.sim_base.specs.declared.history.CoreRow.{CoreRow}
+use Rattle.sim_base.specs.declared.message.Message.{Message}
+use Rattle.statistics.specs.Cores.{FollowsItsRead, RepliesFollowReads}
+use Rattle.statistics.proofs.CoreSteps.{issued_before-take-le}
+
+-- no more than there are messages
+pub replies-le : (rows : List CoreRow) (inbox : List Message) → length (replies rows inbox) ≤ length inbox
+unfolding replies
+replies-le rows inbox = omega (arith, length-filter (is_reply_before (length rows)) inbox, count_by-le-length (is_reply_before (length rows)) inbox)
+
+-- the entries that were answered within these rows
+unfoldable pub answered_entries : List CoreRow → List Message → List ℕ
+answered_entries rows inbox = filter_map (λ m. replied_entry m.load) (replies rows inbox)
+
+each_answers : (cycle : ℕ) (ms : List Message) → length (filter_map (λ m. replied_entry m.load) (filter (is_reply_before cycle) ms)) ≡ length (filter (is_reply_before cycle) ms)
+each_answers cycle [] = refl
+each_answers cycle (m ∷ ms) =
+    let kept = filter (is_reply_before cycle) ms in
+    cond_both (is_reply_before cycle m) (m ∷ kept) kept (λ x. length (filter_map (λ y. replied_entry y.load) x) ≡ length x)
+    (λ e. by (replied_entry m.load) (and_parts (is_reply m) (ltb m.arrival cycle) e).0 (each_answers cycle ms))
+    (λ e. each_answers cycle ms)
+  where
+    by : (o : Option ℕ) → is_some o ≡ true → length (filter_map (λ y. replied_entry y.load) (filter (is_reply_before cycle) ms)) ≡ length (filter (is_reply_before cycle) ms)
+        → length (cons_option o (filter_map (λ y. replied_entry y.load) (filter (is_reply_before cycle) ms))) ≡ suc (length (filter (is_reply_before cycle) ms))
+    by None h k = absurd (false≢true h)
+    by (Some entry) h k = ap suc k
+
+among_below : (n q : ℕ) (xs : List ℕ) → Each (λ x. x < n) xs → list_any (eqb q) xs ≡ true → q < n
+among_below n q [] h e = absurd (false≢true e)
+among_below n q (x ∷ xs) h e =
+    ⊎_elim
+    (λ (a : eqb q x ≡ true). let same : q ≡ x = eqb-true q x a in omega arith)
+    (λ (a : list_any (eqb q) xs ≡ true). among_below n q xs h.1 a)
+    (or_cases (eqb q x) (list_any (eqb q) xs) e)
+
+issued_of_answer : (rows : List CoreRow) (m : Message) → is_reply_before (length rows) m ≡ true → FollowsItsRead rows m → IfSome (replied_entry m.load) (λ entry. entry < issued_before rows)
+issued_of_answer rows m e h =
+    let l : m.arrival < length rows = ltb-true m.arrival (length rows) (and_parts (is_reply m) (ltb m.arrival (length rows)) e).1 in
+    IfSome_then (replied_entry m.load) h (λ entry k. let i : entry < issued_before (take m.arrival rows) = k l in omega (arith, issued_before-take-le rows m.arrival))
+
+answers_issued : (rows : List CoreRow) (ms : List Message) → RepliesFollowReads rows ms
+    → Each (λ (m : Message). IfSome (replied_entry m.load) (λ entry. entry < issued_before rows)) (filter (is_reply_before (length rows)) ms)
+answers_issued rows [] h = tt
+answers_issued rows (m ∷ ms) h =
+    let kept = filter (is_reply_before (length rows)) ms in
+    cond_both (is_reply_before (length rows) m) (m ∷ kept) kept (Each (λ (x : Message). IfSome (replied_entry x.load) (λ entry. entry < issued_before rows)))
+    (λ e. (issued_of_answer rows m e h.0, answers_issued rows ms h.1))
+    (λ e. answers_issued rows ms h.1)
+
+pub replies-le-issued : (rows : List CoreRow) (inbox : List Message) → RepliesFollowReads rows inbox → IsDistinct eqb (answered_entries rows inbox)
+    → length (replies rows inbox) ≤ issued_before rows
+unfolding answered_entries replies
+replies-le-issued rows inbox h d =
+    let kept = filter (is_reply_before (length rows)) inbox in
+    let entries = filter_map (λ (m : Message). replied_entry m.load) kept in
+    let below : Each (λ x. x < issued_before rows) entries = Each-filter_map (λ x. x < issued_before rows) (λ (m : Message). replied_entry m.load) kept (answers_issued rows inbox h) in
+    let few : length entries ≤ issued_before rows = length-le_from_distinct_below entries (issued_before rows) d (λ q e. among_below (issued_before rows) q entries below e) in
+    omega (arith, each_answers (length rows) inbox)

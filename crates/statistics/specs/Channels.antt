@@ -1,0 +1,188 @@
+-- Statistics of a channel, over the rows of its run, one a cycle, and its inbox.
+--     channel_stats s channel rows inbox      of all the cycles of these rows
+--     channel_cycle s channel rows inbox o      of the one cycle after these rows, in which the channel does this
+--     channel_none      of no cycle
+--     channel_joined a b      of two stretches of cycles, the first and what follows it
+--     channel_stretch s channel rows inbox more      of the cycles after these rows, in which the channel does this, one after the other
+--     channel_times n a      of so many cycles that are each like this one
+--     ChannelFits a      each count fits
+--     ActsComeFirst channel rows      no ACT is issued for an entry whose data was moved before
+use Rattle.std.specs.Prelude.{◌≡◌, ℕ, ◌+◌, ◌*◌, ◌^◌, ◌<◌, ◌==◌, nat_lt, max, Bool, false, ◌&&◌, List, [], ◌∷◌, ◌++◌, length, take, slice_index_or, option_map, Option, Some, None, if◌then◌else◌}
+use Rattle.std.specs.List.{list_any}
+use Rattle.std.specs.Option.{IfSome}
+use Rattle.sim_base.specs.declared.config.Config.{Config}
+use Rattle.sim_base.specs.Counts.{issued_of_kind, is_hit, hits, queue_length, queued, queued_max, idle, has_refresh_due, refreshing, draining}
+use Rattle.sim_base.specs.History.{issued_commands}
+use Rattle.sim_base.specs.Rules.{is_kind, kind_of}
+use Rattle.sim_base.specs.Scheduling.{drains}
+use Rattle.sim_base.specs.declared.command.Kind.{Kind}
+use Rattle.sim_base.specs.declared.command.Kind.TheVariants as kind
+use Rattle.sim_base.specs.declared.command.Command.{Command}
+use Rattle.sim_base.specs.declared.command.Command.TheVariants.{Act, Rd, Wr, Pre, Prea, Ref}
+use Rattle.sim_base.specs.declared.command.CommandRow.{CommandRow}
+use Rattle.sim_base.specs.declared.command.Source.{Source}
+use Rattle.sim_base.specs.declared.message.Message.{Message}
+use Rattle.statistics.specs.declared.channels.ChannelStats.{ChannelStats}
+use Rattle.statistics.specs.Counts.{one_if, sum_of_counts}
+
+-- a count of cycles of draining: there is none where the channel never drains
+abbrev pub draining_of : Config → ℕ → Option ℕ
+draining_of s n = if nat_lt 0 s.write_high then Some n else None
+
+-- the statistics of all the cycles of these rows
+unfoldable pub channel_stats : Config → ℕ → List (Option Command) → List Message → ChannelStats
+channel_stats s channel rows inbox =
+    let history = issued_commands channel rows in
+    record {
+      act = issued_of_kind kind.Act history;
+      rd = issued_of_kind kind.Rd history;
+      wr = issued_of_kind kind.Wr history;
+      pre = issued_of_kind kind.Pre history;
+      prea = issued_of_kind kind.Prea history;
+      refs = issued_of_kind kind.Ref history;
+      hits = hits history;
+      queued = queued channel rows inbox;
+      queued_max = queued_max channel rows inbox;
+      idle = idle channel rows inbox;
+      refreshing = refreshing s channel rows;
+      draining = draining_of s (draining s channel rows inbox);
+    }
+
+-- the channel issues a command of this kind
+abbrev pub issues : Kind → Option Command → Bool
+issues kind None = false
+issues kind (Some command) = is_kind (kind_of command) kind
+
+-- the channel moves data for a request that no ACT was issued for
+abbrev pub moves_hit : List CommandRow → Option Command → Bool
+moves_hit history None = false
+moves_hit history (Some command) = is_hit history command
+
+-- the statistics of a cycle with a queue of this length, in which a refresh is due or not, the channel drains its writes
+-- or not, and does this
+unfoldable pub channel_cycle_with : Config → List CommandRow → ℕ → Bool → Bool → Option Command → ChannelStats
+channel_cycle_with s history queued has_due drains o =
+    record {
+      act = one_if (issues kind.Act o);
+      rd = one_if (issues kind.Rd o);
+      wr = one_if (issues kind.Wr o);
+      pre = one_if (issues kind.Pre o);
+      prea = one_if (issues kind.Prea o);
+      refs = one_if (issues kind.Ref o);
+      hits = one_if (moves_hit history o);
+      queued = queued;
+      queued_max = queued;
+      idle = one_if (queued == 0);
+      refreshing = one_if has_due;
+      draining = draining_of s (one_if drains);
+    }
+
+-- the statistics of the cycle after these rows, in which the channel does this
+unfoldable pub channel_cycle : Config → ℕ → List (Option Command) → List Message → Option Command → ChannelStats
+channel_cycle s channel rows inbox o =
+    channel_cycle_with s (issued_commands channel rows) (queue_length channel rows inbox (length rows)) (has_refresh_due s channel rows (length rows))
+    (drains s channel rows inbox (length rows)) o
+
+-- the statistics of no cycle
+abbrev pub channel_none : ChannelStats
+channel_none =
+    record {
+      act = 0;
+      rd = 0;
+      wr = 0;
+      pre = 0;
+      prea = 0;
+      refs = 0;
+      hits = 0;
+      queued = 0;
+      queued_max = 0;
+      idle = 0;
+      refreshing = 0;
+      draining = None;
+    }
+
+-- the statistics of two stretches of cycles: each count is the sum of both, and the greatest length of the queue the greater
+abbrev pub channel_joined : ChannelStats → ChannelStats → ChannelStats
+channel_joined a b =
+    record {
+      act = a.act + b.act;
+      rd = a.rd + b.rd;
+      wr = a.wr + b.wr;
+      pre = a.pre + b.pre;
+      prea = a.prea + b.prea;
+      refs = a.refs + b.refs;
+      hits = a.hits + b.hits;
+      queued = a.queued + b.queued;
+      queued_max = max a.queued_max b.queued_max;
+      idle = a.idle + b.idle;
+      refreshing = a.refreshing + b.refreshing;
+      draining = sum_of_counts a.draining b.draining;
+    }
+
+-- the statistics of so many cycles that are each like this one: each count is as many times as great, but for the greatest
+-- length of the queue
+abbrev pub channel_times : ℕ → ChannelStats → ChannelStats
+channel_times n a =
+    record {
+      act = n * a.act;
+      rd = n * a.rd;
+      wr = n * a.wr;
+      pre = n * a.pre;
+      prea = n * a.prea;
+      refs = n * a.refs;
+      hits = n * a.hits;
+      queued = n * a.queued;
+      queued_max = if n == 0 then 0 else a.queued_max;
+      idle = n * a.idle;
+      refreshing = n * a.refreshing;
+      draining = if n == 0 then None else option_map (λ count. n * count) a.draining;
+    }
+
+-- each count fits: it is below 2^64, and the sum of the queue's lengths below 2^128
+pub record ChannelFits (a : ChannelStats) : Type 0 where
+  pub act : a.act < 2 ^ 64
+  pub rd : a.rd < 2 ^ 64
+  pub wr : a.wr < 2 ^ 64
+  pub pre : a.pre < 2 ^ 64
+  pub prea : a.prea < 2 ^ 64
+  pub refs : a.refs < 2 ^ 64
+  pub hits : a.hits < 2 ^ 64
+  pub queued : a.queued < 2 ^ 128
+  pub queued_max : a.queued_max < 2 ^ 64
+  pub idle : a.idle < 2 ^ 64
+  pub refreshing : a.refreshing < 2 ^ 64
+  pub draining : IfSome a.draining (λ count. count < 2 ^ 64)
+
+-- the statistics of the cycles after these rows, in which the channel does this, one after the other
+unfoldable pub channel_stretch : Config → ℕ → List (Option Command) → List Message → List (Option Command) → ChannelStats
+channel_stretch s channel rows inbox [] = channel_none
+channel_stretch s channel rows inbox (o ∷ more) =
+    channel_joined (channel_cycle s channel rows inbox o) (channel_stretch s channel (rows ++ o ∷ []) inbox more)
+
+-- the same entry
+abbrev pub is_entry : Source → Source → Bool
+is_entry a b = (a.core == b.core) && (a.entry == b.entry)
+
+-- a command that moves the data of an entry
+abbrev pub moves_data_of : Source → Command → Bool
+moves_data_of source (Rd bank row column other) = is_entry source other
+moves_data_of source (Wr bank row column other) = is_entry source other
+moves_data_of source (Act bank row other) = false
+moves_data_of source (Pre bank other) = false
+moves_data_of source (Prea rank) = false
+moves_data_of source (Ref rank) = false
+
+-- an ACT for an entry whose data was moved
+abbrev pub is_late_act : List CommandRow → Option Command → Bool
+is_late_act history (Some (Act bank row source)) = list_any (λ i. moves_data_of source i.command) history
+is_late_act history (Some (Rd bank row column source)) = false
+is_late_act history (Some (Wr bank row column source)) = false
+is_late_act history (Some (Pre bank source)) = false
+is_late_act history (Some (Prea rank)) = false
+is_late_act history (Some (Ref rank)) = false
+is_late_act history None = false
+
+-- no ACT is issued for an entry whose data was moved in an earlier cycle
+abbrev pub ActsComeFirst : ℕ → List (Option Command) → Type 0
+ActsComeFirst channel rows =
+    (cycle : ℕ) → cycle < length rows → is_late_act (issued_commands channel (take cycle rows)) (slice_index_or rows cycle None) ≡ false

@@ -1,0 +1,167 @@
+-- Statistics of a core, over the rows of its run, one a cycle, and its inbox.
+--     core_stats s core trace rows inbox      of all the cycles of these rows
+--     core_cycle s core trace rows inbox row      of the one cycle after these rows, in which the core does this
+--     core_none      of no cycle
+--     core_joined a b      of two stretches of cycles, the first and what follows it
+--     core_stretch s core trace rows inbox more      of the cycles after these rows, in which the core does this, one after the other
+--     core_times n a      of so many cycles that are each like this one
+--     CoreFits a      each count fits
+--     RepliesFollowReads rows inbox      each reply that arrived is of an entry that was issued before
+use Rattle.std.specs.Prelude.{ℕ, ◌+◌, ◌*◌, ◌^◌, ◌<◌, ◌==◌, nat_lt, nat_le, Bool, ◌&&◌, List, [], ◌∷◌, ◌++◌, length, take, drop, filter, count_by, sum_by, Option, Some, None, if◌then◌else◌}
+use Rattle.std.specs.Option.{IfSome, option_or}
+use Rattle.std.specs.List.{AllByRecursion as Each}
+use Rattle.sim_base.specs.declared.config.Config.{Config}
+use Rattle.sim_base.specs.Counts.{is_read, is_write, reads, writes, replied_entry, is_reply, replies, wait_of, read_latency, is_stop, stopped_by, finish}
+use Rattle.sim_base.specs.History.{retired_before, issued_before}
+use Rattle.sim_base.specs.Windows.{step}
+use Rattle.sim_base.specs.declared.history.CoreRow.{CoreRow}
+use Rattle.sim_base.specs.declared.message.Message.{Message}
+use Rattle.sim_base.specs.declared.trace.Entry.{Entry}
+use Rattle.sim_base.specs.declared.trace.Stop.{Stop}
+use Rattle.sim_base.specs.declared.trace.Stop.TheVariants as stop
+use Rattle.statistics.specs.Counts.{one_if}
+use Rattle.statistics.specs.declared.cores.CoreStats.{CoreStats}
+
+-- the statistics of all the cycles of these rows
+unfoldable pub core_stats : Config → ℕ → List Entry → List CoreRow → List Message → CoreStats
+core_stats s core trace rows inbox =
+    record {
+      issued = issued_before rows;
+      retired = retired_before rows;
+      reads = reads trace rows;
+      writes = writes trace rows;
+      replies = length (replies rows inbox);
+      read_latency = read_latency rows inbox;
+      stop_end = stopped_by s core trace rows inbox stop.End;
+      stop_width = stopped_by s core trace rows inbox stop.Width;
+      stop_window = stopped_by s core trace rows inbox stop.Window;
+      stop_memory = stopped_by s core trace rows inbox stop.Memory;
+      stop_credit = stopped_by s core trace rows inbox stop.Credit;
+      finish = finish trace rows;
+    }
+
+-- the entries that the core issues in the cycle after these rows, in which it does this
+abbrev pub issued_in : List Entry → List CoreRow → CoreRow → List Entry
+issued_in trace rows row = take row.issued (drop (issued_before rows) trace)
+
+-- a reply that arrives in a cycle
+abbrev pub is_reply_in : ℕ → Message → Bool
+is_reply_in cycle m = is_reply m && (m.arrival == cycle)
+
+-- the replies that arrive in a cycle
+unfoldable pub replies_in : ℕ → List Message → List Message
+replies_in cycle inbox = filter (is_reply_in cycle) inbox
+
+-- how long these replies were waited for, after these rows
+unfoldable pub waited : List CoreRow → List Message → ℕ
+waited rows ms = sum_by (λ m. wait_of rows m.arrival (replied_entry m.load)) ms
+
+-- the cycle after these rows, if the last entry retires in it
+unfoldable pub finish_in : List Entry → List CoreRow → CoreRow → Option ℕ
+finish_in trace rows row =
+    if nat_lt (retired_before rows) (length trace) && nat_le (length trace) (retired_before rows + row.retired) then Some (length rows) else None
+
+-- the statistics of a cycle, in which the core does this, stops for this cause, and these replies arrive
+unfoldable pub core_cycle_with : List Entry → List CoreRow → CoreRow → Stop → List Message → CoreStats
+core_cycle_with trace rows row why arrived =
+    record {
+      issued = row.issued;
+      retired = row.retired;
+      reads = count_by is_read (issued_in trace rows row);
+      writes = count_by is_write (issued_in trace rows row);
+      replies = length arrived;
+      read_latency = waited rows arrived;
+      stop_end = one_if (is_stop stop.End why);
+      stop_width = one_if (is_stop stop.Width why);
+      stop_window = one_if (is_stop stop.Window why);
+      stop_memory = one_if (is_stop stop.Memory why);
+      stop_credit = one_if (is_stop stop.Credit why);
+      finish = finish_in trace rows row;
+    }
+
+-- the statistics of the cycle after these rows, in which the core does this
+unfoldable pub core_cycle : Config → ℕ → List Entry → List CoreRow → List Message → CoreRow → CoreStats
+core_cycle s core trace rows inbox row =
+    core_cycle_with trace rows row (step s core trace rows inbox).1 (replies_in (length rows) inbox)
+
+-- the statistics of no cycle
+abbrev pub core_none : CoreStats
+core_none =
+    record {
+      issued = 0;
+      retired = 0;
+      reads = 0;
+      writes = 0;
+      replies = 0;
+      read_latency = 0;
+      stop_end = 0;
+      stop_width = 0;
+      stop_window = 0;
+      stop_memory = 0;
+      stop_credit = 0;
+      finish = None;
+    }
+
+-- the statistics of two stretches of cycles: each count is the sum of both, and the finish is the last that is there
+abbrev pub core_joined : CoreStats → CoreStats → CoreStats
+core_joined a b =
+    record {
+      issued = a.issued + b.issued;
+      retired = a.retired + b.retired;
+      reads = a.reads + b.reads;
+      writes = a.writes + b.writes;
+      replies = a.replies + b.replies;
+      read_latency = a.read_latency + b.read_latency;
+      stop_end = a.stop_end + b.stop_end;
+      stop_width = a.stop_width + b.stop_width;
+      stop_window = a.stop_window + b.stop_window;
+      stop_memory = a.stop_memory + b.stop_memory;
+      stop_credit = a.stop_credit + b.stop_credit;
+      finish = option_or b.finish a.finish;
+    }
+
+-- the statistics of so many cycles that are each like this one: each count is as many times as great
+abbrev pub core_times : ℕ → CoreStats → CoreStats
+core_times n a =
+    record {
+      issued = n * a.issued;
+      retired = n * a.retired;
+      reads = n * a.reads;
+      writes = n * a.writes;
+      replies = n * a.replies;
+      read_latency = n * a.read_latency;
+      stop_end = n * a.stop_end;
+      stop_width = n * a.stop_width;
+      stop_window = n * a.stop_window;
+      stop_memory = n * a.stop_memory;
+      stop_credit = n * a.stop_credit;
+      finish = if n == 0 then None else a.finish;
+    }
+
+-- each count fits: it is below 2^64, and the latency below 2^128
+pub record CoreFits (a : CoreStats) : Type 0 where
+  pub issued : a.issued < 2 ^ 64
+  pub retired : a.retired < 2 ^ 64
+  pub reads : a.reads < 2 ^ 64
+  pub writes : a.writes < 2 ^ 64
+  pub replies : a.replies < 2 ^ 64
+  pub read_latency : a.read_latency < 2 ^ 128
+  pub stop_end : a.stop_end < 2 ^ 64
+  pub stop_width : a.stop_width < 2 ^ 64
+  pub stop_window : a.stop_window < 2 ^ 64
+  pub stop_memory : a.stop_memory < 2 ^ 64
+  pub stop_credit : a.stop_credit < 2 ^ 64
+
+-- the statistics of the cycles after these rows, in which the core does this, one after the other
+unfoldable pub core_stretch : Config → ℕ → List Entry → List CoreRow → List Message → List CoreRow → CoreStats
+core_stretch s core trace rows inbox [] = core_none
+core_stretch s core trace rows inbox (row ∷ more) =
+    core_joined (core_cycle s core trace rows inbox row) (core_stretch s core trace (rows ++ row ∷ []) inbox more)
+
+-- a reply, if it arrived within these rows, is of an entry that was issued in an earlier cycle
+abbrev pub FollowsItsRead : List CoreRow → Message → Type 0
+FollowsItsRead rows m = IfSome (replied_entry m.load) (λ entry. m.arrival < length rows → entry < issued_before (take m.arrival rows))
+
+-- each reply that arrived within these rows is of an entry that was issued in an earlier cycle
+abbrev pub RepliesFollowReads : List CoreRow → List Message → Type 0
+RepliesFollowReads rows inbox = Each (FollowsItsRead rows) inbox

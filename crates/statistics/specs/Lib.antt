@@ -1,0 +1,6 @@
+pub mod Values
+pub mod Counts
+pub mod Cores
+pub mod Channels
+pub mod Runs
+pub mod Joining

@@ -1,0 +1,115 @@
+//! Statistics of a channel.
+
+ghost use Rattle.std.specs.Option.{ForSome};
+ghost use Rattle.std.specs.Prelude.{◌≡◌, ◌*◌, ◌^◌, ◌<◌, option_map};
+ghost use Rattle.statistics.specs.Counts.{sum_of_counts};
+
+/// What a channel did in some cycles: counts of commands and of cycles.
+#[derive(Clone, Copy, PartialEq, Eq, Debug, Default)]
+pub struct ChannelStats {
+    /// ACTs that the channel issued.
+    pub act: u64,
+    /// RDs that it issued.
+    pub rd: u64,
+    /// WRs that it issued.
+    pub wr: u64,
+    /// PREs that it issued.
+    pub pre: u64,
+    /// PREAs that it issued.
+    pub prea: u64,
+    /// REFs that it issued.
+    pub refs: u64,
+    /// RDs and WRs for requests that no ACT was issued for.
+    pub hits: u64,
+    /// Requests in the queue, summed over the cycles.
+    pub queued: u128,
+    /// The greatest length of the queue in a cycle; 0 in no cycle.
+    pub queued_max: u64,
+    /// Cycles in which the queue was empty.
+    pub idle: u64,
+    /// Cycles in which a refresh of some rank was due.
+    pub refreshing: u64,
+    /// Cycles in which the channel drained its writes; there is no such count where it never does.
+    pub draining: Option<u64>,
+}
+
+/// The sum of two counts; where one of them is not there, the other.
+fn sum_of(a: Option<u64>, b: Option<u64>) -> Option<u64>
+    requires { ForSome (sum_of_counts a b) (λ count. count < 2 ^ 64) }
+    ensures { result ≡ sum_of_counts a b }
+{
+    match (a, b) {
+        (Some(a), Some(b)) => Some(a + b),
+        (Some(a), None) => Some(a),
+        (None, b) => b,
+    }
+}
+
+fn product_of(cycles: u64, count: Option<u64>) -> Option<u64>
+    requires { ForSome (option_map (λ n. cycles * n) count) (λ n. n < 2 ^ 64) }
+    ensures { result ≡ option_map (λ n. cycles * n) count }
+{
+    match count {
+        Some(n) => Some(cycles * n),
+        None => None,
+    }
+}
+
+impl ChannelStats {
+    ghost use Rattle.std.specs.Prelude.{◌≡◌};
+    ghost use Rattle.statistics.specs.Channels.{channel_none, channel_joined, channel_times, ChannelFits};
+
+    /// The statistics of no cycle.
+    pub fn new() -> Self
+        ensures { result ≡ channel_none }
+    {
+        Self::default()
+    }
+
+    /// The statistics of these cycles and of those that follow them: each count is the sum of both, and the greatest length
+    /// of the queue the greater of both.
+    pub fn joined(self, more: ChannelStats) -> ChannelStats
+        requires { ChannelFits (channel_joined self more) }
+        ensures { result ≡ channel_joined self more }
+    {
+        ChannelStats {
+            act: self.act + more.act,
+            rd: self.rd + more.rd,
+            wr: self.wr + more.wr,
+            pre: self.pre + more.pre,
+            prea: self.prea + more.prea,
+            refs: self.refs + more.refs,
+            hits: self.hits + more.hits,
+            queued: self.queued + more.queued,
+            queued_max: self.queued_max.max(more.queued_max),
+            idle: self.idle + more.idle,
+            refreshing: self.refreshing + more.refreshing,
+            draining: sum_of(self.draining, more.draining),
+        }
+    }
+
+    /// The statistics of so many cycles that are each as these.
+    pub fn times(self, cycles: u64) -> ChannelStats
+        requires { ChannelFits (channel_times cycles self) }
+        ensures { result ≡ channel_times cycles self }
+    {
+        ChannelStats {
+            act: cycles * self.act,
+            rd: cycles * self.rd,
+            wr: cycles * self.wr,
+            pre: cycles * self.pre,
+            prea: cycles * self.prea,
+            refs: cycles * self.refs,
+            hits: cycles * self.hits,
+            queued: u128::from(cycles) * self.queued,
+            queued_max: if cycles == 0 { 0 } else { self.queued_max },
+            idle: cycles * self.idle,
+            refreshing: cycles * self.refreshing,
+            draining: if cycles == 0 {
+                None
+            } else {
+                product_of(cycles, self.draining)
+            },
+        }
+    }
+}

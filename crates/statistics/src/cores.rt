@@ -1,0 +1,87 @@
+//! Statistics of a core.
+
+use sim_base::message::Cycle;
+
+/// What a core did in some cycles: counts of entries, of replies and of cycles.
+#[derive(Clone, Copy, PartialEq, Eq, Debug, Default)]
+pub struct CoreStats {
+    /// Entries that the core issued.
+    pub issued: u64,
+    /// Entries that it retired.
+    pub retired: u64,
+    /// Reads that it issued.
+    pub reads: u64,
+    /// Writes that it issued.
+    pub writes: u64,
+    /// Replies that arrived.
+    pub replies: u64,
+    /// Cycles from the issue of a read to the arrival of its reply, summed over those replies.
+    pub read_latency: u128,
+    /// Cycles in which it stopped issuing since no entry was left.
+    pub stop_end: u64,
+    /// Cycles in which it stopped after as many entries as it issues in a cycle.
+    pub stop_width: u64,
+    /// Cycles in which it stopped since its window was full.
+    pub stop_window: u64,
+    /// Cycles in which it stopped before a second memory entry.
+    pub stop_memory: u64,
+    /// Cycles in which it stopped for want of a credit.
+    pub stop_credit: u64,
+    /// The cycle in which the last entry of its trace retired, if one of these cycles is it.
+    pub finish: Option<Cycle>,
+}
+
+impl CoreStats {
+    ghost use Rattle.std.specs.Prelude.{◌≡◌};
+    ghost use Rattle.statistics.specs.Cores.{core_none, core_joined, core_times, CoreFits};
+
+    /// The statistics of no cycle.
+    pub fn new() -> Self
+        ensures { result ≡ core_none }
+    {
+        Self::default()
+    }
+
+    /// The statistics of these cycles and of those that follow them: each count is the sum of both, and the finish is the
+    /// last that is there.
+    pub fn joined(self, more: CoreStats) -> CoreStats
+        requires { CoreFits (core_joined self more) }
+        ensures { result ≡ core_joined self more }
+    {
+        CoreStats {
+            issued: self.issued + more.issued,
+            retired: self.retired + more.retired,
+            reads: self.reads + more.reads,
+            writes: self.writes + more.writes,
+            replies: self.replies + more.replies,
+            read_latency: self.read_latency + more.read_latency,
+            stop_end: self.stop_end + more.stop_end,
+            stop_width: self.stop_width + more.stop_width,
+            stop_window: self.stop_window + more.stop_window,
+            stop_memory: self.stop_memory + more.stop_memory,
+            stop_credit: self.stop_credit + more.stop_credit,
+            finish: more.finish.or(self.finish),
+        }
+    }
+
+    /// The statistics of so many cycles that are each as these.
+    pub fn times(self, cycles: u64) -> CoreStats
+        requires { CoreFits (core_times cycles self) }
+        ensures { result ≡ core_times cycles self }
+    {
+        CoreStats {
+            issued: cycles * self.issued,
+            retired: cycles * self.retired,
+            reads: cycles * self.reads,
+            writes: cycles * self.writes,
+            replies: cycles * self.replies,
+            read_latency: u128::from(cycles) * self.read_latency,
+            stop_end: cycles * self.stop_end,
+            stop_width: cycles * self.stop_width,
+            stop_window: cycles * self.stop_window,
+            stop_memory: cycles * self.stop_memory,
+            stop_credit: cycles * self.stop_credit,
+            finish: if cycles == 0 { None } else { self.finish },
+        }
+    }
+}

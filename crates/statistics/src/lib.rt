@@ -1,0 +1,11 @@
+//! What a run leaves: statistics of its units, the state in which it ends, and both with the commands as its outcome.
+#![tactic(auto)]
+
+pub mod channels;
+pub mod cores;
+pub mod final_state;
+pub mod laws;
+pub mod outcome;
+pub mod stats;
+#[cfg(test)]
+mod tests;
