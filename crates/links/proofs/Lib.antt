@@ -1,0 +1,5 @@
+pub mod Ages
+pub mod Filed
+pub mod Taken
+pub mod Due
+pub mod Next

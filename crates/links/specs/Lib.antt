@@ -1,0 +1,2 @@
+pub mod InFlight
+pub mod Filing
