@@ -3,3 +3,4 @@ pub mod Filed
 pub mod Taken
 pub mod Due
 pub mod Next
+pub mod Shortest

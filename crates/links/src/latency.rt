@@ -1,8 +1,9 @@
 //! How soon a message can arrive.
 
-ghost use Rattle.std.specs.Prelude.{◌≡◌, ℕ, ◌*◌, ◌%◌, ◌<◌, ◌≤◌, ◌==◌, nat_lt, min, fold, count_by, if◌then◌else◌};
+ghost use Rattle.std.specs.Prelude.{◌≡◌, ℕ, ◌*◌, ◌<◌, ◌≤◌};
 ghost use Rattle.sim_base.specs.Config.{latency};
 ghost use Rattle.sim_base.specs.Locality.{TravelsFor};
+ghost use Rattle.links.specs.Latencies.{has_usual, usual_or_longest, least_own};
 
 use sim_base::config::Config;
 
@@ -11,7 +12,7 @@ const LONGEST: u32 = 1_000_000;
 
 /// Fewer links of a kind have a latency of their own than there are.
 fn has_usual_link(config: &Config, kind: u64) -> bool
-    ensures { result ≡ nat_lt (count_by (λ o. o.link % 3 == kind) config.now.overrides) (config.now.cores * config.now.channels) }
+    ensures { result ≡ has_usual config.now kind }
 {
     let own = config
         .overrides
@@ -24,7 +25,7 @@ fn has_usual_link(config: &Config, kind: u64) -> bool
 
 /// The latency of a kind of links, where one of them has it.
 fn usual(config: &Config, kind: u64, latency: u32) -> u32
-    ensures { result ≡ (if nat_lt (count_by (λ o. o.link % 3 == kind) config.now.overrides) (config.now.cores * config.now.channels) then latency else 1000000) }
+    ensures { result ≡ usual_or_longest config.now kind latency }
 {
     if has_usual_link(config, kind) {
         latency
@@ -35,7 +36,7 @@ fn usual(config: &Config, kind: u64, latency: u32) -> u32
 
 /// The least latency of the links that have one of their own.
 fn least_own(config: &Config) -> u32
-    ensures { result ≡ fold (λ least o. min least o.latency) 1000000 config.now.overrides }
+    ensures { result ≡ least_own config.now }
 {
     config
         .overrides
