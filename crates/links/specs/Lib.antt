@@ -1,0 +1,3 @@
+pub mod InFlight
+pub mod Filing
+pub mod Latencies

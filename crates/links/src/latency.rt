@@ -1,0 +1,59 @@
+//! How soon a message can arrive.
+
+ghost use Rattle.std.specs.Prelude.{◌≡◌, ℕ, ◌*◌, ◌<◌, ◌≤◌};
+ghost use Rattle.sim_base.specs.Config.{latency};
+ghost use Rattle.sim_base.specs.Locality.{TravelsFor};
+ghost use Rattle.links.specs.Latencies.{has_usual, usual_or_longest, least_own};
+
+use sim_base::config::Config;
+
+/// No message travels longer.
+const LONGEST: u32 = 1_000_000;
+
+/// Fewer links of a kind have a latency of their own than there are.
+fn has_usual_link(config: &Config, kind: u64) -> bool
+    ensures { result ≡ has_usual config.now kind }
+{
+    let own = config
+        .overrides
+        .as_slice()
+        .iter()
+        .filter(|o| o.link % 3 == kind)
+        .count();
+    own < usize::from(config.cores) * usize::from(config.channels)
+}
+
+/// The latency of a kind of links, where one of them has it.
+fn usual(config: &Config, kind: u64, latency: u32) -> u32
+    ensures { result ≡ usual_or_longest config.now kind latency }
+{
+    if has_usual_link(config, kind) {
+        latency
+    } else {
+        LONGEST
+    }
+}
+
+/// The least latency of the links that have one of their own.
+fn least_own(config: &Config) -> u32
+    ensures { result ≡ least_own config.now }
+{
+    config
+        .overrides
+        .as_slice()
+        .iter()
+        .fold(LONGEST, |least, o| least.min(o.latency))
+}
+
+/// The least latency over all links, in cycles, those that have one of their own included: from 1 to 1,000,000.
+pub fn shortest(config: &Config) -> u64
+    ensures meets { TravelsFor config.now result }
+    ensures attained { (link : ℕ) × (link < 3 * config.now.cores * config.now.channels) × (latency config.now link ≡ result) }
+    ensures positive { 1 ≤ result }
+{
+    let least = least_own(config)
+        .min(usual(config, 0, config.request_latency))
+        .min(usual(config, 1, config.reply_latency))
+        .min(usual(config, 2, config.credit_latency));
+    u64::from(least)
+}

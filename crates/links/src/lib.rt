@@ -1,0 +1,5 @@
+//! The messages in flight between cores and channels, and how soon one can arrive.
+#![tactic(auto)]
+
+pub mod flight;
+pub mod latency;
