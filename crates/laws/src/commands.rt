@@ -1,0 +1,15 @@
+//! What holds of the commands of a run.
+
+ghost use Rattle.std.specs.Prelude.{ℕ, List};
+ghost use Rattle.sim_base.specs.declared.config.Config.{Config};
+ghost use Rattle.sim_base.specs.declared.trace.Entry.{Entry};
+ghost use Rattle.laws.specs.Commands.{CommandsAreLegal, HistoriesAreLegal, CyclesAscend};
+
+/// Each command of a run keeps the rules of DDR4 over the commands of its channel before it, and a channel issues at most
+/// one in a cycle.
+#[tactic(auto, using(crate::proofs::Legal::commands_are_legal, crate::proofs::Legal::histories_are_legal, crate::proofs::Legal::cycles_ascend))]
+pub fn commands_are_legal()
+    ensures in_each_cycle { (s : Config) (traces : List (List Entry)) (n : ℕ) → CommandsAreLegal s traces n }
+    ensures one_by_one { (s : Config) (traces : List (List Entry)) (n : ℕ) → HistoriesAreLegal s traces n }
+    ensures ascending { (s : Config) (traces : List (List Entry)) (n : ℕ) → CyclesAscend s traces n }
+{}
