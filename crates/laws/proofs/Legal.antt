@@ -65,10 +65,10 @@ at_each_cycle P s traces k l h (suc n) =
     (EachAfter-push P (rows_of s traces n k) (chosen s traces n k) (at_each_cycle P s traces k l h n) (h n))
 
 -- a command is legal over what was done before it
-IsLegalStep : Config → ℕ → List (Option Command) → Option Command → Type 0
+unfoldable pub IsLegalStep : Config → ℕ → List (Option Command) → Option Command → Type 0
 IsLegalStep s k rows o = IfSome o (IsLegalNow s (issued_commands k rows) (length rows))
 
-legal_step : (s : Config) (traces : List (List Entry)) (k : ℕ) (n : ℕ) → IsLegalStep s k (rows_of s traces n k) (chosen s traces n k)
+pub legal_step : (s : Config) (traces : List (List Entry)) (k : ℕ) (n : ℕ) → IsLegalStep s k (rows_of s traces n k) (chosen s traces n k)
 unfolding IsLegalStep
 legal_step s traces k n = choice-legal s k (rows_of s traces n k) (inbox s traces (run s traces n) (Channel k))
 

@@ -1,2 +1,4 @@
+pub mod Counting
 pub mod Chosen
 pub mod Legal
+pub mod Burst
