@@ -1,5 +1,5 @@
 -- The commands of a run, cycle by cycle.
-use Rattle.std.proofs.Common.{◌≡◌, ℕ, zero, suc, ◌+◌, ◌<◌, ◌≤◌, List, [], ◌∷◌, ◌++◌, length, get_or, take, Option, Some, None, refl, sym, ap, subst, ◌∙◌, ◌⊎◌, inl, inr, arith, zero-add, add-zero}
+use Rattle.std.proofs.Common.{◌≡◌, ℕ, zero, suc, ◌+◌, ◌<◌, ◌≤◌, List, [], ◌∷◌, ◌++◌, length, get_or, take, Option, Some, None, sym, ap, subst, ◌∙◌, ◌⊎◌, inl, inr, arith, zero-add}
 use Rattle.std.specs.Prelude.{filter_map}
 use Rattle.std.specs.Option.{IfSome}
 use Rattle.std.specs.List.{AllByRecursion as Each, AllPairs, enumerate_from, cons_option}
@@ -21,6 +21,7 @@ use Rattle.std.proofs.lemmas.List.Kept.{AllPairs-cons}
 use Rattle.sim_base.proofs.Ordered.{Each-weaker}
 use Rattle.sim_base.proofs.Spans.{length-run, channel_row-next}
 use Rattle.laws.specs.Commands.{rows_of, history_of, CommandsAreLegal, IsLegalHistory, HistoriesAreLegal, CyclesAscend}
+use Rattle.laws.proofs.Lists.{enumerate-append}
 use Rattle.laws.proofs.Chosen.{IsLegalNow, choice-legal}
 
 -- what a channel chooses in the cycle after the first n of a run
@@ -80,12 +81,6 @@ commands_are_legal s traces n k t command l b e =
     let h : IsLegalStep s k (take t rows) (get_or rows t None) = at_each_cycle (IsLegalStep s k) s traces k l (legal_step s traces k) n t None (omega arith) in
     subst (λ x. IsLegalNow s (issued_commands k (take t rows)) x command) (length-take-le t rows (omega arith))
     (subst (λ o. IfSome o (IsLegalNow s (issued_commands k (take t rows)) (length (take t rows)))) e h)
-
-enumerate-append : {X : Type 0} (i : ℕ) (xs ys : List X) → enumerate_from i (xs ++ ys) ≡ enumerate_from i xs ++ enumerate_from (i + length xs) ys
-enumerate-append i [] ys = rw add-zero refl
-enumerate-append i (x ∷ xs) ys =
-    let e : i + 1 + length xs ≡ i + suc (length xs) = omega arith in
-    ap (λ z. (i, x) ∷ z) (enumerate-append (i + 1) xs ys ∙ ap (λ j. enumerate_from (i + 1) xs ++ enumerate_from j ys) e)
 
 -- one row more
 pub issued_commands-push : (k : ℕ) (rows : List (Option Command)) (o : Option Command)

@@ -3,3 +3,4 @@
 #![tactic(auto)]
 
 pub mod commands;
+pub mod messages;
