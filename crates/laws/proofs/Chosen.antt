@@ -1,17 +1,21 @@
--- The command that a channel chooses is legal.
+-- The command that a channel chooses is legal, and a request of its queue needs it, or a refresh.
 use Rattle.std.proofs.Common.{◌≡◌, ℕ, Bool, true, List, [], ◌∷◌, length, Option, Some, None}
 use Rattle.std.specs.Prelude.{find, option_map, not}
 use Rattle.std.specs.Option.{IfSome}
+use Rattle.std.specs.List.{AllByRecursion as Each}
 use Rattle.std.proofs.lemmas.Bool.{cond_both, and_parts}
 use Rattle.sim_base.specs.declared.config.Config.{Config}
+use Rattle.sim_base.specs.Places.{bank_in}
 use Rattle.sim_base.specs.History.{issued_commands}
-use Rattle.sim_base.specs.Rules.{is_legal}
-use Rattle.sim_base.specs.Scheduling.{needed, is_column_command, is_withheld, ready_hit, ready_row, first_ready, if_legal, refresh_command, choice_between, lowest_due, choice}
+use Rattle.sim_base.specs.Rules.{is_legal, open_row, has_open_bank}
+use Rattle.sim_base.specs.Scheduling.{needed_at, needed, is_column_command, is_withheld, ready_hit, ready_row, first_ready, if_legal, refresh_command, choice_between, drains, lowest_due, queue_in, choice}
 use Rattle.sim_base.specs.declared.command.Command.{Command}
+use Rattle.sim_base.specs.declared.command.Command.TheVariants.{Prea, Ref}
 use Rattle.sim_base.specs.declared.command.CommandRow.{CommandRow}
 use Rattle.sim_base.specs.declared.message.Message.{Message}
 use Rattle.sim_base.specs.declared.message.Request.{Request}
-use Rattle.sim_base.proofs.Served.{or_else-each}
+use Rattle.sim_base.proofs.Each.{IfSome-find}
+use Rattle.sim_base.proofs.Served.{or_else-each, candidates-each}
 
 pub find-passes : {X : Type 0} (p : X → Bool) (xs : List X) → IfSome (find p xs) (λ x. p x ≡ true)
 find-passes p [] = tt
@@ -62,3 +66,30 @@ pub choice-legal : (s : Config) (channel : ℕ) (rows : List (Option Command)) (
 unfolding choice
 choice-legal s channel rows inbox =
     between-legal s (issued_commands channel rows) (length rows) _ (lowest_due s (issued_commands channel rows) (length rows))
+
+-- a command that is chosen is one that a request of the queue needs, or it serves a refresh
+option_map-needed : (P : Request → Type 0) (Q : Command → Type 0) (history : List CommandRow) → ((r : Request) (o : Option ℕ) → P r → Q (needed_at o r))
+    → (o : Option Request) → IfSome o P → IfSome (option_map (needed history) o) Q
+unfolding needed
+option_map-needed P Q history f None h = tt
+option_map-needed P Q history f (Some r) h = f r (open_row (bank_in r.place) history) h
+
+between-needed : (P : Request → Type 0) (Q : Command → Type 0) (s : Config) (history : List CommandRow) (now : ℕ) (requests : List Request) (due : Option ℕ)
+    → ((r : Request) (o : Option ℕ) → P r → Q (needed_at o r)) → ((rank : ℕ) → Q (Prea rank)) → ((rank : ℕ) → Q (Ref rank))
+    → Each P requests → IfSome (choice_between s history now requests due) Q
+unfolding choice_between first_ready if_legal refresh_command
+between-needed P Q s history now requests None f g k h =
+    option_map-needed P Q history f _
+    (or_else-each P _ _ (IfSome-find P (ready_hit s history now) requests h) (IfSome-find P (ready_row s history now requests) requests h))
+between-needed P Q s history now requests (Some rank) f g k h =
+    cond_both (is_legal s history now (refresh_command s history rank)) _ _ (λ o. IfSome o Q)
+    (λ e. cond_both (has_open_bank s history rank) (Prea rank) (Ref rank) Q (λ d. g rank) (λ d. k rank))
+    (λ e. tt)
+
+pub choice-needed : (P : Request → Type 0) (Q : Command → Type 0) (s : Config) (channel : ℕ) (rows : List (Option Command)) (inbox : List Message)
+    → ((r : Request) (o : Option ℕ) → P r → Q (needed_at o r)) → ((rank : ℕ) → Q (Prea rank)) → ((rank : ℕ) → Q (Ref rank))
+    → Each P (queue_in channel rows inbox (length rows)) → IfSome (choice s channel rows inbox) Q
+unfolding choice
+choice-needed P Q s channel rows inbox f g k h =
+    between-needed P Q s (issued_commands channel rows) (length rows) _ (lowest_due s (issued_commands channel rows) (length rows)) f g k
+    (candidates-each P s (drains s channel rows inbox (length rows)) (queue_in channel rows inbox (length rows)) h)

@@ -1,8 +1,8 @@
 -- How many elements of a list pass a test.
-use Rattle.std.proofs.Common.{◌≡◌, ℕ, zero, suc, ◌+◌, ◌<◌, ◌≤◌, Bool, true, false, cond, List, [], ◌∷◌, ◌++◌, refl, ap, ap₂, ◌∙◌, ◌⊎◌, inl, inr, arith, zero-add}
-use Rattle.std.specs.Prelude.{count_by, flat_map}
+use Rattle.std.proofs.Common.{◌≡◌, ℕ, zero, suc, ◌+◌, ◌<◌, ◌≤◌, Bool, true, false, ◌&&◌, cond, List, [], ◌∷◌, ◌++◌, refl, sym, ap, ap₂, ◌∙◌, ◌⊎◌, inl, inr, arith, zero-add}
+use Rattle.std.specs.Prelude.{count_by, filter, flat_map}
 use Rattle.std.specs.List.{AllByRecursion as Each, list_all}
-use Rattle.std.proofs.lemmas.Bool.{and_parts, cases_eq, cases_lt}
+use Rattle.std.proofs.lemmas.Bool.{cond_both, and_parts, cases_eq, cases_lt}
 use Rattle.std.proofs.lemmas.List.Sums.{sum_by-append, sum_by-cons, sum_by_push}
 use Rattle.sim_base.specs.History.{below}
 use Rattle.sim_base.proofs.Below.{flat_map_below_more}
@@ -68,3 +68,10 @@ count-flat_map-bound p f n j b h k = go (cases_lt j n)
     go : (j < n) ⊎ (n ≤ j) → count_by p (flat_map f (below n)) ≤ b
     go (inl l) = let e : count_by p (flat_map f (below n)) ≡ count_by p (f j) = count-flat_map-one p f n j l h in let m = k l in omega arith
     go (inr l) = let e : count_by p (flat_map f (below n)) ≡ 0 = count-flat_map-none p f n (λ i a. h i a (λ g. omega arith)) in omega arith
+
+pub count-filter : {X : Type 0} (p q : X → Bool) (xs : List X) → count_by q (filter p xs) ≡ count_by (λ x. p x && q x) xs
+count-filter p q [] = refl
+count-filter p q (x ∷ xs) =
+    cond_both (p x) (x ∷ filter p xs) (filter p xs) (λ ys. count_by q ys ≡ count_by (λ x. p x && q x) (x ∷ xs))
+    (λ e. count-cons q x (filter p xs) ∙ ap₂ (λ a b. cond (a && q x) 1 0 + b) (sym e) (count-filter p q xs) ∙ sym (count-cons (λ x. p x && q x) x xs))
+    (λ e. count-filter p q xs ∙ sym (zero-add _) ∙ ap (λ a. cond (a && q x) 1 0 + count_by (λ x. p x && q x) xs) (sym e) ∙ sym (count-cons (λ x. p x && q x) x xs))

@@ -6,7 +6,7 @@ use Rattle.std.specs.List.{AllByRecursion as Each, AllPairs, enumerate_from, con
 use Rattle.std.proofs.Math.ListN.{get_or-append}
 use Rattle.std.proofs.Math.Seq.{get_or-append_seam, take-append_seam}
 use Rattle.std.proofs.lemmas.Bool.{cases_lt}
-use Rattle.std.proofs.lemmas.List.{map-append, append-nil, length-map, length_push, length-take-le, take-append-le}
+use Rattle.std.proofs.lemmas.List.{map-append, append-nil, length-map, length_push, length-take-le, take-append-le, take_all, get_or-take, get_or_push}
 use Rattle.std.proofs.lemmas.List.Elements.{filter_map-append, All-from_recursion}
 use Rattle.sim_base.specs.declared.config.Config.{Config}
 use Rattle.sim_base.specs.Row.{channel_row}
@@ -131,3 +131,28 @@ issued-ascend k i (Some c ∷ rows) =
 pub cycles_ascend : (s : Config) (traces : List (List Entry)) (n : ℕ) → CyclesAscend s traces n
 unfolding issued_commands
 cycles_ascend s traces n k = issued-ascend k 0 (rows_of s traces n k)
+
+-- the first cycles of a run
+pub take-rows_of : (s : Config) (traces : List (List Entry)) (k : ℕ) → k < s.channels → (n t : ℕ) → t ≤ n → take t (rows_of s traces n k) ≡ rows_of s traces t k
+take-rows_of s traces k l zero t h =
+    let e : t ≡ 0 = omega arith in
+    take_all t (rows_of s traces 0 k) (let m = length-rows_of s traces 0 k in omega arith) ∙ ap (λ i. rows_of s traces i k) (sym e)
+take-rows_of s traces k l (suc n) t h = go (cases_lt n t) (take-rows_of s traces k l n t)
+  where
+    go : (n < t) ⊎ (t ≤ n) → (t ≤ n → take t (rows_of s traces n k) ≡ rows_of s traces t k) → take t (rows_of s traces (suc n) k) ≡ rows_of s traces t k
+    go (inl b) rest =
+        let e : t ≡ suc n = omega arith in
+        take_all t (rows_of s traces (suc n) k) (let m = length-rows_of s traces (suc n) k in omega arith) ∙ ap (λ i. rows_of s traces i k) (sym e)
+    go (inr b) rest =
+        ap (take t) (rows_of-more s traces n k l)
+        ∙ take-append-le t (rows_of s traces n k) (chosen s traces n k ∷ []) (let m = length-rows_of s traces n k in omega arith)
+        ∙ rest b
+
+-- what a channel does in a cycle is what it chooses then
+pub rows_of-at : (s : Config) (traces : List (List Entry)) (k : ℕ) → k < s.channels → (n t : ℕ) → t < n → get_or (rows_of s traces n k) t None ≡ chosen s traces t k
+rows_of-at s traces k l n t h =
+    let rows = rows_of s traces t k in
+    let long : length rows ≡ t = length-rows_of s traces t k in
+    sym (get_or-take (suc t) (rows_of s traces n k) t None (omega arith))
+    ∙ ap (λ x. get_or x t None) (take-rows_of s traces k l n (suc t) (omega arith) ∙ rows_of-more s traces t k l)
+    ∙ get_or_push rows (chosen s traces t k) None t long

@@ -4,5 +4,9 @@ pub mod Chosen
 pub mod Legal
 pub mod Burst
 pub mod Issued
+pub mod Receivers
 pub mod Sent
 pub mod Travel
+pub mod Traced
+pub mod Once
+pub mod Answered

@@ -8,7 +8,6 @@ ghost use Rattle.laws.specs.DataBus.{DataBusIsShared};
 
 /// Each command of a run keeps the rules of DDR4 over the commands of its channel before it, and a channel issues at most
 /// one in a cycle.
-#[tactic(auto, using(crate::proofs::Legal::commands_are_legal, crate::proofs::Legal::histories_are_legal, crate::proofs::Legal::cycles_ascend))]
 pub fn commands_are_legal()
     ensures in_each_cycle { (s : Config) (traces : List (List Entry)) (n : ℕ) → CommandsAreLegal s traces n }
     ensures one_by_one { (s : Config) (traces : List (List Entry)) (n : ℕ) → HistoriesAreLegal s traces n }
