@@ -10,3 +10,6 @@ pub mod Travel
 pub mod Traced
 pub mod Once
 pub mod Answered
+pub mod Spent
+pub mod Conserved
+pub mod Bounded

@@ -3,4 +3,5 @@
 #![tactic(auto)]
 
 pub mod commands;
+pub mod credits;
 pub mod messages;
