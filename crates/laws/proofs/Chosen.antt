@@ -8,7 +8,7 @@ use Rattle.sim_base.specs.declared.config.Config.{Config}
 use Rattle.sim_base.specs.Places.{bank_in}
 use Rattle.sim_base.specs.History.{issued_commands}
 use Rattle.sim_base.specs.Rules.{is_legal, open_row, has_open_bank}
-use Rattle.sim_base.specs.Scheduling.{needed_at, needed, is_column_command, is_withheld, ready_hit, ready_row, first_ready, if_legal, refresh_command, choice_between, drains, lowest_due, queue_in, choice}
+use Rattle.sim_base.specs.Scheduling.{needed_at, needed, is_column_command, is_withheld, ready_hit, ready_row, first_ready, or_else, if_legal, refresh_command, choice_between, drains, lowest_due, queue_in, choice}
 use Rattle.sim_base.specs.declared.command.Command.{Command}
 use Rattle.sim_base.specs.declared.command.Command.TheVariants.{Prea, Ref}
 use Rattle.sim_base.specs.declared.command.CommandRow.{CommandRow}
@@ -93,3 +93,13 @@ unfolding choice
 choice-needed P Q s channel rows inbox f g k h =
     between-needed P Q s (issued_commands channel rows) (length rows) _ (lowest_due s (issued_commands channel rows) (length rows)) f g k
     (candidates-each P s (drains s channel rows inbox (length rows)) (queue_in channel rows inbox (length rows)) h)
+
+-- what is ready first is one that a request needs
+pub first_ready-needed : (Q : Command → Type 0) (s : Config) (history : List CommandRow) (now : ℕ) (requests : List Request) → ((r : Request) (o : Option ℕ) → Q (needed_at o r))
+    → IfSome (first_ready s history now requests) Q
+unfolding first_ready needed
+first_ready-needed Q s history now requests f = any_needed (or_else (find (ready_hit s history now) requests) (find (ready_row s history now requests) requests))
+  where
+    any_needed : (o : Option Request) → IfSome (option_map (λ (r : Request). needed_at (open_row (bank_in r.place) history) r) o) Q
+    any_needed None = tt
+    any_needed (Some r) = f r (open_row (bank_in r.place) history)

@@ -1,10 +1,9 @@
 -- What a core has spent of a channel's credits is in flight, queued or on its way back.
-use Rattle.std.proofs.Common.{◌≡◌, ℕ, zero, suc, ◌+◌, ◌<◌, ◌≤◌, Bool, true, false, ◌&&◌, cond, eqb, List, [], ◌∷◌, ◌++◌, length, Option, Some, None, refl, sym, ap, ap₂, subst, ◌∙◌, arith, add-zero}
+use Rattle.std.proofs.Common.{◌≡◌, ℕ, zero, suc, ◌+◌, ◌<◌, ◌≤◌, Bool, true, false, ◌&&◌, cond, eqb, List, [], ◌∷◌, ◌++◌, length, Option, Some, None, refl, sym, ap, ap₂, subst, ◌∙◌, arith}
 use Rattle.std.specs.Prelude.{count_by, flat_map, not}
 use Rattle.std.specs.Option.{IfSome}
 use Rattle.std.specs.List.{list_any, cons_option}
 use Rattle.std.proofs.lemmas.Bool.{false≢true, and_parts, and_from, and_right, and_left, eqb-true, eq-eqb, ne_eqb, not_from_false, not-true, or_left, or_right, not_from_true, both_ways, false_from_ne_true}
-use Rattle.std.proofs.lemmas.List.{append-nil}
 use Rattle.std.proofs.lemmas.List.Folds.{list_any-append}
 use Rattle.sim_base.specs.declared.config.Config.{Config}
 use Rattle.sim_base.specs.Config.{reply_link, credit_link}
@@ -27,10 +26,10 @@ use Rattle.sim_base.specs.declared.trace.Entry.{Entry}
 use Rattle.sim_base.specs.declared.trace.Entry.TheVariants.{Plain, Read, Write}
 use Rattle.sim_base.proofs.Grows.{sender_credit}
 use Rattle.sim_base.proofs.Spans.{channel_row-next}
-use Rattle.laws.specs.Commands.{rows_of, history_of}
+use Rattle.laws.specs.Commands.{history_of}
 use Rattle.laws.specs.Credits.{requests_sent, credits_back, CreditsComeBackOnce}
-use Rattle.laws.proofs.Counting.{bit_le, count-cons, count-push, count-append, count-none, count-weaker, count-weaker_each, count-fewer, count-flat_map-none, count-flat_map-bound, test_in, count-filter_map}
-use Rattle.laws.proofs.Legal.{chosen, rows_of-more, length-rows_of, issued_commands-push}
+use Rattle.laws.proofs.Counting.{bit_le, count-cons, count-append, count-none, count-weaker, count-weaker_each, count-fewer, count-flat_map-none, count-flat_map-bound, test_in, count-filter_map}
+use Rattle.laws.proofs.Legal.{chosen, history_of-more, count-history_of}
 use Rattle.laws.proofs.Receivers.{receiver_request, receiver_credit, place_in}
 use Rattle.laws.proofs.Sent.{OnlyFrom, count-messages, messages-none, sends-channel, issues-each, commands-each}
 use Rattle.laws.proofs.Spent.{count-inbox, inbox-more, spent, sent_now, requests_sent-more}
@@ -117,23 +116,10 @@ served s traces n core k write = count_by (λ i. serves_for core write i.command
 unfoldable pub unserved : Config → List (List Entry) → ℕ → ℕ → ℕ → Bool → ℕ
 unserved s traces n core k write = count_by (λ r. is_of core write r && not (is_served (history_of s traces n k) r)) (requests_to s traces n k)
 
-history_of-more : (s : Config) (traces : List (List Entry)) (n k : ℕ) → k < s.channels
-    → history_of s traces (suc n) k ≡ history_of s traces n k ++ cons_option (issued_at k n (chosen s traces n k)) []
-history_of-more s traces n k l =
-    ap (issued_commands k) (rows_of-more s traces n k l) ∙ issued_commands-push k (rows_of s traces n k) (chosen s traces n k)
-    ∙ ap (λ i. history_of s traces n k ++ cons_option (issued_at k i (chosen s traces n k)) []) (length-rows_of s traces n k)
-
-served-push : (core k cycle : ℕ) (write : Bool) (history : List CommandRow) (o : Option Command)
-    → count_by (λ (i : CommandRow). serves_for core write i.command) (history ++ cons_option (issued_at k cycle o) [])
-    ≡ count_by (λ (i : CommandRow). serves_for core write i.command) history + cond (test_in (serves_for core write) o) 1 0
-served-push core k cycle write history None = ap (count_by (λ (i : CommandRow). serves_for core write i.command)) (append-nil history) ∙ sym (add-zero _)
-served-push core k cycle write history (Some command) = count-push (λ (i : CommandRow). serves_for core write i.command) history _
-
 served-more : (s : Config) (traces : List (List Entry)) (n core k : ℕ) (write : Bool) → k < s.channels
     → served s traces (suc n) core k write ≡ served s traces n core k write + cond (test_in (serves_for core write) (chosen s traces n k)) 1 0
 unfolding served
-served-more s traces n core k write l =
-    ap (count_by (λ (i : CommandRow). serves_for core write i.command)) (history_of-more s traces n k l) ∙ served-push core k n write (history_of s traces n k) (chosen s traces n k)
+served-more s traces n core k write l = count-history_of (serves_for core write) s traces n k l
 
 -- what was served stays so
 served-kept : (s : Config) (traces : List (List Entry)) (n k : ℕ) (r : Request) → k < s.channels → is_served (history_of s traces n k) r ≡ true → is_served (history_of s traces (suc n) k) r ≡ true

@@ -1,6 +1,6 @@
 -- The commands of a run, cycle by cycle.
-use Rattle.std.proofs.Common.{◌≡◌, ℕ, zero, suc, ◌+◌, ◌<◌, ◌≤◌, List, [], ◌∷◌, ◌++◌, length, get_or, take, Option, Some, None, sym, ap, subst, ◌∙◌, ◌⊎◌, inl, inr, arith, zero-add}
-use Rattle.std.specs.Prelude.{filter_map}
+use Rattle.std.proofs.Common.{◌≡◌, ℕ, zero, suc, ◌+◌, ◌<◌, ◌≤◌, Bool, cond, List, [], ◌∷◌, ◌++◌, length, get_or, take, Option, Some, None, sym, ap, subst, ◌∙◌, ◌⊎◌, inl, inr, arith, zero-add, add-zero}
+use Rattle.std.specs.Prelude.{count_by, filter_map}
 use Rattle.std.specs.Option.{IfSome}
 use Rattle.std.specs.List.{AllByRecursion as Each, AllPairs, enumerate_from, cons_option}
 use Rattle.std.proofs.Math.ListN.{get_or-append}
@@ -21,6 +21,8 @@ use Rattle.std.proofs.lemmas.List.Kept.{AllPairs-cons}
 use Rattle.sim_base.proofs.Ordered.{Each-weaker}
 use Rattle.sim_base.proofs.Spans.{length-run, channel_row-next}
 use Rattle.laws.specs.Commands.{rows_of, history_of, CommandsAreLegal, IsLegalHistory, HistoriesAreLegal, CyclesAscend}
+use Rattle.sim_base.proofs.Each.{Each-append}
+use Rattle.laws.proofs.Counting.{count-push, test_in}
 use Rattle.laws.proofs.Lists.{enumerate-append}
 use Rattle.laws.proofs.Chosen.{IsLegalNow, choice-legal}
 
@@ -156,3 +158,31 @@ rows_of-at s traces k l n t h =
     sym (get_or-take (suc t) (rows_of s traces n k) t None (omega arith))
     ∙ ap (λ x. get_or x t None) (take-rows_of s traces k l n (suc t) (omega arith) ∙ rows_of-more s traces t k l)
     ∙ get_or_push rows (chosen s traces t k) None t long
+
+-- the history of a channel with one cycle more
+pub history_of-more : (s : Config) (traces : List (List Entry)) (n k : ℕ) → k < s.channels
+    → history_of s traces (suc n) k ≡ history_of s traces n k ++ cons_option (issued_at k n (chosen s traces n k)) []
+history_of-more s traces n k l =
+    ap (issued_commands k) (rows_of-more s traces n k l) ∙ issued_commands-push k (rows_of s traces n k) (chosen s traces n k)
+    ∙ ap (λ i. history_of s traces n k ++ cons_option (issued_at k i (chosen s traces n k)) []) (length-rows_of s traces n k)
+
+count-push_option : (p : Command → Bool) (k cycle : ℕ) (history : List CommandRow) (o : Option Command)
+    → count_by (λ (i : CommandRow). p i.command) (history ++ cons_option (issued_at k cycle o) []) ≡ count_by (λ (i : CommandRow). p i.command) history + cond (test_in p o) 1 0
+count-push_option p k cycle history None = ap (count_by (λ (i : CommandRow). p i.command)) (append-nil history) ∙ sym (add-zero _)
+count-push_option p k cycle history (Some command) = count-push (λ (i : CommandRow). p i.command) history _
+
+-- and its commands that pass a test
+pub count-history_of : (p : Command → Bool) (s : Config) (traces : List (List Entry)) (n k : ℕ) → k < s.channels
+    → count_by (λ (i : CommandRow). p i.command) (history_of s traces (suc n) k) ≡ count_by (λ (i : CommandRow). p i.command) (history_of s traces n k) + cond (test_in p (chosen s traces n k)) 1 0
+count-history_of p s traces n k l =
+    ap (count_by (λ (i : CommandRow). p i.command)) (history_of-more s traces n k l) ∙ count-push_option p k n (history_of s traces n k) (chosen s traces n k)
+
+-- what holds of each command of a history holds with one cycle more
+pub Each-history_of : (P : CommandRow → Type 0) (s : Config) (traces : List (List Entry)) (n k : ℕ) → k < s.channels → Each P (history_of s traces n k)
+    → IfSome (chosen s traces n k) (λ command. P (record { cycle = n; channel = k; command = command })) → Each P (history_of s traces (suc n) k)
+Each-history_of P s traces n k l h g =
+    subst (Each P) (sym (history_of-more s traces n k l)) (Each-append P (history_of s traces n k) _ h (one (chosen s traces n k) g))
+  where
+    one : (o : Option Command) → IfSome o (λ command. P (record { cycle = n; channel = k; command = command })) → Each P (cons_option (issued_at k n o) [])
+    one None i = tt
+    one (Some command) i = (i, tt)

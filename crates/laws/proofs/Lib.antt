@@ -13,3 +13,6 @@ pub mod Answered
 pub mod Spent
 pub mod Conserved
 pub mod Bounded
+pub mod Cleared
+pub mod Due
+pub mod Timely

@@ -49,7 +49,7 @@ pub slice_get-take_drop : {X : Type 0} (m n : ℕ) (xs : List X) (j : ℕ) (x : 
 slice_get-take_drop m n xs j x e = let h = slice_get-take m (drop n xs) j x e in (h.0, sym (slice_get-drop n xs j) ∙ h.1)
 
 -- each number before the first that passes a test fails it
-abbrev FailsBefore : (ℕ → Bool) → ℕ → ℕ → Type 0
+abbrev pub FailsBefore : (ℕ → Bool) → ℕ → ℕ → Type 0
 FailsBefore p a end = (j : ℕ) → a ≤ j → j < end → p j ≡ false
 
 fails_from : (p : ℕ → Bool) (a end : ℕ) → p a ≡ false → FailsBefore p (a + 1) end → FailsBefore p a end
@@ -59,7 +59,7 @@ fails_from p a end e h j l m = go (cases_lt a j)
     go (inl b) = h j (omega arith) m
     go (inr b) = let f : j ≡ a = omega arith in ap p f ∙ e
 
-find-range : (p : ℕ → Bool) (a k : ℕ) → MatchOption (find p (range_with_len a k)) (FailsBefore p a (a + k)) (FailsBefore p a)
+pub find-range : (p : ℕ → Bool) (a k : ℕ) → MatchOption (find p (range_with_len a k)) (FailsBefore p a (a + k)) (FailsBefore p a)
 find-range p a zero = λ j l h. absurd (omega arith)
 find-range p a (suc k) =
     cond_both (p a) (Some a) (find p (range_with_len (a + 1) k)) (λ o. MatchOption o (FailsBefore p a (a + suc k)) (FailsBefore p a))

@@ -5,3 +5,4 @@
 pub mod commands;
 pub mod credits;
 pub mod messages;
+pub mod refreshes;
