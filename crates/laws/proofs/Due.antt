@@ -1,8 +1,8 @@
 -- When refreshes are due, and what a channel does then.
-use Rattle.std.proofs.Common.{◌≡◌, ℕ, zero, suc, ◌+◌, ◌-◌, ◌/◌, ◌<◌, ◌≤◌, Bool, true, false, cond, eqb, ltb, List, length, Option, Some, None, refl, sym, ap, subst, ◌∙◌, ◌⊎◌, inl, inr, arith, add-zero}
+use Rattle.std.proofs.Common.{◌≡◌, ℕ, zero, suc, ◌+◌, ◌-◌, ◌/◌, ◌<◌, ◌≤◌, Bool, true, false, cond, eqb, ltb, List, length, Option, Some, None, refl, sym, ap, ap₂, subst, ◌∙◌, ◌⊎◌, inl, inr, arith, add-zero}
 use Rattle.std.specs.Prelude.{count_by, find}
 use Rattle.std.specs.Option.{IfSome, MatchOption}
-use Rattle.std.proofs.lemmas.Bool.{false≢true, cond_both, cond-false, eqb-true, ltb-true, ne_eqb, cases_lt}
+use Rattle.std.proofs.lemmas.Bool.{false≢true, cond_both, cond-true, cond-false, eqb-true, ltb-true, eq-eqb, false_from_ne_true, ne_eqb, cases_lt}
 use Rattle.std.proofs.lemmas.Nat.{le-div}
 use Rattle.std.proofs.Math.Nat.{div-mul-le_self}
 use Rattle.sim_base.specs.declared.config.Config.{Config}
@@ -138,6 +138,19 @@ early_before s traces k rank l (suc t) =
 -- no rank has more refreshes than were due
 pub not_early : (s : Config) (traces : List (List Entry)) (k rank : ℕ) → k < s.channels → (t : ℕ) → refreshed s traces k rank (suc t) ≤ t / s.timing.n_refi
 not_early s traces k rank l t = early_step s traces k rank t l (early_before s traces k rank l t)
+
+-- where there are no refreshes, none is issued
+none_due : (s : Config) (history : List CommandRow) (rank t : ℕ) → s.timing.n_refi ≡ 0 → due s rank history t ≡ 0
+unfolding due
+none_due s history rank t z = cond-true _ _ _ (eq-eqb s.timing.n_refi 0 z)
+
+pub not_wanted : (s : Config) (traces : List (List Entry)) (k rank : ℕ) → k < s.channels → s.timing.n_refi ≡ 0 → (t : ℕ) → refreshed s traces k rank t ≡ 0
+not_wanted s traces k rank l z zero = refreshed-none s traces k rank
+not_wanted s traces k rank l z (suc t) =
+    refreshed-more s traces k rank t l
+    ∙ ap₂ (λ n b. n + cond b 1 0) (not_wanted s traces k rank l z t)
+    (false_from_ne_true (test_in (refreshes rank) (chosen s traces t k))
+    (λ e. let a = ltb-true _ _ (refresh-due s traces k t rank e) in let b = none_due s (history_of s traces t k) rank t z in omega arith))
 
 pub refreshed-later : (s : Config) (traces : List (List Entry)) (k rank a : ℕ) → k < s.channels → (d : ℕ) → refreshed s traces k rank a ≤ refreshed s traces k rank (a + d)
 refreshed-later s traces k rank a l zero = let e = ap (refreshed s traces k rank) (add-zero a) in omega arith

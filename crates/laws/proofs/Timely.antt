@@ -6,7 +6,7 @@ use Rattle.std.specs.Option.{IfSome}
 use Rattle.std.specs.List.{AllByRecursion as Each, cons_option}
 use Rattle.std.proofs.lemmas.Bool.{false≢true, cond_both, cond-true, cond-false, eq-eqb, lt-ltb, ltb-true, cases_lt}
 use Rattle.std.proofs.lemmas.List.{append-nil}
-use Rattle.std.proofs.Math.Nat.{div-eq_of_lt-le, mul-le-mul_right}
+use Rattle.std.proofs.Math.Nat.{div-eq_of_lt-le, div-mul-le_self, mul-le-mul_right}
 use Rattle.sim_base.specs.declared.config.Config.{Config}
 use Rattle.sim_base.specs.Config.{refresh_slack}
 use Rattle.sim_base.specs.History.{channel_rows, issued_at, issued_commands}
@@ -20,10 +20,10 @@ use Rattle.sim_base.specs.declared.command.CommandRow.{CommandRow}
 use Rattle.sim_base.specs.declared.trace.Entry.{Entry}
 use Rattle.sim_base.proofs.Ordered.{Each-weaker}
 use Rattle.laws.specs.Commands.{history_of}
-use Rattle.laws.specs.Refreshes.{refreshes_by, RefreshesAreInTime, RefreshesAreNotEarly}
+use Rattle.laws.specs.Refreshes.{refreshes_by, RefreshesAreInTime, RefreshesAreNotEarly, RefreshesAreWanted}
 use Rattle.laws.proofs.Cleared.{close_wait, LetsClose, LetsRefresh, close-legal, refresh-legal, closed-prea, closed-ref}
 use Rattle.laws.proofs.Counting.{test_in}
-use Rattle.laws.proofs.Due.{refreshed, refreshed-more, refreshed-by, is_due, chosen-refresh, lowest-due, lowest-at, due-more, due-from, not_early}
+use Rattle.laws.proofs.Due.{refreshed, refreshed-more, refreshed-by, is_due, chosen-refresh, lowest-due, lowest-at, due-more, due-from, not_early, not_wanted}
 use Rattle.laws.proofs.Legal.{chosen, take-rows_of, history_of-more, Each-history_of}
 
 -- Rank j lacks its refresh of interval m for long: from `begin` on m refreshes are due, from `start` on the ranks before it
@@ -398,6 +398,11 @@ refreshed_in_time s traces k l some (suc m) j h =
     let b = refreshed-by s traces k j (turn_of s first s.ranks) (suc m * s.timing.n_refi + refresh_slack s) l c in
     omega arith
 
+refreshes_by-end : (s : Config) (traces : List (List Entry)) (n k j t : ℕ) → k < s.channels → t < n → refreshes_by s traces n k j t ≡ refreshed s traces k j (suc t)
+refreshes_by-end s traces n k j t l b =
+    let f : t + 1 ≡ suc t = omega arith in
+    ap (λ rows. count_by (λ (i : CommandRow). refreshes j i.command) (issued_commands k rows)) (take-rows_of s traces k l n (t + 1) (omega arith)) ∙ ap (refreshed s traces k j) f
+
 pub refreshes_are_in_time : (s : Config) (traces : List (List Entry)) (n : ℕ) → RefreshesAreInTime s traces n
 refreshes_are_in_time s traces n k j m l h some b =
     let limit = m * s.timing.n_refi + refresh_slack s in
@@ -409,9 +414,12 @@ refreshes_are_in_time s traces n k j m l h some b =
 
 pub refreshes_are_not_early : (s : Config) (traces : List (List Entry)) (n : ℕ) → RefreshesAreNotEarly s traces n
 refreshes_are_not_early s traces n k j t l b =
+    let count = refreshes_by s traces n k j t in
     let a = not_early s traces k j l t in
-    let f : t + 1 ≡ suc t = omega arith in
-    let e : refreshes_by s traces n k j t ≡ refreshed s traces k j (t + 1) =
-    ap (λ rows. count_by (λ (i : CommandRow). refreshes j i.command) (issued_commands k rows)) (take-rows_of s traces k l n (t + 1) (omega arith)) in
-    let g = ap (refreshed s traces k j) f in
+    let e = refreshes_by-end s traces n k j t l b in
+    let c : count * s.timing.n_refi ≤ t / s.timing.n_refi * s.timing.n_refi = mul-le-mul_right s.timing.n_refi (omega arith) in
+    let d = div-mul-le_self t s.timing.n_refi in
     omega arith
+
+pub refreshes_are_wanted : (s : Config) (traces : List (List Entry)) (n : ℕ) → RefreshesAreWanted s traces n
+refreshes_are_wanted s traces n k j t l b z = refreshes_by-end s traces n k j t l b ∙ not_wanted s traces k j l z (suc t)

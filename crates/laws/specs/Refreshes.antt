@@ -2,7 +2,8 @@
 --     refreshes_by s traces n channel rank cycle      the REFs of a rank by the end of a cycle
 --     RefreshesAreInTime s traces n      of each interval of nREFI cycles, a rank's REF comes by the slack after its end
 --     RefreshesAreNotEarly s traces n      and not before its end
-use Rattle.std.specs.Prelude.{ℕ, ◌+◌, ◌*◌, ◌/◌, ◌<◌, ◌≤◌, List, take, count_by}
+--     RefreshesAreWanted s traces n      there are none where the configuration has none
+use Rattle.std.specs.Prelude.{◌≡◌, ℕ, ◌+◌, ◌*◌, ◌<◌, ◌≤◌, List, take, count_by}
 use Rattle.sim_base.specs.declared.config.Config.{Config}
 use Rattle.sim_base.specs.Config.{refresh_slack}
 use Rattle.sim_base.specs.History.{issued_commands}
@@ -23,7 +24,14 @@ RefreshesAreInTime s traces n =
     m * s.timing.n_refi + refresh_slack s < n →
     m ≤ refreshes_by s traces n channel rank (m * s.timing.n_refi + refresh_slack s)
 
--- by the end of each cycle a rank has had no more REFs than whole intervals have passed, and none where there are no refreshes
+-- the m-th REF of a rank does not stand before cycle m * nREFI
 abbrev pub RefreshesAreNotEarly : Config → List (List Entry) → ℕ → Type 0
 RefreshesAreNotEarly s traces n =
-    (channel rank cycle : ℕ) → channel < s.channels → cycle < n → refreshes_by s traces n channel rank cycle ≤ cycle / s.timing.n_refi
+    (channel rank cycle : ℕ) → channel < s.channels → cycle < n →
+    refreshes_by s traces n channel rank cycle * s.timing.n_refi ≤ cycle
+
+-- and there is none where nREFI is 0
+abbrev pub RefreshesAreWanted : Config → List (List Entry) → ℕ → Type 0
+RefreshesAreWanted s traces n =
+    (channel rank cycle : ℕ) → channel < s.channels → cycle < n → s.timing.n_refi ≡ 0 →
+    refreshes_by s traces n channel rank cycle ≡ 0
