@@ -46,7 +46,7 @@ length-rows_of s traces n k = length-map (run s traces n) (channel_row k) ∙ le
 abbrev pub EachAfter : {X : Type 0} → (List X → X → Type 0) → List X → Type 0
 EachAfter {X} P xs = (t : ℕ) (d : X) → t < length xs → P (take t xs) (get_or xs t d)
 
-EachAfter-push : {X : Type 0} (P : List X → X → Type 0) (xs : List X) (x : X) → EachAfter P xs → P xs x → EachAfter P (xs ++ x ∷ [])
+pub EachAfter-push : {X : Type 0} (P : List X → X → Type 0) (xs : List X) (x : X) → EachAfter P xs → P xs x → EachAfter P (xs ++ x ∷ [])
 EachAfter-push {X} P xs x h k t d l = go (cases_lt t (length xs))
   where
     go : (t < length xs) ⊎ (length xs ≤ t) → P (take t (xs ++ x ∷ [])) (get_or (xs ++ x ∷ []) t d)

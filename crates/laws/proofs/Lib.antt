@@ -16,3 +16,4 @@ pub mod Bounded
 pub mod Cleared
 pub mod Due
 pub mod Timely
+pub mod Tabled

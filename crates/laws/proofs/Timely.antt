@@ -385,7 +385,7 @@ in_turn s traces k m first l some e before (suc j) h = more (in_turn s traces k 
             (subst (λ t. suc m ≤ refreshed s traces k j t) later (one_turn s traces k m first l some e before j h rest))
 
 -- each rank has had m refreshes by the slack after the end of interval m
-refreshed_in_time : (s : Config) (traces : List (List Entry)) (k : ℕ) → k < s.channels → 0 < s.timing.n_refi → (m j : ℕ) → j < s.ranks
+pub refreshed_in_time : (s : Config) (traces : List (List Entry)) (k : ℕ) → k < s.channels → 0 < s.timing.n_refi → (m j : ℕ) → j < s.ranks
     → m ≤ refreshed s traces k j (m * s.timing.n_refi + refresh_slack s)
 refreshed_in_time s traces k l some zero j h = omega arith
 refreshed_in_time s traces k l some (suc m) j h =
