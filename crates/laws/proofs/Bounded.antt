@@ -123,7 +123,7 @@ travels : (s : Config) → TravelsFor s 1
 travels s link l = latency-positive s link
 
 -- the queue in a cycle does not depend on what is done from then on
-queue-then : (s : Config) (traces : List (List Entry)) (k : ℕ) → k < s.channels → (n t : ℕ) → t ≤ n
+pub queue-then : (s : Config) (traces : List (List Entry)) (k : ℕ) → k < s.channels → (n t : ℕ) → t ≤ n
     → queue_in k (rows_of s traces n k) (inbox s traces (run s traces n) (Channel k)) t ≡ waiting (history_of s traces t k) (inbox s traces (run s traces t) (Channel k)) (t + 1)
 unfolding queue_in
 queue-then s traces k l n t h =

@@ -17,3 +17,5 @@ pub mod Cleared
 pub mod Due
 pub mod Timely
 pub mod Tabled
+pub mod Fitting
+pub mod Named

@@ -49,7 +49,7 @@ pub record TracedIn (s : Config) (traces : List (List Entry)) (history : List Ro
   pub traced : Traced s traces history r
   pub link : m.link ≡ request_link s r.core r.place.channel
 
-abbrev IsTraced : Config → List (List Entry) → List Row → Message → Type 0
+abbrev pub IsTraced : Config → List (List Entry) → List Row → Message → Type 0
 IsTraced s traces history m = IfSome (request_in m.load) (TracedIn s traces history m)
 
 -- entries issued stay issued
@@ -92,7 +92,7 @@ sends-traced s traces history =
     request_of-traced s traces (history ++ row ∷ []) c (length history) _ e l (omega arith) f))
     (λ k l. commands-each P s k (length history) (λ source. tt) (λ write source. tt) (channel_row k row))
 
-messages-traced : (s : Config) (traces : List (List Entry)) (n : ℕ) → Each (IsTraced s traces (run s traces n)) (messages s traces (run s traces n))
+pub messages-traced : (s : Config) (traces : List (List Entry)) (n : ℕ) → Each (IsTraced s traces (run s traces n)) (messages s traces (run s traces n))
 unfolding run
 messages-traced s traces zero = subst (Each (IsTraced s traces [])) (sym (messages-none s traces)) tt
 messages-traced s traces (suc n) =

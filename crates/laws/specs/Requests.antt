@@ -5,9 +5,12 @@
 --     AnswersRead trace rows m      a reply is that of a Read that the core issued before the reply arrives
 --     RepliesAnswerReads s traces n      each reply is that of such a Read
 --     ReadsAreAnsweredOnce s traces n      no two replies are those of one entry
-use Rattle.std.specs.Prelude.{◌≡◌, ℕ, ◌<◌, ◌≤◌, ◌==◌, Bool, false, ◌&&◌, IsTrue, List, take, slice_get, slice_index_or, count_by, All, Option, Some, None}
+--     CommandsNameTheQueue s traces n      a command stands only in the name of an entry whose request is in the queue
+use Rattle.std.specs.Prelude.{◌≡◌, ℕ, ◌<◌, ◌≤◌, ◌==◌, Bool, false, ◌&&◌, IsTrue, List, take, slice_get, slice_index_or, count_by, All, Contains, IfSome, Option, Some, None}
 use Rattle.sim_base.specs.declared.config.Config.{Config}
 use Rattle.sim_base.specs.History.{trace_of, core_rows, issued_before, inbox}
+use Rattle.sim_base.specs.Counts.{source_in}
+use Rattle.sim_base.specs.Scheduling.{queue_in, source_of}
 use Rattle.sim_base.specs.Machine.{run}
 use Rattle.sim_base.specs.Windows.{is_reply_to}
 use Rattle.sim_base.specs.declared.history.CoreRow.{CoreRow}
@@ -16,7 +19,8 @@ use Rattle.sim_base.specs.declared.command.Command.TheVariants.{Act, Rd, Wr, Pre
 use Rattle.sim_base.specs.declared.message.Load.{Load}
 use Rattle.sim_base.specs.declared.message.Load.TheVariants as load
 use Rattle.sim_base.specs.declared.message.Message.{Message}
-use Rattle.sim_base.specs.declared.message.Unit.TheVariants.{Core}
+use Rattle.sim_base.specs.declared.message.Request.{Request}
+use Rattle.sim_base.specs.declared.message.Unit.TheVariants.{Core, Channel}
 use Rattle.sim_base.specs.declared.trace.Entry.{Entry}
 use Rattle.sim_base.specs.declared.trace.Entry.TheVariants.{Read}
 use Rattle.laws.specs.Commands.{rows_of}
@@ -70,3 +74,11 @@ RepliesAnswerReads s traces n =
 abbrev pub ReadsAreAnsweredOnce : Config → List (List Entry) → ℕ → Type 0
 ReadsAreAnsweredOnce s traces n =
     (core entry : ℕ) → core < s.cores → count_by (λ m. is_reply_to entry m.load) (inbox s traces (run s traces n) (Core core)) ≤ 1
+
+-- each command that stands in the name of an entry does so while the entry's request is in the channel's queue
+abbrev pub CommandsNameTheQueue : Config → List (List Entry) → ℕ → Type 0
+CommandsNameTheQueue s traces n =
+    (channel cycle : ℕ) (command : Command) → channel < s.channels → cycle < n →
+    slice_index_or (rows_of s traces n channel) cycle None ≡ Some command →
+    let queue = queue_in channel (rows_of s traces n channel) (inbox s traces (run s traces n) (Channel channel)) cycle in
+    IfSome (source_in command) (λ source. (r : Request) × Contains queue r × (source ≡ source_of r))
