@@ -114,7 +114,7 @@ grow s unit differ f g acc (suc n) hf hg =
     let old = flat_map f (below n) in
     let new = flat_map g (below n) in
     let far : Apart new (f n) =
-        Each-flat_map_below _ g n (λ i l. apart s (unit i) (unit n) (differ i n l) (g i) (f n) (hg i (omega arith)) (hf n (omega arith))) in
+    Each-flat_map_below _ g n (λ i l. apart s (unit i) (unit n) (differ i n l) (g i) (f n) (hg i (omega arith)) (hf n (omega arith))) in
     ap (puts acc) (flat_map_below_more (λ i. f i ++ g i) n)
     ∙ puts-append acc (flat_map (λ i. f i ++ g i) (below n)) (f n ++ g n)
     ∙ puts-append _ (f n) (g n)
@@ -148,7 +148,7 @@ core-grows s traces history row core =
     let r = core_row core row in
     let e : length rows ≡ length history = length-map history (core_row core) in
     let all : take (length rows + 1) (rows ++ r ∷ []) ≡ rows ++ r ∷ [] =
-        ap (λ n. take n (rows ++ r ∷ [])) (sym (length_push rows r)) ∙ take-length (rows ++ r ∷ []) in
+    ap (λ n. take n (rows ++ r ∷ [])) (sym (length_push rows r)) ∙ take-length (rows ++ r ∷ []) in
     ap (core_messages s core trace) (map-append (core_row core) history (row ∷ []))
     ∙ core_messages-push s core trace rows r
     ∙ ap (λ x. core_messages s core trace rows ++ x)
@@ -197,7 +197,7 @@ messages-grow s traces history row =
     let old' = flat_map f' (below s.channels) in
     let new' = flat_map g' (below s.channels) in
     let far : Apart new old' =
-        Each-flat_map_below _ g s.cores (λ i l. Each-far i (g i) (core_sends-by s traces history row i (has_channels s))) in
+    Each-flat_map_below _ g s.cores (λ i l. Each-far i (g i) (core_sends-by s traces history row i (has_channels s))) in
     ap₂ (λ a b. puts [] (a ++ b))
     (flat_map_below_same _ (λ i. f i ++ g i) s.cores (λ i l. core-grows s traces history row i))
     (flat_map_below_same _ (λ i. f' i ++ g' i) s.channels (λ i l. channel-grows s history row i))
