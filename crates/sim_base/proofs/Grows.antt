@@ -33,7 +33,7 @@ use Rattle.sim_base.proofs.Added.{core_messages-push, channel_messages-push, dig
 abbrev pub SentBy : Config → MachineUnit → List Message → Type 0
 SentBy s unit ms = Each (λ (m : Message). sender s m.link ≡ unit) ms
 
-sender_request : (s : Config) (c k : ℕ) → k < s.channels → sender s (request_link s c k) ≡ Core c
+pub sender_request : (s : Config) (c k : ℕ) → k < s.channels → sender s (request_link s c k) ≡ Core c
 unfolding sender
 sender_request s c k l =
     let x = c * s.channels + k in
@@ -41,7 +41,7 @@ sender_request s c k l =
     let f : (3 * x) / 3 ≡ x = omega arith in
     cond-true _ _ _ e ∙ ap (λ y. Core (y / s.channels)) f ∙ ap Core (div-mul-add c s.channels k l)
 
-sender_reply : (s : Config) (c k : ℕ) → k < s.channels → sender s (reply_link s c k) ≡ Channel k
+pub sender_reply : (s : Config) (c k : ℕ) → k < s.channels → sender s (reply_link s c k) ≡ Channel k
 unfolding sender
 sender_reply s c k l =
     let x = c * s.channels + k in
@@ -49,7 +49,7 @@ sender_reply s c k l =
     let f : (3 * x + 1) / 3 ≡ x = omega arith in
     cond-false _ _ _ e ∙ ap (λ y. Channel (y % s.channels)) f ∙ ap Channel (mod-mul-add c s.channels k l)
 
-sender_credit : (s : Config) (c k : ℕ) → k < s.channels → sender s (credit_link s c k) ≡ Channel k
+pub sender_credit : (s : Config) (c k : ℕ) → k < s.channels → sender s (credit_link s c k) ≡ Channel k
 unfolding sender
 sender_credit s c k l =
     let x = c * s.channels + k in
@@ -91,7 +91,7 @@ unfolding channel_messages messages_in
 channel_messages-by s channel rows l = Each-flat_map_below _ (messages_in s channel rows) (length rows) (λ cycle h. messages_at-by s channel cycle l _)
 
 -- two different units send on different links
-links_differ : (s : Config) (a b : MachineUnit) → (a ≡ b → ⊥) → (x y : ℕ) → sender s x ≡ a → sender s y ≡ b → eqb x y ≡ false
+pub links_differ : (s : Config) (a b : MachineUnit) → (a ≡ b → ⊥) → (x y : ℕ) → sender s x ≡ a → sender s y ≡ b → eqb x y ≡ false
 links_differ s a b h x y e f = by (eqb x y) refl
   where
     by : (t : Bool) → eqb x y ≡ t → t ≡ false
@@ -129,10 +129,10 @@ cores_differ i j l e = let same : i ≡ j = cc in omega arith
 channels_differ : (i j : ℕ) → i < j → Channel i ≡ Channel j → ⊥
 channels_differ i j l e = let same : i ≡ j = cc in omega arith
 
-core_channel_differ : (i j : ℕ) → Core i ≡ Channel j → ⊥
+pub core_channel_differ : (i j : ℕ) → Core i ≡ Channel j → ⊥
 core_channel_differ i j e = cc
 
-issued_before-push : (rows : List CoreRow) (row : CoreRow) → issued_before (rows ++ row ∷ []) ≡ issued_before rows + row.issued
+pub issued_before-push : (rows : List CoreRow) (row : CoreRow) → issued_before (rows ++ row ∷ []) ≡ issued_before rows + row.issued
 unfolding issued_before
 issued_before-push rows row =
     let e : issued_before (rows ++ row ∷ []) ≡ issued_before rows + sum_by (λ (r : CoreRow). r.issued) (row ∷ []) = sum_by-append (λ (r : CoreRow). r.issued) rows (row ∷ []) in
@@ -156,7 +156,7 @@ core-grows s traces history row core =
     ∙ ap₂ (λ a b. requests_between s core trace a (issued_before rows) b) e (issued_before-push rows r))
 
 -- one row more of a channel
-channel-grows : (s : Config) (history : List Row) (row : Row) (channel : ℕ)
+pub channel-grows : (s : Config) (history : List Row) (row : Row) (channel : ℕ)
     → messages_of_channel s (history ++ row ∷ []) channel ≡ messages_of_channel s history channel ++ channel_sends s history row channel
 unfolding messages_of_channel channel_rows channel_sends
 channel-grows s history row channel =
@@ -165,26 +165,26 @@ channel-grows s history row channel =
     ∙ channel_messages-push s channel rows (channel_row channel row)
     ∙ ap (λ n. channel_messages s channel rows ++ messages_at s channel n (channel_row channel row)) (length-map history (channel_row channel))
 
-core_sends-by : (s : Config) (traces : List (List Entry)) (history : List Row) (row : Row) (core : ℕ) → 0 < s.channels → SentBy s (Core core) (core_sends s traces history row core)
+pub core_sends-by : (s : Config) (traces : List (List Entry)) (history : List Row) (row : Row) (core : ℕ) → 0 < s.channels → SentBy s (Core core) (core_sends s traces history row core)
 unfolding core_sends
 core_sends-by s traces history row core h = between-by s core (trace_of traces core) (length history) _ _ h
 
-channel_sends-by : (s : Config) (history : List Row) (row : Row) (channel : ℕ) → channel < s.channels → SentBy s (Channel channel) (channel_sends s history row channel)
+pub channel_sends-by : (s : Config) (history : List Row) (row : Row) (channel : ℕ) → channel < s.channels → SentBy s (Channel channel) (channel_sends s history row channel)
 unfolding channel_sends
 channel_sends-by s history row channel l = messages_at-by s channel (length history) l (channel_row channel row)
 
 has_channels : (s : Config) → 0 < s.channels
 has_channels s = s.machine_in_range.channels_in.0
 
-of_core-by : (s : Config) (traces : List (List Entry)) (history : List Row) (core : ℕ) → SentBy s (Core core) (messages_of_core s traces history core)
+pub of_core-by : (s : Config) (traces : List (List Entry)) (history : List Row) (core : ℕ) → SentBy s (Core core) (messages_of_core s traces history core)
 unfolding messages_of_core
 of_core-by s traces history core = core_messages-by s core (trace_of traces core) (core_rows core history) (has_channels s)
 
-of_channel-by : (s : Config) (history : List Row) (channel : ℕ) → channel < s.channels → SentBy s (Channel channel) (messages_of_channel s history channel)
+pub of_channel-by : (s : Config) (history : List Row) (channel : ℕ) → channel < s.channels → SentBy s (Channel channel) (messages_of_channel s history channel)
 unfolding messages_of_channel
 of_channel-by s history channel l = channel_messages-by s channel (channel_rows channel history) l
 
-messages-grow : (s : Config) (traces : List (List Entry)) (history : List Row) (row : Row)
+pub messages-grow : (s : Config) (traces : List (List Entry)) (history : List Row) (row : Row)
     → puts [] (messages s traces (history ++ row ∷ [])) ≡ puts (puts [] (messages s traces history)) (sends s traces history row)
 unfolding messages sends
 messages-grow s traces history row =

@@ -1,0 +1,186 @@
+-- The requests of a run come from its traces.
+use Rattle.std.proofs.Common.{◌≡◌, ℕ, zero, suc, ◌+◌, ◌<◌, ◌≤◌, Bool, true, false, eqb, ltb, cond, List, [], ◌∷◌, ◌++◌, length, Option, Some, None, refl, sym, ap, subst, ◌∙◌, arith}
+use Rattle.std.specs.Prelude.{filter_map, slice_get, not}
+use Rattle.std.specs.Option.{IfSome}
+use Rattle.std.specs.List.{AllByRecursion as Each, Contains}
+use Rattle.std.proofs.lemmas.Bool.{cond_both, and_parts, eqb-true, ltb-true, not-true}
+use Rattle.std.proofs.Math.Seq.{take-length}
+use Rattle.std.proofs.lemmas.List.{map-append}
+use Rattle.std.proofs.lemmas.List.Elements.{All-contains_itself, recursion_from_All}
+use Rattle.sim_base.specs.declared.config.Config.{Config}
+use Rattle.sim_base.specs.Config.{request_link}
+use Rattle.sim_base.specs.Places.{place_of}
+use Rattle.sim_base.specs.Row.{Row, core_row, channel_row}
+use Rattle.sim_base.specs.History.{trace_of, core_rows, issued_before, request, request_of, reply, credit, messages, receiver, is_unit, is_to, inbox, issued_commands}
+use Rattle.sim_base.specs.Sends.{sends, channel_sends}
+use Rattle.sim_base.specs.Scheduling.{request_in, is_served, is_waiting, waiting, queue_in, source_of, needed_at, column_command}
+use Rattle.sim_base.specs.Machine.{next_row, run}
+use Rattle.sim_base.specs.declared.command.Command.{Command}
+use Rattle.sim_base.specs.declared.command.Command.TheVariants.{Act, Rd, Wr, Pre, Prea, Ref}
+use Rattle.sim_base.specs.declared.place.Place.{Place}
+use Rattle.sim_base.specs.declared.message.Message.{Message}
+use Rattle.sim_base.specs.declared.message.Request.{Request}
+use Rattle.sim_base.specs.declared.message.Unit.TheVariants.{Channel}
+use Rattle.sim_base.specs.declared.trace.Entry.{Entry}
+use Rattle.sim_base.specs.declared.trace.Entry.TheVariants.{Plain, Read, Write}
+use Rattle.sim_base.proofs.Arrived.{Each-by_age}
+use Rattle.sim_base.proofs.Each.{Each-filter_map}
+use Rattle.sim_base.proofs.Grows.{issued_before-push}
+use Rattle.sim_base.proofs.Ordered.{Each-weaker}
+use Rattle.laws.specs.Commands.{rows_of, history_of}
+use Rattle.laws.proofs.Chosen.{IfSome-weaker, choice-needed}
+use Rattle.laws.proofs.Legal.{chosen, length-rows_of}
+use Rattle.laws.proofs.Receivers.{receiver_request, place_in, Each-filter_passes}
+use Rattle.laws.proofs.Sent.{Each-messages, messages-none, issues-each, commands-each, sends-each}
+
+-- an entry that writes to an address, or reads from it
+abbrev pub memory_entry : Bool → ℕ → Entry
+memory_entry write address = cond write (Write address) (Read address)
+
+-- a request is that of an entry which its core has issued
+pub record Traced (s : Config) (traces : List (List Entry)) (history : List Row) (r : Request) : Type 0 where
+  pub core : r.core < s.cores
+  pub entry : slice_get (trace_of traces r.core) r.entry ≡ Some (memory_entry r.write r.address)
+  pub place : r.place ≡ place_of s r.address
+  pub issued : r.entry < issued_before (core_rows r.core history)
+
+-- the request of a message is traced, and travels on its link
+pub record TracedIn (s : Config) (traces : List (List Entry)) (history : List Row) (m : Message) (r : Request) : Type 0 where
+  pub traced : Traced s traces history r
+  pub link : m.link ≡ request_link s r.core r.place.channel
+
+abbrev pub IsTraced : Config → List (List Entry) → List Row → Message → Type 0
+IsTraced s traces history m = IfSome (request_in m.load) (TracedIn s traces history m)
+
+-- entries issued stay issued
+issued-more : (history : List Row) (row : Row) (c : ℕ) → issued_before (core_rows c (history ++ row ∷ [])) ≡ issued_before (core_rows c history) + (core_row c row).issued
+unfolding core_rows
+issued-more history row c = ap issued_before (map-append (core_row c) history (row ∷ [])) ∙ issued_before-push (core_rows c history) (core_row c row)
+
+traced-more : (s : Config) (traces : List (List Entry)) (history : List Row) (row : Row) (m : Message) → IsTraced s traces history m → IsTraced s traces (history ++ row ∷ []) m
+traced-more s traces history row m h = IfSome-weaker _ _ (λ r k. more r k) (request_in m.load) h
+  where
+    more : (r : Request) → TracedIn s traces history m r → TracedIn s traces (history ++ row ∷ []) m r
+    more r k =
+        let e = issued-more history row r.core in
+        let i = k.traced.issued in
+        record {
+          traced = record { core = k.traced.core; entry = k.traced.entry; place = k.traced.place; issued = omega arith };
+          link = k.link;
+        }
+
+request-traced : (s : Config) (traces : List (List Entry)) (history : List Row) (c cycle entry : ℕ) (write : Bool) (address : ℕ) → c < s.cores
+    → entry < issued_before (core_rows c history) → slice_get (trace_of traces c) entry ≡ Some (memory_entry write address) → IsTraced s traces history (request s c cycle entry write address)
+unfolding request
+request-traced s traces history c cycle entry write address l i e = record { traced = record { core = l; entry = e; place = refl; issued = i }; link = refl }
+
+request_of-traced : (s : Config) (traces : List (List Entry)) (history : List Row) (c cycle entry : ℕ) (e : Entry) → c < s.cores
+    → entry < issued_before (core_rows c history) → slice_get (trace_of traces c) entry ≡ Some e → IfSome (request_of s c cycle entry e) (IsTraced s traces history)
+request_of-traced s traces history c cycle entry Plain l i f = tt
+request_of-traced s traces history c cycle entry (Read address) l i f = request-traced s traces history c cycle entry false address l i f
+request_of-traced s traces history c cycle entry (Write address) l i f = request-traced s traces history c cycle entry true address l i f
+
+sends-traced : (s : Config) (traces : List (List Entry)) (history : List Row) → Each (IsTraced s traces (history ++ next_row s traces history ∷ [])) (sends s traces history (next_row s traces history))
+unfolding channel_sends reply credit
+sends-traced s traces history =
+    let row = next_row s traces history in
+    let P = IsTraced s traces (history ++ row ∷ []) in
+    sends-each P s traces history row
+    (λ c l. issues-each P s traces history c l
+    (λ j e b f g.
+    let more = issued-more history row c in
+    request_of-traced s traces (history ++ row ∷ []) c (length history) _ e l (omega arith) f))
+    (λ k l. commands-each P s k (length history) (λ source. tt) (λ write source. tt) (channel_row k row))
+
+pub messages-traced : (s : Config) (traces : List (List Entry)) (n : ℕ) → Each (IsTraced s traces (run s traces n)) (messages s traces (run s traces n))
+unfolding run
+messages-traced s traces zero = subst (Each (IsTraced s traces [])) (sym (messages-none s traces)) tt
+messages-traced s traces (suc n) =
+    let history = run s traces n in
+    let row = next_row s traces history in
+    Each-messages (IsTraced s traces (history ++ row ∷ [])) s traces history row
+    (Each-weaker (IsTraced s traces history) _ (traced-more s traces history row) (messages s traces history) (messages-traced s traces n))
+    (sends-traced s traces history)
+
+-- a request that was sent to this channel
+abbrev IsTracedTo : Config → List (List Entry) → List Row → ℕ → Request → Type 0
+IsTracedTo s traces history k r = Traced s traces history r × r.place.channel ≡ k
+
+inbox-traced : (s : Config) (traces : List (List Entry)) (n k : ℕ)
+    → Each (λ (m : Message). IfSome (request_in m.load) (IsTracedTo s traces (run s traces n) k)) (inbox s traces (run s traces n) (Channel k))
+unfolding inbox
+inbox-traced s traces n k =
+    let history = run s traces n in
+    Each-by_age _ _
+    (Each-weaker _ (λ (m : Message). IfSome (request_in m.load) (IsTracedTo s traces history k))
+    (λ m h. IfSome-weaker (TracedIn s traces history m) (IsTracedTo s traces history k) (λ r i. (i.traced, to m r h.0 i)) (request_in m.load) h.1)
+    _ (Each-filter_passes (IsTraced s traces history) (is_to s (Channel k)) (messages s traces history) (messages-traced s traces n)))
+  where
+    to : (m : Message) (r : Request) → is_to s (Channel k) m ≡ true → TracedIn s traces (run s traces n) m r → r.place.channel ≡ k
+    to m r h i =
+        let inside : r.place.channel < s.channels = subst (λ (p : Place). p.channel < s.channels) (sym i.traced.place) (place_in s r.address) in
+        let e : receiver s m.link ≡ Channel r.place.channel = ap (receiver s) i.link ∙ receiver_request s r.core r.place.channel inside in
+        let f : eqb r.place.channel k ≡ true = ap (λ u. is_unit u (Channel k)) (sym e) ∙ h in
+        eqb-true _ _ f
+
+-- the requests that were sent to a channel before a cycle
+abbrev pub requests_to : Config → List (List Entry) → ℕ → ℕ → List Request
+requests_to s traces n k = filter_map (λ m. request_in m.load) (inbox s traces (run s traces n) (Channel k))
+
+pub requests-traced : (s : Config) (traces : List (List Entry)) (n k : ℕ) → Each (IsTracedTo s traces (run s traces n) k) (requests_to s traces n k)
+requests-traced s traces n k = Each-filter_map (IsTracedTo s traces (run s traces n) k) (λ m. request_in m.load) _ (inbox-traced s traces n k)
+
+-- a request in the queue of a channel in a cycle
+pub record Queued (s : Config) (traces : List (List Entry)) (n k : ℕ) (r : Request) : Type 0 where
+  pub traced : Traced s traces (run s traces n) r
+  pub channel : r.place.channel ≡ k
+  pub arrived : r.arrival ≤ n
+  pub unserved : is_served (history_of s traces n k) r ≡ false
+  pub among : Contains (requests_to s traces n k) r
+
+Each-both : {X : Type 0} (P Q : X → Type 0) (xs : List X) → Each P xs → Each Q xs → Each (λ x. P x × Q x) xs
+Each-both P Q [] h k = tt
+Each-both P Q (x ∷ xs) h k = ((h.0, k.0), Each-both P Q xs h.1 k.1)
+
+waiting-queued : (s : Config) (traces : List (List Entry)) (n k : ℕ) → Each (Queued s traces n k) (waiting (history_of s traces n k) (inbox s traces (run s traces n) (Channel k)) (n + 1))
+unfolding waiting
+waiting-queued s traces n k =
+    let requests = requests_to s traces n k in
+    let P = λ (r : Request). IsTracedTo s traces (run s traces n) k r × Contains requests r in
+    Each-weaker _ (Queued s traces n k)
+    (λ r h.
+    let both = and_parts (ltb r.arrival (n + 1)) (not (is_served (history_of s traces n k) r)) h.0 in
+    let soon = ltb-true _ _ both.0 in
+    record { traced = h.1.0.0; channel = h.1.0.1; arrived = omega arith; unserved = not-true _ both.1; among = h.1.1 })
+    _ (Each-filter_passes P (is_waiting (history_of s traces n k) (n + 1)) requests
+    (Each-both _ (Contains requests) requests (requests-traced s traces n k) (recursion_from_All (Contains requests) requests (All-contains_itself requests))))
+
+pub queue-queued : (s : Config) (traces : List (List Entry)) (n k : ℕ)
+    → Each (Queued s traces n k) (queue_in k (rows_of s traces n k) (inbox s traces (run s traces n) (Channel k)) (length (rows_of s traces n k)))
+unfolding queue_in
+queue-queued s traces n k =
+    let rows = rows_of s traces n k in
+    let long : length rows ≡ n = length-rows_of s traces n k in
+    subst (λ x. Each (Queued s traces n k) (waiting (issued_commands k x) (inbox s traces (run s traces n) (Channel k)) (length rows + 1))) (sym (take-length rows))
+    (subst (λ i. Each (Queued s traces n k) (waiting (issued_commands k rows) (inbox s traces (run s traces n) (Channel k)) (i + 1))) (sym long) (waiting-queued s traces n k))
+
+-- a command moves data for a request of the queue
+abbrev pub ServesQueued : Config → List (List Entry) → ℕ → ℕ → Command → Type 0
+ServesQueued s traces n k (Rd bank row column source) = (r : Request) × Queued s traces n k r × (r.write ≡ false) × (source ≡ source_of r)
+ServesQueued s traces n k (Wr bank row column source) = (r : Request) × Queued s traces n k r × (r.write ≡ true) × (source ≡ source_of r)
+ServesQueued s traces n k (Act bank row source) = Unit {0}
+ServesQueued s traces n k (Pre bank source) = Unit {0}
+ServesQueued s traces n k (Prea rank) = Unit {0}
+ServesQueued s traces n k (Ref rank) = Unit {0}
+
+needed_at-serves : (s : Config) (traces : List (List Entry)) (n k : ℕ) (r : Request) (o : Option ℕ) → Queued s traces n k r → ServesQueued s traces n k (needed_at o r)
+needed_at-serves s traces n k r None h = tt
+needed_at-serves s traces n k r (Some row) h =
+    cond_both (eqb row r.place.row) (column_command r) _ (ServesQueued s traces n k)
+    (λ e. cond_both r.write _ _ (ServesQueued s traces n k) (λ f. (r, h, f, refl)) (λ f. (r, h, f, refl)))
+    (λ e. tt)
+
+pub chosen-serves : (s : Config) (traces : List (List Entry)) (n k : ℕ) → IfSome (chosen s traces n k) (ServesQueued s traces n k)
+chosen-serves s traces n k =
+    choice-needed (Queued s traces n k) (ServesQueued s traces n k) s k (rows_of s traces n k) (inbox s traces (run s traces n) (Channel k))
+    (needed_at-serves s traces n k) (λ rank. tt) (λ rank. tt) (queue-queued s traces n k)

@@ -1,0 +1,58 @@
+-- What the messages of a run say.
+--     is_request_of core entry load      a request of this entry of this core
+--     RequestsAreSentOnce s traces n      no entry is requested twice
+--     IsRequestTo s traces history channel m r      a message carries a request to a channel, as the trace of its core says it
+--     RequestsFit s traces n      each message to a channel carries such a request
+--     FitsCore s core link load, AnswersFit s traces n      each message to a core is a reply or a credit of a channel, on its link
+use Rattle.std.specs.Prelude.{◌≡◌, ℕ, ◌<◌, ◌≤◌, ◌==◌, Bool, false, ◌&&◌, List, slice_get, count_by, All, Some, IsSomeAnd, if◌then◌else◌}
+use Rattle.sim_base.specs.declared.config.Config.{Config}
+use Rattle.sim_base.specs.Config.{request_link, reply_link, credit_link}
+use Rattle.sim_base.specs.Places.{place_of}
+use Rattle.sim_base.specs.Row.{Row}
+use Rattle.sim_base.specs.History.{trace_of, core_rows, issued_before, messages, inbox}
+use Rattle.sim_base.specs.Machine.{run}
+use Rattle.sim_base.specs.Scheduling.{request_in}
+use Rattle.sim_base.specs.declared.message.Load.{Load}
+use Rattle.sim_base.specs.declared.message.Load.TheVariants as load
+use Rattle.sim_base.specs.declared.message.Message.{Message}
+use Rattle.sim_base.specs.declared.message.Request.{Request}
+use Rattle.sim_base.specs.declared.message.Unit.TheVariants.{Core, Channel}
+use Rattle.sim_base.specs.declared.trace.Entry.{Entry}
+use Rattle.sim_base.specs.declared.trace.Entry.TheVariants.{Read, Write}
+
+-- a request of this entry of this core
+abbrev pub is_request_of : ℕ → ℕ → Load → Bool
+is_request_of core entry (load.Request r) = (r.core == core) && (r.entry == entry)
+is_request_of core entry (load.Reply e) = false
+is_request_of core entry (load.Credit write e) = false
+
+-- of the messages that are sent in the first n cycles, at most one is the request of an entry of a core
+abbrev pub RequestsAreSentOnce : Config → List (List Entry) → ℕ → Type 0
+RequestsAreSentOnce s traces n = (core entry : ℕ) → count_by (λ m. is_request_of core entry m.load) (messages s traces (run s traces n)) ≤ 1
+
+-- a message carries this request to a channel: that of an entry which its core has issued, with the entry's kind and address
+pub record IsRequestTo (s : Config) (traces : List (List Entry)) (history : List Row) (channel : ℕ) (m : Message) (r : Request) : Type 0 where
+  pub core : r.core < s.cores
+  pub entry : slice_get (trace_of traces r.core) r.entry ≡ Some (if r.write then Write r.address else Read r.address)
+  pub issued : r.entry < issued_before (core_rows r.core history)
+  pub place : r.place ≡ place_of s r.address
+  pub channel_of : r.place.channel ≡ channel
+  pub link_of : m.link ≡ request_link s r.core channel
+  pub link : r.link ≡ m.link
+  pub arrival : r.arrival ≡ m.arrival
+
+-- each message to a channel carries such a request
+abbrev pub RequestsFit : Config → List (List Entry) → ℕ → Type 0
+RequestsFit s traces n =
+    (channel : ℕ) → channel < s.channels →
+    All (λ m. IsSomeAnd (request_in m.load) (IsRequestTo s traces (run s traces n) channel m)) (inbox s traces (run s traces n) (Channel channel))
+
+-- a message on this link to a core is a reply or a credit of a channel
+abbrev pub FitsCore : Config → ℕ → ℕ → Load → Type 0
+FitsCore s core link (load.Reply entry) = (channel : ℕ) × (channel < s.channels) × (link ≡ reply_link s core channel)
+FitsCore s core link (load.Credit write entry) = (channel : ℕ) × (channel < s.channels) × (link ≡ credit_link s core channel)
+FitsCore s core link (load.Request r) = ⊥
+
+-- each message to a core is one
+abbrev pub AnswersFit : Config → List (List Entry) → ℕ → Type 0
+AnswersFit s traces n = (core : ℕ) → core < s.cores → All (λ m. FitsCore s core m.link m.load) (inbox s traces (run s traces n) (Core core))

@@ -1,0 +1,84 @@
+-- What becomes of the requests of a run.
+--     serves_entry core entry command      a command moves the data of an entry of a core
+--     IsServedAt s traces n core entry channel cycle      a channel moves the data of an entry in a cycle
+--     RequestsAreServedOnce s traces n      the data of an entry is moved by one command at most
+--     AnswersRead trace rows m      a reply is that of a Read that the core issued before the reply arrives
+--     RepliesAnswerReads s traces n      each reply is that of such a Read
+--     ReadsAreAnsweredOnce s traces n      no two replies are those of one entry
+--     CommandsNameTheQueue s traces n      a command stands only in the name of an entry whose request is in the queue
+use Rattle.std.specs.Prelude.{◌≡◌, ℕ, ◌<◌, ◌≤◌, ◌==◌, Bool, false, ◌&&◌, IsTrue, List, take, slice_get, slice_index_or, count_by, All, Contains, IfSome, Option, Some, None}
+use Rattle.sim_base.specs.declared.config.Config.{Config}
+use Rattle.sim_base.specs.History.{trace_of, core_rows, issued_before, inbox}
+use Rattle.sim_base.specs.Counts.{source_in}
+use Rattle.sim_base.specs.Scheduling.{queue_in, source_of}
+use Rattle.sim_base.specs.Machine.{run}
+use Rattle.sim_base.specs.Windows.{is_reply_to}
+use Rattle.sim_base.specs.declared.history.CoreRow.{CoreRow}
+use Rattle.sim_base.specs.declared.command.Command.{Command}
+use Rattle.sim_base.specs.declared.command.Command.TheVariants.{Act, Rd, Wr, Pre, Prea, Ref}
+use Rattle.sim_base.specs.declared.message.Load.{Load}
+use Rattle.sim_base.specs.declared.message.Load.TheVariants as load
+use Rattle.sim_base.specs.declared.message.Message.{Message}
+use Rattle.sim_base.specs.declared.message.Request.{Request}
+use Rattle.sim_base.specs.declared.message.Unit.TheVariants.{Core, Channel}
+use Rattle.sim_base.specs.declared.trace.Entry.{Entry}
+use Rattle.sim_base.specs.declared.trace.Entry.TheVariants.{Read}
+use Rattle.laws.specs.Commands.{rows_of}
+
+-- a command moves the data of an entry of a core
+abbrev pub serves_entry : ℕ → ℕ → Command → Bool
+serves_entry core entry (Rd bank row column source) = (core == source.core) && (entry == source.entry)
+serves_entry core entry (Wr bank row column source) = (core == source.core) && (entry == source.entry)
+serves_entry core entry (Act bank row source) = false
+serves_entry core entry (Pre bank source) = false
+serves_entry core entry (Prea rank) = false
+serves_entry core entry (Ref rank) = false
+
+-- the same, where there may be no command
+abbrev pub serves_entry_in : ℕ → ℕ → Option Command → Bool
+serves_entry_in core entry None = false
+serves_entry_in core entry (Some command) = serves_entry core entry command
+
+-- a channel moves the data of an entry of a core in a cycle
+abbrev pub IsServedAt : Config → List (List Entry) → ℕ → ℕ → ℕ → ℕ → ℕ → Type 0
+IsServedAt s traces n core entry channel cycle = IsTrue (serves_entry_in core entry (slice_index_or (rows_of s traces n channel) cycle None))
+
+-- the data of an entry of a core is moved by one channel at most, and in one cycle
+abbrev pub RequestsAreServedOnce : Config → List (List Entry) → ℕ → Type 0
+RequestsAreServedOnce s traces n =
+    (core entry channel other cycle later : ℕ) → channel < s.channels → other < s.channels →
+    IsServedAt s traces n core entry channel cycle → IsServedAt s traces n core entry other later →
+    (channel ≡ other) × (cycle ≡ later)
+
+-- this entry reads memory
+abbrev pub IsRead : List Entry → ℕ → Type 0
+IsRead trace entry = (address : ℕ) × (slice_get trace entry ≡ Some (Read address))
+
+-- a reply to an entry in a cycle is that of a Read that was issued in an earlier cycle
+abbrev pub AnswersReadAs : List Entry → List CoreRow → ℕ → Load → Type 0
+AnswersReadAs trace rows cycle (load.Reply entry) = IsRead trace entry × entry < issued_before (take cycle rows)
+AnswersReadAs trace rows cycle (load.Request r) = Unit {0}
+AnswersReadAs trace rows cycle (load.Credit write entry) = Unit {0}
+
+-- a message that is a reply is that of a Read that the core issued before the cycle in which the reply arrives
+abbrev pub AnswersRead : List Entry → List CoreRow → Message → Type 0
+AnswersRead trace rows m = AnswersReadAs trace rows m.arrival m.load
+
+-- each reply that is sent to a core in the first n cycles is that of such a Read
+abbrev pub RepliesAnswerReads : Config → List (List Entry) → ℕ → Type 0
+RepliesAnswerReads s traces n =
+    (core : ℕ) → core < s.cores →
+    All (AnswersRead (trace_of traces core) (core_rows core (run s traces n))) (inbox s traces (run s traces n) (Core core))
+
+-- to no entry two replies are sent
+abbrev pub ReadsAreAnsweredOnce : Config → List (List Entry) → ℕ → Type 0
+ReadsAreAnsweredOnce s traces n =
+    (core entry : ℕ) → core < s.cores → count_by (λ m. is_reply_to entry m.load) (inbox s traces (run s traces n) (Core core)) ≤ 1
+
+-- each command that stands in the name of an entry does so while the entry's request is in the channel's queue
+abbrev pub CommandsNameTheQueue : Config → List (List Entry) → ℕ → Type 0
+CommandsNameTheQueue s traces n =
+    (channel cycle : ℕ) (command : Command) → channel < s.channels → cycle < n →
+    slice_index_or (rows_of s traces n channel) cycle None ≡ Some command →
+    let queue = queue_in channel (rows_of s traces n channel) (inbox s traces (run s traces n) (Channel channel)) cycle in
+    IfSome (source_in command) (λ source. (r : Request) × Contains queue r × (source ≡ source_of r))

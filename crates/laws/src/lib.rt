@@ -1,0 +1,8 @@
+//! Laws of the one-clock machine: theorems about its definition, for every configuration, all traces and any number of cycles.
+//! Each is a public function with an empty body, whose contract is the law.
+#![tactic(auto)]
+
+pub mod commands;
+pub mod credits;
+pub mod messages;
+pub mod refreshes;
