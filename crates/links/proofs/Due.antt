@@ -168,7 +168,7 @@ pub taken_by_age : (ch n : ℕ) (unit : MachineUnit) (from until : ℕ) (s t : K
     → ms ≡ values_of (between s t es) → AreFiled ch n es → IsStrictlySortedBy key_cmp (keys_of es) → by_age ms ≡ ms
 taken_by_age ch n unit from until s t es ms cuts h filed sorted =
     let e : ms ≡ values_of (between (first_key (unit_number unit) from) (first_key (unit_number unit) (max until from)) es) =
-      h ∙ ap₂ (λ a b. values_of (between a b es)) cuts.start cuts.end in
+    h ∙ ap₂ (λ a b. values_of (between a b es)) cuts.start cuts.end in
     ap by_age e ∙ between-by_age ch n (unit_number unit) from until es filed sorted ∙ sym e
 
 -- what is left

@@ -87,6 +87,7 @@ puts-insert ch n m (e ∷ es) acc filed sorted =
   where
     k : Key
     k = key_of ch m n
+
     by : (o : Ordering) → key_cmp k e.0 ≡ o
         → puts (put e.1 acc) (values_of (insert_entry key_cmp es k m)) ≡ put m (puts (put e.1 acc) (values_of es))
         → puts acc (values_of (match_ordering o ((k, m) ∷ e ∷ es) ((e.0, m) ∷ es) (e ∷ insert_entry key_cmp es k m))) ≡ put m (puts acc (values_of (e ∷ es)))
@@ -117,6 +118,7 @@ filed-insert ch n m (e ∷ es) small filed = by (key_cmp (key_of ch m n) e.0) re
   where
     k : Key
     k = key_of ch m n
+
     by : (o : Ordering) → key_cmp k e.0 ≡ o → AreFiled ch (n + 1) (insert_entry key_cmp es k m)
         → AreFiled ch (n + 1) (match_ordering o ((k, m) ∷ e ∷ es) ((e.0, m) ∷ es) (e ∷ insert_entry key_cmp es k m))
     by Less h rest = (record { key = refl; below = omega arith; unit_below = small }, later_all ch n (e ∷ es) filed)

@@ -47,10 +47,11 @@ first_is_least unit k [] sorted h = tt
 first_is_least unit k (e ∷ es) sorted h =
     cond_both (is_le (key_cmp (first_key unit 0) e.0) && true) (e ∷ from_key (first_key unit 0) es) (from_key (first_key unit 0) es)
     (λ x. first_of x ≡ Some k → IsLeast unit k (e ∷ es))
-    (λ b f. let same : e.0 ≡ k = cc in
-    (λ l. not_above_equal k e.0 same,
-    Each-weaker (λ (q : Key × Message). is_gt (key_cmp k q.0) ≡ false) (λ (q : Key × Message). unit ≤ q.0.unit → is_gt (key_cmp k q.0) ≡ false) (λ q g l. g) es
-    (none_above k es (subst (λ x. Each (λ (q : Key). key_cmp x q ≡ Less) (keys_of es)) same (sorted_head key_cmp e.0 (keys_of es) sorted)))))
+    (λ b f. let same : e.0 ≡ k = cc in (
+      λ l. not_above_equal k e.0 same,
+      Each-weaker (λ (q : Key × Message). is_gt (key_cmp k q.0) ≡ false) (λ (q : Key × Message). unit ≤ q.0.unit → is_gt (key_cmp k q.0) ≡ false) (λ q g l. g) es
+          (none_above k es (subst (λ x. Each (λ (q : Key). key_cmp x q ≡ Less) (keys_of es)) same (sorted_head key_cmp e.0 (keys_of es) sorted))),
+    ))
     (λ b f. let above : e.0.unit < unit = leb-false unit e.0.unit (sym (from_unit unit e.0) ∙ b) in
     (λ l. absurd (omega arith), first_is_least unit k es (sorted_tail key_cmp e.0 (keys_of es) sorted) f)) h
 

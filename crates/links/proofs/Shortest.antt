@@ -107,6 +107,7 @@ usual_link s kind k h = by (search_below (λ q. list_any (eqb q) (pairs kind s.o
   where
     few : length (pairs kind s.overrides) < s.cores * s.channels
     few = omega (arith, length-pairs kind s.overrides, ltb-true (count_by (is_kind kind) s.overrides) (s.cores * s.channels) h)
+
     by : ((q : ℕ) × (q < s.cores * s.channels) × (list_any (eqb q) (pairs kind s.overrides) ≡ false)) ⊎ ((q : ℕ) → q < s.cores * s.channels → list_any (eqb q) (pairs kind s.overrides) ≡ true)
         → (link : ℕ) × (link < 3 * s.cores * s.channels) × (link % 3 ≡ kind) × (list_any (is_of link) s.overrides ≡ false)
     by (inl (q, l, e)) = (3 * q + kind, omega (arith, links_count s), omega arith, sym (pairs-any kind q k s.overrides) ∙ e)
@@ -125,12 +126,12 @@ usual_counts s link l free =
     let k : kind < 3 = omega arith in
     let here : 3 * q + kind ≡ link = omega arith in
     let open_pair : list_any (eqb q) (pairs kind s.overrides) ≡ false =
-      pairs-any kind q k s.overrides ∙ ap (λ x. list_any (is_of x) s.overrides) here ∙ free in
+    pairs-any kind q k s.overrides ∙ ap (λ x. list_any (is_of x) s.overrides) here ∙ free in
     let in_range : q < s.cores * s.channels = omega (arith, links_count s) in
     let differ : IsDistinct eqb (q ∷ pairs kind s.overrides) = (none_same q (pairs kind s.overrides) open_pair, pairs_distinct kind s.overrides s.links_differ) in
     let exist : Each (λ (o : Override). o.link < 3 * s.cores * s.channels) s.overrides = Each-from_all (λ (o : Override). o.link < 3 * s.cores * s.channels) s.overrides s.links_exist in
     let all : length (q ∷ pairs kind s.overrides) ≤ s.cores * s.channels =
-      length-le_from_distinct_below (q ∷ pairs kind s.overrides) (s.cores * s.channels) differ (λ p h. below p h exist in_range k) in
+    length-le_from_distinct_below (q ∷ pairs kind s.overrides) (s.cores * s.channels) differ (λ p h. below p h exist in_range k) in
     lt-ltb (count_by (is_kind kind) s.overrides) (s.cores * s.channels) (omega (arith, length-pairs kind s.overrides))
   where
     below : (p : ℕ) → list_any (eqb p) (link / 3 ∷ pairs (link % 3) s.overrides) ≡ true → Each (λ (o : Override). o.link < 3 * s.cores * s.channels) s.overrides
@@ -142,7 +143,7 @@ usual_counts s link l free =
         by (inr e) =
             let found : list_any (eqb p) (pairs (link % 3) s.overrides) ≡ true = ap (λ t. t || list_any (eqb p) (pairs (link % 3) s.overrides)) (sym e) ∙ h in
             let low : 3 * p + link % 3 < 3 * s.cores * s.channels =
-              any_below (3 * p + link % 3) (3 * s.cores * s.channels) s.overrides exist (sym (pairs-any (link % 3) p k s.overrides) ∙ found) in
+            any_below (3 * p + link % 3) (3 * s.cores * s.channels) s.overrides exist (sym (pairs-any (link % 3) p k s.overrides) ∙ found) in
             omega (arith, links_count s)
 
 abbrev least_from : ℕ → List Override → ℕ
@@ -215,6 +216,7 @@ latency_in_range s link = by (find (is_of link) s.overrides) refl
     usual_in_range =
         cond_both (eqb (link % 3) 0) _ _ LatencyInRange (λ e. s.latencies_in_range.request_in)
         (λ e. cond_both (eqb (link % 3) 1) _ _ LatencyInRange (λ f. s.latencies_in_range.reply_in) (λ f. s.latencies_in_range.credit_in))
+
     by : (r : Option Override) → find (is_of link) s.overrides ≡ r → LatencyInRange (latency s link)
     by None e = subst LatencyInRange (sym (latency_free s link (find_none (is_of link) s.overrides e))) usual_in_range
     by (Some o) e = subst LatencyInRange (sym (latency_own s link o e)) (override_in_range s.overrides link o s.overrides_in_range e)
@@ -250,7 +252,7 @@ found_least a (o ∷ os) d = by (found_least (min a o.latency) os d.1) (cases_lt
     by (inl e) (inr l) = inl (omega arith)
     by (inr (p, f, g)) b =
         let other : eqb o.link p.link ≡ false =
-          subst (λ r. IfSome r (λ (q : Override). eqb o.link q.link ≡ false)) f (IfSome-find (λ (q : Override). eqb o.link q.link ≡ false) (is_of p.link) os (links_apart o.link os d.0)) in
+        subst (λ r. IfSome r (λ (q : Override). eqb o.link q.link ≡ false)) f (IfSome-find (λ (q : Override). eqb o.link q.link ≡ false) (is_of p.link) os (links_apart o.link os d.0)) in
         inr (p, cond-false _ _ _ other ∙ f, g)
 
 own_attained : (s : Config) → Attained s (least_own s) ⊎ (least_own s ≡ 1000000)
@@ -261,7 +263,7 @@ own_attained s = by (found_least 1000000 s.overrides s.links_differ)
     by (inr (o, f, g)) =
         let exist : Each (λ (p : Override). p.link < 3 * s.cores * s.channels) s.overrides = Each-from_all (λ (p : Override). p.link < 3 * s.cores * s.channels) s.overrides s.links_exist in
         let low : o.link < 3 * s.cores * s.channels =
-          subst (λ r. IfSome r (λ (p : Override). p.link < 3 * s.cores * s.channels)) f (IfSome-find (λ (p : Override). p.link < 3 * s.cores * s.channels) (is_of o.link) s.overrides exist) in
+        subst (λ r. IfSome r (λ (p : Override). p.link < 3 * s.cores * s.channels)) f (IfSome-find (λ (p : Override). p.link < 3 * s.cores * s.channels) (is_of o.link) s.overrides exist) in
         inl (o.link, low, latency_own s o.link o f ∙ g)
 
 min_attained : (s : Config) (a b : ℕ) → Attained s a ⊎ (a ≡ 1000000) → Attained s b ⊎ (b ≡ 1000000) → Attained s (min a b) ⊎ (min a b ≡ 1000000)
@@ -278,6 +280,7 @@ least_of-attained s =
   where
     some_link : 0 < 3 * s.cores * s.channels
     some_link = search (arith, s.machine_in_range.cores_in.0, s.machine_in_range.channels_in.0)
+
     by : Attained s (least_of s) ⊎ (least_of s ≡ 1000000) → Attained s (least_of s)
     by (inl w) = w
     by (inr e) =

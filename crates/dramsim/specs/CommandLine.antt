@@ -1,0 +1,55 @@
+-- The command line, as `clap` sees it.
+--     text_rule id, texts_rule id, option_rule id, number_rule id      one argument
+--     run_app, check_app, map_app      one command
+--     program_app      the whole
+use Rattle.std.specs.Prelude.{true, codes, Some, List, [], ◌∷◌, fold}
+use Rattle.clap.specs.Words.{App, Rule, Text, new_app, new_rule, with_rule, with_subcommand}
+use Rattle.clap.specs.declared.builder.action.ArgAction.TheVariants.{Append}
+use Rattle.clap.specs.declared.builder.value_parser.ValueParser.TheVariants.{Unsigned}
+
+-- a word that has to be given
+abbrev pub text_rule : Text → Rule
+text_rule id = record (new_rule id) { required = true; value_names = 1 }
+
+-- one word or more
+abbrev pub texts_rule : Text → Rule
+texts_rule id = record (text_rule id) { action = Some Append }
+
+-- an option that takes a word
+abbrev pub option_rule : Text → Rule
+option_rule id = record (text_rule id) { long = Some id }
+
+-- an option that takes a number of 64 bits
+abbrev pub number_rule : Text → Rule
+number_rule id = record (option_rule id) { parser = Some (Unsigned 0 18446744073709551615) }
+
+-- CONFIG
+abbrev pub config_rule : Rule
+config_rule = text_rule (codes "config")
+
+-- a command of these arguments
+abbrev pub command_app : Text → List Rule → App
+command_app name rules = fold with_rule (new_app name) rules
+
+-- `run CONFIG --cycles N --workers N --out DIR TRACE...`
+abbrev pub run_app : App
+run_app = command_app (codes "run") (
+    config_rule ∷ number_rule (codes "cycles") ∷ number_rule (codes "workers") ∷ option_rule (codes "out")
+    ∷ texts_rule (codes "trace") ∷ [])
+
+-- `check CONFIG COMMANDS`
+abbrev pub check_app : App
+check_app = command_app (codes "check") (config_rule ∷ text_rule (codes "commands") ∷ [])
+
+-- `map CONFIG ADDRESS`
+abbrev pub map_app : App
+map_app = command_app (codes "map") (config_rule ∷ text_rule (codes "address") ∷ [])
+
+-- a command that wants a subcommand
+abbrev pub with_subcommand_required : App → App
+with_subcommand_required app = record app { top = record app.top { subcommand_required = true } }
+
+-- the program's command line
+abbrev pub program_app : App
+program_app =
+    with_subcommand (with_subcommand (with_subcommand (with_subcommand_required (new_app (codes "dramsim"))) run_app.top) check_app.top) map_app.top

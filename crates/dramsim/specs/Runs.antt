@@ -1,0 +1,52 @@
+-- What a run over the bytes of a configuration and of traces gives, and why it is refused.
+--     traces_of core texts      the entries of traces, of which the first is that of this core
+--     limits_of cores texts cycles workers      whether there is one trace a core, and so on
+--     input_of config texts cycles workers      the entries of all traces, or the first fault of a run's input
+--     IsRunOf config texts cycles workers simulated      the commands of the one-clock machine that the bytes describe
+use Rattle.std.specs.Prelude.{◌≡◌, ℕ, ◌+◌, ◌==◌, nat_le, Bool, ◌&&◌, List, [], ◌∷◌, length, Result, Ok, Err, if◌then◌else◌}
+use Rattle.sim_base.specs.declared.config.Config.{Config}
+use Rattle.sim_base.specs.declared.fault.Fault.{Fault}
+use Rattle.sim_base.specs.declared.fault.Fault.TheVariants.{TraceCount, Workers, Cycles}
+use Rattle.sim_base.specs.declared.trace.Entry.{Entry}
+use Rattle.sim_base.specs.Document.{document_of}
+use Rattle.sim_base.specs.Values.{values_of}
+use Rattle.sim_base.specs.TraceText.{◌>>=◌, trace_answer}
+use Rattle.sim_base.specs.History.{commands}
+use Rattle.sim_base.specs.Machine.{run, cycles_run}
+use Rattle.dramsim.specs.declared.runs.Simulated.{Simulated}
+
+-- a fault, where a test is not passed
+abbrev pub unless : Bool → Fault → Result (Unit {0}) Fault
+unless passed fault = if passed then Ok tt else Err fault
+
+-- the entries of traces, of which the first is that of this core, or the first fault of one
+unfoldable pub traces_of : ℕ → List (List ℕ) → Result (List (List Entry)) Fault
+traces_of core [] = Ok []
+traces_of core (text ∷ texts) = do
+  first ← trace_answer core text
+  others ← traces_of (core + 1) texts
+  Ok (first ∷ others)
+
+-- what is tested between the configuration and the traces: one trace a core, 1 to 64 workers, and at most 10^12 cycles
+unfoldable pub limits_of : ℕ → ℕ → ℕ → ℕ → Result (Unit {0}) Fault
+limits_of cores texts cycles workers = do
+  _ ← unless (texts == cores) TraceCount
+  _ ← unless (nat_le 1 workers && nat_le workers 64) Workers
+  unless (nat_le cycles 1000000000000) Cycles
+
+-- the tests of a run's input, in their order: the configuration, the limits, and then the traces by core
+unfoldable pub input_of : List ℕ → List (List ℕ) → ℕ → ℕ → Result (List (List Entry)) Fault
+input_of config texts cycles workers = do
+  values ← document_of config
+  _ ← limits_of values.cores (length texts) cycles workers
+  traces_of 0 texts
+
+-- The configuration is what the document states, the traces are what the texts mean, and the commands are those of the
+-- machine that advances every core, link and channel one cycle at a time, up to the limit or until all is done.
+pub record IsRunOf (config : List ℕ) (texts : List (List ℕ)) (cycles workers : ℕ) (simulated : Simulated) : Type 0 where
+  pub machine : Config
+  pub traces : List (List Entry)
+  pub configured : document_of config ≡ Ok (values_of machine)
+  pub read : input_of config texts cycles workers ≡ Ok traces
+  pub commands_are : simulated.commands.items ≡ commands (run machine traces (cycles_run machine traces cycles))
+  pub ranks_are : simulated.ranks ≡ machine.ranks

@@ -1,0 +1,35 @@
+//! Simulates the main memory of a computer: cores that read traces, and DDR4 channels that serve them.
+#![tactic(auto)]
+
+mod command_line;
+mod files;
+mod perform;
+mod runs;
+#[cfg(test)]
+mod tests;
+mod words;
+
+use crate::files::HostFiles;
+use crate::perform::{REFUSED, perform};
+use std::process::ExitCode;
+use std::{env, io};
+
+// Hands the words, the files and the streams of the host over.
+fn perform_words(rt: &HostRuntime) -> io::Result<u8> {
+    let arguments: Vec<String> = env::args(rt)?.collect(rt.alloc())?;
+    let words: Vec<&str> = arguments
+        .iter()
+        .map(|word| word.as_str())
+        .collect(rt.alloc())?;
+    let mut files = HostFiles { rt };
+    let mut print = rt.stdout();
+    let mut errors = rt.stderr();
+    Ok(perform(rt.alloc(), &words, &mut files, &mut print, &mut errors))
+}
+
+fn main(rt: HostRuntime) -> ExitCode {
+    match perform_words(&rt) {
+        Ok(status) => ExitCode::from(status),
+        Err(_) => ExitCode::from(REFUSED),
+    }
+}

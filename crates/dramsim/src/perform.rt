@@ -1,0 +1,138 @@
+//! What the program does, over files and streams that are handed in.
+
+ghost use Rattle.std.specs.Prelude.{◌≡◌, ◌≤◌};
+
+use crate::files::FileSet;
+use crate::runs::{Simulated, simulate_plain};
+use crate::words::{Ask, read_words};
+use address_map::place_of;
+use reports::write_commands;
+use sim_base::document::read_config;
+use sim_base::fault::Fault;
+use sim_base::message::Cycle;
+use std::alloc::Global;
+use std::io::Write;
+
+/// The status of a program that did what it was asked.
+const DONE: u8 = 0;
+
+/// The status of a program that refused.
+pub const REFUSED: u8 = 2;
+
+// A text on a stream.
+fn print_text<P: Write>(print: &mut P, text: &str) -> Result<(), Fault> {
+    let Ok(()) = print.write_all(text.as_bytes()) else {
+        return Err(Fault::Write);
+    };
+    let Ok(()) = print.flush() else {
+        return Err(Fault::Write);
+    };
+    Ok(())
+}
+
+fn read_texts<F: FileSet>(
+    alloc: Global,
+    files: &mut F,
+    paths: &[&str],
+) -> Result<Vec<Vec<u8>>, Fault> {
+    let mut texts = Vec::new(alloc);
+    for path in paths {
+        let text = files.read(alloc, path)?;
+        texts.push(text).map_err(|_| Fault::Memory)?;
+    }
+    Ok(texts)
+}
+
+// Writes the tables of a run. Nothing is opened before the run is over.
+fn write_tables<F: FileSet>(
+    alloc: Global,
+    files: &mut F,
+    out: &str,
+    run: &Simulated,
+) -> Result<(), Fault> {
+    let path = format!(in alloc; "{out}/commands.csv")?;
+    let mut table = files.create(alloc, path.as_str())?;
+    write_commands(alloc, run.ranks, &run.commands, &mut table)?;
+    files.close(alloc, path.as_str(), table)
+}
+
+// `run CONFIG --cycles N --workers N --out DIR TRACE...`
+fn perform_run<F: FileSet>(
+    alloc: Global,
+    files: &mut F,
+    config: &str,
+    cycles: Cycle,
+    workers: u64,
+    out: &str,
+    traces: &[&str],
+) -> Result<(), Fault> {
+    let config = files.read(alloc, config)?;
+    let texts = read_texts(alloc, files, traces)?;
+    let run = simulate_plain(alloc, &config, &texts, cycles, workers)?;
+    write_tables(alloc, files, out, &run)
+}
+
+// `map CONFIG ADDRESS`
+fn perform_map<F: FileSet, P: Write>(
+    alloc: Global,
+    files: &mut F,
+    print: &mut P,
+    config: &str,
+    address: u64,
+) -> Result<(), Fault> {
+    let text = files.read(alloc, config)?;
+    let config = read_config(alloc, &text)?;
+    let place = place_of(&config, address);
+    let mut line = format!(in alloc; "channel {}", place.channel)?;
+    if config.ranks > 1 {
+        line.push_str(format!(in alloc; " rank {}", place.rank)?.as_str())?;
+    }
+    let rest = format!(in alloc;
+        " group {} bank {} row {} column {}\n",
+        place.group, place.bank, place.row, place.column
+    )?;
+    line.push_str(rest.as_str())?;
+    print_text(print, line.as_str())
+}
+
+// What the words ask for.
+fn answer<F: FileSet, P: Write>(
+    alloc: Global,
+    words: &[&str],
+    files: &mut F,
+    print: &mut P,
+) -> Result<(), Fault> {
+    match read_words(alloc, words)? {
+        Ask::Run {
+            config,
+            cycles,
+            workers,
+            out,
+            traces,
+        } => perform_run(alloc, files, config, cycles, workers, out, &traces),
+        Ask::Check { .. } => Err(Fault::CommandLine),
+        Ask::Map { config, address } => perform_map(alloc, files, print, config, address),
+        Ask::Help(text) => print_text(print, text.as_str()),
+    }
+}
+
+/// Does what the words ask for, of which the first is the program's name, and gives the status: 0 done, 2 refused. A refusal
+/// is one line on `errors`: `fault N: ...`. `check` is refused as a command line that the program does not know, until it is
+/// built.
+pub fn perform<F: FileSet, P: Write, E: Write>(
+    alloc: Global,
+    words: &[&str],
+    files: &mut F,
+    print: &mut P,
+    errors: &mut E,
+) -> u8
+    ensures { result ≤ 2 }
+{
+    match answer(alloc, words, files, print) {
+        Ok(()) => DONE,
+        Err(fault) => {
+            let _ = writeln!(errors, "{fault}");
+            REFUSED
+        }
+    }
+}

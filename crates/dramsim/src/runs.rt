@@ -1,0 +1,124 @@
+//! A run of the simulator, from the bytes of its input.
+
+ghost use Rattle.std.specs.Prelude.{◌≡◌, ◌≢◌, ◌≤◌, ◌==◌, ◌&&◌, nat_le, length, vec_len, map, Ok, Err, IfOk, IfErr};
+ghost use Rattle.dramsim.specs.Runs.{unless, limits_of, traces_of, input_of, IsRunOf};
+
+use cpu_trace::reader::read_trace;
+use cpu_trace::trace::Trace;
+use one_clock::machine::run_plain;
+use sim_base::command::CommandRow;
+use sim_base::config::Config;
+use sim_base::document::read_config;
+use sim_base::fault::Fault;
+use sim_base::message::{CoreId, Cycle};
+use std::alloc::Global;
+
+/// The greatest limit of a run, in cycles.
+pub const MOST_CYCLES: Cycle = 1_000_000_000_000;
+
+/// The greatest number of workers.
+pub const MOST_WORKERS: u64 = 64;
+
+/// What a run gives: the commands of all channels by cycle and then by channel, and how many ranks a channel has.
+#[derive(Drop)]
+pub struct Simulated {
+    pub commands: Vec<CommandRow>,
+    pub ranks: u32,
+}
+
+// One trace a core.
+fn check_count(cores: u16, texts: usize) -> Result<(), Fault>
+    ensures { result ≡ unless (texts == cores) Fault.TraceCount }
+{
+    if texts == usize::from(cores) {
+        Ok(())
+    } else {
+        Err(Fault::TraceCount)
+    }
+}
+
+fn check_workers(workers: u64) -> Result<(), Fault>
+    ensures { result ≡ unless (nat_le 1 workers && nat_le workers 64) Fault.Workers }
+{
+    if 1 <= workers && workers <= MOST_WORKERS {
+        Ok(())
+    } else {
+        Err(Fault::Workers)
+    }
+}
+
+fn check_cycles(cycles: Cycle) -> Result<(), Fault>
+    ensures { result ≡ unless (nat_le cycles 1000000000000) Fault.Cycles }
+{
+    if cycles <= MOST_CYCLES {
+        Ok(())
+    } else {
+        Err(Fault::Cycles)
+    }
+}
+
+#[tactic(auto, unfolding(crate::specs::Runs::limits_of))]
+fn check_limits(cores: u16, texts: usize, cycles: Cycle, workers: u64) -> Result<(), Fault>
+    ensures { result ≡ limits_of cores texts cycles workers }
+{
+    check_count(cores, texts)?;
+    check_workers(workers)?;
+    check_cycles(cycles)
+}
+
+// The traces of the cores, in their order.
+
+fn read_traces(alloc: Global, texts: &[Vec<u8>]) -> Result<Vec<Trace>, Fault>
+    requires { length texts.now ≤ 256 }
+    ensures ok { IfOk result (λ v. traces_of 0 (map (λ t. t.items) texts.now) ≡ Ok v.items) }
+    ensures count { IfOk result (λ v. vec_len v ≡ length texts.now) }
+    ensures refused { IfErr result (λ e. e ≢ Fault.Memory → traces_of 0 (map (λ t. t.items) texts.now) ≡ Err e) }
+{
+    let mut traces = Vec::new(alloc);
+    for text in texts {
+        let core = traces.len() as CoreId;
+        let trace = match read_trace(alloc, core, text) {
+            Ok(trace) => trace,
+            Err(fault) => return Err(fault),
+        };
+        let Ok(()) = traces.push(trace) else {
+            return Err(Fault::Memory);
+        };
+    }
+    Ok(traces)
+}
+
+/// Runs the one-clock machine that a configuration and one trace a core describe, for at most `cycles` cycles.
+///
+/// The input is tested in this order: the configuration, the number of traces, the number of workers (1 to 64, not used yet),
+/// the limit (at most 10^12 cycles), and the traces by core. The first fault is answered. `Fault::Memory` may come at any time,
+/// and the run itself is refused by nothing else.
+pub fn simulate_plain(
+    alloc: Global,
+    config: &[u8],
+    texts: &[Vec<u8>],
+    cycles: Cycle,
+    workers: u64,
+) -> Result<Simulated, Fault>
+    ensures run { IfOk result (IsRunOf config.now (map (λ t. t.items) texts.now) cycles workers) }
+    ensures refused { IfErr result (λ e. e ≢ Fault.Memory → input_of config.now (map (λ t. t.items) texts.now) cycles workers ≡ Err e) }
+{
+    let config = match read_config(alloc, config) {
+        Ok(config) => config,
+        Err(fault) => return Err(fault),
+    };
+    if let Err(fault) = check_limits(config.cores, texts.len(), cycles, workers) {
+        return Err(fault);
+    }
+    let traces = match read_traces(alloc, texts) {
+        Ok(traces) => traces,
+        Err(fault) => return Err(fault),
+    };
+    let Ok(commands) = run_plain(alloc, &config, &traces, cycles) else {
+        return Err(Fault::Memory);
+    };
+    Ok(Simulated {
+        commands,
+        ranks: config.ranks,
+    })
+}
