@@ -68,21 +68,28 @@ impl FileSet for MemoryFiles {
     }
 }
 
-fn changed_line<'a>(line: &'a str, changes: &[&'a str]) -> &'a str {
+// Whether two lines are of one key.
+fn has_same_key<'x>(a: &'x str, b: &'x str) -> bool {
+    a.split('=').next() == b.split('=').next()
+}
+
+// A line of a configuration, or the one that is to stand in its place.
+fn push_line(text: &mut String, line: &str, changes: &[&str]) -> Result<(), AllocError> {
     for change in changes {
-        if change.split('=').next() == line.split('=').next() {
-            return change;
+        if has_same_key(change, line) {
+            text.push_str(change)?;
+            return text.push_str("\n");
         }
     }
-    line
+    text.push_str(line)?;
+    text.push_str("\n")
 }
 
 // Profile S with other lines for some keys, and more lines at its end.
 fn profile_s(alloc: Global, changes: &[&str], more: &str) -> Result<String, AllocError> {
     let mut text = String::new(alloc);
     for line in PROFILE_S.lines() {
-        text.push_str(changed_line(line, changes))?;
-        text.push_str("\n")?;
+        push_line(&mut text, line, changes)?;
     }
     text.push_str(more)?;
     Ok(text)
@@ -97,6 +104,29 @@ struct Ended {
     files: MemoryFiles,
 }
 
+fn words_of_run<'x>(
+    alloc: Global,
+    cycles: &'x str,
+    workers: &'x str,
+) -> Result<Vec<String>, AllocError> {
+    let mut words = Vec::new(alloc);
+    let fixed: [&'x str; 9] = [
+        "dramsim",
+        "run",
+        "c.toml",
+        "--cycles",
+        cycles,
+        "--workers",
+        workers,
+        "--out",
+        "d",
+    ];
+    for word in fixed {
+        words.push(String::from_str(alloc, word)?)?;
+    }
+    Ok(words)
+}
+
 fn run_program(
     alloc: Global,
     config: &str,
@@ -108,27 +138,14 @@ fn run_program(
         files: Vec::new(alloc),
     };
     files.add(alloc, "c.toml", config)?;
-    let mut names = Vec::new(alloc);
+    let mut words = words_of_run(alloc, cycles, workers)?;
     for trace in traces {
-        let name = format!(in alloc; "t{}", names.len())?;
+        let name = format!(in alloc; "t{}", words.len())?;
         files.add(alloc, name.as_str(), trace)?;
-        names.push(name)?;
+        words.push(name)?;
     }
-    let mut words = vec![in alloc;
-        "dramsim",
-        "run",
-        "c.toml",
-        "--cycles",
-        cycles,
-        "--workers",
-        workers,
-        "--out",
-        "d",
-    ]?;
-    for name in &names {
-        words.push(name.as_str())?;
-    }
-    end_of(alloc, &words, files)
+    let named: Vec<&str> = words.iter().map(|word| word.as_str()).collect(alloc)?;
+    end_of(alloc, &named, files)
 }
 
 fn end_of(alloc: Global, words: &[&str], mut files: MemoryFiles) -> Result<Ended, Fail> {
