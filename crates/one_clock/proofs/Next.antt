@@ -1,13 +1,13 @@
 -- What the machine keeps, one cycle more.
-use Rattle.std.proofs.Common.{◌≡◌, ℕ, zero, suc, ◌+◌, ◌-◌, ◌*◌, ◌<◌, ◌≤◌, Bool, true, false, cond, ltb, eqb, ◌%◌, ◌&&◌, ◌||◌, List, [], ◌∷◌, ◌++◌, length, map, take, Option, Some, None, refl, sym, ap, ap₂, subst, ◌∙◌, add-one, add-zero, zero-add, append_assoc, arith}
+use Rattle.std.proofs.Common.{◌≡◌, ℕ, zero, suc, ◌+◌, ◌<◌, ◌≤◌, Bool, true, false, cond, ltb, eqb, ◌%◌, ◌&&◌, ◌||◌, List, [], ◌∷◌, ◌++◌, length, map, Option, Some, None, refl, sym, ap, ap₂, subst, ◌∙◌, add-one, add-zero, zero-add, append_assoc, arith}
 use Rattle.std.specs.Prelude.{filter, filter_map, flat_map, fold, not, count_by, find, unwrap_or, option_map}
 use Rattle.std.specs.Option.{IfSome, option_to_list}
 use Rattle.std.specs.List.{list_all, list_any, enumerate_from, cons_option, range_with_len}
 use Rattle.std.proofs.Math.Seq.{take-length}
-use Rattle.std.proofs.lemmas.Bool.{cond_both, cond-true, cond-false}
+use Rattle.std.proofs.lemmas.Bool.{cond_both}
 use Rattle.std.proofs.lemmas.Bool.Decides.{nat_tests}
 use Rattle.std.proofs.lemmas.List.{map-append, length-map, append-nil, take-append-le}
-use Rattle.std.proofs.lemmas.List.Elements.{filter-append, filter_map-append}
+use Rattle.std.proofs.lemmas.List.Elements.{filter_map-append}
 use Rattle.std.proofs.lemmas.List.Folds.{list_any-append}
 use Rattle.std.proofs.lemmas.List.Concat.{flat_map-append}
 use Rattle.sim_base.specs.declared.config.Config.{Config}
@@ -17,8 +17,8 @@ use Rattle.sim_base.specs.declared.overrides.Override.{Override}
 use Rattle.sim_base.proofs.LinkNumbers.{found_in_range}
 use Rattle.sim_base.specs.Locality.{TravelsFor}
 use Rattle.sim_base.specs.Row.{Row, core_row, channel_row}
-use Rattle.sim_base.specs.History.{below, trace_of, core_rows, channel_rows, issued_at, issued_commands, commands_in, commands, core_messages, channel_messages, messages, messages_of_core, messages_of_channel, is_to, is_before, by_age, insert_by_age, inbox}
-use Rattle.sim_base.specs.Sends.{core_sends, channel_sends, sends}
+use Rattle.sim_base.specs.History.{below, core_rows, channel_rows, issued_at, issued_commands, commands_in, commands, core_messages, channel_messages, messages, messages_of_core, messages_of_channel, is_to, is_before, by_age, insert_by_age, inbox}
+use Rattle.sim_base.specs.Sends.{core_sends, sends}
 use Rattle.sim_base.specs.Scheduling.{request_in, serves, is_served, is_waiting, waiting, queue_in, writes_in, drains_with, drains_before, drains, candidates, lowest_due, choice_between, choice}
 use Rattle.sim_base.specs.Machine.{next_core_row, next_command, next_row, run, is_delivered}
 use Rattle.sim_base.specs.Counts.{is_in_flight, in_flight}
@@ -34,11 +34,11 @@ use Rattle.sim_base.proofs.Below.{flat_map_below_more as flat_map_below_suc}
 use Rattle.sim_base.proofs.Arrived.{put, puts, by_age-puts, fold-puts}
 use Rattle.sim_base.proofs.Ordered.{Sorted, Sorted-puts, filter-puts, filter-by_age}
 use Rattle.sim_base.proofs.Grows.{core-grows, inbox-grows, by_age-filter-grows}
-use Rattle.sim_base.proofs.Same.{AgreeUpTo, drains-same}
+use Rattle.sim_base.proofs.Same.{drains-same}
 use Rattle.sim_base.proofs.Spans.{length-run, core_row-next, channel_row-next, inbox-run, inbox-stamped, has_channels}
-use Rattle.one_clock.specs.declared.scheduling.ChannelStep.{ChannelStep}
+use Rattle.plain_steps.specs.declared.scheduling.ChannelStep.{ChannelStep}
 use Rattle.one_clock.proofs.Units.{filter_map_below_more}
-use Rattle.one_clock.specs.Plain.{CoreView, core_view, ChannelView, channel_view, channel_step_of, queue_of, is_request_left, is_left, is_passed_over, is_left_by, is_late}
+use Rattle.plain_steps.specs.Plain.{CoreView, core_view, ChannelView, channel_view, channel_step_of, queue_of, is_request_left, is_left, is_passed_over, is_left_by, is_late}
 
 filter-both : {X : Type 0} (p q : X → Bool) (xs : List X) → filter (λ x. p x && q x) xs ≡ filter q (filter p xs)
 filter-both p q [] = refl

@@ -6,7 +6,7 @@ use Rattle.sim_base.specs.declared.trace.Entry.{Entry}
 use Rattle.sim_base.specs.History.{below, commands}
 use Rattle.sim_base.specs.Machine.{run}
 use Rattle.sim_base.specs.Counts.{in_flight}
-use Rattle.one_clock.specs.Plain.{core_view, channel_view}
+use Rattle.plain_steps.specs.Plain.{core_view, channel_view}
 use Rattle.one_clock.specs.declared.machine.Machine.{Machine}
 
 -- the machine keeps what each core and each channel did in the first n cycles, their commands, and the messages in flight

@@ -1,2 +1,1 @@
-pub mod Plain
 pub mod Held

@@ -2,10 +2,6 @@
 //! their whole past kept and searched.
 #![tactic(auto)]
 
-pub mod cores;
 pub mod machine;
-pub mod mail;
-pub mod rules;
-pub mod scheduling;
 pub mod sending;
 pub mod state;

@@ -6,14 +6,14 @@ ghost use Rattle.sim_base.specs.History.{below, trace_of, commands};
 ghost use Rattle.sim_base.specs.Machine.{next_core_row, next_row, run, is_retired, has_served, is_delivered, is_over, cycles_run};
 ghost use Rattle.sim_base.specs.Sends.{sends};
 ghost use Rattle.sim_base.specs.Counts.{in_flight};
-ghost use Rattle.one_clock.specs.Plain.{core_view, channel_view, channel_step_of, is_late};
+ghost use Rattle.plain_steps.specs.Plain.{core_view, channel_view, channel_step_of, is_late};
 ghost use Rattle.one_clock.specs.Held.{HoldsRun};
 
-use crate::scheduling::ChannelStep;
 use crate::sending::{self, trace_of_core};
 use crate::state::{ChannelPast, CorePast, issued_row, push_row};
-use crate::{cores, mail, scheduling};
 use cpu_trace::trace::Trace;
+use plain_steps::scheduling::ChannelStep;
+use plain_steps::{cores, mail, scheduling};
 use sim_base::command::CommandRow;
 use sim_base::config::Config;
 use sim_base::history::CoreRow;

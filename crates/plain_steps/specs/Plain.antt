@@ -3,13 +3,12 @@
 --     ChannelView, channel_view s traces history channel      what a channel did, and the requests that it is still to serve
 --     queue_of pending until      the requests among these that arrived before a cycle
 --     is_late now m      a message that is still to arrive at a cycle
-use Rattle.std.specs.Prelude.{◌≡◌, ℕ, nat_lt, Bool, true, not, List, length, map, filter, filter_map, Option, Some, None}
+use Rattle.std.specs.Prelude.{ℕ, nat_lt, Bool, true, not, List, length, filter, filter_map, Option, Some, None}
 use Rattle.sim_base.specs.declared.config.Config.{Config}
 use Rattle.sim_base.specs.Row.{Row}
-use Rattle.sim_base.specs.History.{below, core_rows, channel_rows, issued_commands, commands, messages_of_core, inbox}
+use Rattle.sim_base.specs.History.{core_rows, channel_rows, issued_commands, messages_of_core, inbox}
 use Rattle.sim_base.specs.Machine.{next_command}
 use Rattle.sim_base.specs.Scheduling.{request_in, serves, is_served, drains, drains_before}
-use Rattle.sim_base.specs.Counts.{in_flight}
 use Rattle.sim_base.specs.declared.command.Command.{Command}
 use Rattle.sim_base.specs.declared.command.CommandRow.{CommandRow}
 use Rattle.sim_base.specs.declared.history.CoreRow.{CoreRow}
@@ -17,7 +16,7 @@ use Rattle.sim_base.specs.declared.message.Message.{Message}
 use Rattle.sim_base.specs.declared.message.Request.{Request}
 use Rattle.sim_base.specs.declared.message.Unit.TheVariants.{Core, Channel}
 use Rattle.sim_base.specs.declared.trace.Entry.{Entry}
-use Rattle.one_clock.specs.declared.scheduling.ChannelStep.{ChannelStep}
+use Rattle.plain_steps.specs.declared.scheduling.ChannelStep.{ChannelStep}
 
 -- what a core did, row by row, what it sent, and what was sent to it, by age
 pub record CoreView : Type 0 where

@@ -252,7 +252,7 @@ fn request_count(sent: &[Message], channel: u32, write: bool) -> usize
 
 /// Credits that a core holds for a channel.
 #[tactic(auto, unfolding(sim_base::specs::Windows::held))]
-fn held_count(
+pub fn held_count(
     s: &Config,
     core: CoreId,
     inbox: &[Message],

@@ -4,7 +4,7 @@ ghost use Rattle.std.specs.Prelude.{◌≡◌, ◌≤◌, ◌+◌, ◌<◌, ◌^
 ghost use Rattle.sim_base.specs.Places.{is_line, bank_in};
 ghost use Rattle.sim_base.specs.Scheduling.{request_in, is_source, source_of, serves, is_served, drains_with};
 ghost use Rattle.sim_base.specs.Scheduling.{asks_for_line, first_of_lines, is_favoured, favour, candidates, column_command, needed_at, needed, is_column_command, is_row_hit, has_hit, is_withheld, ready_hit, ready_row, first_ready, refreshes, due, lowest_due, refresh_command, if_legal, choice_between};
-ghost use Rattle.one_clock.specs.Plain.{queue_of, is_request_left, is_left};
+ghost use Rattle.plain_steps.specs.Plain.{queue_of, is_request_left, is_left};
 
 use crate::rules;
 use sim_base::command::{Command, CommandRow, Kind, Source};
@@ -245,7 +245,8 @@ fn needed_command(history: &[CommandRow], r: Request) -> Command
     needed_with(rules::row_of_bank(bank_of_place(r.place), history), r)
 }
 
-fn is_column(command: Command) -> bool
+/// Whether the command moves data.
+pub fn is_column(command: Command) -> bool
     ensures { result ≡ is_column_command command }
 {
     let kind = command.kind();
@@ -373,7 +374,7 @@ fn refresh_count(rank: u32, history: &[CommandRow]) -> usize
 
 /// How many refreshes of a rank are due.
 #[tactic(auto, unfolding(sim_base::specs::Scheduling::due))]
-fn due_count(s: &Config, rank: u32, history: &[CommandRow], now: u64) -> u64
+pub fn due_count(s: &Config, rank: u32, history: &[CommandRow], now: u64) -> u64
     ensures { result ≡ due s.now rank history.now now }
 {
     if s.timing.n_refi == 0 {
@@ -383,8 +384,9 @@ fn due_count(s: &Config, rank: u32, history: &[CommandRow], now: u64) -> u64
     }
 }
 
+/// The lowest rank with a refresh that is due.
 #[tactic(auto, unfolding(sim_base::specs::Scheduling::lowest_due))]
-fn lowest_rank_due(s: &Config, history: &[CommandRow], now: u64) -> Option<u32>
+pub fn lowest_rank_due(s: &Config, history: &[CommandRow], now: u64) -> Option<u32>
     ensures { result ≡ lowest_due s.now history.now now }
 {
     (0..s.ranks).find(|rank| 0 < due_count(s, *rank, history, now))
