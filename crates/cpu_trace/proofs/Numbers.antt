@@ -153,3 +153,8 @@ next_memory-at memory len i k (Some m) h within p e = (IsNextMemory-at memory le
 pub option_copied-get : {X : Type 0} (xs : List X) (k : ℕ) (o : Option (Bor X)) → MatchOption o (length xs ≤ k) (λ x. (k < length xs) × HoldsAt (λ y. x.now ≡ y) xs k) → option_copied o ≡ slice_get xs k
 option_copied-get xs k None h = sym (slice_get_past xs k h)
 option_copied-get xs k (Some x) h = ap Some (h.1 x.now) ∙ sym (slice_get-get_or xs k x.now h.0)
+
+-- what `get` gives at the place of the first memory entry that is not below a number
+pub next_memory-get : (memory : List MemoryEntry) (len i k : ℕ) (o : Option (Bor MemoryEntry)) → IsAscending 0 memory len → k ≤ length memory → IsPlaceOf i memory k → MatchOption o (length memory ≤ k) (λ m. (k < length memory) × HoldsAt (λ y. m.now ≡ y) memory k) → IfSome o (λ m. IsNextMemory (entries_after 0 memory len) i m.now) × IfNone o (IsPlainBetween (entries_after 0 memory len) i (length (entries_after 0 memory len)))
+next_memory-get memory len i k None h within p got = next_memory-at memory len i k None h within p (option_copied-get memory k None got)
+next_memory-get memory len i k (Some m) h within p got = next_memory-at memory len i k (Some m.now) h within p (option_copied-get memory k (Some m) got)

@@ -3,3 +3,4 @@ pub mod NextMemory
 pub mod Numerals
 pub mod Lines
 pub mod Reading
+pub mod Marks

@@ -4,6 +4,7 @@ ghost use Rattle.std.specs.Prelude.{◌≡◌, ◌+◌, ◌^◌, ◌<◌, ◌≤
 ghost use Rattle.sim_base.specs.Windows.{is_memory};
 ghost use Rattle.cpu_trace.specs.NextMemory.{IsPlainBetween, IsNextMemory};
 
+use crate::stored::Stored;
 use sim_base::trace::Entry;
 use std::alloc::{AllocError, Global};
 use std::marker::Model;
@@ -21,7 +22,7 @@ pub struct MemoryEntry {
 /// The entries of a trace, at most 2^62.
 #[derive(Drop)]
 pub(crate) struct Entries {
-    memory: Vec<MemoryEntry>,
+    memory: Vec<Stored>,
     len: u64,
 }
 
@@ -65,7 +66,7 @@ impl Entries {
         ensures err { OnErr result (self.new ≡ self.old) }
     {
         let number = self.len + plain;
-        self.memory.push(MemoryEntry { number, entry })?;
+        self.memory.push(Stored::new(number, entry))?;
         self.len = number + 1;
         Ok(())
     }
@@ -93,13 +94,25 @@ impl Entries {
         Ok(all)
     }
 
+    /// Where the first Read or Write entry from a number on is kept.
+    fn next_stored(&self, from: u64) -> Option<&Stored>
+        ensures found { IfSome result (λ stored. IsNextMemory self.now from stored.now) }
+        ensures none { IfNone result (IsPlainBetween self.now from (length self.now)) }
+    {
+        let place = self.memory.partition_point(|stored| stored.number() < from);
+        self.memory.get(place)
+    }
+
     /// The first Read or Write entry from a number on.
     pub(crate) fn next_memory(&self, from: u64) -> Option<MemoryEntry>
         ensures found { IfSome result (IsNextMemory self.now from) }
         ensures none { IfNone result (IsPlainBetween self.now from (length self.now)) }
     {
-        let place = self.memory.partition_point(|m| m.number < from);
-        self.memory.get(place).copied()
+        let stored = self.next_stored(from)?;
+        Some(MemoryEntry {
+            number: stored.number(),
+            entry: stored.entry(),
+        })
     }
 
     /// The entry of a number.

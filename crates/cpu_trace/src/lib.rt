@@ -7,6 +7,7 @@ pub mod grammar;
 mod line;
 pub mod number;
 pub mod reader;
+mod stored;
 #[cfg(test)]
 mod tests;
 pub mod trace;

@@ -8,6 +8,7 @@ use sim_base::fault::LineCause;
 
 // The number with one more digit at its end, where it is at most 2^64 - 1.
 #[tactic(auto, unfolding(crate::specs::Numerals::fitting))]
+#[inline(always)]
 fn with_digit(number: Option<u64>, radix: u32, digit: u32) -> Option<u64>
     ensures { result ≡ option_and_then (λ n. fitting (n * radix + digit)) number }
 {
@@ -16,7 +17,8 @@ fn with_digit(number: Option<u64>, radix: u32, digit: u32) -> Option<u64>
         .checked_add(u64::from(digit))
 }
 
-// The number that digits write.
+// The number that digits write. It is inlined, so that each radix has a loop of its own.
+#[inline(always)]
 fn read_numeral(radix: u32, digits: &[u8]) -> Result<u64, LineCause>
     requires lower { 2 ≤ radix }
     requires upper { radix ≤ 36 }

@@ -73,11 +73,75 @@ fn faults_of_lines(rt: HostRuntime) -> Result<(), Fail> {
     Ok(())
 }
 
+// A trace of three lines, of which the second is blank and the last has no end.
+const THREE_LINES: &[u8] = b"0\t0x40\r\n\n 1  128";
+
+#[test]
+fn beginnings_of_a_trace(rt: HostRuntime) -> Result<(), Fail> {
+    let alloc = rt.alloc();
+    for (len, want) in [
+        (1, "fault 5: trace 0 line 1 too-few"),
+        (2, "fault 5: trace 0 line 1 too-few"),
+        (4, "fault 5: trace 0 line 1 not-a-number"),
+        (11, "fault 5: trace 0 line 3 too-few"),
+        (12, "fault 5: trace 0 line 3 too-few"),
+        (13, "fault 5: trace 0 line 3 too-few"),
+    ] {
+        let cut = THREE_LINES.get(..len).ok_or("shorter")?;
+        assert!(rt; fault(alloc, cut)?.as_str() == want, "at {len}");
+    }
+    assert_entries(&rt, &read_trace(alloc, 0, b"")?, &[]);
+    for (len, address) in [(3, 0), (5, 4), (6, 64), (7, 64), (8, 64), (9, 64), (10, 64)] {
+        let cut = THREE_LINES.get(..len).ok_or("shorter")?;
+        let trace = read_trace(alloc, 0, cut)?;
+        assert_entries(&rt, &trace, &[Entry::Read(address)]);
+    }
+    for (len, address) in [(14, 1), (15, 12), (16, 128)] {
+        let cut = THREE_LINES.get(..len).ok_or("shorter")?;
+        let trace = read_trace(alloc, 0, cut)?;
+        let wanted = [Entry::Read(64), Entry::Plain, Entry::Read(address)];
+        assert_entries(&rt, &trace, &wanted);
+    }
+    assert_eq!(rt; THREE_LINES.len(), 16);
+    Ok(())
+}
+
+// A line of 1 MiB: many bytes of one kind between a beginning and an end.
+fn long_line(alloc: Global, first: &[u8], byte: u8, last: &[u8]) -> Result<Vec<u8>, AllocError> {
+    let mut line = Vec::from_slice(alloc, first)?;
+    for _ in 0..1_048_570u32 {
+        line.push(byte)?;
+    }
+    line.extend_from_slice(last)?;
+    Ok(line)
+}
+
+#[test]
+fn long_lines(rt: HostRuntime) -> Result<(), Fail> {
+    let alloc = rt.alloc();
+    let wanted = [Entry::Plain, Entry::Read(2), Entry::Write(3)];
+    let gap = long_line(alloc, b"1", b' ', b"2 3\r\n")?;
+    assert_entries(&rt, &read_trace(alloc, 0, &gap)?, &wanted);
+    let zeros = long_line(alloc, b"1 0x", b'0', b"2 3")?;
+    assert_entries(&rt, &read_trace(alloc, 0, &zeros)?, &wanted);
+    let large = long_line(alloc, b"\n1 ", b'9', b" 3")?;
+    assert!(rt; fault(alloc, &large)?.as_str() == "fault 5: trace 0 line 2 too-large");
+    let bad = long_line(alloc, b"\n1 ", b'9', b"x 3")?;
+    assert!(rt; fault(alloc, &bad)?.as_str() == "fault 5: trace 0 line 2 not-a-number");
+    Ok(())
+}
+
 #[test]
 fn numbers_of_tokens(rt: HostRuntime) -> Result<(), Fail> {
     let mut zeros = vec![in rt.alloc(); b'0'; 10_000]?;
     zeros.push(b'7')?;
     assert_eq!(rt; read_number(&zeros), Ok(7));
+    let mut zeros = Vec::from_slice(rt.alloc(), b"0X")?;
+    for _ in 0..10_000u32 {
+        zeros.push(b'0')?;
+    }
+    zeros.extend_from_slice(b"fF")?;
+    assert_eq!(rt; read_number(&zeros), Ok(255));
     assert_eq!(rt; read_number(b"18446744073709551615"), Ok(u64::MAX));
     assert_eq!(rt; read_number(b"0xFFFFffffFFFFffff"), Ok(u64::MAX));
     assert_eq!(rt; read_number(b"0XaBcD"), Ok(43981));
@@ -94,6 +158,7 @@ fn numbers_of_tokens(rt: HostRuntime) -> Result<(), Fail> {
         Err(LineCause::NotANumber)
     );
     assert_eq!(rt; read_number(b"0x"), Err(LineCause::NotANumber));
+    assert_eq!(rt; read_number(b"0X"), Err(LineCause::NotANumber));
     assert_eq!(rt; read_number(b"1f"), Err(LineCause::NotANumber));
     assert_eq!(rt; read_number(b"+1"), Err(LineCause::NotANumber));
     Ok(())

@@ -3,3 +3,5 @@
 
 pub mod flight;
 pub mod latency;
+#[cfg(test)]
+mod tests;

@@ -4,8 +4,8 @@ use Rattle.cpu_trace.proofs.entries.Entries.add.Goals as goal
 
 pub invariant_of-self-2 : goal.invariant_of-self-2
 invariant_of-self-2 c =
-    rw c.in_ok-push.ensures.items
+    rw (c.in_ok-push.ensures.items, c.new.ensures)
     (IsAscending-push 0 _ _ _ _ c.requires.memory c.self.invariant.0, omega (arith, length-entries_after 0 _ _ c.self.invariant.0, ap length c.self.view_is))
 
 pub returns-clause-ok : goal.returns-clause-ok
-returns-clause-ok c = rw (c.in_ok-push.ensures.items, ← c.self.view_is) (entries_after-push 0 _ _ _ _ c.self.invariant.0)
+returns-clause-ok c = rw (c.in_ok-push.ensures.items, c.new.ensures, ← c.self.view_is) (entries_after-push 0 _ _ _ _ c.self.invariant.0)
