@@ -1,28 +1,170 @@
--- A table with one row more.
-use Rattle.std.proofs.Common.{◌≡◌, ℕ, ◌+◌, ◌<◌, List, [], ◌∷◌, ◌++◌, length, get_or, take, map, ap, ◌∙◌}
+-- What a writer holds, with more rows.
+use Rattle.std.proofs.Common.{◌≡◌, ℕ, ◌+◌, ◌<◌, ◌≤◌, List, [], ◌∷◌, ◌++◌, length, get_or, take, map, codes, Option, Some, None, Result, Ok, Err, OnOk, refl, sym, ap, subst, ◌∙◌, arith, zero-add, append_assoc, length-take-le}
+use Rattle.std.proofs.KnownBytes.{Appends-nil, Appends-trans}
 use Rattle.std.proofs.lemmas.Grind.{flat_map-append}
-use Rattle.std.proofs.lemmas.List.{append-nil, map_more}
-use Rattle.reports.specs.Rows.{row_text, table_text}
+use Rattle.std.proofs.lemmas.List.{append-nil, map-append, map_more, take_more}
+use Rattle.std.specs.Io.KnownBytes.{Appends}
+use Rattle.std.specs.List.{enumerate_from, flat_map}
+use Rattle.reports.specs.Rows.{row_text, rows_text, table_text, numbered}
 use Rattle.reports.specs.Commands.{header, command_fields, commands_text}
+use Rattle.reports.specs.Final as final
+use Rattle.reports.specs.Final.{final_header, final_rows, final_text, progress_rows, credits_of_core, flight_fields}
+use Rattle.reports.specs.Stats.{stats_header, value_fields, core_rows, usual_values, draining_values, channel_rows, stats_rows, stats_text}
+use Rattle.statistics.specs.Values.{RunStats, LastState}
+use Rattle.statistics.specs.declared.channels.ChannelStats.{ChannelStats}
 use Rattle.sim_base.specs.declared.command.CommandRow.{CommandRow}
 
-table_text-none : (names : List (List ℕ)) → table_text names [] ≡ row_text names
-unfolding table_text
-table_text-none names = append-nil (row_text names)
+-- rows after rows
+pub rows_text-append : (rows more : List (List (List ℕ))) → rows_text (rows ++ more) ≡ rows_text rows ++ rows_text more
+unfolding rows_text
+rows_text-append rows more = flat_map-append row_text rows more
 
-table_text-more : (names : List (List ℕ)) (rows : List (List (List ℕ))) (row : List (List ℕ)) → table_text names (rows ++ row ∷ []) ≡ table_text names rows ++ row_text row
+-- one row
+pub rows_text-one : (row : List (List ℕ)) → rows_text (row ∷ []) ≡ row_text row
+unfolding rows_text
+rows_text-one row = append-nil (row_text row)
+
+-- a row before rows
+pub rows_text-first : (row : List (List ℕ)) (rows : List (List (List ℕ))) → rows_text (row ∷ rows) ≡ row_text row ++ rows_text rows
+unfolding rows_text
+rows_text-first row rows = refl
+
+-- a table is its header and its rows
+pub table_text-parts : (names : List (List ℕ)) (rows : List (List (List ℕ))) → table_text names rows ≡ row_text names ++ rows_text rows
 unfolding table_text
-table_text-more names rows row = flat_map-append row_text (names ∷ rows) (row ∷ []) ∙ ap (λ t. table_text names rows ++ t) (append-nil (row_text row))
+table_text-parts names rows = rows_text-first names rows
+
+enumerated-append : {A : Type 0} (n : ℕ) (xs ys : List A) → enumerate_from n (xs ++ ys) ≡ enumerate_from n xs ++ enumerate_from (n + length xs) ys
+enumerated-append n [] ys = let e : n ≡ n + 0 = omega arith in ap (λ k. enumerate_from k ys) e
+enumerated-append n (x ∷ xs) ys =
+    let e : n + 1 + length xs ≡ n + length (x ∷ xs) = omega arith in
+    ap (λ t. (n, x) ∷ t) (enumerated-append (n + 1) xs ys ∙ ap (λ k. enumerate_from (n + 1) xs ++ enumerate_from k ys) e)
+
+numbered-push : {A B : Type 0} (f : ℕ → A → List B) (xs : List A) (x : A) → numbered f (xs ++ x ∷ []) ≡ numbered f xs ++ f (length xs) x
+unfolding numbered
+numbered-push f xs x =
+    ap (flat_map (λ p. f p.0 p.1)) (enumerated-append 0 xs (x ∷ []))
+    ∙ flat_map-append (λ p. f p.0 p.1) (enumerate_from 0 xs) ((0 + length xs, x) ∷ [])
+    ∙ ap (λ t. flat_map (λ p. f p.0 p.1) (enumerate_from 0 xs) ++ t) (append-nil (f (0 + length xs) x) ∙ ap (λ n. f n x) (zero-add (length xs)))
+
+-- no item gives no row
+pub numbered_none : {A : Type 0} (f : ℕ → A → List (List (List ℕ))) → rows_text (numbered f []) ≡ []
+unfolding rows_text numbered
+numbered_none f = refl
+
+-- one item more gives its rows
+pub numbered_more : {A : Type 0} (f : ℕ → A → List (List (List ℕ))) (xs : List A) (i : ℕ) (d : A) → i < length xs
+    → rows_text (numbered f (take (i + 1) xs)) ≡ rows_text (numbered f (take i xs)) ++ rows_text (f i (get_or xs i d))
+numbered_more f xs i d here =
+    let within : i ≤ length xs = omega arith in
+    let count : length (take i xs) ≡ i = length-take-le i xs within in
+    ap (λ ys. rows_text (numbered f ys)) (take_more xs i d here)
+    ∙ ap rows_text (numbered-push f (take i xs) (get_or xs i d) ∙ ap (λ n. numbered f (take i xs) ++ f n (get_or xs i d)) count)
+    ∙ rows_text-append (numbered f (take i xs)) (f i (get_or xs i d))
+
+-- no item gives no row
+pub mapped_none : {A : Type 0} (f : A → List (List ℕ)) → rows_text (map f []) ≡ []
+unfolding rows_text
+mapped_none f = refl
+
+-- one item more gives a row more
+pub mapped_more : {A : Type 0} (f : A → List (List ℕ)) (xs : List A) (i : ℕ) (d : A) → i < length xs
+    → rows_text (map f (take (i + 1) xs)) ≡ rows_text (map f (take i xs)) ++ row_text (f (get_or xs i d))
+mapped_more f xs i d here =
+    ap rows_text (map_more f xs i d here)
+    ∙ rows_text-append (map f (take i xs)) (f (get_or xs i d) ∷ [])
+    ∙ ap (λ t. rows_text (map f (take i xs)) ++ t) (rows_text-one (f (get_or xs i d)))
+
+-- the same of items that are mapped twice
+pub mapped_twice_none : {A B : Type 0} (f : A → B) (g : B → List (List ℕ)) → rows_text (map g (map f [])) ≡ []
+unfolding rows_text
+mapped_twice_none f g = refl
+
+pub mapped_twice_more : {A B : Type 0} (f : A → B) (g : B → List (List ℕ)) (xs : List A) (i : ℕ) (d : A) → i < length xs
+    → rows_text (map g (map f (take (i + 1) xs))) ≡ rows_text (map g (map f (take i xs))) ++ row_text (g (f (get_or xs i d)))
+mapped_twice_more f g xs i d here =
+    let few = map f (take i xs) in
+    let next = f (get_or xs i d) in
+    ap (λ ys. rows_text (map g ys)) (map_more f xs i d here)
+    ∙ ap rows_text (map-append g few (next ∷ []))
+    ∙ rows_text-append (map g few) (g next ∷ [])
+    ∙ ap (λ t. rows_text (map g few) ++ t) (rows_text-one (g next))
+
+-- nothing is written
+pub nothing_written : (old : Option (List ℕ)) (text : List ℕ) → text ≡ [] → Appends old old text
+nothing_written old text none = subst (Appends old old) (sym none) (Appends-nil old)
+
+-- two rows
+pub rows_text-two : (first second : List (List ℕ)) → rows_text (first ∷ second ∷ []) ≡ row_text first ++ row_text second
+rows_text-two first second = rows_text-first first (second ∷ []) ∙ ap (λ t. row_text first ++ t) (rows_text-one second)
+
+-- what is written last, if it is
+pub written_last : {T E : Type 0} (r : Result T E) (old mid new : Option (List ℕ)) (first more : List ℕ) → Appends old mid first → OnOk r (Appends mid new more) → OnOk r (Appends old new (first ++ more))
+written_last (Ok x) old mid new first more before after = Appends-trans old mid new first more before after
+written_last (Err e) old mid new first more before after = tt
 
 -- a table of no command is its header
 pub commands_text-none : (ranks : ℕ) → commands_text ranks [] ≡ row_text (header ranks)
-unfolding commands_text
-commands_text-none ranks = table_text-none (header ranks)
+unfolding commands_text table_text
+commands_text-none ranks = rows_text-one (header ranks)
 
 -- one command more is one row more
 pub commands_text-more : (ranks : ℕ) (rows : List CommandRow) (i : ℕ) (d : CommandRow) → i < length rows
     → commands_text ranks (take (i + 1) rows) ≡ commands_text ranks (take i rows) ++ row_text (command_fields ranks (get_or rows i d))
 unfolding commands_text
 commands_text-more ranks rows i d here =
-    ap (table_text (header ranks)) (map_more (command_fields ranks) rows i d here)
-    ∙ table_text-more (header ranks) (map (command_fields ranks) (take i rows)) (command_fields ranks (get_or rows i d))
+    let names = header ranks in
+    let few = map (command_fields ranks) (take i rows) in
+    let next = row_text (command_fields ranks (get_or rows i d)) in
+    table_text-parts names (map (command_fields ranks) (take (i + 1) rows))
+    ∙ ap (λ t. row_text names ++ t) (mapped_more (command_fields ranks) rows i d here)
+    ∙ sym (append_assoc (row_text names) (rows_text few) next)
+    ∙ sym (ap (λ t. t ++ next) (table_text-parts names few))
+
+-- the parts of the table of statistics
+pub stats_text-parts : (stats : RunStats) → stats_text stats
+    ≡ row_text stats_header ++ row_text (value_fields (codes "run") 0 (codes "cycles", Some stats.cycles)) ++ rows_text (numbered core_rows stats.cores) ++ rows_text (numbered channel_rows stats.channels)
+unfolding stats_text
+stats_text-parts stats =
+    let run = value_fields (codes "run") 0 (codes "cycles", Some stats.cycles) in
+    let cores = numbered core_rows stats.cores in
+    let channels = numbered channel_rows stats.channels in
+    table_text-parts stats_header (stats_rows stats)
+    ∙ ap (λ t. row_text stats_header ++ t) (rows_text-first run (cores ++ channels) ∙ ap (λ t. row_text run ++ t) (rows_text-append cores channels))
+    ∙ sym (append_assoc (row_text stats_header) (row_text run) (rows_text cores ++ rows_text channels))
+    ∙ sym (append_assoc (row_text stats_header ++ row_text run) (rows_text cores) (rows_text channels))
+
+-- the parts of the table of the final state
+pub final_text-parts : (ranks : ℕ) (state : LastState) → final_text ranks state
+    ≡ row_text (final_header ranks) ++ rows_text (numbered (progress_rows ranks) state.cores) ++ rows_text (numbered (credits_of_core ranks) state.cores)
+    ++ rows_text (numbered (final.channel_rows ranks) state.channels) ++ rows_text (map (flight_fields ranks (length state.channels)) state.in_flight)
+unfolding final_text
+final_text-parts ranks state =
+    let header = row_text (final_header ranks) in
+    let progress = numbered (progress_rows ranks) state.cores in
+    let credits = numbered (credits_of_core ranks) state.cores in
+    let channels = numbered (final.channel_rows ranks) state.channels in
+    let flights = map (flight_fields ranks (length state.channels)) state.in_flight in
+    table_text-parts (final_header ranks) (final_rows ranks state)
+    ∙ ap (λ t. header ++ t) (rows_text-append progress (credits ++ (channels ++ flights)) ∙ ap (λ t. rows_text progress ++ t) (rows_text-append credits (channels ++ flights) ∙ ap (λ t. rows_text credits ++ t) (rows_text-append channels flights)))
+    ∙ sym (append_assoc header (rows_text progress) (rows_text credits ++ (rows_text channels ++ rows_text flights)))
+    ∙ sym (append_assoc (header ++ rows_text progress) (rows_text credits) (rows_text channels ++ rows_text flights))
+    ∙ sym (append_assoc (header ++ rows_text progress ++ rows_text credits) (rows_text channels) (rows_text flights))
+
+-- the rows of a channel that may drain its writes
+pub channel_rows-draining : (id cycles : ℕ) (channel : ChannelStats) → channel.draining ≡ Some cycles
+    → rows_text (channel_rows id channel) ≡ rows_text (map (value_fields (codes "channel") id) (usual_values channel)) ++ row_text (value_fields (codes "channel") id (codes "draining", Some cycles))
+channel_rows-draining id cycles channel is =
+    let fields = value_fields (codes "channel") id in
+    let last : List ℕ × Option ℕ = (codes "draining", Some cycles) in
+    ap (λ drained. rows_text (map fields (usual_values channel ++ draining_values drained))) is
+    ∙ ap rows_text (map-append fields (usual_values channel) (last ∷ []))
+    ∙ rows_text-append (map fields (usual_values channel)) (fields last ∷ [])
+    ∙ ap (λ t. rows_text (map fields (usual_values channel)) ++ t) (rows_text-one (fields last))
+
+-- the rows of one that never does
+pub channel_rows-usual : (id : ℕ) (channel : ChannelStats) → channel.draining ≡ None
+    → rows_text (channel_rows id channel) ≡ rows_text (map (value_fields (codes "channel") id) (usual_values channel))
+channel_rows-usual id channel is =
+    ap (λ drained. rows_text (map (value_fields (codes "channel") id) (usual_values channel ++ draining_values drained))) is
+    ∙ ap (λ vs. rows_text (map (value_fields (codes "channel") id) vs)) (append-nil (usual_values channel))

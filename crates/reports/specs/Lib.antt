@@ -1,2 +1,4 @@
 pub mod Rows
 pub mod Commands
+pub mod Stats
+pub mod Final

@@ -1,17 +1,23 @@
 -- The text of a table.
 --     optional number      a field for a number that may be missing
 --     row_text fields      a row
+--     rows_text rows      rows, one after the other
 --     table_text header rows      a table
+--     numbered f xs      what the items of a list give with their numbers
 --     IsReportFault fault      why a table may be refused
 use Rattle.std.specs.Prelude.{ℕ, List, [], ◌∷◌, ◌++◌, ⊤, codes, decimal, Option, Some, None}
-use Rattle.std.specs.List.{flat_map, join_with_byte}
+use Rattle.std.specs.List.{enumerate_from, flat_map, join_with_byte}
 use Rattle.sim_base.specs.declared.fault.Fault.{Fault}
 use Rattle.sim_base.specs.declared.fault.Fault.TheVariants.{Memory, Write}
 
+-- the text of a value; an empty field where there is none
+abbrev pub optional_by : {A : Type 0} → (A → List ℕ) → Option A → List ℕ
+optional_by text None = []
+optional_by text (Some value) = text value
+
 -- a number in decimal digits; an empty field where there is none
 abbrev pub optional : Option ℕ → List ℕ
-optional None = []
-optional (Some number) = decimal number
+optional number = optional_by decimal number
 
 -- the byte between two fields
 abbrev pub comma : ℕ
@@ -21,9 +27,17 @@ comma = 44
 unfoldable pub row_text : List (List ℕ) → List ℕ
 row_text fields = join_with_byte comma fields ++ codes "\n"
 
--- a table: its header, and then its rows, one after the other
+-- rows, one after the other
+unfoldable pub rows_text : List (List (List ℕ)) → List ℕ
+rows_text rows = flat_map row_text rows
+
+-- a table: its header, and then its rows
 unfoldable pub table_text : List (List ℕ) → List (List (List ℕ)) → List ℕ
-table_text header rows = flat_map row_text (header ∷ rows)
+table_text header rows = rows_text (header ∷ rows)
+
+-- what each item of a list gives with its number, one after the other; numbers count from 0
+unfoldable pub numbered : {A B : Type 0} → (ℕ → A → List B) → List A → List B
+numbered f xs = flat_map (λ p. f p.0 p.1) (enumerate_from 0 xs)
 
 -- memory was refused, or the writer failed
 abbrev pub IsReportFault : Fault → Type 0

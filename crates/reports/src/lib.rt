@@ -2,6 +2,12 @@
 #![tactic(auto)]
 
 mod commands;
+mod final_state;
 mod rows;
+#[cfg(test)]
+mod slow;
+mod stats;
 
 pub use commands::write_commands;
+pub use final_state::write_final;
+pub use stats::write_stats;

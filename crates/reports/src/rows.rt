@@ -2,16 +2,16 @@
 
 ghost use Rattle.std.specs.Prelude.{◌≡◌, ◌≤◌, length, map, IfOk, IfErr, OnOk};
 ghost use Rattle.std.specs.Io.KnownBytes.{Appends};
-ghost use Rattle.reports.specs.Rows.{row_text, optional, IsReportFault};
+ghost use Rattle.reports.specs.Rows.{row_text, optional_by, IsReportFault};
 
 use csv::{QuoteStyle, WriterBuilder};
-use itoa::Buffer;
+use itoa::{Buffer, Integer};
 use sim_base::fault::Fault;
 use std::io::Write;
 
 /// The digits of a number, or an empty field.
-pub(crate) fn digits(buffer: &mut Buffer, number: Option<u64>) -> &[u8]
-    ensures { result.now ≡ optional number }
+pub(crate) fn digits<I: Integer>(buffer: &mut Buffer, number: Option<I>) -> &[u8]
+    ensures { result.now ≡ optional_by I.text number }
 {
     match number {
         Some(n) => buffer.format(n).as_bytes(),

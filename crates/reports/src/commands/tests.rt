@@ -1,11 +1,10 @@
 //! The table of a few commands, to writers that take all, little or nothing.
 
 use super::write_commands;
+use crate::slow::Slow;
 use sim_base::command::{Command, CommandRow, Source};
 use sim_base::fault::Fault;
 use sim_base::place::BankId;
-use std::io;
-use std::io::{ErrorKind, Write};
 use std::test::Fail;
 
 const FIRST: BankId = BankId {
@@ -66,32 +65,6 @@ const ONE_READ: &[u8] = b"cycle,channel,command,group,bank,row,column,core,entry
 2,0,ACT,0,0,0,,0,0
 5,0,RD,0,0,0,0,0,0
 ";
-
-// Takes a byte a call. After so many calls it takes none, or fails.
-#[derive(Drop)]
-struct Slow {
-    taken: Vec<u8>,
-    calls: usize,
-    fails: bool,
-}
-
-impl Write for Slow {
-    fn write(&mut self, buf: &[u8]) -> io::Result<usize> {
-        if self.calls == 0 && self.fails {
-            return Err(io::Error::from(ErrorKind::BrokenPipe));
-        }
-        if self.calls == 0 || buf.is_empty() {
-            return Ok(0);
-        }
-        self.calls -= 1;
-        self.taken.push(buf[0])?;
-        Ok(1)
-    }
-
-    fn flush(&mut self) -> io::Result<()> {
-        Ok(())
-    }
-}
 
 #[test]
 fn writes_one_read(rt: HostRuntime) -> Result<(), Fail> {
@@ -156,11 +129,7 @@ fn shows_ranks(rt: HostRuntime) -> Result<(), Fail> {
 
 #[test]
 fn writes_byte_by_byte(rt: HostRuntime) -> Result<(), Fail> {
-    let mut slow = Slow {
-        taken: Vec::with_capacity(rt.alloc(), 200)?,
-        calls: 200,
-        fails: false,
-    };
+    let mut slow = Slow::new(rt.alloc(), 200, 200, false)?;
     write_commands(rt.alloc(), 1, &one_read(), &mut slow)?;
     assert!(rt; slow.taken.as_slice() == ONE_READ);
     Ok(())
@@ -170,11 +139,7 @@ fn writes_byte_by_byte(rt: HostRuntime) -> Result<(), Fail> {
 fn tells_of_failed_writes(rt: HostRuntime) -> Result<(), Fail> {
     for calls in 0..ONE_READ.len() {
         for fails in [false, true] {
-            let mut slow = Slow {
-                taken: Vec::with_capacity(rt.alloc(), 200)?,
-                calls,
-                fails,
-            };
+            let mut slow = Slow::new(rt.alloc(), 200, calls, fails)?;
             let refused = write_commands(rt.alloc(), 1, &one_read(), &mut slow);
             assert_eq!(rt; refused, Err(Fault::Write), "after {calls} calls");
         }

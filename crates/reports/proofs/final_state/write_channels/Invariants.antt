@@ -1,0 +1,10 @@
+-- What was written are the rows so far.
+use Rattle.std.proofs.Common.{take}
+use Rattle.std.specs.Io.KnownBytes.{Appends}
+use Rattle.reports.specs.Rows.{rows_text, numbered}
+use Rattle.reports.specs.Final.{channel_rows}
+use Rattle.reports.proofs.final_state.write_channels.Given as goal
+
+abbrev pub invariant-loop-channel : goal.invariant-loop-channel
+invariant-loop-channel g l =
+    Appends (g.W.Write.contents l.fn.writer) (g.W.Write.contents l.writer) (rows_text (numbered (channel_rows l.ranks) (take l.channel l.channels)))

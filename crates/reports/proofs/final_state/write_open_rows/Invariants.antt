@@ -1,0 +1,10 @@
+-- What was written are the rows so far.
+use Rattle.std.proofs.Common.{take, map}
+use Rattle.std.specs.Io.KnownBytes.{Appends}
+use Rattle.reports.specs.Rows.{rows_text}
+use Rattle.reports.specs.Final.{open_fields}
+use Rattle.reports.proofs.final_state.write_open_rows.Given as goal
+
+abbrev pub invariant-loop-opened : goal.invariant-loop-opened
+invariant-loop-opened g l =
+    Appends (g.W.Write.contents l.fn.writer) (g.W.Write.contents l.writer) (rows_text (map (open_fields l.ranks l.channel) (take l.opened-index l.open_rows)))

@@ -1,0 +1,10 @@
+-- What was written are the rows so far.
+use Rattle.std.proofs.Common.{take}
+use Rattle.std.specs.Io.KnownBytes.{Appends}
+use Rattle.reports.specs.Rows.{rows_text, numbered}
+use Rattle.reports.specs.Stats.{core_rows}
+use Rattle.reports.proofs.stats.write_cores.Given as goal
+
+abbrev pub invariant-loop-id : goal.invariant-loop-id
+invariant-loop-id g l =
+    Appends (g.W.Write.contents l.fn.writer) (g.W.Write.contents l.writer) (rows_text (numbered core_rows (take l.id l.cores)))

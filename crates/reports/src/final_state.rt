@@ -1,0 +1,428 @@
+//! The table of the state in which a run ends, `final.csv`.
+
+ghost use Rattle.std.specs.Prelude.{◌≡◌, length, map, Some, IfErr, OnOk};
+ghost use Rattle.std.specs.Io.KnownBytes.{Appends};
+ghost use Rattle.reports.specs.Rows.{row_text, rows_text, numbered, IsReportFault};
+ghost use Rattle.reports.specs.Final.{final_header, final_fields, progress_rows, credit_rows, credits_of_core, due_rows, open_numbers, open_fields, queued_item, queued_numbers, queued_fields, channel_rows, flight_item, flight_entry, core_of_link, channel_of_link, flight_numbers, flight_fields, final_text};
+
+use crate::rows::{digits, write_row};
+use itoa::Buffer;
+use sim_base::fault::Fault;
+use sim_base::message::{LinkId, Load, Message, Request};
+use statistics::final_state::{ChannelState, CoreState, Credits, FinalState, OpenRow};
+use std::alloc::Global;
+use std::io::Write;
+
+// The numbers of a row, as far as it has them.
+#[derive(Clone, Copy)]
+struct Numbers {
+    core: Option<u64>,
+    channel: Option<u64>,
+    rank: Option<u64>,
+    group: Option<u64>,
+    bank: Option<u64>,
+    entry: Option<u64>,
+    cycle: Option<u64>,
+    value: Option<u64>,
+}
+
+const BLANK: Numbers = Numbers {
+    core: None,
+    channel: None,
+    rank: None,
+    group: None,
+    bank: None,
+    entry: None,
+    cycle: None,
+    value: None,
+};
+
+fn write_header<W: Write>(line: Vec<u8>, ranks: u32, writer: &mut W) -> Result<Vec<u8>, Fault>
+    ensures written { OnOk result (Appends (W.contents writer.old) (W.contents writer.new) (row_text (final_header ranks))) }
+    ensures refused { IfErr result (λ e. IsReportFault e) }
+{
+    if ranks > 1 {
+        return write_row(
+            line,
+            &[
+                b"item", b"core", b"channel", b"rank", b"group", b"bank", b"entry", b"cycle",
+                b"value",
+            ],
+            writer,
+        );
+    }
+    write_row(
+        line,
+        &[
+            b"item", b"core", b"channel", b"group", b"bank", b"entry", b"cycle", b"value",
+        ],
+        writer,
+    )
+}
+
+fn write_numbers<W: Write>(
+    line: Vec<u8>,
+    ranks: u32,
+    item: &[u8],
+    numbers: &Numbers,
+    writer: &mut W,
+) -> Result<Vec<u8>, Fault>
+    ensures written { OnOk result (Appends (W.contents writer.old) (W.contents writer.new) (row_text (final_fields ranks item.now numbers.now))) }
+    ensures refused { IfErr result (λ e. IsReportFault e) }
+{
+    let (mut core, mut channel, mut rank) = (Buffer::new(), Buffer::new(), Buffer::new());
+    let (mut group, mut bank, mut entry) = (Buffer::new(), Buffer::new(), Buffer::new());
+    let (mut cycle, mut value) = (Buffer::new(), Buffer::new());
+    let core = digits(&mut core, numbers.core);
+    let channel = digits(&mut channel, numbers.channel);
+    let rank = digits(&mut rank, numbers.rank);
+    let group = digits(&mut group, numbers.group);
+    let bank = digits(&mut bank, numbers.bank);
+    let entry = digits(&mut entry, numbers.entry);
+    let cycle = digits(&mut cycle, numbers.cycle);
+    let value = digits(&mut value, numbers.value);
+    if ranks > 1 {
+        let fields = [item, core, channel, rank, group, bank, entry, cycle, value];
+        return write_row(line, &fields, writer);
+    }
+    let fields = [item, core, channel, group, bank, entry, cycle, value];
+    write_row(line, &fields, writer)
+}
+
+fn write_progress<W: Write>(
+    line: Vec<u8>,
+    ranks: u32,
+    core: u64,
+    state: &CoreState,
+    writer: &mut W,
+) -> Result<Vec<u8>, Fault>
+    ensures written { OnOk result (Appends (W.contents writer.old) (W.contents writer.new) (rows_text (progress_rows ranks core state.now))) }
+    ensures refused { IfErr result (λ e. IsReportFault e) }
+{
+    let issued = Numbers {
+        core: Some(core),
+        value: Some(state.issued),
+        ..BLANK
+    };
+    let retired = Numbers {
+        core: Some(core),
+        value: Some(state.retired),
+        ..BLANK
+    };
+    let line = write_numbers(line, ranks, b"issued", &issued, writer)?;
+    write_numbers(line, ranks, b"retired", &retired, writer)
+}
+
+fn write_progress_of_all<W: Write>(
+    mut line: Vec<u8>,
+    ranks: u32,
+    cores: &[CoreState],
+    writer: &mut W,
+) -> Result<Vec<u8>, Fault>
+    ensures written { OnOk result (Appends (W.contents writer.old) (W.contents writer.new) (rows_text (numbered (progress_rows ranks) cores.now))) }
+    ensures refused { IfErr result (λ e. IsReportFault e) }
+{
+    for (core, state) in cores.iter().enumerate() {
+        line = write_progress(line, ranks, core as u64, state, writer)?;
+    }
+    Ok(line)
+}
+
+fn write_credits<W: Write>(
+    line: Vec<u8>,
+    ranks: u32,
+    core: u64,
+    channel: u64,
+    credits: Credits,
+    writer: &mut W,
+) -> Result<Vec<u8>, Fault>
+    ensures written { OnOk result (Appends (W.contents writer.old) (W.contents writer.new) (rows_text (credit_rows ranks core channel credits))) }
+    ensures refused { IfErr result (λ e. IsReportFault e) }
+{
+    let of_reads = Numbers {
+        core: Some(core),
+        channel: Some(channel),
+        value: Some(credits.read),
+        ..BLANK
+    };
+    let of_writes = Numbers {
+        core: Some(core),
+        channel: Some(channel),
+        value: Some(credits.write),
+        ..BLANK
+    };
+    let line = write_numbers(line, ranks, b"credit_read", &of_reads, writer)?;
+    write_numbers(line, ranks, b"credit_write", &of_writes, writer)
+}
+
+fn write_credits_of_core<W: Write>(
+    mut line: Vec<u8>,
+    ranks: u32,
+    core: u64,
+    credits: &[Credits],
+    writer: &mut W,
+) -> Result<Vec<u8>, Fault>
+    ensures written { OnOk result (Appends (W.contents writer.old) (W.contents writer.new) (rows_text (numbered (credit_rows ranks core) credits.now))) }
+    ensures refused { IfErr result (λ e. IsReportFault e) }
+{
+    for (channel, held) in credits.iter().enumerate() {
+        line = write_credits(line, ranks, core, channel as u64, *held, writer)?;
+    }
+    Ok(line)
+}
+
+fn write_credits_of_all<W: Write>(
+    mut line: Vec<u8>,
+    ranks: u32,
+    cores: &[CoreState],
+    writer: &mut W,
+) -> Result<Vec<u8>, Fault>
+    ensures written { OnOk result (Appends (W.contents writer.old) (W.contents writer.new) (rows_text (numbered (credits_of_core ranks) cores.now))) }
+    ensures refused { IfErr result (λ e. IsReportFault e) }
+{
+    for (core, state) in cores.iter().enumerate() {
+        line = write_credits_of_core(line, ranks, core as u64, &state.credits, writer)?;
+    }
+    Ok(line)
+}
+
+fn write_due<W: Write>(
+    mut line: Vec<u8>,
+    ranks: u32,
+    channel: u64,
+    due: &[u64],
+    writer: &mut W,
+) -> Result<Vec<u8>, Fault>
+    ensures written { OnOk result (Appends (W.contents writer.old) (W.contents writer.new) (rows_text (numbered (due_rows ranks channel) due.now))) }
+    ensures refused { IfErr result (λ e. IsReportFault e) }
+{
+    for (rank, count) in due.iter().enumerate() {
+        let numbers = Numbers {
+            channel: Some(channel),
+            rank: Some(rank as u64),
+            value: Some(*count),
+            ..BLANK
+        };
+        line = write_numbers(line, ranks, b"due", &numbers, writer)?;
+    }
+    Ok(line)
+}
+
+fn numbers_of_open(channel: u64, opened: OpenRow) -> Numbers
+    ensures { result ≡ open_numbers channel opened }
+{
+    Numbers {
+        channel: Some(channel),
+        rank: Some(u64::from(opened.bank.rank)),
+        group: Some(u64::from(opened.bank.group)),
+        bank: Some(u64::from(opened.bank.bank)),
+        value: Some(u64::from(opened.row)),
+        ..BLANK
+    }
+}
+
+fn write_open_rows<W: Write>(
+    mut line: Vec<u8>,
+    ranks: u32,
+    channel: u64,
+    open_rows: &[OpenRow],
+    writer: &mut W,
+) -> Result<Vec<u8>, Fault>
+    ensures written { OnOk result (Appends (W.contents writer.old) (W.contents writer.new) (rows_text (map (open_fields ranks channel) open_rows.now))) }
+    ensures refused { IfErr result (λ e. IsReportFault e) }
+{
+    for opened in open_rows {
+        line = write_numbers(
+            line,
+            ranks,
+            b"open",
+            &numbers_of_open(channel, *opened),
+            writer,
+        )?;
+    }
+    Ok(line)
+}
+
+fn queued_word(write: bool) -> &'static [u8]
+    ensures { result.now ≡ queued_item write }
+{
+    if write {
+        b"queued_write"
+    } else {
+        b"queued_read"
+    }
+}
+
+fn numbers_of_queued(channel: u64, request: Request) -> Numbers
+    ensures { result ≡ queued_numbers channel request }
+{
+    Numbers {
+        core: Some(u64::from(request.core)),
+        channel: Some(channel),
+        rank: Some(u64::from(request.place.rank)),
+        group: Some(u64::from(request.place.group)),
+        bank: Some(u64::from(request.place.bank)),
+        entry: Some(request.entry),
+        cycle: Some(request.arrival),
+        value: Some(request.address),
+    }
+}
+
+fn write_queue<W: Write>(
+    mut line: Vec<u8>,
+    ranks: u32,
+    channel: u64,
+    queue: &[Request],
+    writer: &mut W,
+) -> Result<Vec<u8>, Fault>
+    ensures written { OnOk result (Appends (W.contents writer.old) (W.contents writer.new) (rows_text (map (queued_fields ranks channel) queue.now))) }
+    ensures refused { IfErr result (λ e. IsReportFault e) }
+{
+    for request in queue {
+        let item = queued_word(request.write);
+        line = write_numbers(
+            line,
+            ranks,
+            item,
+            &numbers_of_queued(channel, *request),
+            writer,
+        )?;
+    }
+    Ok(line)
+}
+
+fn write_channel<W: Write>(
+    line: Vec<u8>,
+    ranks: u32,
+    channel: u64,
+    state: &ChannelState,
+    writer: &mut W,
+) -> Result<Vec<u8>, Fault>
+    ensures written { OnOk result (Appends (W.contents writer.old) (W.contents writer.new) (rows_text (channel_rows ranks channel state.now))) }
+    ensures refused { IfErr result (λ e. IsReportFault e) }
+{
+    let line = write_due(line, ranks, channel, &state.due, writer)?;
+    let line = write_open_rows(line, ranks, channel, &state.open_rows, writer)?;
+    write_queue(line, ranks, channel, &state.queue, writer)
+}
+
+fn write_channels<W: Write>(
+    mut line: Vec<u8>,
+    ranks: u32,
+    channels: &[ChannelState],
+    writer: &mut W,
+) -> Result<Vec<u8>, Fault>
+    ensures written { OnOk result (Appends (W.contents writer.old) (W.contents writer.new) (rows_text (numbered (channel_rows ranks) channels.now))) }
+    ensures refused { IfErr result (λ e. IsReportFault e) }
+{
+    for (channel, state) in channels.iter().enumerate() {
+        line = write_channel(line, ranks, channel as u64, state, writer)?;
+    }
+    Ok(line)
+}
+
+fn flight_word(load: Load) -> &'static [u8]
+    ensures { result.now ≡ flight_item load }
+{
+    match load {
+        Load::Request(_) => b"flight_request",
+        Load::Reply(_) => b"flight_reply",
+        Load::Credit { write: true, .. } => b"flight_credit_write",
+        Load::Credit { write: false, .. } => b"flight_credit_read",
+    }
+}
+
+fn entry_of(load: Load) -> u64
+    ensures { result ≡ flight_entry load }
+{
+    match load {
+        Load::Request(request) => request.entry,
+        Load::Reply(entry) | Load::Credit { entry, .. } => entry,
+    }
+}
+
+fn core_of(channels: u64, link: LinkId) -> Option<u64>
+    ensures { result ≡ core_of_link channels link }
+{
+    if channels == 0 {
+        None
+    } else {
+        Some(link / 3 / channels)
+    }
+}
+
+fn channel_of(channels: u64, link: LinkId) -> Option<u64>
+    ensures { result ≡ channel_of_link channels link }
+{
+    if channels == 0 {
+        None
+    } else {
+        Some(link / 3 % channels)
+    }
+}
+
+fn numbers_of_flight(channels: u64, message: Message) -> Numbers
+    ensures { result ≡ flight_numbers channels message }
+{
+    Numbers {
+        core: core_of(channels, message.link),
+        channel: channel_of(channels, message.link),
+        entry: Some(entry_of(message.load)),
+        cycle: Some(message.arrival),
+        value: Some(message.link),
+        ..BLANK
+    }
+}
+
+fn write_in_flight<W: Write>(
+    mut line: Vec<u8>,
+    ranks: u32,
+    channels: u64,
+    in_flight: &[Message],
+    writer: &mut W,
+) -> Result<(), Fault>
+    ensures written { OnOk result (Appends (W.contents writer.old) (W.contents writer.new) (rows_text (map (flight_fields ranks channels) in_flight.now))) }
+    ensures refused { IfErr result (λ e. IsReportFault e) }
+{
+    for message in in_flight {
+        let item = flight_word(message.load);
+        line = write_numbers(
+            line,
+            ranks,
+            item,
+            &numbers_of_flight(channels, *message),
+            writer,
+        )?;
+    }
+    Ok(())
+}
+
+/// Writes the table of the state in which a run ends: a header; the entries that each core issued and retired; the credits
+/// that each core holds for each channel; for each channel the refreshes that are due by rank, the open rows and the queue;
+/// and the messages in flight. Fields that a row does not have are empty.
+///
+/// Where `ranks` is above 1 the table has a column for the rank. The memory that the call takes is that of one row.
+///
+/// # Errors
+///
+/// `Fault::Memory` where memory is refused, and `Fault::Write` where the writer fails or takes no byte. What went out
+/// before is not known.
+pub fn write_final<W: Write>(
+    alloc: Global,
+    state: &FinalState,
+    ranks: u32,
+    writer: &mut W,
+) -> Result<(), Fault>
+    ensures written { OnOk result (Appends (W.contents writer.old) (W.contents writer.new) (final_text ranks state.now)) }
+    ensures refused { IfErr result (λ e. IsReportFault e) }
+{
+    let line = write_header(Vec::new(alloc), ranks, writer)?;
+    let line = write_progress_of_all(line, ranks, &state.cores, writer)?;
+    let line = write_credits_of_all(line, ranks, &state.cores, writer)?;
+    let line = write_channels(line, ranks, &state.channels, writer)?;
+    let channels = state.channels.len() as u64;
+    write_in_flight(line, ranks, channels, &state.in_flight, writer)
+}
+
+#[cfg(test)]
+mod tests;
