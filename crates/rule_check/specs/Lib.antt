@@ -1,0 +1,5 @@
+pub mod Numbers
+pub mod Fields
+pub mod Broken
+pub mod Verdict
+pub mod Kept

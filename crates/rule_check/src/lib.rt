@@ -1,0 +1,12 @@
+//! Tests a table of commands that someone else wrote: its form, and every rule of DDR4 over it.
+#![tactic(auto)]
+
+mod channel;
+mod fields;
+mod latest;
+mod numbers;
+mod rules;
+mod verdict;
+mod window;
+
+pub use verdict::Verdict;
