@@ -28,10 +28,10 @@ use Rattle.sim_base.specs.Scheduling.{refreshes}
 use Rattle.rule_check.specs.Numbers.{number_limit}
 use Rattle.rule_check.specs.declared.latest.Latest.{Latest}
 use Rattle.rule_check.specs.declared.window.Window.{Window}
-use Rattle.rule_check.specs.declared.channel.Bank.{Bank}
-use Rattle.rule_check.specs.declared.channel.Group.{Group}
-use Rattle.rule_check.specs.declared.channel.Rank.{Rank}
-use Rattle.rule_check.specs.declared.channel.Channel.{Channel}
+use Rattle.rule_check.specs.declared.state.Bank.{Bank}
+use Rattle.rule_check.specs.declared.state.Group.{Group}
+use Rattle.rule_check.specs.declared.state.Rank.{Rank}
+use Rattle.rule_check.specs.declared.state.Channel.{Channel}
 
 -- how the banks of a command lie to those of a later one in a rank, which names this bank, if it names one
 abbrev pub relation_to : Command → ℕ → Option BankId → Relation

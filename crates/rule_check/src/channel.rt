@@ -1,6 +1,6 @@
-//! What is kept of the rows of a channel.
+//! How one row more changes what is kept of a channel.
 
-ghost use Rattle.std.specs.Prelude.{ℕ, ◌≡◌, ◌+◌, ◌*◌, ◌/◌, ◌%◌, ◌<◌, ◌≤◌, ◌^◌, ◌&&◌, ◌==◌, ◌++◌, ◌∷◌, [], List, Some, nat_lt, not, is_some, IsSome, IfOk, length, slice_index_or, replicate};
+ghost use Rattle.std.specs.Prelude.{ℕ, ◌≡◌, ◌+◌, ◌*◌, ◌/◌, ◌%◌, ◌<◌, ◌≤◌, ◌^◌, ◌&&◌, ◌==◌, ◌++◌, ◌∷◌, [], List, Some, nat_lt, not, is_some, IfSome, IfOk, length, slice_index_or, replicate};
 ghost use Rattle.sim_base.specs.declared.config.Config.{Config};
 ghost use Rattle.sim_base.specs.declared.command.CommandRow.{CommandRow};
 ghost use Rattle.sim_base.specs.Config.{refresh_slack};
@@ -9,49 +9,18 @@ ghost use Rattle.sim_base.specs.Rules.{kind_of, bank_of, rank_of};
 ghost use Rattle.sim_base.specs.Scheduling.{refreshes};
 ghost use Rattle.rule_check.specs.Numbers.{number_limit};
 ghost use Rattle.rule_check.specs.Fields.{CommandFits, RowFits};
-ghost use Rattle.rule_check.specs.Kept.{activates, deadline_where, first_deadline, bank_after, group_after, rank_after, number_of, bank_numbered, group_number};
+ghost use Rattle.rule_check.specs.Kept.{activates, deadline_where, first_deadline, bank_after, group_after, rank_after, number_of, bank_numbered, group_number, IsKept};
 
-use crate::latest::{Latest, is_ahead, latest_of, noted_where, nothing};
-use crate::rules::{is_row, is_same_kind, lies, row_after};
-use crate::window::{Window, no_window, window_where};
+use crate::latest::{noted_where, nothing};
+use crate::rules::{is_same_kind, lies, row_after};
+use crate::state::{Bank, Channel, Group, Rank};
+use crate::window::{no_window, window_where};
 use sim_base::command::{Command, CommandRow, Kind};
 use sim_base::config::Config;
 use sim_base::place::BankId;
-use sim_base::rule::{Rule, Scope};
+use sim_base::rule::Scope;
 use sim_base::timing::Timing;
 use std::alloc::{AllocError, Global};
-
-/// A bank: the latest command of each kind that spoke of it, and its open row.
-#[derive(Clone, Copy)]
-pub(crate) struct Bank {
-    pub(crate) latest: Latest,
-    pub(crate) row: Option<u32>,
-}
-
-/// A group: the latest command of each kind in it, and in the other groups of its rank.
-#[derive(Clone, Copy)]
-pub(crate) struct Group {
-    pub(crate) within: Latest,
-    pub(crate) across: Latest,
-}
-
-/// A rank: the latest command of each kind in it and in the other ranks, its last ACTs, and the cycle after which its next refresh
-/// is overdue.
-#[derive(Clone, Copy)]
-pub(crate) struct Rank {
-    pub(crate) within: Latest,
-    pub(crate) across: Latest,
-    pub(crate) window: Window,
-    pub(crate) deadline: u64,
-}
-
-/// What is kept of the rows of a channel.
-#[derive(Drop)]
-pub(crate) struct Channel {
-    pub(crate) banks: Vec<Bank>,
-    pub(crate) groups: Vec<Group>,
-    pub(crate) ranks: Vec<Rank>,
-}
 
 fn bank_after(bank: BankId, cycle: u64, command: Command, state: Bank) -> Bank
     ensures { result ≡ bank_after bank cycle command state }
@@ -116,13 +85,13 @@ fn rank_after(t: &Timing, rank: u32, cycle: u64, command: Command, state: Rank) 
     }
 }
 
-fn number_of(bank: BankId) -> usize
+pub(crate) fn number_of(bank: BankId) -> usize
     ensures { result ≡ number_of bank }
 {
     bank.rank as usize * 16 + bank.group as usize * 4 + bank.bank as usize
 }
 
-fn group_number(bank: BankId) -> usize
+pub(crate) fn group_number(bank: BankId) -> usize
     ensures { result ≡ group_number bank }
 {
     bank.rank as usize * 4 + bank.group as usize
@@ -162,6 +131,19 @@ fn note_in_bank(banks: &mut [Bank], bank: BankId, command: Command, cycle: u64)
     banks[k] = bank_after(bank, cycle, command, banks[k]);
 }
 
+// A command that names no bank may speak of each.
+fn note_in_banks(banks: &mut [Bank], command: Command, cycle: u64)
+    requires few { length banks.old ≤ 64 }
+    requires names { IfSome (bank_of command) (λ bank. (bank.group < 4) × (bank.bank < 4) × (number_of bank < length banks.old)) }
+    ensures each { (k : ℕ) (d : Bank) → k < length banks.old
+        → slice_index_or banks.new k d ≡ bank_after (bank_numbered k) cycle command (slice_index_or banks.old k d) }
+{
+    match command.bank() {
+        Some(bank) => note_in_bank(banks, bank, command, cycle),
+        None => note_in_all_banks(banks, command, cycle),
+    }
+}
+
 fn note_in_groups(groups: &mut [Group], command: Command, cycle: u64)
     requires { length groups.old ≤ 16 }
     ensures each { (k : ℕ) (d : Group) → k < length groups.old
@@ -183,4 +165,51 @@ fn note_in_ranks(t: &Timing, ranks: &mut [Rank], command: Command, cycle: u64)
     for (k, state) in ranks.iter_mut().enumerate() {
         *state = rank_after(t, k as u32, cycle, command, *state);
     }
+}
+
+fn first_deadline(config: &Config) -> u64
+    ensures { result ≡ first_deadline config.now }
+{
+    let t = &config.timing;
+    let write = u64::from(t.n_cwl) + 4 + u64::from(t.n_wr);
+    let open = u64::from(t.n_ras).max(u64::from(t.n_rtp).max(write));
+    let others = u64::from(config.ranks - 1) * (u64::from(t.n_rp) + 1);
+    u64::from(t.n_refi) + (open + u64::from(t.n_rp) + others)
+}
+
+/// What is kept of no rows.
+pub(crate) fn start(alloc: Global, config: &Config) -> Result<Channel, AllocError>
+    ensures { IfOk result (λ channel. IsKept channel config.now []) }
+{
+    let ranks = config.ranks as usize;
+    let bank = Bank {
+        latest: nothing(),
+        row: None,
+    };
+    let group = Group {
+        within: nothing(),
+        across: nothing(),
+    };
+    let rank = Rank {
+        within: nothing(),
+        across: nothing(),
+        window: no_window(),
+        deadline: first_deadline(config),
+    };
+    Ok(Channel {
+        banks: vec![in alloc; bank; 16 * ranks]?,
+        groups: vec![in alloc; group; 4 * ranks]?,
+        ranks: vec![in alloc; rank; ranks]?,
+    })
+}
+
+/// Notes a row of the channel.
+pub(crate) fn note(channel: &mut Channel, config: &Config, row: CommandRow)
+    requires fits { RowFits config.now row }
+    requires ranks { length channel.old.ranks.items ≡ config.now.ranks }
+    ensures { (history : List CommandRow) → IsKept channel.old config.now history → IsKept channel.new config.now (history ++ row ∷ []) }
+{
+    note_in_banks(&mut channel.banks, row.command, row.cycle);
+    note_in_groups(&mut channel.groups, row.command, row.cycle);
+    note_in_ranks(&config.timing, &mut channel.ranks, row.command, row.cycle);
 }

@@ -1,11 +1,13 @@
 //! Tests a table of commands that someone else wrote: its form, and every rule of DDR4 over it.
 #![tactic(auto)]
 
+mod broken;
 mod channel;
 mod fields;
 mod latest;
 mod numbers;
 mod rules;
+mod state;
 mod verdict;
 mod window;
 

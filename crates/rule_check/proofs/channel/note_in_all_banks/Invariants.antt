@@ -1,7 +1,7 @@
 -- The command is noted in each bank so far, and in no other.
 use Rattle.std.proofs.Common.{◌≡◌, ◌<◌, ◌≤◌, ℕ, get_or}
 use Rattle.rule_check.specs.Kept.{bank_after, bank_numbered}
-use Rattle.rule_check.specs.declared.channel.Bank.{Bank}
+use Rattle.rule_check.specs.declared.state.Bank.{Bank}
 use Rattle.rule_check.proofs.channel.note_in_all_banks.Given as goal
 
 abbrev pub invariant-loop-k : goal.invariant-loop-k

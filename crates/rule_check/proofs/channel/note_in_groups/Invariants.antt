@@ -1,7 +1,7 @@
 -- The command is noted in each group so far, and in no other.
 use Rattle.std.proofs.Common.{◌≡◌, ◌<◌, ◌≤◌, ◌/◌, ◌%◌, ℕ, get_or}
 use Rattle.rule_check.specs.Kept.{group_after}
-use Rattle.rule_check.specs.declared.channel.Group.{Group}
+use Rattle.rule_check.specs.declared.state.Group.{Group}
 use Rattle.rule_check.proofs.channel.note_in_groups.Given as goal
 
 abbrev pub invariant-loop-k : goal.invariant-loop-k

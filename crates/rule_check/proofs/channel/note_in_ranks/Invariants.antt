@@ -1,7 +1,7 @@
 -- The command is noted in each rank so far, and in no other.
 use Rattle.std.proofs.Common.{◌≡◌, ◌<◌, ◌≤◌, ℕ, get_or}
 use Rattle.rule_check.specs.Kept.{rank_after}
-use Rattle.rule_check.specs.declared.channel.Rank.{Rank}
+use Rattle.rule_check.specs.declared.state.Rank.{Rank}
 use Rattle.rule_check.proofs.channel.note_in_ranks.Given as goal
 
 abbrev pub invariant-loop-k : goal.invariant-loop-k
