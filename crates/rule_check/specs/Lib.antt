@@ -3,3 +3,4 @@ pub mod Fields
 pub mod Broken
 pub mod Verdict
 pub mod Kept
+pub mod Past

@@ -6,9 +6,12 @@ mod channel;
 mod fields;
 mod latest;
 mod numbers;
+mod past;
 mod rules;
 mod state;
+mod table;
 mod verdict;
 mod window;
 
+pub use table::check;
 pub use verdict::Verdict;

@@ -1,9 +1,10 @@
-//! What is kept of the rows of a channel.
+//! What is kept of the rows of a table, in place of the rows themselves.
 
 ghost use Rattle.std.specs.Prelude.{◌≡◌, ◌*◌, ◌≤◌, length};
 
 use crate::latest::Latest;
 use crate::window::Window;
+use sim_base::command::CommandRow;
 
 /// A bank: the latest command of each kind that spoke of it, and its open row.
 #[derive(Clone, Copy)]
@@ -38,4 +39,11 @@ pub(crate) struct Channel {
     ghost few: { length ranks.items ≤ 4 },
     ghost all_banks: { length banks.items ≡ 16 * length ranks.items },
     ghost all_groups: { length groups.items ≡ 4 * length ranks.items },
+}
+
+/// What is kept of the rows of a table: the last of them, and those of each channel.
+#[derive(Drop)]
+pub(crate) struct Past {
+    pub(crate) last: Option<CommandRow>,
+    pub(crate) channels: Vec<Channel>,
 }
