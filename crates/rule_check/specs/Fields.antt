@@ -1,0 +1,184 @@
+-- What the records of a table of commands mean. A table has a column for the rank only under a configuration with several.
+--     column_count ranks      how many columns a table has
+--     is_header ranks fields      a record has the names of the columns
+--     command_in s fields      the command that a record writes, if its fields are those of one
+--     row_in s fields      the row that a record writes, if it is well-formed
+--     BankFits s bank, CommandFits s command, RowFits s row      they are of the configuration
+use Rattle.std.specs.Prelude.{ℕ, ◌<◌, IfSome, ◌+◌, ◌==◌, nat_lt, Bool, true, ◌&&◌, List, length, [], codes, Option, Some, None, unwrap_or, if◌then◌else◌}
+use Rattle.std.specs.Str.{bytes_eq}
+use Rattle.csv.specs.Records.{field_at}
+use Rattle.sim_base.specs.declared.config.Config.{Config}
+use Rattle.sim_base.specs.declared.place.BankId.{BankId}
+use Rattle.sim_base.specs.declared.command.Command.{Command}
+use Rattle.sim_base.specs.declared.command.Command.TheVariants.{Act, Rd, Wr, Pre, Prea, Ref}
+use Rattle.sim_base.specs.declared.command.CommandRow.{CommandRow}
+use Rattle.sim_base.specs.declared.command.Source.{Source}
+use Rattle.rule_check.specs.Numbers.{number_limit, number_below}
+use Rattle.sim_base.specs.Rules.{rank_of, bank_of}
+
+-- a bank of the configuration
+pub record BankFits (s : Config) (bank : BankId) : Type 0 where
+  pub rank_in_range : bank.rank < s.ranks
+  pub group_in_range : bank.group < s.groups
+  pub bank_in_range : bank.bank < 4
+
+-- a value that may be missing, and what is made of it
+infixl 10 ◌>>=◌
+abbrev pub ◌>>=◌ : {A B : Type 0} → Option A → (A → Option B) → Option B
+Some x >>= f = f x
+None >>= f = None
+
+-- there is a column for the rank
+abbrev pub names_ranks : ℕ → Bool
+names_ranks ranks = nat_lt 1 ranks
+
+-- how many columns a table has
+abbrev pub column_count : ℕ → ℕ
+column_count ranks = if names_ranks ranks then 10 else 9
+
+-- the text of a field, counted from 0; the empty one where there is no such field
+unfoldable pub text_at : List (List ℕ) → ℕ → List ℕ
+text_at fields k = unwrap_or (field_at fields k) []
+
+-- the text of a field after cycle, channel, command and, where there is one, rank, counted from 0
+unfoldable pub operand : ℕ → List (List ℕ) → ℕ → List ℕ
+operand ranks fields k = text_at fields (if names_ranks ranks then k + 4 else k + 3)
+
+-- the fields that a command may leave empty
+abbrev pub group_text : ℕ → List (List ℕ) → List ℕ
+group_text ranks fields = operand ranks fields 0
+
+abbrev pub bank_text : ℕ → List (List ℕ) → List ℕ
+bank_text ranks fields = operand ranks fields 1
+
+abbrev pub row_text : ℕ → List (List ℕ) → List ℕ
+row_text ranks fields = operand ranks fields 2
+
+abbrev pub column_text : ℕ → List (List ℕ) → List ℕ
+column_text ranks fields = operand ranks fields 3
+
+abbrev pub core_text : ℕ → List (List ℕ) → List ℕ
+core_text ranks fields = operand ranks fields 4
+
+abbrev pub entry_text : ℕ → List (List ℕ) → List ℕ
+entry_text ranks fields = operand ranks fields 5
+
+-- the column of the rank, if there is one, has its name
+abbrev pub rank_is_named : ℕ → List (List ℕ) → Bool
+rank_is_named ranks fields = if names_ranks ranks then bytes_eq (text_at fields 3) (codes "rank") else true
+
+-- a record has the names of the columns, and nothing else
+unfoldable pub is_header : ℕ → List (List ℕ) → Bool
+is_header ranks fields =
+    (length fields == column_count ranks) && bytes_eq (text_at fields 0) (codes "cycle") && bytes_eq (text_at fields 1) (codes "channel")
+    && bytes_eq (text_at fields 2) (codes "command") && rank_is_named ranks fields && bytes_eq (group_text ranks fields) (codes "group")
+    && bytes_eq (bank_text ranks fields) (codes "bank") && bytes_eq (row_text ranks fields) (codes "row")
+    && bytes_eq (column_text ranks fields) (codes "column") && bytes_eq (core_text ranks fields) (codes "core")
+    && bytes_eq (entry_text ranks fields) (codes "entry")
+
+-- a field is empty
+abbrev pub is_empty : List ℕ → Bool
+is_empty text = length text == 0
+
+-- the rank that a record names; the only one, where there are not several
+unfoldable pub rank_in : Config → List (List ℕ) → Option ℕ
+rank_in s fields = if names_ranks s.ranks then number_below s.ranks (text_at fields 3) else Some 0
+
+-- the bank that a record names
+unfoldable pub bank_in : Config → List (List ℕ) → Option BankId
+bank_in s fields = do
+  rank ← rank_in s fields
+  group ← number_below s.groups (group_text s.ranks fields)
+  bank ← number_below 4 (bank_text s.ranks fields)
+  Some (record { rank = rank; group = group; bank = bank })
+
+-- the entry in whose name a record's command is issued
+unfoldable pub source_in : Config → List (List ℕ) → Option Source
+source_in s fields = do
+  core ← number_below s.cores (core_text s.ranks fields)
+  entry ← number_below number_limit (entry_text s.ranks fields)
+  Some (record { core = core; entry = entry })
+
+-- an ACT names a bank, a row and an entry, and no column
+unfoldable pub act_in : Config → List (List ℕ) → Option Command
+act_in s fields = do
+  bank ← bank_in s fields
+  row ← number_below s.rows (row_text s.ranks fields)
+  source ← source_in s fields
+  if is_empty (column_text s.ranks fields) then Some (Act bank row source) else None
+
+-- a RD names a bank, a row, a column and an entry
+unfoldable pub rd_in : Config → List (List ℕ) → Option Command
+rd_in s fields = do
+  bank ← bank_in s fields
+  row ← number_below s.rows (row_text s.ranks fields)
+  column ← number_below s.columns (column_text s.ranks fields)
+  source ← source_in s fields
+  Some (Rd bank row column source)
+
+-- so does a WR
+unfoldable pub wr_in : Config → List (List ℕ) → Option Command
+wr_in s fields = do
+  bank ← bank_in s fields
+  row ← number_below s.rows (row_text s.ranks fields)
+  column ← number_below s.columns (column_text s.ranks fields)
+  source ← source_in s fields
+  Some (Wr bank row column source)
+
+-- a PRE names a bank and an entry, and neither row nor column
+unfoldable pub pre_in : Config → List (List ℕ) → Option Command
+pre_in s fields = do
+  bank ← bank_in s fields
+  source ← source_in s fields
+  if is_empty (row_text s.ranks fields) && is_empty (column_text s.ranks fields) then Some (Pre bank source) else None
+
+-- no field but that of the rank is filled
+unfoldable pub has_no_operands : ℕ → List (List ℕ) → Bool
+has_no_operands ranks fields =
+    is_empty (group_text ranks fields) && is_empty (bank_text ranks fields) && is_empty (row_text ranks fields)
+    && is_empty (column_text ranks fields) && is_empty (core_text ranks fields) && is_empty (entry_text ranks fields)
+
+-- a PREA names a rank alone
+unfoldable pub prea_in : Config → List (List ℕ) → Option Command
+prea_in s fields = do
+  rank ← rank_in s fields
+  if has_no_operands s.ranks fields then Some (Prea rank) else None
+
+-- so does a REF
+unfoldable pub ref_in : Config → List (List ℕ) → Option Command
+ref_in s fields = do
+  rank ← rank_in s fields
+  if has_no_operands s.ranks fields then Some (Ref rank) else None
+
+-- the command that a record writes, by its word
+unfoldable pub command_in : Config → List (List ℕ) → Option Command
+command_in s fields =
+    if bytes_eq (text_at fields 2) (codes "ACT") then act_in s fields else
+    if bytes_eq (text_at fields 2) (codes "RD") then rd_in s fields else
+    if bytes_eq (text_at fields 2) (codes "WR") then wr_in s fields else
+    if bytes_eq (text_at fields 2) (codes "PRE") then pre_in s fields else
+    if bytes_eq (text_at fields 2) (codes "PREA") then prea_in s fields else
+    if bytes_eq (text_at fields 2) (codes "REF") then ref_in s fields else None
+
+-- a command speaks of banks of the configuration
+pub record CommandFits (s : Config) (command : Command) : Type 0 where
+  pub rank_in_range : rank_of command < s.ranks
+  pub bank_in_range : IfSome (bank_of command) (λ bank. (bank.group < s.groups) × (bank.bank < 4))
+
+-- the row that a record of the right number of fields writes
+unfoldable pub row_from : Config → List (List ℕ) → Option CommandRow
+row_from s fields = do
+  cycle ← number_below number_limit (text_at fields 0)
+  channel ← number_below s.channels (text_at fields 1)
+  command ← command_in s fields
+  Some (record { cycle = cycle; channel = channel; command = command })
+
+-- the row that a record writes, if it is well-formed
+unfoldable pub row_in : Config → List (List ℕ) → Option CommandRow
+row_in s fields = if length fields == column_count s.ranks then row_from s fields else None
+
+-- a row is one of the configuration, in a cycle below the limit of numbers
+pub record RowFits (s : Config) (row : CommandRow) : Type 0 where
+  pub cycle_in_range : row.cycle < number_limit
+  pub channel_in_range : row.channel < s.channels
+  pub command_in_range : CommandFits s row.command

@@ -1,0 +1,46 @@
+-- The verdict on a table of commands.
+--     records_of table      the records of its text
+--     verdict s records      the verdict on a table with these records
+--     IsCheckFault fault      why a table may be refused
+use Rattle.std.specs.Prelude.{ℕ, ◌+◌, List, [], ◌∷◌, ◌++◌, ⊤, Option, Some, None, Result, Ok, Err, if◌then◌else◌}
+use Rattle.csv.specs.Reading.{default_config, records, strip_bom}
+use Rattle.sim_base.specs.declared.config.Config.{Config}
+use Rattle.sim_base.specs.declared.command.CommandRow.{CommandRow}
+use Rattle.sim_base.specs.declared.fault.Fault.{Fault}
+use Rattle.sim_base.specs.declared.fault.Fault.TheVariants.{CheckRow, Memory}
+use Rattle.rule_check.specs.Fields.{is_header, row_in}
+use Rattle.rule_check.specs.Broken.{lowest_broken}
+use Rattle.rule_check.specs.declared.verdict.Verdict.{Verdict}
+use Rattle.rule_check.specs.declared.verdict.Verdict.TheVariants.{Legal, Broken}
+
+-- The records of a table's text, as `csv` reads them: CR, LF or both end a row, blank lines are skipped, fields may be quoted.
+abbrev pub records_of : List ℕ → List (List (List ℕ))
+records_of table = records default_config (strip_bom table)
+
+-- a row that breaks a rule decides; else what comes after it does
+abbrev pub decided_by_rule : ℕ → Option ℕ → Result Verdict Fault → Result Verdict Fault
+decided_by_rule number (Some rule) rest = Ok (Broken number rule)
+decided_by_rule number None rest = rest
+
+-- so does a malformed record, before any rule is looked at
+abbrev pub decided_by_row : ℕ → (CommandRow → Option ℕ) → (CommandRow → Result Verdict Fault) → Option CommandRow → Result Verdict Fault
+decided_by_row number broken rest None = Err (CheckRow number)
+decided_by_row number broken rest (Some row) = decided_by_rule number (broken row) (rest row)
+
+-- The verdict on the records from a number on, after rows that are well-formed and keep every rule: the first record that is
+-- malformed, or breaks a rule, decides.
+unfoldable pub verdict_after : Config → List CommandRow → ℕ → List (List (List ℕ)) → Result Verdict Fault
+verdict_after s rows number [] = Ok Legal
+verdict_after s rows number (fields ∷ others) =
+    decided_by_row number (lowest_broken s rows) (λ row. verdict_after s (rows ++ row ∷ []) (number + 1) others) (row_in s fields)
+
+-- The verdict on a table with these records. The first is the header, and those after it are counted from 1.
+unfoldable pub verdict : Config → List (List (List ℕ)) → Result Verdict Fault
+verdict s [] = Err (CheckRow 0)
+verdict s (header ∷ others) = if is_header s.ranks header then verdict_after s [] 1 others else Err (CheckRow 0)
+
+-- a row is malformed, or memory was refused
+abbrev pub IsCheckFault : Fault → Type 0
+IsCheckFault (CheckRow row) = ⊤
+IsCheckFault Memory = ⊤
+IsCheckFault _ = ⊥

@@ -1,0 +1,220 @@
+//! Which rules a row breaks, by what is kept of the rows of its channel.
+
+ghost use Rattle.std.specs.Prelude.{◌≡◌, ◌+◌, ◌<◌, ◌&&◌, ◌==◌, nat_lt, not, is_some, slice_get, option_map, option_and_then, unwrap_or};
+ghost use Rattle.std.specs.List.{list_any};
+ghost use Rattle.sim_base.specs.History.{below};
+ghost use Rattle.sim_base.specs.Rules.{is_kind, kind_of, rank_of, bank_of, is_row};
+ghost use Rattle.rule_check.specs.Kept.{number_of, group_number, latest_of, is_ahead, kept_in_bank, kept_in_group, kept_across_groups, kept_in_rank, kept_across_ranks, kept};
+ghost use Rattle.rule_check.specs.Kept.{is_too_soon, kept_breaks_distance, kept_window, kept_breaks_window, kept_overdue, kept_breaks_refresh};
+ghost use Rattle.rule_check.specs.Kept.{kept_row, has_kept_open_in_group, has_kept_open, kept_finds_banks, kept_breaks};
+
+use crate::channel::{group_number, number_of};
+use crate::latest::{is_ahead, latest_of};
+use crate::rules::{is_row, is_same_kind};
+use crate::state::{Bank, Channel, Group, Rank};
+use sim_base::command::{Command, CommandRow, Kind};
+use sim_base::config::Config;
+use sim_base::place::BankId;
+use sim_base::rule::{Rule, Scope};
+
+fn kept_in_bank(banks: &[Bank], bank: BankId, kind: Kind) -> Option<u64>
+    ensures { result ≡ kept_in_bank banks.now bank kind }
+{
+    match banks.get(number_of(bank)) {
+        Some(state) => latest_of(&state.latest, kind),
+        None => None,
+    }
+}
+
+fn kept_in_group(groups: &[Group], bank: BankId, kind: Kind) -> Option<u64>
+    ensures { result ≡ kept_in_group groups.now bank kind }
+{
+    match groups.get(group_number(bank)) {
+        Some(state) => latest_of(&state.within, kind),
+        None => None,
+    }
+}
+
+fn kept_across_groups(groups: &[Group], bank: BankId, kind: Kind) -> Option<u64>
+    ensures { result ≡ kept_across_groups groups.now bank kind }
+{
+    match groups.get(group_number(bank)) {
+        Some(state) => latest_of(&state.across, kind),
+        None => None,
+    }
+}
+
+fn kept_in_rank(ranks: &[Rank], rank: u32, kind: Kind) -> Option<u64>
+    ensures { result ≡ kept_in_rank ranks.now rank kind }
+{
+    match ranks.get(rank as usize) {
+        Some(state) => latest_of(&state.within, kind),
+        None => None,
+    }
+}
+
+fn kept_across_ranks(ranks: &[Rank], rank: u32, kind: Kind) -> Option<u64>
+    ensures { result ≡ kept_across_ranks ranks.now rank kind }
+{
+    match ranks.get(rank as usize) {
+        Some(state) => latest_of(&state.across, kind),
+        None => None,
+    }
+}
+
+/// The latest command of a kind that a rule of this scope binds to one in a rank, which names this bank, if it names one.
+#[tactic(auto, unfolding(crate::specs::Kept::kept))]
+fn kept(
+    channel: &Channel,
+    scope: Scope,
+    kind: Kind,
+    rank: u32,
+    bank: Option<BankId>,
+) -> Option<u64>
+    ensures { result ≡ kept channel.now scope kind rank bank }
+{
+    match scope {
+        Scope::InRank => kept_in_rank(&channel.ranks, rank, kind),
+        Scope::AcrossRanks => kept_across_ranks(&channel.ranks, rank, kind),
+        Scope::InBank => match bank {
+            Some(bank) => kept_in_bank(&channel.banks, bank, kind),
+            None => kept_in_rank(&channel.ranks, rank, kind),
+        },
+        Scope::InGroup => match bank {
+            Some(bank) => kept_in_group(&channel.groups, bank, kind),
+            None => kept_in_rank(&channel.ranks, rank, kind),
+        },
+        Scope::AcrossGroups => match bank {
+            Some(bank) => kept_across_groups(&channel.groups, bank, kind),
+            None => None,
+        },
+    }
+}
+
+#[tactic(auto, unfolding(crate::specs::Kept::is_too_soon))]
+fn is_too_soon(channel: &Channel, rule: &Rule, row: CommandRow) -> bool
+    ensures { result ≡ is_too_soon channel.now rule.now row }
+{
+    let command = row.command;
+    is_same_kind(rule.later, command.kind())
+        && is_ahead(
+            row.cycle,
+            rule.cycles,
+            kept(
+                channel,
+                rule.scope,
+                rule.earlier,
+                command.rank(),
+                command.bank(),
+            ),
+        )
+}
+
+#[tactic(auto, unfolding(crate::specs::Kept::kept_breaks_distance))]
+fn breaks_distance(table: &[Rule], channel: &Channel, row: CommandRow, number: u32) -> bool
+    ensures { result ≡ kept_breaks_distance table.now channel.now row number }
+{
+    table
+        .iter()
+        .any(|rule| rule.number == number && is_too_soon(channel, rule, row))
+}
+
+fn kept_window(ranks: &[Rank], rank: u32) -> u64
+    ensures { result ≡ kept_window ranks.now rank }
+{
+    match ranks.get(rank as usize) {
+        Some(state) => state.window.fourth,
+        None => 0,
+    }
+}
+
+fn breaks_window(channel: &Channel, row: CommandRow) -> bool
+    ensures { result ≡ kept_breaks_window channel.now row }
+{
+    is_same_kind(row.command.kind(), Kind::Act)
+        && row.cycle < kept_window(&channel.ranks, row.command.rank())
+}
+
+fn is_overdue(ranks: &[Rank], now: u64, rank: u32) -> bool
+    ensures { result ≡ kept_overdue ranks.now now rank }
+{
+    match ranks.get(rank as usize) {
+        Some(state) => state.deadline < now,
+        None => false,
+    }
+}
+
+fn has_overdue(ranks: &[Rank], count: u32, now: u64) -> bool
+    ensures { result ≡ list_any (kept_overdue ranks.now now) (below count) }
+{
+    (0..count).any(|rank| is_overdue(ranks, now, rank))
+}
+
+fn breaks_refresh(config: &Config, channel: &Channel, row: CommandRow) -> bool
+    ensures { result ≡ kept_breaks_refresh config.now channel.now row }
+{
+    config.timing.n_refi > 0 && has_overdue(&channel.ranks, config.ranks, row.cycle)
+}
+
+fn kept_row(banks: &[Bank], bank: BankId) -> Option<u32>
+    ensures { result ≡ kept_row banks.now bank }
+{
+    match banks.get(number_of(bank)) {
+        Some(state) => state.row,
+        None => None,
+    }
+}
+
+fn is_open(banks: &[Bank], bank: BankId) -> bool
+    ensures { result ≡ is_some (kept_row banks.now bank) }
+{
+    kept_row(banks, bank).is_some()
+}
+
+fn has_open_in_group(banks: &[Bank], rank: u32, group: u32) -> bool
+    ensures { result ≡ has_kept_open_in_group banks.now rank group }
+{
+    (0..4).any(|bank| is_open(banks, BankId { rank, group, bank }))
+}
+
+#[tactic(auto, unfolding(crate::specs::Kept::has_kept_open))]
+fn has_open(config: &Config, banks: &[Bank], rank: u32) -> bool
+    ensures { result ≡ has_kept_open config.now banks.now rank }
+{
+    (0..config.groups).any(|group| has_open_in_group(banks, rank, group))
+}
+
+fn finds_banks(config: &Config, banks: &[Bank], command: Command) -> bool
+    ensures { result ≡ kept_finds_banks config.now banks.now command }
+{
+    match command {
+        Command::Act { bank, .. } => !is_open(banks, bank),
+        Command::Rd { bank, row, .. } | Command::Wr { bank, row, .. } => {
+            is_row(row, kept_row(banks, bank))
+        }
+        Command::Ref { rank } => !has_open(config, banks, rank),
+        Command::Pre { .. } | Command::Prea { .. } => true,
+    }
+}
+
+/// Whether a row breaks a rule of its channel.
+#[tactic(auto, unfolding(crate::specs::Kept::kept_breaks))]
+pub(crate) fn breaks(
+    config: &Config,
+    table: &[Rule],
+    channel: &Channel,
+    row: CommandRow,
+    number: u32,
+) -> bool
+    ensures { result ≡ kept_breaks config.now table.now channel.now row number }
+{
+    if number == 2 {
+        !finds_banks(config, &channel.banks, row.command)
+    } else if number == 16 {
+        breaks_window(channel, row)
+    } else if number == 18 {
+        breaks_refresh(config, channel, row)
+    } else {
+        breaks_distance(table, channel, row, number)
+    }
+}

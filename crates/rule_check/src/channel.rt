@@ -1,0 +1,215 @@
+//! How one row more changes what is kept of a channel.
+
+ghost use Rattle.std.specs.Prelude.{ℕ, ◌≡◌, ◌+◌, ◌*◌, ◌/◌, ◌%◌, ◌<◌, ◌≤◌, ◌^◌, ◌&&◌, ◌==◌, ◌++◌, ◌∷◌, [], List, Some, nat_lt, not, is_some, IfSome, IfOk, length, slice_index_or, replicate};
+ghost use Rattle.sim_base.specs.declared.config.Config.{Config};
+ghost use Rattle.sim_base.specs.declared.command.CommandRow.{CommandRow};
+ghost use Rattle.sim_base.specs.Config.{refresh_slack};
+ghost use Rattle.sim_base.specs.Relations.{refresh_slack_of};
+ghost use Rattle.sim_base.specs.Rules.{kind_of, bank_of, rank_of};
+ghost use Rattle.sim_base.specs.Scheduling.{refreshes};
+ghost use Rattle.rule_check.specs.Numbers.{number_limit};
+ghost use Rattle.rule_check.specs.Fields.{CommandFits, RowFits};
+ghost use Rattle.rule_check.specs.Kept.{activates, deadline_where, first_deadline, bank_after, group_after, rank_after, number_of, bank_numbered, group_number, IsKept};
+
+use crate::latest::{noted_where, nothing};
+use crate::rules::{is_same_kind, lies, row_after};
+use crate::state::{Bank, Channel, Group, Rank};
+use crate::window::{no_window, window_where};
+use sim_base::command::{Command, CommandRow, Kind};
+use sim_base::config::Config;
+use sim_base::place::BankId;
+use sim_base::rule::Scope;
+use sim_base::timing::Timing;
+use std::alloc::{AllocError, Global};
+
+fn bank_after(bank: BankId, cycle: u64, command: Command, state: Bank) -> Bank
+    ensures { result ≡ bank_after bank cycle command state }
+{
+    let reached = lies(Scope::InBank, bank.rank, Some(bank), command);
+    Bank {
+        latest: noted_where(reached, command.kind(), cycle, state.latest),
+        row: row_after(bank, state.row, command),
+    }
+}
+
+fn group_after(rank: u32, group: u32, cycle: u64, command: Command, state: Group) -> Group
+    ensures { result ≡ group_after rank group cycle command state }
+{
+    let bank = Some(BankId {
+        rank,
+        group,
+        bank: 0,
+    });
+    let within = lies(Scope::InGroup, rank, bank, command);
+    let across = lies(Scope::AcrossGroups, rank, bank, command);
+    Group {
+        within: noted_where(within, command.kind(), cycle, state.within),
+        across: noted_where(across, command.kind(), cycle, state.across),
+    }
+}
+
+fn activates(rank: u32, command: Command) -> bool
+    ensures { result ≡ activates rank command }
+{
+    is_same_kind(command.kind(), Kind::Act) && command.rank() == rank
+}
+
+fn refreshes(rank: u32, command: Command) -> bool
+    ensures { result ≡ refreshes rank command }
+{
+    is_same_kind(command.kind(), Kind::Ref) && command.rank() == rank
+}
+
+fn deadline_where(counts: bool, interval: u32, deadline: u64) -> u64
+    ensures { result ≡ deadline_where counts interval deadline }
+{
+    if counts && deadline < (1 << 62) {
+        deadline + u64::from(interval)
+    } else {
+        deadline
+    }
+}
+
+fn rank_after(t: &Timing, rank: u32, cycle: u64, command: Command, state: Rank) -> Rank
+    requires { cycle < number_limit }
+    ensures { result ≡ rank_after t.now rank cycle command state }
+{
+    let within = lies(Scope::InRank, rank, None, command);
+    let across = lies(Scope::AcrossRanks, rank, None, command);
+    let end = cycle + u64::from(t.n_faw);
+    Rank {
+        within: noted_where(within, command.kind(), cycle, state.within),
+        across: noted_where(across, command.kind(), cycle, state.across),
+        window: window_where(activates(rank, command), end, state.window),
+        deadline: deadline_where(refreshes(rank, command), t.n_refi, state.deadline),
+    }
+}
+
+pub(crate) fn number_of(bank: BankId) -> usize
+    ensures { result ≡ number_of bank }
+{
+    bank.rank as usize * 16 + bank.group as usize * 4 + bank.bank as usize
+}
+
+pub(crate) fn group_number(bank: BankId) -> usize
+    ensures { result ≡ group_number bank }
+{
+    bank.rank as usize * 4 + bank.group as usize
+}
+
+fn bank_numbered(k: usize) -> BankId
+    requires { k < 64 }
+    ensures { result ≡ bank_numbered k }
+{
+    let k = k as u32;
+    BankId {
+        rank: k / 16,
+        group: k / 4 % 4,
+        bank: k % 4,
+    }
+}
+
+fn note_in_all_banks(banks: &mut [Bank], command: Command, cycle: u64)
+    requires { length banks.old ≤ 64 }
+    ensures each { (k : ℕ) (d : Bank) → k < length banks.old
+        → slice_index_or banks.new k d ≡ bank_after (bank_numbered k) cycle command (slice_index_or banks.old k d) }
+{
+    for (k, state) in banks.iter_mut().enumerate() {
+        *state = bank_after(bank_numbered(k), cycle, command, *state);
+    }
+}
+
+fn note_in_bank(banks: &mut [Bank], bank: BankId, command: Command, cycle: u64)
+    requires names { bank_of command ≡ Some bank }
+    requires group { bank.group < 4 }
+    requires bank { bank.bank < 4 }
+    requires number { number_of bank < length banks.old }
+    ensures each { (k : ℕ) (d : Bank) → k < length banks.old
+        → slice_index_or banks.new k d ≡ bank_after (bank_numbered k) cycle command (slice_index_or banks.old k d) }
+{
+    let k = number_of(bank);
+    banks[k] = bank_after(bank, cycle, command, banks[k]);
+}
+
+// A command that names no bank may speak of each.
+fn note_in_banks(banks: &mut [Bank], command: Command, cycle: u64)
+    requires few { length banks.old ≤ 64 }
+    requires names { IfSome (bank_of command) (λ bank. (bank.group < 4) × (bank.bank < 4) × (number_of bank < length banks.old)) }
+    ensures each { (k : ℕ) (d : Bank) → k < length banks.old
+        → slice_index_or banks.new k d ≡ bank_after (bank_numbered k) cycle command (slice_index_or banks.old k d) }
+{
+    match command.bank() {
+        Some(bank) => note_in_bank(banks, bank, command, cycle),
+        None => note_in_all_banks(banks, command, cycle),
+    }
+}
+
+fn note_in_groups(groups: &mut [Group], command: Command, cycle: u64)
+    requires { length groups.old ≤ 16 }
+    ensures each { (k : ℕ) (d : Group) → k < length groups.old
+        → slice_index_or groups.new k d ≡ group_after (k / 4) (k % 4) cycle command (slice_index_or groups.old k d) }
+{
+    for (k, state) in groups.iter_mut().enumerate() {
+        let rank = k as u32 / 4;
+        let group = k as u32 % 4;
+        *state = group_after(rank, group, cycle, command, *state);
+    }
+}
+
+fn note_in_ranks(t: &Timing, ranks: &mut [Rank], command: Command, cycle: u64)
+    requires few { length ranks.old ≤ 4 }
+    requires cycle { cycle < number_limit }
+    ensures each { (k : ℕ) (d : Rank) → k < length ranks.old
+        → slice_index_or ranks.new k d ≡ rank_after t.now k cycle command (slice_index_or ranks.old k d) }
+{
+    for (k, state) in ranks.iter_mut().enumerate() {
+        *state = rank_after(t, k as u32, cycle, command, *state);
+    }
+}
+
+fn first_deadline(config: &Config) -> u64
+    ensures { result ≡ first_deadline config.now }
+{
+    let t = &config.timing;
+    let write = u64::from(t.n_cwl) + 4 + u64::from(t.n_wr);
+    let open = u64::from(t.n_ras).max(u64::from(t.n_rtp).max(write));
+    let others = u64::from(config.ranks - 1) * (u64::from(t.n_rp) + 1);
+    u64::from(t.n_refi) + (open + u64::from(t.n_rp) + others)
+}
+
+/// What is kept of no rows.
+pub(crate) fn start(alloc: Global, config: &Config) -> Result<Channel, AllocError>
+    ensures { IfOk result (λ channel. IsKept channel config.now []) }
+{
+    let ranks = config.ranks as usize;
+    let bank = Bank {
+        latest: nothing(),
+        row: None,
+    };
+    let group = Group {
+        within: nothing(),
+        across: nothing(),
+    };
+    let rank = Rank {
+        within: nothing(),
+        across: nothing(),
+        window: no_window(),
+        deadline: first_deadline(config),
+    };
+    Ok(Channel {
+        banks: vec![in alloc; bank; 16 * ranks]?,
+        groups: vec![in alloc; group; 4 * ranks]?,
+        ranks: vec![in alloc; rank; ranks]?,
+    })
+}
+
+/// Notes a row of the channel.
+pub(crate) fn note(channel: &mut Channel, config: &Config, row: CommandRow)
+    requires fits { RowFits config.now row }
+    requires ranks { length channel.old.ranks.items ≡ config.now.ranks }
+    ensures { (history : List CommandRow) → IsKept channel.old config.now history → IsKept channel.new config.now (history ++ row ∷ []) }
+{
+    note_in_banks(&mut channel.banks, row.command, row.cycle);
+    note_in_groups(&mut channel.groups, row.command, row.cycle);
+    note_in_ranks(&config.timing, &mut channel.ranks, row.command, row.cycle);
+}

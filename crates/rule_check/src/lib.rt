@@ -1,0 +1,17 @@
+//! Tests a table of commands that someone else wrote: its form, and every rule of DDR4 over it.
+#![tactic(auto)]
+
+mod broken;
+mod channel;
+mod fields;
+mod latest;
+mod numbers;
+mod past;
+mod rules;
+mod state;
+mod table;
+mod verdict;
+mod window;
+
+pub use table::check;
+pub use verdict::Verdict;

@@ -1,0 +1,105 @@
+//! The rows of a table that were found to keep every rule.
+
+ghost use Rattle.std.specs.Prelude.{ℕ, ◌≡◌, ◌+◌, ◌*◌, ◌<◌, ◌≤◌, ◌++◌, ◌∷◌, [], List, find, not, All, IfOk, length};
+ghost use Rattle.std.specs.List.{range_with_len};
+ghost use Rattle.sim_base.specs.declared.command.CommandRow.{CommandRow};
+ghost use Rattle.sim_base.specs.Rules.{rules};
+ghost use Rattle.rule_check.specs.Fields.{RowFits};
+ghost use Rattle.rule_check.specs.Broken.{stands_wrongly, lowest_broken};
+ghost use Rattle.rule_check.specs.Kept.{IsKept, kept_breaks};
+ghost use Rattle.rule_check.specs.Past.{IsPast, past_breaks};
+
+use crate::broken;
+use crate::channel;
+use crate::rules::stands_before;
+use crate::state::{Channel, Past};
+use sim_base::command::CommandRow;
+use sim_base::config::Config;
+use sim_base::rule::Rule;
+use std::alloc::{AllocError, Global};
+
+fn start_channels(alloc: Global, config: &Config) -> Result<Vec<Channel>, AllocError>
+    ensures count { IfOk result (λ v. length v.items ≡ config.now.channels) }
+    ensures kept { IfOk result (λ v. All (λ c. IsKept c config.now []) v.items) }
+{
+    let mut channels = Vec::new(alloc);
+    for _channel in 0..config.channels {
+        channels.push(channel::start(alloc, config)?)?;
+    }
+    Ok(channels)
+}
+
+/// What is kept of no rows.
+pub(crate) fn start(alloc: Global, config: &Config) -> Result<Past, AllocError>
+    ensures { IfOk result (λ past. IsPast past config.now []) }
+{
+    Ok(Past {
+        last: None,
+        channels: start_channels(alloc, config)?,
+    })
+}
+
+fn stands_wrongly(last: Option<CommandRow>, row: CommandRow) -> bool
+    ensures { result ≡ stands_wrongly last row }
+{
+    match last {
+        None => false,
+        Some(last) => !stands_before(last, row),
+    }
+}
+
+fn breaks(
+    config: &Config,
+    table: &[Rule],
+    last: Option<CommandRow>,
+    channel: &Channel,
+    row: CommandRow,
+    number: u32,
+) -> bool
+    ensures { result ≡ past_breaks config.now table.now last channel.now row number }
+{
+    if number == 1 {
+        stands_wrongly(last, row)
+    } else {
+        broken::breaks(config, table, channel, row, number)
+    }
+}
+
+fn lowest_by(
+    config: &Config,
+    table: &[Rule],
+    last: Option<CommandRow>,
+    channel: &Channel,
+    row: CommandRow,
+) -> Option<u8>
+    ensures { result ≡ find (past_breaks config.now table.now last channel.now row) (range_with_len 1 21) }
+{
+    (1u8..22).find(|number| breaks(config, table, last, channel, row, u32::from(*number)))
+}
+
+/// The lowest rule that a row breaks after the rows that are kept, if it breaks one.
+pub(crate) fn lowest_broken(
+    past: &Past,
+    config: &Config,
+    table: &[Rule],
+    row: CommandRow,
+) -> Option<u8>
+    requires fits { RowFits config.now row }
+    requires table { table.now ≡ rules config.now.timing }
+    requires stands { (rows : List CommandRow) × IsPast past.now config.now rows }
+    ensures { (rows : List CommandRow) → IsPast past.now config.now rows → result ≡ lowest_broken config.now rows row }
+{
+    let channel = &past.channels[row.channel as usize];
+    lowest_by(config, table, past.last, channel, row)
+}
+
+/// Keeps one row more.
+pub(crate) fn note(past: &mut Past, config: &Config, row: CommandRow)
+    requires fits { RowFits config.now row }
+    requires stands { (rows : List CommandRow) × IsPast past.old config.now rows }
+    ensures { (rows : List CommandRow) → IsPast past.old config.now rows → IsPast past.new config.now (rows ++ row ∷ []) }
+{
+    let number = row.channel as usize;
+    channel::note(&mut past.channels[number], config, row);
+    past.last = Some(row);
+}

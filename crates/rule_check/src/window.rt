@@ -1,0 +1,47 @@
+//! The last four ACTs of a rank.
+
+ghost use Rattle.std.specs.Prelude.{◌≡◌, max, min};
+ghost use Rattle.rule_check.specs.Kept.{no_window, window_after, window_where};
+
+/// The four latest of the cycles from which on an ACT no longer counts, the latest first; 0 where there were not so many.
+#[derive(Clone, Copy)]
+pub(crate) struct Window {
+    pub(crate) first: u64,
+    pub(crate) second: u64,
+    pub(crate) third: u64,
+    pub(crate) fourth: u64,
+}
+
+/// No ACT so far.
+pub(crate) fn no_window() -> Window
+    ensures { result ≡ no_window }
+{
+    Window {
+        first: 0,
+        second: 0,
+        third: 0,
+        fourth: 0,
+    }
+}
+
+fn window_after(end: u64, w: Window) -> Window
+    ensures { result ≡ window_after end w }
+{
+    Window {
+        first: w.first.max(end),
+        second: w.second.max(w.first.min(end)),
+        third: w.third.max(w.second.min(end)),
+        fourth: w.fourth.max(w.third.min(end)),
+    }
+}
+
+/// One ACT more, if it is one of the rank.
+pub(crate) fn window_where(counts: bool, end: u64, window: Window) -> Window
+    ensures { result ≡ window_where counts end window }
+{
+    if counts {
+        window_after(end, window)
+    } else {
+        window
+    }
+}
