@@ -2,6 +2,9 @@
 //! their whole past kept and searched.
 #![tactic(auto)]
 
+pub mod counting;
+pub mod ending;
 pub mod machine;
 pub mod sending;
 pub mod state;
+pub mod tally;
