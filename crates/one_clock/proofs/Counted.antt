@@ -1,5 +1,5 @@
 -- What a cycle of one core counts.
-use Rattle.std.proofs.Common.{◌≡◌, ℕ, zero, suc, ◌+◌, ◌<◌, ◌≤◌, Bool, false, List, length, get_or, take, drop, Option, Some, None, refl, sym, ap, ap₂, ◌∙◌, zero-add, arith}
+use Rattle.std.proofs.Common.{◌≡◌, ℕ, zero, suc, ◌+◌, ◌<◌, ◌≤◌, Bool, false, List, [], length, get_or, take, drop, Option, Some, None, refl, sym, ap, ap₂, ◌∙◌, zero-add, arith}
 use Rattle.std.specs.Prelude.{count_by, slice_get}
 use Rattle.std.specs.Option.{option_to_list}
 use Rattle.std.proofs.Math.Seq.{take-length}
@@ -19,9 +19,9 @@ use Rattle.statistics.proofs.Replies.{issued_before-take-later}
 use Rattle.plain_steps.proofs.Entries.{take_more, slice_get-drop}
 use Rattle.one_clock.specs.Steps.{is_read_in, is_write_in}
 
-pub issued_none : (rows : List CoreRow) → issued_before (take 0 rows) ≡ 0
+pub issued_none : issued_before [] ≡ 0
 unfolding issued_before
-issued_none rows = refl
+issued_none = refl
 
 pub issued_more : (rows : List CoreRow) (i : ℕ) (d : CoreRow) → i < length rows → issued_before (take (i + 1) rows) ≡ issued_before (take i rows) + (get_or rows i d).issued
 unfolding issued_before
@@ -47,9 +47,9 @@ issue_cycle_found rows entry i l before after = issue_cycle_at rows entry i (ome
 pub issue_cycle_none : (rows : List CoreRow) (entry i : ℕ) → i ≡ length rows → issued_before (take i rows) ≤ entry → issue_cycle rows entry ≡ i
 issue_cycle_none rows entry i e before = issue_cycle_at rows entry i (omega arith) before (λ h. absurd (omega arith))
 
-pub waited_none : (rows : List CoreRow) (ms : List Message) → waited rows (take 0 ms) ≡ 0
+pub waited_none : (rows : List CoreRow) → waited rows [] ≡ 0
 unfolding waited
-waited_none rows ms = refl
+waited_none rows = refl
 
 pub waited_more : (rows : List CoreRow) (ms : List Message) (i : ℕ) (d : Message) → i < length ms
     → waited rows (take (i + 1) ms) ≡ waited rows (take i ms) + wait_of rows (get_or ms i d).arrival (replied_entry (get_or ms i d).load)
@@ -68,7 +68,7 @@ counted p q none some trace first (suc m) =
   where
     one : (o : Option Entry) → one_if (p o) ≡ count_by q (option_to_list o)
     one None = ap one_if none
-    one (Some e) = ap one_if (some e)
+    one (Some e) = ap one_if (some e) ∙ sym (zero-add (one_if (q e)))
 
 pub reads_are : (trace : List Entry) (first m : ℕ) → count_by (λ k. is_read_in (slice_get trace (first + k))) (below m) ≡ count_by is_read (take m (drop first trace))
 reads_are trace first m = counted is_read_in is_read refl (λ e. refl) trace first m

@@ -4,7 +4,7 @@ use Rattle.std.specs.Prelude.{count_by, is_some, max}
 use Rattle.std.proofs.Math.Seq.{take-length}
 use Rattle.std.proofs.lemmas.List.{length-take}
 use Rattle.std.proofs.lemmas.List.Sums.{count_by-le-length}
-use Rattle.std.proofs.Math.Nat.{mul-le}
+use Rattle.std.proofs.lemmas.Nat.{mul-le}
 use Rattle.sim_base.specs.declared.config.Config.{Config}
 use Rattle.sim_base.specs.declared.command.Command.{Command}
 use Rattle.sim_base.specs.declared.history.CoreRow.{CoreRow}

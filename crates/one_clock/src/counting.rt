@@ -177,7 +177,9 @@ pub fn core_cycle_stats(
     requires issued { issued ≡ issued_before rows.now }
     requires retired { retired ≡ retired_before rows.now }
     requires within { issued ≤ length trace.now }
-    ensures { IfOk result (λ c. c ≡ core_cycle_with trace.now rows.now step.0 step.1 (replies_in (length rows.now) inbox.now)) }
+    ensures value { IfOk result (λ c. c ≡ core_cycle_with trace.now rows.now step.0 step.1 (replies_in (length rows.now) inbox.now)) }
+    ensures trace_fits { length trace.now ≤ 2 ^ 62 }
+    ensures inbox_fits { length inbox.now < 2 ^ 64 }
 {
     let (row, why) = step;
     let now = rows.len() as u64;
@@ -294,7 +296,8 @@ pub fn channel_cycle_stats(
     step: ChannelStep,
 ) -> Result<ChannelStats, AllocError>
     requires early { now < 2 ^ 41 }
-    ensures { IfOk result (λ c. c ≡ channel_cycle_with s.now history.now (length (queue_of pending.now (now + 1))) (is_some (lowest_due s.now history.now now)) step.draining step.command) }
+    ensures value { IfOk result (λ c. c ≡ channel_cycle_with s.now history.now (length (queue_of pending.now (now + 1))) (is_some (lowest_due s.now history.now now)) step.draining step.command) }
+    ensures queue_fits { IfOk result (λ c. c.queued_max < 2 ^ 64) }
 {
     let queued = scheduling::queue(alloc, pending, now + 1)?.len();
     let due = scheduling::lowest_rank_due(s, history, now);

@@ -8,6 +8,9 @@ ghost use Rattle.sim_base.specs.Sends.{sends};
 ghost use Rattle.sim_base.specs.Counts.{in_flight};
 ghost use Rattle.plain_steps.specs.Plain.{core_view, channel_view, channel_step_of, is_late};
 ghost use Rattle.statistics.specs.Runs.{outcome_of};
+ghost use Rattle.laws.specs.Refreshes.{RefreshesAreInTime};
+ghost use Rattle.laws.specs.Tables.{IsOrdered, IsLegalTable, IsRefreshedTable};
+ghost use Rattle.one_clock.specs.Kept.{SharesDataBus};
 ghost use Rattle.one_clock.specs.Steps.{core_step_of};
 ghost use Rattle.one_clock.specs.Held.{HoldsRun};
 
@@ -80,6 +83,12 @@ fn next_steps_of_cores(
     Ok(steps)
 }
 
+fn rows_of_steps(alloc: Global, steps: &[(CoreRow, Stop)]) -> Result<Vec<CoreRow>, AllocError>
+    ensures { IfOk result (λ v. v.items ≡ map (λ step. step.0) steps.now) }
+{
+    steps.iter().map(|step| step.0).collect(alloc)
+}
+
 /// What each core does, without why it stops.
 #[tactic(auto, using(crate::proofs::Next::rows_of_steps))]
 fn rows_of_cores(
@@ -92,7 +101,7 @@ fn rows_of_cores(
     requires { steps.now ≡ map (core_step_of s.now traces.now (run s.now traces.now cycle)) (below s.now.cores) }
     ensures { IfOk result (λ v. v.items ≡ map (next_core_row s.now traces.now (run s.now traces.now cycle)) (below s.now.cores)) }
 {
-    steps.iter().map(|step| step.0).collect(alloc)
+    rows_of_steps(alloc, steps)
 }
 
 #[tactic(auto, using(crate::proofs::Next::step_is))]
@@ -523,12 +532,8 @@ impl Machine {
     }
 }
 
-/// Runs the one-clock machine, cycle by cycle, and gives the commands that all channels issue, by cycle and then by channel,
-/// the statistics of the run and the state in which it ends. The run has as many cycles as the limit, or, where the
-/// configuration ends it drained, as many as it takes until all is retired, served and delivered. There is one trace for each
-/// core, and the limit is at most 10^12 cycles. The only error is want of memory.
 #[tactic(auto, using(crate::proofs::Runs::cycles_run_none, crate::proofs::Runs::cycles_run_more, crate::proofs::Runs::cycles_run_ends))]
-pub fn run_plain(
+fn run_machine(
     alloc: Global,
     s: &Config,
     traces: &[Trace],
@@ -536,7 +541,7 @@ pub fn run_plain(
 ) -> Result<Outcome, AllocError>
     requires one_trace_a_core { length traces.now ≡ s.now.cores }
     requires limit { cycles ≤ 10 ^ 12 }
-    ensures outcome { IfOk result (λ o. o ≡ outcome_of s.now traces.now (cycles_run s.now traces.now cycles)) }
+    ensures { IfOk result (λ o. o ≡ outcome_of s.now traces.now (cycles_run s.now traces.now cycles)) }
 {
     let gaps = GapTable::of(s);
     let mut machine = Machine::start(alloc, s, traces)?;
@@ -547,4 +552,30 @@ pub fn run_plain(
         machine.advance(alloc, s, &gaps, traces, cycle)?;
     }
     machine.outcome(alloc, s, traces, cycles)
+}
+
+/// Runs the one-clock machine, cycle by cycle, and gives the commands that all channels issue, by cycle and then by channel,
+/// the statistics of the run and the state in which it ends. The run has as many cycles as the limit, or, where the
+/// configuration ends it drained, as many as it takes until all is retired, served and delivered. There is one trace for each
+/// core, and the limit is at most 10^12 cycles. The only error is want of memory.
+///
+/// The commands stand in order, and each keeps the timing rules over those of its channel before it. No cycle of a channel's
+/// data bus belongs to two of them. Where ranks are refreshed, the n-th REF of each stands at cycle `n * nREFI` and the slack,
+/// or earlier, and no command comes while one is overdue.
+pub fn run_plain(
+    alloc: Global,
+    s: &Config,
+    traces: &[Trace],
+    cycles: u64,
+) -> Result<Outcome, AllocError>
+    requires one_trace_a_core { length traces.now ≡ s.now.cores }
+    requires limit { cycles ≤ 10 ^ 12 }
+    ensures outcome { IfOk result (λ o. o ≡ outcome_of s.now traces.now (cycles_run s.now traces.now cycles)) }
+    ensures ordered { IfOk result (λ o. IsOrdered o.commands) }
+    ensures legal { IfOk result (λ o. IsLegalTable s.now o.commands) }
+    ensures data_bus { IfOk result (λ o. SharesDataBus s.now o.commands) }
+    ensures refreshed { IfOk result (λ o. IsRefreshedTable s.now o.commands) }
+    ensures in_time { RefreshesAreInTime s.now traces.now (cycles_run s.now traces.now cycles) }
+{
+    run_machine(alloc, s, traces, cycles)
 }

@@ -52,7 +52,7 @@ pub fn no_channel_counts(
     Ok(counts)
 }
 
-#[tactic(auto, using(crate::proofs::Joined::core_stats_next, crate::proofs::Joined::core_stats_fit, crate::proofs::Joined::core_stats_parts, crate::proofs::Next::length_rows))]
+#[tactic(auto, using(crate::proofs::Joined::core_stats_next, crate::proofs::Next::length_rows))]
 fn count_core(
     alloc: Global,
     s: &Config,
@@ -115,7 +115,7 @@ pub fn core_counts(
     Ok(later)
 }
 
-#[tactic(auto, using(crate::proofs::Joined::channel_stats_next, crate::proofs::Joined::channel_stats_fit))]
+#[tactic(auto, using(crate::proofs::Joined::channel_stats_next))]
 fn count_channel(
     alloc: Global,
     s: &Config,
@@ -133,7 +133,9 @@ fn count_channel(
     requires counts { counts ≡ stats_of_channel s.now traces.now (run s.now traces.now cycle) channel }
     ensures { IfOk result (λ c. c ≡ stats_of_channel s.now traces.now (run s.now traces.now (cycle + 1)) channel) }
 {
+    let longest = counts.queued_max;
     let more = channel_cycle_stats(alloc, s, past.commands(), past.pending(), cycle, step)?;
+    prove!(longest <= u64::MAX);
     Ok(counts.joined(more))
 }
 
