@@ -1,5 +1,5 @@
 -- The state in which a channel is left.
-use Rattle.std.proofs.Common.{◌≡◌, ℕ, ◌+◌, List, length, map, sym, ap, ap₂, ◌∙◌}
+use Rattle.std.proofs.Common.{◌≡◌, ℕ, List, length, map, sym, ap, ◌∙◌}
 use Rattle.std.specs.Prelude.{filter_map}
 use Rattle.sim_base.specs.declared.config.Config.{Config}
 use Rattle.sim_base.specs.declared.message.Request.{Request}
@@ -8,7 +8,7 @@ use Rattle.sim_base.specs.declared.trace.Entry.{Entry}
 use Rattle.sim_base.specs.Final.{due_left, banks, queue_left}
 use Rattle.sim_base.specs.History.{below, channel_rows, issued_commands, inbox}
 use Rattle.sim_base.specs.Machine.{run}
-use Rattle.sim_base.specs.Scheduling.{due, waiting}
+use Rattle.sim_base.specs.Scheduling.{due}
 use Rattle.sim_base.proofs.Spans.{length-run}
 use Rattle.statistics.specs.Runs.{row_of_bank, open_rows_left, channel_last, last_of_channel}
 use Rattle.statistics.specs.Values.{LastChannel}

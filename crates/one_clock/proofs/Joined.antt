@@ -1,12 +1,11 @@
 -- The statistics of each unit, one cycle more, and why they fit.
-use Rattle.std.proofs.Common.{◌≡◌, ℕ, zero, suc, ◌+◌, ◌*◌, ◌^◌, ◌<◌, ◌≤◌, Bool, true, false, cond, eqb, List, [], length, take, Option, None, refl, sym, ap, ap₂, subst, ◌∙◌, add-one, arith}
+use Rattle.std.proofs.Common.{◌≡◌, ℕ, suc, ◌+◌, ◌*◌, ◌^◌, ◌<◌, ◌≤◌, Bool, true, false, cond, eqb, List, [], length, take, None, refl, sym, ap, ap₂, subst, ◌∙◌, add-one, arith}
 use Rattle.std.specs.Prelude.{count_by, is_some, max}
 use Rattle.std.proofs.Math.Seq.{take-length}
 use Rattle.std.proofs.lemmas.List.{length-take}
 use Rattle.std.proofs.lemmas.List.Sums.{count_by-le-length}
 use Rattle.std.proofs.lemmas.Nat.{mul-le}
 use Rattle.sim_base.specs.declared.config.Config.{Config}
-use Rattle.sim_base.specs.declared.command.Command.{Command}
 use Rattle.sim_base.specs.declared.history.CoreRow.{CoreRow}
 use Rattle.sim_base.specs.declared.message.Message.{Message}
 use Rattle.sim_base.specs.declared.message.Unit.TheVariants.{Core, Channel}
@@ -30,7 +29,7 @@ use Rattle.statistics.proofs.CoreMail.{replies-same}
 use Rattle.statistics.proofs.ReplyBounds.{replies-le}
 use Rattle.statistics.proofs.RunSteps.{inbox-next, stats_of_core-next, stats_of_channel-next}
 use Rattle.plain_steps.specs.declared.scheduling.ChannelStep.{ChannelStep}
-use Rattle.plain_steps.specs.Plain.{CoreView, core_view, ChannelView, channel_view, channel_step_of, queue_of, is_left}
+use Rattle.plain_steps.specs.Plain.{CoreView, core_view, ChannelView, channel_view, channel_step_of, queue_of}
 use Rattle.one_clock.specs.Steps.{core_step_of}
 use Rattle.one_clock.proofs.Next.{length-core_rows, length-channel_rows, queue_is, no_mail, run_none}
 

@@ -2,9 +2,11 @@
 //! their whole past kept and searched.
 #![tactic(auto)]
 
-pub mod counting;
-pub mod ending;
+mod counting;
+mod ending;
 pub mod machine;
-pub mod sending;
-pub mod state;
-pub mod tally;
+mod sending;
+mod state;
+mod tally;
+#[cfg(test)]
+mod tests;

@@ -1,5 +1,5 @@
 -- The banks of the groups so far.
-use Rattle.std.proofs.Common.{◌≡◌, ◌+◌, map}
+use Rattle.std.proofs.Common.{◌≡◌}
 use Rattle.std.specs.Prelude.{flat_map}
 use Rattle.sim_base.specs.History.{below}
 use Rattle.sim_base.specs.Final.{banks_of_group}

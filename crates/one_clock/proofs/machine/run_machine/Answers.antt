@@ -1,5 +1,5 @@
 -- Where the run is over, it has just the cycles that are done.
-use Rattle.std.proofs.Common.{◌≡◌, ◌≤◌, sym, ap, ◌∙◌, arith}
+use Rattle.std.proofs.Common.{sym, ap, ◌∙◌, arith}
 use Rattle.std.proofs.lemmas.Result.{IfOk-weaker}
 use Rattle.statistics.specs.Runs.{outcome_of}
 use Rattle.one_clock.proofs.Runs.{cycles_run_ends}

@@ -1,6 +1,5 @@
 -- The channels so far have theirs.
 use Rattle.std.proofs.Common.{◌≡◌, ◌+◌, map}
-use Rattle.std.specs.Prelude.{flat_map}
 use Rattle.sim_base.specs.History.{below}
 use Rattle.sim_base.specs.Machine.{run}
 use Rattle.statistics.specs.Runs.{stats_of_channel}

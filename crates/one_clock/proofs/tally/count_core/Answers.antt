@@ -1,5 +1,5 @@
 -- A cycle more of one core: its counts so far are those of the run, and the sum fits.
-use Rattle.std.proofs.Common.{◌≡◌, ◌^◌, ◌<◌, ◌≤◌, length, sym, ap, ap₂, subst, ◌∙◌, arith}
+use Rattle.std.proofs.Common.{◌^◌, ◌<◌, ◌≤◌, length, sym, ap, ap₂, subst, ◌∙◌, arith}
 use Rattle.sim_base.specs.History.{trace_of, issued_before, retired_before}
 use Rattle.statistics.specs.Cores.{replies_in, core_cycle_with}
 use Rattle.one_clock.proofs.Joined.{core_stats_issued, core_stats_retired, core_stats_within, core_stats_fit}
