@@ -30,6 +30,8 @@ use Rattle.sim_base.specs.declared.message.Request.{Request}
 use Rattle.sim_base.specs.declared.message.Unit.{Unit as MachineUnit}
 use Rattle.sim_base.specs.declared.message.Unit.TheVariants.{Core, Channel}
 use Rattle.sim_base.specs.declared.trace.Entry.{Entry}
+use Rattle.sim_base.specs.declared.trace.Stop.{Stop}
+use Rattle.one_clock.specs.Steps.{core_step_of}
 use Rattle.sim_base.proofs.Below.{flat_map_below_more as flat_map_below_suc}
 use Rattle.sim_base.proofs.Arrived.{put, puts, by_age-puts, fold-puts}
 use Rattle.sim_base.proofs.Ordered.{Sorted, Sorted-puts, filter-puts, filter-by_age}
@@ -149,7 +151,7 @@ unfolding waiting queue_of
 waiting_is h mail until = waiting-left h until mail
 
 -- the queue of the next cycle
-queue_is : (k : ℕ) (rows : List (Option Command)) (mail : List Message) → queue_in k rows mail (length rows) ≡ queue_of (filter (is_left (issued_commands k rows)) mail) (length rows + 1)
+pub queue_is : (k : ℕ) (rows : List (Option Command)) (mail : List Message) → queue_in k rows mail (length rows) ≡ queue_of (filter (is_left (issued_commands k rows)) mail) (length rows + 1)
 unfolding queue_in
 queue_is k rows mail = ap (λ x. waiting (issued_commands k x) mail (length rows + 1)) (take-length rows) ∙ waiting_is (issued_commands k rows) mail (length rows + 1)
 
@@ -169,7 +171,7 @@ unfolding choice
 choice_next s k rows mail =
     ap (λ q. choice_between s (issued_commands k rows) (length rows) (candidates s (drains s k rows mail (length rows)) q) (lowest_due s (issued_commands k rows) (length rows))) (queue_is k rows mail)
 
-length-channel_rows : (k : ℕ) (history : List Row) → length (channel_rows k history) ≡ length history
+pub length-channel_rows : (k : ℕ) (history : List Row) → length (channel_rows k history) ≡ length history
 unfolding channel_rows
 length-channel_rows k history = length-map history (channel_row k)
 
@@ -440,11 +442,11 @@ unfolding messages
 no_messages s traces =
     ap₂ (λ a b. a ++ b) (flat_map_nothing _ s.cores (no_core_messages s traces)) (flat_map_nothing _ s.channels (no_channel_messages s))
 
-no_mail : (s : Config) (traces : List (List Entry)) (unit : MachineUnit) → inbox s traces [] unit ≡ []
+pub no_mail : (s : Config) (traces : List (List Entry)) (unit : MachineUnit) → inbox s traces [] unit ≡ []
 unfolding inbox by_age
 no_mail s traces unit = ap (λ ms. by_age (filter (is_to s unit) ms)) (no_messages s traces)
 
-run_none : (s : Config) (traces : List (List Entry)) → run s traces 0 ≡ []
+pub run_none : (s : Config) (traces : List (List Entry)) → run s traces 0 ≡ []
 unfolding run
 run_none s traces = refl
 
@@ -507,3 +509,13 @@ unfolding is_delivered in_flight
 delivered_is s traces history =
     none-late (λ m. ltb m.arrival (length history)) (messages s traces history)
     ∙ ap (λ n. eqb n 0) (sym (length-by_age (filter (is_in_flight history) (messages s traces history))))
+
+map-steps : {X Y Z : Type 0} (g : Y → Z) (f : X → Y) (xs : List X) → map g (map f xs) ≡ map (λ x. g (f x)) xs
+map-steps g f [] = refl
+map-steps g f (x ∷ xs) = ap (λ l. g (f x) ∷ l) (map-steps g f xs)
+
+-- what the cores do, without why they stop
+pub rows_of_steps : (s : Config) (traces : List (List Entry)) (n : ℕ)
+    → map (λ (x : CoreRow × Stop). x.0) (map (core_step_of s traces (run s traces n)) (below s.cores)) ≡ map (next_core_row s traces (run s traces n)) (below s.cores)
+unfolding core_step_of next_core_row
+rows_of_steps s traces n = map-steps (λ (x : CoreRow × Stop). x.0) (core_step_of s traces (run s traces n)) (below s.cores)

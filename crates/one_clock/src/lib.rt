@@ -2,6 +2,11 @@
 //! their whole past kept and searched.
 #![tactic(auto)]
 
+mod counting;
+mod ending;
 pub mod machine;
-pub mod sending;
-pub mod state;
+mod sending;
+mod state;
+mod tally;
+#[cfg(test)]
+mod tests;

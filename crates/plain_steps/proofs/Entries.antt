@@ -13,13 +13,13 @@ use Rattle.sim_base.specs.History.{below, request_of, requests_between}
 use Rattle.sim_base.specs.Windows.{is_memory, is_memory_in, has_memory}
 use Rattle.sim_base.proofs.Below.{below_more}
 
-take_more : {X : Type 0} (xs : List X) (k : ℕ) → take (suc k) xs ≡ take k xs ++ option_to_list (slice_get xs k)
+pub take_more : {X : Type 0} (xs : List X) (k : ℕ) → take (suc k) xs ≡ take k xs ++ option_to_list (slice_get xs k)
 take_more [] zero = refl
 take_more [] (suc k) = refl
 take_more (x ∷ xs) zero = refl
 take_more (x ∷ xs) (suc k) = ap (λ l. x ∷ l) (take_more xs k)
 
-slice_get-drop : {X : Type 0} (xs : List X) (n k : ℕ) → slice_get (drop n xs) k ≡ slice_get xs (n + k)
+pub slice_get-drop : {X : Type 0} (xs : List X) (n k : ℕ) → slice_get (drop n xs) k ≡ slice_get xs (n + k)
 slice_get-drop [] zero k = refl
 slice_get-drop [] (suc n) k = refl
 slice_get-drop (x ∷ xs) zero k = ap (slice_get (x ∷ xs)) (sym (zero-add k))
