@@ -4,7 +4,8 @@ use Rattle.std.specs.Prelude.{fold, find}
 use Rattle.std.specs.List.{range_with_len}
 use Rattle.std.proofs.lemmas.Bool.{cases_eq, eq-eqb, ne_eqb, cond-true, cond-false}
 use Rattle.std.proofs.lemmas.List.{length-set, get_or-set_same, get_or-set_other}
-use Rattle.std.proofs.lemmas.List.Elements.{filter-append}
+use Rattle.std.specs.List.{All}
+use Rattle.std.proofs.lemmas.List.Elements.{filter-append, All-get_or}
 use Rattle.std.proofs.lemmas.List.Sums.{fold-append}
 use Rattle.sim_base.specs.declared.config.Config.{Config}
 use Rattle.sim_base.specs.declared.rule.Rule.{Rule}
@@ -59,14 +60,24 @@ past-more past after s rows row c c' h f read last put more =
           elim (cases_eq k row.channel) [
             | inl same ↦
                 let value : get_or after.channels.items k d ≡ c' =
-                        ap (λ (xs : List Channel). get_or xs k d) put ∙ ap (λ n. get_or (set past.channels.items row.channel c') n d) same
-                        ∙ get_or-set_same past.channels.items row.channel c' d (omega (arith, h.channel_count, f.channel_in_range)) in
+                ap (λ (xs : List Channel). get_or xs k d) put ∙ ap (λ n. get_or (set past.channels.items row.channel c') n d) same
+                ∙ get_or-set_same past.channels.items row.channel c' d (omega (arith, h.channel_count, f.channel_in_range)) in
                 let those : rows_on k (rows ++ row ∷ []) ≡ rows_on row.channel rows ++ row ∷ [] = ap (λ n. rows_on n (rows ++ row ∷ [])) same ∙ rows_on-own rows row in
                 subst (λ (x : Channel). IsKept x s (rows_on k (rows ++ row ∷ []))) (sym value) (subst (λ (t : List CommandRow). IsKept c' s t) (sym those) kept)
             | inr apart ↦
                 let value : get_or after.channels.items k d ≡ get_or past.channels.items k d =
-                        ap (λ (xs : List Channel). get_or xs k d) put ∙ get_or-set_other past.channels.items row.channel k c' d apart in
+                ap (λ (xs : List Channel). get_or xs k d) put ∙ get_or-set_other past.channels.items row.channel k c' d apart in
                 subst (λ (x : Channel). IsKept x s (rows_on k (rows ++ row ∷ []))) (sym value)
                 (subst (λ (t : List CommandRow). IsKept (get_or past.channels.items k d) s t) (sym (rows_on-other rows row k apart)) (h.channels k d l))
           ];
+    }
+
+-- no rows
+pub past-first : (past : Past) (s : Config) → past.last ≡ None → length past.channels.items ≡ s.channels → All (λ (c : Channel). IsKept c s []) past.channels.items → IsPast past s []
+unfolding last_row
+past-first past s last count all =
+    record {
+      last = last;
+      channel_count = count;
+      channels = λ k d l. All-get_or (λ (c : Channel). IsKept c s []) past.channels.items k d (omega (arith, count)) all;
     }

@@ -76,8 +76,8 @@ next-less s (c ∷ rest) p b h =
     let a = (step default_config s c).1 in
     let s2 = (step default_config s c).0 in
     let l = one_step (is_end a) (fields_after a [] [], s2, rest) (next_record default_config s2 (fields_after a [] []) (field_after a c []) rest) p (length rest)
-            (λ e. record { less = omega arith; between = (step-fine s c).holds e })
-            (next-leaves s2 (fields_after a [] []) (field_after a c []) rest p) h in
+    (λ e. record { less = omega arith; between = (step-fine s c).holds e })
+    (next-leaves s2 (fields_after a [] []) (field_after a c []) rest p) h in
     (omega (arith, l.less), l.between)
 
 all-from : (n : ℕ) (s s2 : State) (xs ys : List ℕ) (rows : List (List (List ℕ))) → IsBetween s → length xs < n → Reached default_config s xs rows s2 ys

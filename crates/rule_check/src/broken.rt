@@ -64,13 +64,7 @@ fn kept_across_ranks(ranks: &[Rank], rank: u32, kind: Kind) -> Option<u64>
 
 /// The latest command of a kind that a rule of this scope binds to one in a rank, which names this bank, if it names one.
 #[tactic(auto, unfolding(crate::specs::Kept::kept))]
-fn kept(
-    channel: &Channel,
-    scope: Scope,
-    kind: Kind,
-    rank: u32,
-    bank: Option<BankId>,
-) -> Option<u64>
+fn kept(channel: &Channel, scope: Scope, kind: Kind, rank: u32, bank: Option<BankId>) -> Option<u64>
     ensures { result ≡ kept channel.now scope kind rank bank }
 {
     match scope {
@@ -114,9 +108,7 @@ fn is_too_soon(channel: &Channel, rule: &Rule, row: CommandRow) -> bool
 fn breaks_distance(table: &[Rule], channel: &Channel, row: CommandRow, number: u32) -> bool
     ensures { result ≡ kept_breaks_distance table.now channel.now row number }
 {
-    table
-        .iter()
-        .any(|rule| rule.number == number && is_too_soon(channel, rule, row))
+    table.iter().any(|rule| rule.number == number && is_too_soon(channel, rule, row))
 }
 
 fn kept_window(ranks: &[Rank], rank: u32) -> u64

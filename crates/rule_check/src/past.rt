@@ -9,10 +9,9 @@ ghost use Rattle.rule_check.specs.Broken.{stands_wrongly, lowest_broken};
 ghost use Rattle.rule_check.specs.Kept.{IsKept, kept_breaks};
 ghost use Rattle.rule_check.specs.Past.{IsPast, past_breaks};
 
-use crate::broken;
-use crate::channel;
 use crate::rules::stands_before;
 use crate::state::{Channel, Past};
+use crate::{broken, channel};
 use sim_base::command::CommandRow;
 use sim_base::config::Config;
 use sim_base::rule::Rule;

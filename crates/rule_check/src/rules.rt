@@ -163,7 +163,19 @@ pub(crate) fn rules(t: &Timing) -> [Rule; 30]
         rule(17, Ref, Ref, InRank, u64::from(t.n_rfc)),
         rule(19, Rd, Rd, AcrossRanks, turn),
         rule(19, Wr, Wr, AcrossRanks, turn),
-        rule(20, Rd, Wr, AcrossRanks, (u64::from(t.n_cl) + turn).saturating_sub(u64::from(t.n_cwl))),
-        rule(21, Wr, Rd, AcrossRanks, (write_end + u64::from(t.n_rtrs)).saturating_sub(u64::from(t.n_cl))),
+        rule(
+            20,
+            Rd,
+            Wr,
+            AcrossRanks,
+            (u64::from(t.n_cl) + turn).saturating_sub(u64::from(t.n_cwl)),
+        ),
+        rule(
+            21,
+            Wr,
+            Rd,
+            AcrossRanks,
+            (write_end + u64::from(t.n_rtrs)).saturating_sub(u64::from(t.n_cl)),
+        ),
     ]
 }

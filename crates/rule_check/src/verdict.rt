@@ -6,8 +6,5 @@ pub enum Verdict {
     /// Each row is well-formed and keeps every rule.
     Legal,
     /// The first row at fault, counted from 1, and the lowest rule that it breaks, from 1 to 21.
-    Broken {
-        row: u64,
-        rule: u8,
-    },
+    Broken { row: u64, rule: u8 },
 }
