@@ -1,3 +1,5 @@
 pub mod Requests
 pub mod Spans
 pub mod Stretches
+pub mod Marks
+pub mod Cycle
