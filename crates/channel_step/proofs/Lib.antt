@@ -3,3 +3,5 @@ pub mod Spans
 pub mod Stretches
 pub mod Marks
 pub mod Cycle
+pub mod Chosen
+pub mod Fits

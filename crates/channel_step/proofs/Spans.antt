@@ -92,6 +92,11 @@ pub channel_run-one : (s : Config) (channel : ℕ) (rows : List (Option Command)
 unfolding channel_run
 channel_run-one s channel rows mail n = ap (channel_run s channel rows mail) (add-one n)
 
+-- the first cycle
+pub channel_run-first : (s : Config) (channel : ℕ) (rows : List (Option Command)) (mail : List Message) → channel_run s channel rows mail 1 ≡ rows ++ choice s channel rows mail ∷ []
+unfolding channel_run
+channel_run-first s channel rows mail = refl
+
 -- what arrives after these cycles does not count
 pub channel_run-same : (s : Config) (channel : ℕ) (rows : List (Option Command)) (a b : List Message) (n : ℕ) → AgreeUpTo (length rows + n) a b
     → channel_run s channel rows a n ≡ channel_run s channel rows b n
