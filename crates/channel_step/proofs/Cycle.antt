@@ -30,7 +30,7 @@ use Rattle.channel_step.specs.Fit.{IsUnnamed}
 use Rattle.channel_step.specs.Stands.{marks_of, Recalls, HasJoined}
 use Rattle.channel_step.proofs.Requests.{ArrivedBefore, requests-arrived, carries-stamped, waiting-arrivals, waiting-until, waiting-command, unserved_by}
 use Rattle.channel_step.proofs.Spans.{queue-next, drains-next, drains_before-row, choice-next}
-use Rattle.channel_step.proofs.Marks.{unnamed-marks, marks-no_act, marks-act, marked_at, opens_none, moves_none, map-remove, served-remove, served-none, column-opens_none}
+use Rattle.channel_step.proofs.Marks.{unnamed-marks, marks-no_act, marks-act, opens_none, moves_none, map-remove, served-remove, served-none, column-opens_none}
 
 -- the requests that arrive in the cycle after these rows, and that no command has named
 pub record Arrives (s : Config) (channel : ℕ) (rows : List (Option Command)) (mail new : List Message) : Type 0 where

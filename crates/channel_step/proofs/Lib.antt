@@ -5,3 +5,7 @@ pub mod Marks
 pub mod Cycle
 pub mod Chosen
 pub mod Fits
+pub mod Waits
+pub mod Places
+pub mod Deciding
+pub mod Issuing

@@ -17,6 +17,7 @@ use Rattle.sim_base.specs.declared.message.Request.{Request}
 use Rattle.sim_base.specs.declared.place.BankId.{BankId}
 use Rattle.channel_step.specs.Past.{IsOther, Differ, is_named}
 use Rattle.channel_step.specs.Fit.{is_named_by, IsUnnamed}
+use Rattle.channel_step.specs.Queued.{marked_at}
 use Rattle.channel_step.proofs.Requests.{unserved_by, filter-each, filter-agree, unserved-remove}
 
 -- the marks of some requests
@@ -90,10 +91,6 @@ marks-no_act history i rs h =
     map-agree (is_named (history ++ i ∷ [])) (is_named history) rs
     (each-all _ (λ r. named-command history i r ∙ ap (λ b. is_named history r || b) (no_act (source_of r) i.command h) ∙ or-false (is_named history r)) rs)
 
--- an ACT adds the mark of the request of its entry
-abbrev pub marked_at : List Bool → List Request → Source → List Bool
-marked_at marks rs source = slice_set marks (position_or_len (λ r. is_source r source) rs) true
-
 same_entry : (x q : Request) (source : Source) → is_source x source ≡ true → is_source q (source_of x) ≡ false → is_source q source ≡ false
 same_entry x q source h k = grind (arith, nat_tests)
 
@@ -117,6 +114,7 @@ mark-first f (x ∷ xs) source d = by (is_source x source) refl (mark-first f xs
         ∙ sym (ap (λ b. slice_set (f x ∷ map f xs) (cond (not b) (1 + position_or_len (λ r. is_source r source) xs) 0) true) e
         ∙ ap (λ k. slice_set (f x ∷ map f xs) k true) (next (position_or_len (λ r. is_source r source) xs)))
 
+-- an ACT adds the mark of the request of its entry
 pub marks-act : (history : List CommandRow) (i : CommandRow) (rs : List Request) (bank : BankId) (row : ℕ) (source : Source) → Differ rs → i.command ≡ Act bank row source
     → marks (history ++ i ∷ []) rs ≡ marked_at (marks history rs) rs source
 marks-act history i rs bank row source d e =

@@ -1,3 +1,7 @@
 pub mod Past
 pub mod Fit
 pub mod Stands
+pub mod Queued
+pub mod Owed
+pub mod Counted
+pub mod Channels
