@@ -1,18 +1,17 @@
 //! A channel that is run alone over a span of cycles.
 
-ghost use Rattle.std.specs.Prelude.{◌≡◌, ℕ, ◌+◌, ◌<◌, ◌≤◌, ◌^◌, ◌++◌, List, [], ◌∷◌, length, Option, Some, None, option_map, is_some, IfSome, IfOk};
+ghost use Rattle.std.specs.Prelude.{◌≡◌, ℕ, ◌+◌, ◌<◌, ◌≤◌, ◌^◌, ◌++◌, List, [], ◌∷◌, length, Option, Some, None, option_map, IfSome, IfOk};
 ghost use Rattle.sim_base.specs.Scheduling.{choice};
 ghost use Rattle.sim_base.specs.declared.config.Config.{Config};
 ghost use Rattle.sim_base.specs.declared.command.Command.{Command};
 ghost use Rattle.sim_base.specs.declared.message.Message.{Message};
-ghost use Rattle.refresh.specs.Refreshes.{lowest_owed};
-ghost use Rattle.queue.specs.View.{is_draining};
 ghost use Rattle.fr_fcfs.specs.Choices.{IsFor};
 ghost use Rattle.statistics.specs.Channels.{channel_joined, ChannelFits};
 ghost use Rattle.channel_step.specs.Counted.{cycle_with_hit};
-ghost use Rattle.channel_step.specs.Channels.{StandsFor, IsInCycle, IsInSomeCycle};
+ghost use Rattle.channel_step.specs.Channels.{StandsFor, IsInCycle, IsInSomeCycle, IsChosen, seen_of};
 
 use crate::counting::{Seen, cycle_stats};
+use crate::noting::note_refresh;
 use crate::waiting::Waiting;
 use bank_ready::banks::Banks;
 use fr_fcfs::Scratch;
@@ -56,7 +55,7 @@ impl Channel {
 
     /// What is seen of the channel before it issues a command.
     fn seen(&self, now: Cycle) -> Seen
-        ensures { result ≡ record { queued = length self.now.waiting.queue.requests; refreshing = is_some (lowest_owed self.now.refresh now); draining = is_draining self.now.waiting.queue } }
+        ensures { result ≡ seen_of self.now now }
     {
         Seen {
             queued: self.waiting.queue().len(),
@@ -72,5 +71,44 @@ impl Channel {
     {
         let cycle = cycle_stats(&self.config, seen, command, hit);
         self.stats = self.stats.joined(cycle);
+    }
+
+    /// Does what was chosen for a cycle, and counts the cycle.
+    fn perform(&mut self, chosen: Choice, seen: Seen, now: Cycle)
+        requires chosen { IsChosen self.old now chosen.command }
+        requires now { now < 2 ^ 62 }
+        requires slot { IsFor self.old.waiting.queue.requests chosen }
+        requires seen { seen ≡ seen_of self.old now }
+        ensures { (s : Config) (channel : ℕ) (rows : List (Option Command)) (mail : List Message)
+            → IsInCycle self.old s channel rows mail → length rows ≡ now → Some chosen.command ≡ choice s channel rows mail
+            → StandsFor self.new s channel (rows ++ Some chosen.command ∷ []) mail }
+    {
+        let hit = self.waiting.take(chosen);
+        self.banks.note(chosen.command, now);
+        note_refresh(&mut self.refresh, chosen.command, now);
+        self.count(seen, Some(chosen.command), hit);
+    }
+
+    /// Does what a channel does in a cycle, once what arrives in it has joined the queue.
+    fn issue(&mut self, now: Cycle) -> Option<Command>
+        requires in_cycle { IsInSomeCycle self.old now }
+        requires now { now < 2 ^ 62 }
+        ensures command { (s : Config) (channel : ℕ) (rows : List (Option Command)) (mail : List Message)
+            → IsInCycle self.old s channel rows mail → length rows ≡ now → result ≡ choice s channel rows mail }
+        ensures stands { (s : Config) (channel : ℕ) (rows : List (Option Command)) (mail : List Message)
+            → IsInCycle self.old s channel rows mail → length rows ≡ now → StandsFor self.new s channel (rows ++ result ∷ []) mail }
+    {
+        let choice = self.decide(now);
+        let seen = self.seen(now);
+        match choice {
+            None => {
+                self.count(seen, None, false);
+                None
+            }
+            Some(chosen) => {
+                self.perform(chosen, seen, now);
+                Some(chosen.command)
+            }
+        }
     }
 }
