@@ -101,6 +101,15 @@ fit-arrives s channel rows mail inbox now until at h =
       unnamed = (split-append (IsUnnamed (issued_commands channel rows)) (requests_of (take n inbox)) (requests_of (drop n inbox)) (subst (Each (IsUnnamed (issued_commands channel rows))) named h.unnamed)).0;
     }
 
+-- the others arrive later
+pub fit-later : (s : Config) (channel : ℕ) (rows : List (Option Command)) (mail inbox : List Message) (now until : ℕ) → length rows ≡ now → IsFit s channel rows mail inbox now until
+    → Each (CarriesRequest s channel) (drop (due_count inbox now) inbox) × NotBefore (length rows + 1) (drop (due_count inbox now) inbox)
+fit-later s channel rows mail inbox now until at h =
+    let n = due_count inbox now in
+    ((split-each (CarriesRequest s channel) n inbox h.requests).1,
+    Each-weaker (λ (m : Message). now + 1 ≤ m.arrival) (λ (m : Message). length rows + 1 ≤ m.arrival) (λ m l. omega arith) (drop n inbox)
+    (arrive-later now inbox h.by_age (Each-weaker (λ (m : Message). (now ≤ m.arrival) × (m.arrival < until)) (λ (m : Message). now ≤ m.arrival) (λ m k. k.0) inbox h.in_span)))
+
 unnamed_by : (command : Command) (rest : List Request) → IfSome (source_in command) (λ source. Each (λ (r : Request). is_source r source ≡ false) rest)
     → Each (λ (r : Request). is_named_by command r ≡ false) rest
 unnamed_by command rest h = by (source_in command) h

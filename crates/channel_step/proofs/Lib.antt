@@ -9,3 +9,4 @@ pub mod Waits
 pub mod Places
 pub mod Deciding
 pub mod Issuing
+pub mod Stepping

@@ -5,3 +5,4 @@ pub mod Queued
 pub mod Owed
 pub mod Counted
 pub mod Channels
+pub mod Runs

@@ -1,6 +1,6 @@
 //! A channel that is run alone over a span of cycles.
 
-ghost use Rattle.std.specs.Prelude.{◌≡◌, ℕ, ◌+◌, ◌<◌, ◌≤◌, ◌^◌, ◌++◌, List, [], ◌∷◌, length, Option, Some, None, option_map, IfSome, IfOk};
+ghost use Rattle.std.specs.Prelude.{◌≡◌, ℕ, ◌+◌, ◌<◌, ◌≤◌, ◌^◌, ◌==◌, take_while, ◌++◌, List, [], ◌∷◌, length, Option, Some, None, option_map, IfSome, IfOk};
 ghost use Rattle.sim_base.specs.Scheduling.{choice};
 ghost use Rattle.sim_base.specs.declared.config.Config.{Config};
 ghost use Rattle.sim_base.specs.declared.command.Command.{Command};
@@ -9,6 +9,8 @@ ghost use Rattle.fr_fcfs.specs.Choices.{IsFor};
 ghost use Rattle.statistics.specs.Channels.{channel_joined, ChannelFits};
 ghost use Rattle.channel_step.specs.Counted.{cycle_with_hit};
 ghost use Rattle.channel_step.specs.Channels.{StandsFor, IsInCycle, IsInSomeCycle, IsChosen, seen_of};
+ghost use Rattle.channel_step.specs.Fit.{IsFit};
+ghost use Rattle.channel_step.specs.Runs.{IsStep, CanStep};
 
 use crate::counting::{Seen, cycle_stats};
 use crate::noting::note_refresh;
@@ -19,8 +21,9 @@ use fr_fcfs::choice::{Choice, choose};
 use refresh::Refresh;
 use sim_base::command::Command;
 use sim_base::config::Config;
-use sim_base::message::{ChannelId, Cycle};
+use sim_base::message::{ChannelId, Cycle, Message};
 use statistics::channels::ChannelStats;
+use std::alloc::AllocError;
 
 /// A channel, with all that it keeps of its past.
 #[derive(Drop)]
@@ -111,4 +114,28 @@ impl Channel {
             }
         }
     }
+
+    /// One cycle, in which those of these messages arrive that come first. Tells how many, and what the channel does.
+    fn step(
+        &mut self,
+        inbox: &[Message],
+        now: Cycle,
+    ) -> Result<(usize, Option<Command>), AllocError>
+        requires can_step { CanStep self.old inbox.now now }
+        requires now { now < 2 ^ 62 }
+        ensures { (s : Config) (channel : ℕ) (rows : List (Option Command)) (mail : List Message) (until : ℕ)
+            → StandsFor self.old s channel rows mail → length rows ≡ now → now < until → IsFit s channel rows mail inbox.now now until
+            → IfOk result (λ done. IsStep self.new s channel rows mail inbox.now now until done.0 done.1) }
+    {
+        let due = due_count(inbox, now);
+        self.waiting.admit(&inbox[..due])?;
+        Ok((due, self.issue(now)))
+    }
+}
+
+/// How many of these messages arrive in a cycle, as the first ones.
+fn due_count(inbox: &[Message], now: Cycle) -> usize
+    ensures { result ≡ length (take_while (λ m. m.arrival == now) inbox.now) }
+{
+    inbox.iter().take_while(|m| m.arrival == now).count()
 }

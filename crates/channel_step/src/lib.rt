@@ -3,6 +3,7 @@
 
 pub mod channel;
 mod counting;
+pub mod done;
 mod noting;
 mod sending;
 mod waiting;

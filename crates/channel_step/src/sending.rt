@@ -1,9 +1,10 @@
 //! What a channel sends.
 
 ghost use Rattle.std.specs.Prelude.{◌≡◌, ◌<◌, ◌^◌, ◌++◌, IfOk};
-ghost use Rattle.sim_base.specs.History.{reply, credit, messages_of};
+ghost use Rattle.sim_base.specs.History.{reply, credit, messages_of, messages_at};
+ghost use Rattle.channel_step.specs.Runs.{issued_in};
 
-use sim_base::command::{Command, Source};
+use sim_base::command::{Command, CommandRow, Source};
 use sim_base::config::Config;
 use sim_base::message::{ChannelId, Cycle, Load, Message};
 use std::alloc::AllocError;
@@ -68,6 +69,31 @@ pub(crate) fn send(
         | Command::Pre { .. }
         | Command::Prea { .. }
         | Command::Ref { .. } => {}
+    }
+    Ok(())
+}
+
+/// Adds what a channel does in a cycle to its commands, and what it sends to its messages. On an error some of it may be
+/// missing.
+pub(crate) fn tell(
+    config: &Config,
+    channel: ChannelId,
+    now: Cycle,
+    command: Option<Command>,
+    commands: &mut Vec<CommandRow>,
+    messages: &mut Vec<Message>,
+) -> Result<(), AllocError>
+    requires { now < 2 ^ 62 }
+    ensures commands { IfOk result (λ u. commands.new.items ≡ commands.old.items ++ issued_in channel now command) }
+    ensures messages { IfOk result (λ u. messages.new.items ≡ messages.old.items ++ messages_at config.now channel now command) }
+{
+    if let Some(command) = command {
+        commands.push(CommandRow {
+            cycle: now,
+            channel,
+            command,
+        })?;
+        send(config, channel, now, command, messages)?;
     }
     Ok(())
 }
