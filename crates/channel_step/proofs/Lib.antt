@@ -10,3 +10,4 @@ pub mod Places
 pub mod Deciding
 pub mod Issuing
 pub mod Stepping
+pub mod Running

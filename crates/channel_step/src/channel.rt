@@ -10,10 +10,12 @@ ghost use Rattle.statistics.specs.Channels.{channel_joined, ChannelFits};
 ghost use Rattle.channel_step.specs.Counted.{cycle_with_hit};
 ghost use Rattle.channel_step.specs.Channels.{StandsFor, IsInCycle, IsInSomeCycle, IsChosen, seen_of};
 ghost use Rattle.channel_step.specs.Fit.{IsFit};
-ghost use Rattle.channel_step.specs.Runs.{IsStep, CanStep};
+ghost use Rattle.channel_step.specs.Runs.{IsStep, CanStep, CanRun, IsDone};
 
 use crate::counting::{Seen, cycle_stats};
+use crate::done::ChannelDone;
 use crate::noting::note_refresh;
+use crate::sending::tell;
 use crate::waiting::Waiting;
 use bank_ready::banks::Banks;
 use fr_fcfs::Scratch;
@@ -23,7 +25,7 @@ use sim_base::command::Command;
 use sim_base::config::Config;
 use sim_base::message::{ChannelId, Cycle, Message};
 use statistics::channels::ChannelStats;
-use std::alloc::AllocError;
+use std::alloc::{AllocError, Global};
 
 /// A channel, with all that it keeps of its past.
 #[derive(Drop)]
@@ -130,6 +132,44 @@ impl Channel {
         let due = due_count(inbox, now);
         self.waiting.admit(&inbox[..due])?;
         Ok((due, self.issue(now)))
+    }
+
+    /// Runs the channel over the cycles from `from` on and before `until`, in which these messages arrive, by arrival and then
+    /// by link. The channel that comes back stands at `until`. On an error, which is want of memory alone, it is gone.
+    pub fn run(
+        mut self,
+        alloc: Global,
+        inbox: &[Message],
+        from: Cycle,
+        until: Cycle,
+    ) -> Result<ChannelDone, AllocError>
+        requires can_run { CanRun self inbox.now from until }
+        requires span { from ≤ until }
+        requires until { until ≤ 2 ^ 62 }
+        ensures { (s : Config) (channel : ℕ) (rows : List (Option Command)) (mail : List Message)
+            → StandsFor self s channel rows mail → length rows ≡ from → IsFit s channel rows mail inbox.now from until
+            → IfOk result (λ done. IsDone done s channel rows mail inbox.now from until) }
+    {
+        let mut commands = Vec::new(alloc);
+        let mut messages = Vec::new(alloc);
+        let mut arrived = 0;
+        for now in from..until {
+            let (due, command) = self.step(&inbox[arrived..], now)?;
+            arrived += due;
+            tell(
+                &self.config,
+                self.number,
+                now,
+                command,
+                &mut commands,
+                &mut messages,
+            )?;
+        }
+        Ok(ChannelDone {
+            channel: self,
+            commands,
+            messages,
+        })
     }
 }
 
