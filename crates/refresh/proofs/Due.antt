@@ -1,6 +1,6 @@
 -- What is due by the counts is what is due by the commands that they stand for.
 use Rattle.std.proofs.Common.{◌≡◌, ℕ, zero, suc, ◌+◌, ◌-◌, ◌*◌, ◌/◌, ◌<◌, ◌≤◌, Bool, true, false, cond, eqb, ltb, max, eq-eqb, ne_eqb, rules, List, [], ◌∷◌, ◌++◌, length, Option, Some, None, refl, sym, ap, subst, ◌∙◌, inl, inr, arith}
-use Rattle.std.proofs.lemmas.Bool.{cond-true, cond-false, cases_lt, cases_eq, false≢true, lt-ltb, le-ltb}
+use Rattle.std.proofs.lemmas.Bool.{cond-true, cond-false, cases_lt, cases_eq, false≢true, lt-ltb, le-ltb, lt-leb, le-leb}
 use Rattle.std.proofs.lemmas.List.Sums.{sum_by_push}
 use Rattle.std.proofs.lemmas.List.{get_or-set_same, get_or-set_other}
 use Rattle.std.proofs.Math.Nat.{div-lt_iff_lt-mul}
@@ -11,7 +11,7 @@ use Rattle.sim_base.specs.declared.command.CommandRow.{CommandRow}
 use Rattle.sim_base.specs.declared.command.Command.TheVariants.{Ref}
 use Rattle.sim_base.specs.History.{below}
 use Rattle.sim_base.specs.Scheduling.{due, lowest_due, refreshes}
-use Rattle.refresh.specs.Refreshes.{RefreshCounts, owed, lowest_owed, IsFirstDue, IsFewest, IsNoRefresh, StandsFor}
+use Rattle.refresh.specs.Refreshes.{RefreshCounts, owed, lowest_owed, IsFirstDue, IsDueFrom, IsFewest, IsNoRefresh, StandsFor}
 
 -- what is due to a rank
 pub due_from_owed : (counts : RefreshCounts) (s : Config) (rank : ℕ) (history : List CommandRow) (now : ℕ) → StandsFor counts s history → rank < counts.ranks
@@ -86,6 +86,43 @@ first_due_from_owed counts s history now next stands first = record {
   from_now = first.from_now;
   due = subst IsSome (sym (lowest_due_from_owed counts s history next stands)) first.due;
   none_before = λ cycle from before. lowest_due_from_owed counts s history cycle stands ∙ first.none_before cycle from before;
+}
+
+-- Where there are refreshes, one is due to a rank from the end of the interval on that follows those which it had.
+pub rank_due_from : (counts : RefreshCounts) (rank now next : ℕ) → 0 < counts.interval → next ≡ max now ((slice_index counts.issued rank + 1) * counts.interval)
+    → IsDueFrom (owed counts rank) now (Some next)
+rank_due_from counts rank now next some is =
+    let interval = counts.interval in
+    let had = slice_index counts.issued rank in
+    record {
+      from_now = omega arith;
+      due_at = λ cycle from. elim (cases_lt cycle ((had + 1) * interval)) [
+        | inl early ↦
+            let few : cycle / interval < had + 1 = (div-lt_iff_lt-mul some).1 early in
+            le-ltb 0 _ (omega (arith, owed_is counts rank cycle some, few)) ∙ sym (lt-leb next cycle (omega arith))
+        | inr late ↦
+            let over : had < cycle / interval =
+            elim (cases_lt had (cycle / interval)) [
+              | inl before ↦ before
+              | inr after ↦ let short : cycle < (had + 1) * interval = (div-lt_iff_lt-mul some).0 (omega arith) in absurd (omega arith)
+            ] in
+            lt-ltb 0 _ (omega (arith, owed_is counts rank cycle some, over)) ∙ sym (le-leb next cycle (omega arith))
+      ];
+    }
+
+-- Where there are none, none is ever due.
+pub rank_never_due : (counts : RefreshCounts) (rank now : ℕ) → counts.interval ≡ 0 → IsDueFrom (owed counts rank) now None
+rank_never_due counts rank now none = record {
+  from_now = tt;
+  due_at = λ cycle from. ap (ltb 0) (cond-true (eqb counts.interval 0) 0 _ (eq-eqb counts.interval 0 none));
+}
+
+-- the same by the commands that the counts stand for
+pub rank_due_from_owed : (counts : RefreshCounts) (s : Config) (history : List CommandRow) (rank now : ℕ) (first : Option ℕ) → StandsFor counts s history → rank < counts.ranks
+    → IsDueFrom (owed counts rank) now first → IsDueFrom (due s rank history) now first
+rank_due_from_owed counts s history rank now first stands exists is = record {
+  from_now = is.from_now;
+  due_at = λ cycle from. ap (ltb 0) (due_from_owed counts s rank history cycle stands exists) ∙ is.due_at cycle from;
 }
 
 one_more : {X : Type 0} (p : X → Bool) (xs : List X) (x : X) → count_by p (xs ++ x ∷ []) ≡ count_by p xs + cond (p x) 1 0

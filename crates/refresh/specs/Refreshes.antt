@@ -3,9 +3,10 @@
 --     owed counts rank now      refreshes of a rank that are due
 --     lowest_owed counts now      the lowest rank with a refresh that is due
 --     IsFirstDue lowest now time      the first cycle from now on with a refresh that is due
+--     IsDueFrom count now due      from which cycle on something is due, as seen from now
 --     IsFewest counts fewest      the refreshes of the rank that had the fewest
 --     StandsFor counts s history      the refreshes of a list of commands were counted, and no others
-use Rattle.std.specs.Prelude.{◌≡◌, ℕ, ◌-◌, ◌*◌, ◌^◌, ◌/◌, ◌<◌, ◌≤◌, ◌==◌, nat_lt, List, slice_index, find, count_by, false, Option, IsSome, None, if◌then◌else◌}
+use Rattle.std.specs.Prelude.{◌≡◌, ℕ, ◌-◌, ◌*◌, ◌^◌, ◌/◌, ◌<◌, ◌≤◌, ◌==◌, nat_lt, nat_le, Bool, List, slice_index, find, count_by, false, Option, IsSome, IfSome, Some, None, if◌then◌else◌}
 use Rattle.sim_base.specs.declared.config.Config.{Config}
 use Rattle.sim_base.specs.declared.command.Command.{Command}
 use Rattle.sim_base.specs.declared.command.CommandRow.{CommandRow}
@@ -31,6 +32,16 @@ pub record IsFirstDue (lowest : ℕ → Option ℕ) (now time : ℕ) : Type 0 wh
   pub from_now : now ≤ time
   pub due : IsSome (lowest time)
   pub none_before : (cycle : ℕ) → now ≤ cycle → cycle < time → lowest cycle ≡ None
+
+-- whether a cycle is at the one from which on something is due, or after it
+abbrev pub is_due_at : Option ℕ → ℕ → Bool
+is_due_at None cycle = false
+is_due_at (Some first) cycle = nat_le first cycle
+
+-- Something is due in just the cycles from that one on, of those from now on, where it is told for each cycle how much is due.
+pub record IsDueFrom (count : ℕ → ℕ) (now : ℕ) (due : Option ℕ) : Type 0 where
+  pub from_now : IfSome due (λ first. now ≤ first)
+  pub due_at : (cycle : ℕ) → now ≤ cycle → nat_lt 0 (count cycle) ≡ is_due_at due cycle
 
 -- the least number of refreshes that a rank has had
 pub record IsFewest (counts : RefreshCounts) (fewest : ℕ) : Type 0 where

@@ -8,7 +8,7 @@ ghost use Rattle.sim_base.specs.Scheduling.{due, lowest_due};
 ghost use Rattle.sim_base.specs.declared.config.Config.{Config};
 ghost use Rattle.sim_base.specs.declared.command.Command.TheVariants.{Ref};
 ghost use Rattle.sim_base.specs.declared.command.CommandRow.{CommandRow};
-ghost use Rattle.refresh.specs.Refreshes.{RefreshCounts, owed, lowest_owed, IsFirstDue, IsFewest, StandsFor, IsNoRefresh, IsCountable};
+ghost use Rattle.refresh.specs.Refreshes.{RefreshCounts, owed, lowest_owed, IsFirstDue, IsDueFrom, IsFewest, StandsFor, IsNoRefresh, IsCountable};
 
 use sim_base::message::Cycle;
 use std::marker::Model;
@@ -132,6 +132,28 @@ impl Refresh {
         }
         let next = (self.fewest_issued() + 1) * u64::from(self.refresh_interval);
         Some(now.max(next))
+    }
+
+    /// The number of ranks.
+    pub fn ranks(&self) -> u32
+        ensures { result ≡ self.now.ranks }
+    {
+        self.ranks
+    }
+
+    /// The first cycle from `now` on in which a refresh of a rank is due, as long as no other of it is issued; None where there
+    /// are no refreshes.
+    pub fn first_due(&self, now: Cycle, rank: u32) -> Option<Cycle>
+        requires { rank < self.now.ranks }
+        ensures none { IsNone result ↔ (self.now.interval ≡ 0) }
+        ensures value { IsDueFrom (owed self.now rank) now result }
+        ensures stands { (s : Config) (history : List CommandRow) → StandsFor self.now s history → IsDueFrom (due s rank history) now result }
+    {
+        if self.refresh_interval == 0 {
+            return None;
+        }
+        let first = (self.issued(rank) + 1) * u64::from(self.refresh_interval);
+        Some(now.max(first))
     }
 
     /// Counts a refresh of a rank in cycle `now`. The counts then stand for the commands so far and this one.

@@ -1,0 +1,4 @@
+pub mod SameLine
+pub mod Eligible
+pub mod Kept
+pub mod Served

@@ -1,0 +1,3 @@
+pub mod Columns
+pub mod View
+pub mod Kept

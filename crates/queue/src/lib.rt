@@ -1,0 +1,191 @@
+//! The requests that wait in a channel, by age, and their columns.
+#![tactic(auto)]
+
+mod columns;
+mod lines;
+
+ghost use Rattle.std.specs.Prelude.{◌≡◌, ◌+◌, ◌<◌, ◌≤◌, ◌++◌, ℕ, List, [], ◌∷◌, Bool, false, IfOk, length, nat_le, remove, slice_index_or};
+ghost use Rattle.sim_base.specs.Scheduling.{drains_with, first_of_lines};
+ghost use Rattle.sim_base.specs.declared.config.Config.{Config};
+ghost use Rattle.sim_base.specs.declared.message.Request.{Request};
+ghost use Rattle.queue.specs.Columns.{bank_column, row_column, kind_column, eligible_column, marked_items, write_count};
+ghost use Rattle.queue.specs.View.{QueueView, drains_by, is_draining};
+
+use crate::columns::{bank_number, mark, push_within};
+use crate::lines::{give_turn, is_line_asked};
+use sim_base::message::Request;
+use std::alloc::{AllocError, Global};
+use std::marker::Model;
+
+/// The requests that wait in a channel, by age.
+#[derive(Drop)]
+pub struct Queue {
+    room: usize,
+    /// Writes with which a drain begins; 0: none ever does.
+    high: u32,
+    /// Writes with which a drain ends.
+    low: u32,
+    /// Whether it drained when that was settled last.
+    settled: bool,
+    /// Writes among the requests.
+    writes: usize,
+    requests: Vec<Request>,
+    banks: Vec<u64>,
+    rows: Vec<u64>,
+    kinds: Vec<u64>,
+    eligible: Vec<u64>,
+}
+
+impl Model for Queue {
+    ghost use Rattle.queue.specs.View.{QueueView};
+
+    ghost Value = { QueueView };
+
+    ghost use Rattle.queue.specs.Kept.{AreKept};
+
+    ghost view = { λ q. record { room = q.room; high = q.high; low = q.low; requests = q.requests.items; settled = q.settled } };
+
+    ghost invariant = { AreKept };
+}
+
+impl Queue {
+    /// An empty queue with places for `room` requests, which drains its writes from `high` of them on down to `low`, and never
+    /// where `high` is 0. Nothing else takes memory.
+    #[tactic(auto, unfolding(crate::specs::Columns::eligible_column))]
+    pub fn with_room(alloc: Global, room: usize, high: u32, low: u32) -> Result<Self, AllocError>
+        ensures { IfOk result (λ queue. queue ≡ record { room = room; high = high; low = low; requests = []; settled = false }) }
+    {
+        Ok(Queue {
+            room,
+            high,
+            low,
+            settled: false,
+            writes: 0,
+            requests: Vec::with_capacity(alloc, room)?,
+            banks: Vec::with_capacity(alloc, room)?,
+            rows: Vec::with_capacity(alloc, room)?,
+            kinds: Vec::with_capacity(alloc, room)?,
+            eligible: Vec::with_capacity(alloc, room)?,
+        })
+    }
+
+    /// How many requests wait.
+    pub fn len(&self) -> usize
+        ensures { result ≡ length self.now.requests }
+    {
+        self.requests.len()
+    }
+
+    /// Whether no place is free.
+    pub fn is_full(&self) -> bool
+        ensures value { result ≡ nat_le self.now.room (length self.now.requests) }
+        ensures within { length self.now.requests ≤ self.now.room }
+    {
+        self.room <= self.len()
+    }
+
+    /// Takes in a request that is younger than all that wait.
+    pub fn arrive(&mut self, request: Request)
+        requires { length self.old.requests < self.old.room }
+        ensures { self.new ≡ record self.old { requests = self.old.requests ++ request ∷ [] } }
+    {
+        let asked = is_line_asked(request.place, &self.requests);
+        push_within(&mut self.banks, bank_number(request.place));
+        push_within(&mut self.rows, u64::from(request.place.row));
+        push_within(&mut self.kinds, mark(request.write));
+        push_within(&mut self.eligible, mark(!asked));
+        push_within(&mut self.requests, request);
+        self.writes += usize::from(request.write);
+    }
+
+    /// Gives out the request at a place. The others keep their order, and the next one for its line has its turn.
+    pub fn serve(&mut self, slot: usize) -> Request
+        requires { slot < length self.old.requests }
+        ensures request { (d : Request) → result ≡ slice_index_or self.old.requests slot d }
+        ensures rest { self.new ≡ record self.old { requests = remove self.old.requests slot } }
+    {
+        let request = self.requests.remove(slot);
+        let _bank = self.banks.remove(slot);
+        let _row = self.rows.remove(slot);
+        let _kind = self.kinds.remove(slot);
+        let was_first = self.eligible.remove(slot) == 1;
+        if was_first {
+            give_turn(request.place, &self.requests, slot, &mut self.eligible);
+        }
+        self.writes -= usize::from(request.write);
+        request
+    }
+
+    /// Settles whether the queue drains with the requests that it has, as it does once in each cycle.
+    pub fn settle(&mut self)
+        ensures value { self.new ≡ record self.old { settled = is_draining self.old } }
+        ensures same { is_draining self.new ≡ is_draining self.old }
+    {
+        self.settled = self.draining();
+    }
+
+    /// Whether the queue drains its writes with the requests that it has; settling that now changes nothing of it.
+    pub fn draining(&self) -> bool
+        ensures { result ≡ is_draining self.now }
+    {
+        let high = self.high as usize;
+        let low = self.low as usize;
+        (0 < high && high <= self.writes) || (self.settled && low < self.writes)
+    }
+
+    /// The number of writes with which a drain begins; 0 where none ever does.
+    pub fn high(&self) -> u32
+        ensures { result ≡ self.now.high }
+    {
+        self.high
+    }
+
+    /// The requests, by age.
+    pub fn requests(&self) -> &[Request]
+        ensures { result.now ≡ self.now.requests }
+    {
+        &self.requests
+    }
+
+    /// The number of the bank of each request, by age: 16 times its rank, 4 times its group and its bank, together.
+    pub fn banks(&self) -> &[u64]
+        ensures { result.now ≡ bank_column self.now.requests }
+    {
+        &self.banks
+    }
+
+    /// The row of each request, by age.
+    pub fn rows(&self) -> &[u64]
+        ensures { result.now ≡ row_column self.now.requests }
+    {
+        &self.rows
+    }
+
+    /// The kind of each request, by age: 1 for a write, 0 for a read.
+    pub fn kinds(&self) -> &[u64]
+        ensures { result.now ≡ kind_column self.now.requests }
+    {
+        &self.kinds
+    }
+
+    /// Which requests may be served, by age: 1 where no older request of the same line waits, 0 elsewhere.
+    pub fn eligible(&self) -> &[u64]
+        ensures { result.now ≡ eligible_column self.now.requests }
+    {
+        &self.eligible
+    }
+}
+
+/// A law about the definitions: the requests that are marked eligible are those with no older one for the same line.
+#[tactic(auto, using(crate::proofs::Eligible::marked_eligible))]
+pub fn eligible_are_first_of_lines()
+    ensures { (requests : List Request) → marked_items requests (eligible_column requests) ≡ first_of_lines requests }
+{}
+
+/// A law about the definitions: a queue with the marks of a configuration drains as that says.
+pub fn drains_as_configured()
+    ensures { (s : Config) (drained : Bool) (writes : ℕ) → drains_by s.write_high s.write_low drained writes ≡ drains_with s drained writes }
+{}
+
+#[cfg(test)]
+mod tests;
