@@ -1,0 +1,67 @@
+-- What a channel decides in a cycle.
+use Rattle.std.proofs.Common.{◌≡◌, ℕ, ◌+◌, ◌<◌, ◌≤◌, Bool, List, [], ◌∷◌, length, Option, Some, None, refl, sym, ap, ap₂, subst, ◌∙◌, arith}
+use Rattle.std.specs.Prelude.{count_by, option_map}
+use Rattle.std.specs.List.{All}
+use Rattle.sim_base.specs.declared.config.Config.{Config}
+use Rattle.sim_base.specs.History.{issued_commands}
+use Rattle.sim_base.specs.Scheduling.{waiting, drains_with, drains_before, drains, candidates, choice_between, choice, lowest_due}
+use Rattle.sim_base.specs.declared.command.Command.{Command}
+use Rattle.sim_base.specs.declared.command.CommandRow.{CommandRow}
+use Rattle.sim_base.specs.declared.message.Message.{Message}
+use Rattle.sim_base.specs.declared.message.Request.{Request}
+use Rattle.bank_ready.specs.Stands.{rank_count}
+use Rattle.queue.specs.View.{QueueView, is_draining, drains_by}
+use Rattle.queue.specs.Columns.{write_count}
+use Rattle.fr_fcfs.specs.Columns.{IsInBanks}
+use Rattle.fr_fcfs.specs.Choices.{StandFor, choice_in}
+use Rattle.channel_step.specs.Channels.{IsMadeFor, StandsFor, IsInCycle, IsInSomeCycle}
+use Rattle.channel_step.specs.declared.channel.Channel.{Channel}
+use Rattle.channel_step.proofs.Cycle.{joined-choice}
+use Rattle.channel_step.proofs.Places.{queue-in_banks}
+use Rattle.channel_step.proofs.Spans.{drains-next}
+use Rattle.channel_step.proofs.Stretches.{drains-twice}
+
+drains-configured : (c : Channel) (s : Config) (channel : ℕ) → IsMadeFor c s channel → is_draining c.waiting.queue ≡ drains_with s c.waiting.queue.settled (write_count c.waiting.queue.requests)
+drains-configured c s channel h =
+    ap₂ (λ high low. drains_by high low c.waiting.queue.settled (write_count c.waiting.queue.requests)) h.high_is h.low_is
+
+-- what is settled holds for the cycle
+pub settled-drains : (c : Channel) (s : Config) (channel : ℕ) (rows : List (Option Command)) (mail : List Message) → IsInCycle c s channel rows mail
+    → is_draining c.waiting.queue ≡ c.waiting.queue.settled
+settled-drains c s channel rows mail h =
+    let j = h.joined in
+    let writes = write_count c.waiting.queue.requests in
+    let before = drains_before s channel rows mail (length rows) in
+    let is : c.waiting.queue.settled ≡ drains_with s before writes =
+    j.drained_is ∙ drains-next s channel rows mail ∙ ap (λ q. drains_with s before (write_count q)) (sym j.queue_is) in
+    drains-configured c s channel h.made_for
+    ∙ ap (λ d. drains_with s d writes) is
+    ∙ drains-twice s before writes
+    ∙ sym is
+
+-- the banks that the requests of a cycle ask for
+pub cycle-in_banks : (c : Channel) (now : ℕ) (queue : QueueView) → IsInSomeCycle c now → queue ≡ c.waiting.queue → All (IsInBanks (rank_count c.banks)) queue.requests
+cycle-in_banks c now queue h e =
+    let i = h.is_in in
+    queue-in_banks h.s h.channel (rank_count c.banks) (issued_commands h.channel h.rows) h.mail (length h.rows + 1) queue.requests
+    i.banks_stand.ranks i.joined.requests (ap (λ (q : QueueView). q.requests) e ∙ i.joined.queue_is)
+
+-- what is chosen for the queue is what the channel does
+pub cycle-choice : (c : Channel) (s : Config) (channel : ℕ) (rows : List (Option Command)) (mail : List Message) (now : ℕ) (queue : QueueView) → IsInCycle c s channel rows mail → length rows ≡ now
+    → queue ≡ c.waiting.queue → choice_in s (issued_commands channel rows) queue now ≡ choice s channel rows mail
+cycle-choice c s channel rows mail now queue h at e =
+    let history = issued_commands channel rows in
+    ap₂ (λ t (q : QueueView). choice_between s history t (candidates s (is_draining q) q.requests) (lowest_due s history t)) (sym at) e
+    ∙ ap (λ d. choice_between s history (length rows) (candidates s d c.waiting.queue.requests) (lowest_due s history (length rows))) (settled-drains c s channel rows mail h)
+    ∙ sym (joined-choice _ _ _ _ s channel rows mail h.joined)
+
+-- the parts of the channel stand for its commands
+pub cycle-stands : (c : Channel) (s : Config) (channel : ℕ) (rows : List (Option Command)) (mail : List Message) (queue : QueueView) → IsInCycle c s channel rows mail → queue ≡ c.waiting.queue
+    → StandFor c.banks c.refresh queue c.config.groups s (issued_commands channel rows)
+cycle-stands c s channel rows mail queue h e =
+    record {
+      banks_stand = h.banks_stand;
+      refreshes_stand = h.refreshes_stand;
+      groups_are = ap (λ (x : Config). x.groups) (sym h.made_for.config_is);
+      high_is = sym h.made_for.high_is ∙ ap (λ (q : QueueView). q.high) (sym e);
+    }

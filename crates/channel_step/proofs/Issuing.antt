@@ -1,0 +1,312 @@
+-- What a command that a channel issues leaves.
+use Rattle.std.proofs.Common.{◌≡◌, ℕ, zero, suc, ◌+◌, ◌<◌, ◌≤◌, ◌^◌, Bool, true, false, cond, List, [], ◌∷◌, ◌++◌, length, get_or, map, Option, Some, None, refl, sym, ap, ap₂, subst, ◌∙◌, arith}
+use Rattle.std.specs.Prelude.{count_by, option_map, is_some, not, remove, slice_get, filter, filter_map, max}
+use Rattle.std.specs.Option.{IfSome, ForSome}
+use Rattle.std.specs.Prelude.{MatchOption}
+use Rattle.std.specs.List.{All, AllByRecursion as Each, cons_option, enumerate_from}
+use Rattle.std.proofs.lemmas.Bool.{true≢false}
+use Rattle.std.proofs.lemmas.List.{append-nil}
+use Rattle.std.proofs.lemmas.List.Elements.{All-from_recursion}
+use Rattle.sim_base.proofs.Ordered.{Each-weaker}
+use Rattle.sim_base.specs.declared.config.Config.{Config}
+use Rattle.sim_base.specs.Counts.{queued_max, is_hit}
+use Rattle.sim_base.specs.History.{issued_at, issued_commands}
+use Rattle.sim_base.specs.Rules.{rank_of}
+use Rattle.sim_base.specs.Scheduling.{choice, choice_between, candidates, lowest_due, due, is_column_command, column_command}
+use Rattle.sim_base.specs.declared.command.Command.{Command}
+use Rattle.sim_base.specs.declared.command.Command.TheVariants.{Act, Rd, Wr, Pre, Prea, Ref}
+use Rattle.sim_base.specs.declared.command.CommandRow.{CommandRow}
+use Rattle.sim_base.specs.declared.message.Message.{Message}
+use Rattle.sim_base.specs.declared.message.Request.{Request}
+use Rattle.bank_ready.specs.Stands.{rank_count, StandsFor as BanksStandFor}
+use Rattle.bank_ready.specs.declared.banks.Banks.{Banks}
+use Rattle.refresh.specs.Refreshes.{RefreshCounts, owed, lowest_owed, StandsFor as RefreshesStandFor}
+use Rattle.refresh.proofs.Due.{due_from_owed, lowest_due_from_owed}
+use Rattle.statistics.specs.Channels.{channel_stats, channel_cycle_with, channel_joined, moves_hit, ChannelFits}
+use Rattle.statistics.specs.declared.channels.ChannelStats.{ChannelStats}
+use Rattle.statistics.proofs.ChannelBounds.{channel_stats-fit}
+use Rattle.statistics.proofs.ChannelSteps.{issued_now, issued_commands-push}
+use Rattle.statistics.proofs.Lists.{length-push_suc}
+use Rattle.fr_fcfs.specs.Choices.{Serves, IsFor}
+use Rattle.fr_fcfs.specs.declared.choice.Choice.{Choice}
+use Rattle.queue.specs.View.{QueueView}
+use Rattle.channel_step.specs.Past.{Differ, is_named}
+use Rattle.channel_step.specs.Fit.{queue_room}
+use Rattle.channel_step.specs.Stands.{marks_of, Recalls, HasJoined}
+use Rattle.channel_step.specs.Queued.{Queued, marked_at, without, after_command, after, moves_unmarked}
+use Rattle.channel_step.specs.Counted.{cycle_with_hit}
+use Rattle.channel_step.specs.Owed.{RefIsOwed}
+use Rattle.channel_step.specs.Channels.{IsMadeFor, StandsFor, IsInCycle, IsInSomeCycle, seen_of}
+use Rattle.channel_step.specs.declared.counting.Seen.{Seen}
+use Rattle.channel_step.proofs.Deciding.{settled-drains}
+use Rattle.channel_step.specs.declared.channel.Channel.{Channel}
+use Rattle.channel_step.proofs.Requests.{unserved_by}
+use Rattle.channel_step.proofs.Marks.{marks-act, marks-no_act, moves_none, opens_none, map-remove, served-remove, served-none, hit-mark, column-opens_none}
+use Rattle.channel_step.proofs.Cycle.{queue_after, marks_after, joined-choice, joined-differ, recalled}
+use Rattle.channel_step.proofs.Chosen.{chosen-rank, chosen-ref_is_due, RefIsDue}
+use Rattle.channel_step.proofs.Places.{queue-ranks}
+
+-- the command of a cycle as a row
+abbrev pub row_of : ℕ → ℕ → Command → CommandRow
+row_of channel now command = record { cycle = now; channel = channel; command = command }
+
+some_below : {X : Type 0} (xs : List X) (i : ℕ) (x : X) → slice_get xs i ≡ Some x → i < length xs
+some_below [] i x e = cc
+some_below (y ∷ ys) zero x e = omega arith
+some_below (y ∷ ys) (suc i) x e = omega (arith, some_below ys i x e)
+
+map_at : {X Y : Type 0} (f : X → Y) (xs : List X) (i : ℕ) (x : X) (d : Y) → slice_get xs i ≡ Some x → get_or (map f xs) i d ≡ f x
+map_at f [] i x d e = cc
+map_at f (y ∷ ys) zero x d e = let same : y ≡ x = cc in ap f same
+map_at f (y ∷ ys) (suc i) x d e = map_at f ys i x d e
+
+-- the place of a request that is served is one of the queue
+pub slot-below : (queue : List Request) (choice : Choice) → IsFor queue choice → ForSome choice.slot (λ slot. slot < length queue)
+slot-below queue choice h slot e =
+    let there = subst (λ o. MatchOption o (is_column_command choice.command ≡ false) (Serves queue choice.command)) e h in
+    some_below queue slot there.0 there.1
+
+-- what is left of the queue, and the marks, after a command
+abbrev pub Leaves : Queued → List CommandRow → ℕ → ℕ → Command → Option ℕ → Type 0
+Leaves w history channel now command slot =
+    (after w command slot ≡ record { queue = record w.queue { requests = queue_after (Some command) w.queue.requests }; marks = marks_after history channel now (Some command) w.queue.requests })
+    × (moves_hit history (Some command) ≡ moves_unmarked w slot)
+
+-- these requests and marks in place of those that there are
+kept : (w : Queued) (requests : List Request) (marks : List Bool) → w.queue.requests ≡ requests → w.marks ≡ marks → w ≡ record { queue = record w.queue { requests = requests }; marks = marks }
+kept w requests marks e f = λ i. record { queue = record w.queue { requests = e i }; marks = f i }
+
+leaves-quiet : (w : Queued) (history : List CommandRow) (channel now : ℕ) (command : Command) → w.marks ≡ marks_of history w.queue.requests → moves_none command ≡ true → opens_none command ≡ true
+    → w ≡ record { queue = record w.queue { requests = unserved_by command w.queue.requests }; marks = marks_of (history ++ row_of channel now command ∷ []) (unserved_by command w.queue.requests) }
+leaves-quiet w history channel now command m n o =
+    let same : w.queue.requests ≡ unserved_by command w.queue.requests = sym (served-none w.queue.requests command n) in
+    kept w (unserved_by command w.queue.requests) _ same
+    (m ∙ sym (marks-no_act history (row_of channel now command) w.queue.requests o) ∙ ap (marks_of (history ++ row_of channel now command ∷ [])) same)
+
+leaves-none : (w : Queued) (history : List CommandRow) (channel now : ℕ) (command : Command) → Differ w.queue.requests → w.marks ≡ marks_of history w.queue.requests
+    → is_column_command command ≡ false → Leaves w history channel now command None
+leaves-none w history channel now (Act bank row source) d m h =
+    let act = Act bank row source in
+    let same : w.queue.requests ≡ unserved_by act w.queue.requests = sym (served-none w.queue.requests act refl) in
+    let marks : marked_at w.marks w.queue.requests source ≡ marks_of (history ++ row_of channel now act ∷ []) (unserved_by act w.queue.requests) =
+    ap (λ x. marked_at x w.queue.requests source) m
+    ∙ sym (marks-act history (row_of channel now act) w.queue.requests bank row source d refl)
+    ∙ ap (marks_of (history ++ row_of channel now act ∷ [])) same in
+    ((λ i. record { queue = record w.queue { requests = same i }; marks = marks i }), refl)
+leaves-none w history channel now (Rd bank row column source) d m h = absurd (true≢false h)
+leaves-none w history channel now (Wr bank row column source) d m h = absurd (true≢false h)
+leaves-none w history channel now (Pre bank source) d m h = (leaves-quiet w history channel now (Pre bank source) m refl refl, refl)
+leaves-none w history channel now (Prea rank) d m h = (leaves-quiet w history channel now (Prea rank) m refl refl, refl)
+leaves-none w history channel now (Ref rank) d m h = (leaves-quiet w history channel now (Ref rank) m refl refl, refl)
+
+leaves-slot : (w : Queued) (history : List CommandRow) (channel now : ℕ) (command : Command) (slot : ℕ) → Differ w.queue.requests → w.marks ≡ marks_of history w.queue.requests
+    → Serves w.queue.requests command slot → Leaves w history channel now command (Some slot)
+leaves-slot w history channel now command slot d m (r, there, is) =
+    let rest : remove w.queue.requests slot ≡ unserved_by command w.queue.requests =
+    sym (ap (λ c. unserved_by c w.queue.requests) is ∙ served-remove w.queue.requests slot r d there) in
+    let quiet : opens_none command ≡ true = ap opens_none is ∙ column-opens_none r in
+    let marks : remove w.marks slot ≡ marks_of (history ++ row_of channel now command ∷ []) (unserved_by command w.queue.requests) =
+    ap (λ x. remove x slot) m
+    ∙ sym (map-remove (is_named history) w.queue.requests slot)
+    ∙ ap (marks_of history) rest
+    ∙ sym (marks-no_act history (row_of channel now command) (unserved_by command w.queue.requests) quiet) in
+    let hit : moves_hit history (Some command) ≡ not (get_or w.marks slot true) =
+    ap (λ c. is_hit history c) is ∙ hit-mark history r
+    ∙ ap not (sym (ap (λ x. get_or x slot true) m ∙ map_at (is_named history) w.queue.requests slot r true there)) in
+    ((λ i. record { queue = record w.queue { requests = rest i }; marks = marks i }), hit)
+
+pub leaves : (w : Queued) (history : List CommandRow) (channel now : ℕ) (choice : Choice) → Differ w.queue.requests → w.marks ≡ marks_of history w.queue.requests
+    → IsFor w.queue.requests choice → Leaves w history channel now choice.command choice.slot
+leaves w history channel now choice d m h = by choice.slot h
+  where
+    by : (o : Option ℕ) → MatchOption o (is_column_command choice.command ≡ false) (Serves w.queue.requests choice.command) → Leaves w history channel now choice.command o
+    by None k = leaves-none w history channel now choice.command d m k
+    by (Some slot) k = leaves-slot w history channel now choice.command slot d m k
+
+-- what a cycle counts
+abbrev pub counted : Channel → Config → List CommandRow → ℕ → Option Command → Bool → ChannelStats
+counted c s history now o hit =
+    channel_joined c.stats (cycle_with_hit s (length c.waiting.queue.requests) (is_some (lowest_due s history now)) c.waiting.queue.settled o hit)
+
+counted-is : (c : Channel) (s : Config) (history : List CommandRow) (now : ℕ) (o : Option Command) (hit : Bool) → moves_hit history o ≡ hit
+    → counted c s history now o hit
+    ≡ channel_joined c.stats (channel_cycle_with s history (length c.waiting.queue.requests) (is_some (lowest_due s history now)) c.waiting.queue.settled o)
+unfolding channel_cycle_with
+counted-is c s history now o hit e = ap (counted c s history now o) (sym e)
+
+-- it fits, since a cycle and the greatest length of the queue do
+pub counted-fits : (c : Channel) (s : Config) (channel : ℕ) (rows : List (Option Command)) (mail : List Message) (o : Option Command) (hit : Bool) → IsInCycle c s channel rows mail
+    → length rows < 2 ^ 62 → o ≡ choice s channel rows mail → moves_hit (issued_commands channel rows) o ≡ hit
+    → ChannelFits (counted c s (issued_commands channel rows) (length rows) o hit)
+unfolding channel_stats channel_cycle_with
+counted-fits c s channel rows mail o hit h early e f =
+    let history = issued_commands channel rows in
+    let next = choice s channel rows mail in
+    let is : counted c s history (length rows) o hit ≡ channel_stats s channel (rows ++ next ∷ []) mail =
+    counted-is c s history (length rows) o hit f
+    ∙ ap (λ x. channel_joined c.stats (channel_cycle_with s history (length c.waiting.queue.requests) (is_some (lowest_due s history (length rows))) c.waiting.queue.settled x)) e
+    ∙ (recalled _ _ _ _ s channel rows mail h.joined).stats_are in
+    let longest : queued_max channel (rows ++ next ∷ []) mail ≡ max c.stats.queued_max (length c.waiting.queue.requests) = ap (λ (x : ChannelStats). x.queued_max) (sym is) in
+    let most : length c.waiting.queue.requests ≤ queue_room s = h.made_for.within in
+    let before : c.stats.queued_max ≤ queue_room s = h.made_for.longest in
+    let room : queue_room s ≤ 8192 = s.credits_fit in
+    subst ChannelFits (sym is)
+    (channel_stats-fit s channel (rows ++ next ∷ []) mail (omega (arith, length-push_suc rows next)) (omega arith))
+
+length-filter-le : {X : Type 0} (p : X → Bool) (xs : List X) → length (filter p xs) ≤ length xs
+length-filter-le p [] = omega arith
+length-filter-le {X} p (x ∷ xs) = by (p x) (length-filter-le p xs)
+  where
+    by : (b : Bool) → length (filter p xs) ≤ length xs → length (cond b (x ∷ filter p xs) (filter p xs)) ≤ suc (length xs)
+    by true h = omega arith
+    by false h = omega arith
+
+after-le : (o : Option Command) (queue : List Request) → length (queue_after o queue) ≤ length queue
+after-le None queue = omega arith
+after-le (Some command) queue = length-filter-le _ queue
+
+-- the queue and the marks after what a channel does in a cycle
+abbrev pub left_after : Queued → List CommandRow → ℕ → ℕ → Option Command → Queued
+left_after w history channel now o = record { queue = record w.queue { requests = queue_after o w.queue.requests }; marks = marks_after history channel now o w.queue.requests }
+
+-- what a channel stands for after a cycle in which it did this
+stands-after : (c : Channel) (s : Config) (channel : ℕ) (rows : List (Option Command)) (mail : List Message) (o : Option Command) (w : Queued) (banks : Banks) (refresh : RefreshCounts) (stats : ChannelStats)
+    → IsInCycle c s channel rows mail → o ≡ choice s channel rows mail
+    → w ≡ left_after c.waiting (issued_commands channel rows) channel (length rows) o
+    → BanksStandFor banks s (issued_commands channel rows ++ issued_now channel (length rows) o)
+    → RefreshesStandFor refresh s (issued_commands channel rows ++ issued_now channel (length rows) o)
+    → stats ≡ channel_joined c.stats (channel_cycle_with s (issued_commands channel rows) (length c.waiting.queue.requests) (is_some (lowest_due s (issued_commands channel rows) (length rows))) c.waiting.queue.settled o)
+    → StandsFor (record c { waiting = w; banks = banks; refresh = refresh; stats = stats }) s channel (rows ++ o ∷ []) mail
+unfolding channel_cycle_with
+stands-after c s channel rows mail o w banks refresh stats h e x b r t =
+    let history = issued_commands channel rows in
+    let queue = c.waiting.queue.requests in
+    let drained = c.waiting.queue.settled in
+    let due = is_some (lowest_due s history (length rows)) in
+    let P : Option Command → Type 0 = λ z. Recalls (queue_after z queue) drained (marks_after history channel (length rows) z queue) (channel_joined c.stats (channel_cycle_with s history (length queue) due drained z)) s channel (rows ++ z ∷ []) mail in
+    let base : P (choice s channel rows mail) = recalled _ _ _ _ s channel rows mail h.joined in
+    let got : P o = subst P (sym e) base in
+    let Q : ChannelStats → Type 0 = λ z. Recalls (queue_after o queue) drained (marks_after history channel (length rows) o queue) z s channel (rows ++ o ∷ []) mail in
+    let R : Queued → Type 0 = λ z. Recalls z.queue.requests z.queue.settled z.marks stats s channel (rows ++ o ∷ []) mail in
+    let fewer : length w.queue.requests ≡ length (queue_after o queue) = ap (λ (z : Queued). length z.queue.requests) x in
+    let some : length queue ≤ queue_room s = h.made_for.within in
+    let before : c.stats.queued_max ≤ queue_room s = h.made_for.longest in
+    let most : stats.queued_max ≡ max c.stats.queued_max (length queue) = ap (λ (z : ChannelStats). z.queued_max) t in
+    record {
+      made_for = record {
+        config_is = h.made_for.config_is;
+        number_is = h.made_for.number_is;
+        high_is = ap (λ (z : Queued). z.queue.high) x ∙ h.made_for.high_is;
+        low_is = ap (λ (z : Queued). z.queue.low) x ∙ h.made_for.low_is;
+        room_is = ap (λ (z : Queued). z.queue.room) x ∙ h.made_for.room_is;
+        scratch_is = h.made_for.scratch_is;
+        within = omega (arith, after-le o queue);
+        longest = omega arith;
+      };
+      recalls = subst R (sym x) (subst Q (sym t) got);
+      banks_stand = subst (BanksStandFor banks s) (sym (issued_commands-push channel rows o)) b;
+      refreshes_stand = subst (RefreshesStandFor refresh s) (sym (issued_commands-push channel rows o)) r;
+    }
+
+-- what it stands for when it has issued a command
+pub issued-stands : (c : Channel) (s : Config) (channel : ℕ) (rows : List (Option Command)) (mail : List Message) (now : ℕ) (chosen : Choice) (w : Queued) (banks : Banks) (refresh : RefreshCounts) (stats : ChannelStats)
+    → IsInCycle c s channel rows mail → length rows ≡ now → Some chosen.command ≡ choice s channel rows mail → IsFor c.waiting.queue.requests chosen
+    → w ≡ after c.waiting chosen.command chosen.slot
+    → BanksStandFor banks s (issued_commands channel rows ++ row_of channel now chosen.command ∷ [])
+    → RefreshesStandFor refresh s (issued_commands channel rows ++ row_of channel now chosen.command ∷ [])
+    → stats ≡ counted c s (issued_commands channel rows) (length rows) (Some chosen.command) (moves_unmarked c.waiting chosen.slot)
+    → StandsFor (record c { waiting = w; banks = banks; refresh = refresh; stats = stats }) s channel (rows ++ Some chosen.command ∷ []) mail
+issued-stands c s channel rows mail now chosen w banks refresh stats h at e f x b r t =
+    let history = issued_commands channel rows in
+    let left = leaves c.waiting history channel (length rows) chosen (joined-differ _ _ _ _ s channel rows mail h.joined) h.joined.marks_are f in
+    stands-after c s channel rows mail (Some chosen.command) w banks refresh stats h e (x ∙ left.0)
+    (subst (λ k. BanksStandFor banks s (history ++ row_of channel k chosen.command ∷ [])) (sym at) b)
+    (subst (λ k. RefreshesStandFor refresh s (history ++ row_of channel k chosen.command ∷ [])) (sym at) r)
+    (t ∙ counted-is c s history (length rows) (Some chosen.command) (moves_unmarked c.waiting chosen.slot) left.1)
+
+-- and when it has issued none
+pub none-stands : (c : Channel) (s : Config) (channel : ℕ) (rows : List (Option Command)) (mail : List Message) (stats : ChannelStats)
+    → IsInCycle c s channel rows mail → None ≡ choice s channel rows mail
+    → stats ≡ counted c s (issued_commands channel rows) (length rows) None false
+    → StandsFor (record c { stats = stats }) s channel (rows ++ None ∷ []) mail
+none-stands c s channel rows mail stats h e t =
+    let history = issued_commands channel rows in
+    let none : history ≡ history ++ [] = sym (append-nil history) in
+    let marks : c.waiting.marks ≡ marks_of (history ++ []) c.waiting.queue.requests = h.joined.marks_are ∙ ap (λ x. marks_of x c.waiting.queue.requests) none in
+    stands-after c s channel rows mail None c.waiting c.banks c.refresh stats h e (λ i. record { queue = c.waiting.queue; marks = marks i })
+    (subst (BanksStandFor c.banks s) none h.banks_stand) (subst (RefreshesStandFor c.refresh s) none h.refreshes_stand)
+    (t ∙ counted-is c s history (length rows) None false refl)
+
+-- each command was issued before the next cycle
+issued-from : (channel from : ℕ) (rows : List (Option Command))
+    → Each (λ (i : CommandRow). i.cycle < from + length rows) (filter_map (λ (e : ℕ × Option Command). issued_at channel e.0 e.1) (enumerate_from from rows))
+issued-from channel from [] = tt
+issued-from channel from (o ∷ rows) = by o (Each-weaker (λ (i : CommandRow). i.cycle < from + 1 + length rows) (λ (i : CommandRow). i.cycle < from + suc (length rows)) (λ i l. omega arith) _ (issued-from channel (from + 1) rows))
+  where
+    by : (o : Option Command) → Each (λ (i : CommandRow). i.cycle < from + suc (length rows)) (filter_map (λ (e : ℕ × Option Command). issued_at channel e.0 e.1) (enumerate_from (from + 1) rows))
+        → Each (λ (i : CommandRow). i.cycle < from + suc (length rows)) (cons_option (issued_at channel from o) (filter_map (λ (e : ℕ × Option Command). issued_at channel e.0 e.1) (enumerate_from (from + 1) rows)))
+    by None rest = rest
+    by (Some command) rest = (omega arith, rest)
+
+pub issued-before : (channel now : ℕ) (rows : List (Option Command)) → length rows ≡ now → All (λ (i : CommandRow). i.cycle < now) (issued_commands channel rows)
+unfolding issued_commands
+issued-before channel now rows at =
+    All-from_recursion (λ (i : CommandRow). i.cycle < now) _
+    (Each-weaker (λ (i : CommandRow). i.cycle < 0 + length rows) (λ (i : CommandRow). i.cycle < now) (λ i l. omega arith) _ (issued-from channel 0 rows))
+
+IfSome-at : {X : Type 0} (P : X → Type 0) (o : Option X) (x : X) → Some x ≡ o → IfSome o P → P x
+IfSome-at P o x e h = subst (λ z. IfSome z P) (sym e) h
+
+-- what is chosen in a cycle speaks of a rank that there is
+pub command-rank : (c : Channel) (s : Config) (channel : ℕ) (rows : List (Option Command)) (mail : List Message) (command : Command) → IsInCycle c s channel rows mail
+    → Some command ≡ choice s channel rows mail → rank_of command < rank_count c.banks
+command-rank c s channel rows mail command h e =
+    let history = issued_commands channel rows in
+    let queue = c.waiting.queue.requests in
+    let below : rank_of command < s.ranks =
+    IfSome-at (λ x. rank_of x < s.ranks) _ command (e ∙ joined-choice _ _ _ _ s channel rows mail h.joined)
+    (chosen-rank s history (length rows) c.waiting.queue.settled queue (queue-ranks s channel history mail (length rows + 1) queue h.joined.requests h.joined.queue_is)) in
+    omega (arith, h.banks_stand.ranks)
+
+-- and if it is a REF, that is due
+pub command-owed : (c : Channel) (s : Config) (channel : ℕ) (rows : List (Option Command)) (mail : List Message) (command : Command) (now : ℕ) → IsInCycle c s channel rows mail
+    → length rows ≡ now → Some command ≡ choice s channel rows mail → RefIsOwed c.refresh now command
+command-owed c s channel rows mail command now h at e =
+    let history = issued_commands channel rows in
+    by command
+    (IfSome-at (RefIsDue s history (length rows)) _ command (e ∙ joined-choice _ _ _ _ s channel rows mail h.joined)
+    (chosen-ref_is_due s history (length rows) c.waiting.queue.settled c.waiting.queue.requests))
+  where
+    by : (x : Command) → RefIsDue s (issued_commands channel rows) (length rows) x → RefIsOwed c.refresh now x
+    by (Ref rank) k =
+        let ranks : c.refresh.ranks ≡ s.ranks = h.refreshes_stand.ranks_are in
+        let below : rank < c.refresh.ranks = omega (arith, k.0) in
+        let same : due s rank (issued_commands channel rows) (length rows) ≡ owed c.refresh rank (length rows) = due_from_owed c.refresh s rank (issued_commands channel rows) (length rows) h.refreshes_stand below in
+        (below, subst (λ t. 0 < owed c.refresh rank t) at (omega (arith, k.1)))
+    by (Act bank row source) k = tt
+    by (Rd bank row column source) k = tt
+    by (Wr bank row column source) k = tt
+    by (Pre bank source) k = tt
+    by (Prea rank) k = tt
+
+-- what is counted of a cycle, by what is seen in it
+pub seen-counted : (c : Channel) (s : Config) (channel : ℕ) (rows : List (Option Command)) (mail : List Message) (now : ℕ) (seen : Seen) (o : Option Command) (hit : Bool) → IsInCycle c s channel rows mail
+    → length rows ≡ now → seen ≡ seen_of c now
+    → channel_joined c.stats (cycle_with_hit c.config seen.queued seen.refreshing seen.draining o hit) ≡ counted c s (issued_commands channel rows) (length rows) o hit
+seen-counted c s channel rows mail now seen o hit h at e =
+    let history = issued_commands channel rows in
+    let refreshing : is_some (lowest_owed c.refresh now) ≡ is_some (lowest_due s history (length rows)) =
+    ap is_some (sym (lowest_due_from_owed c.refresh s history now h.refreshes_stand) ∙ ap (lowest_due s history) (sym at)) in
+    ap (λ (x : Seen). channel_joined c.stats (cycle_with_hit c.config x.queued x.refreshing x.draining o hit)) e
+    ∙ ap₂ (λ x y. channel_joined c.stats (cycle_with_hit c.config (length c.waiting.queue.requests) x y o hit)) refreshing (settled-drains c s channel rows mail h)
+    ∙ ap (λ x. channel_joined c.stats (cycle_with_hit x (length c.waiting.queue.requests) (is_some (lowest_due s history (length rows))) c.waiting.queue.settled o hit)) h.made_for.config_is
+
+-- the same channel
+pub cycle-same : (c d : Channel) (s : Config) (channel : ℕ) (rows : List (Option Command)) (mail : List Message) → c ≡ d → IsInCycle d s channel rows mail → IsInCycle c s channel rows mail
+cycle-same c d s channel rows mail e h = subst (λ x. IsInCycle x s channel rows mail) (sym e) h
+
+-- whether the data that it moves is a row hit
+pub leaves-hit : (c : Channel) (s : Config) (channel : ℕ) (rows : List (Option Command)) (mail : List Message) (chosen : Choice) → IsInCycle c s channel rows mail
+    → IsFor c.waiting.queue.requests chosen → moves_hit (issued_commands channel rows) (Some chosen.command) ≡ moves_unmarked c.waiting chosen.slot
+leaves-hit c s channel rows mail chosen h f =
+    (leaves c.waiting (issued_commands channel rows) channel (length rows) chosen (joined-differ _ _ _ _ s channel rows mail h.joined) h.joined.marks_are f).1

@@ -1,0 +1,13 @@
+pub mod Requests
+pub mod Spans
+pub mod Stretches
+pub mod Marks
+pub mod Cycle
+pub mod Chosen
+pub mod Fits
+pub mod Waits
+pub mod Places
+pub mod Deciding
+pub mod Issuing
+pub mod Stepping
+pub mod Running

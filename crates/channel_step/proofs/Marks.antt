@@ -1,0 +1,167 @@
+-- Marks of the queued requests in whose name an ACT was issued.
+use Rattle.std.proofs.Common.{◌≡◌, ℕ, zero, suc, ◌+◌, ◌<◌, ◌≤◌, Bool, true, false, cond, eqb, ◌&&◌, ◌||◌, List, [], ◌∷◌, ◌++◌, length, take, drop, get_or, map, Option, Some, None, refl, sym, ap, ap₂, subst, ◌∙◌, arith}
+use Rattle.std.specs.Prelude.{filter, not, remove, slice_get, slice_set}
+use Rattle.std.specs.List.{AllByRecursion as Each, list_any, position_or_len}
+use Rattle.std.proofs.lemmas.Bool.{cond_both, cond-true, cond-false}
+use Rattle.std.proofs.lemmas.Bool.Decides.{nat_tests}
+use Rattle.std.proofs.lemmas.List.Folds.{list_any-append}
+use Rattle.sim_base.proofs.Ordered.{Each-weaker}
+use Rattle.sim_base.specs.Counts.{is_act_for, is_hit}
+use Rattle.sim_base.specs.Places.{bank_in}
+use Rattle.sim_base.specs.Scheduling.{is_source, source_of, serves, column_command}
+use Rattle.sim_base.specs.declared.command.Command.{Command}
+use Rattle.sim_base.specs.declared.command.Command.TheVariants.{Act, Rd, Wr, Pre, Prea, Ref}
+use Rattle.sim_base.specs.declared.command.CommandRow.{CommandRow}
+use Rattle.sim_base.specs.declared.command.Source.{Source}
+use Rattle.sim_base.specs.declared.message.Request.{Request}
+use Rattle.sim_base.specs.declared.place.BankId.{BankId}
+use Rattle.channel_step.specs.Past.{IsOther, Differ, is_named}
+use Rattle.channel_step.specs.Fit.{is_named_by, IsUnnamed}
+use Rattle.channel_step.specs.Queued.{marked_at}
+use Rattle.channel_step.proofs.Requests.{unserved_by, filter-each, filter-agree, unserved-remove}
+
+-- the marks of some requests
+abbrev pub marks : List CommandRow → List Request → List Bool
+marks history requests = map (is_named history) requests
+
+pub map-agree : {X Y : Type 0} (f g : X → Y) (xs : List X) → Each (λ x. f x ≡ g x) xs → map f xs ≡ map g xs
+map-agree f g [] h = refl
+map-agree f g (x ∷ xs) h = ap₂ (λ y ys. y ∷ ys) h.0 (map-agree f g xs h.1)
+
+pub map-remove : {X Y : Type 0} (f : X → Y) (xs : List X) (i : ℕ) → map f (remove xs i) ≡ remove (map f xs) i
+map-remove f [] zero = refl
+map-remove f [] (suc i) = refl
+map-remove f (x ∷ xs) zero = refl
+map-remove f (x ∷ xs) (suc i) = ap (λ ys. f x ∷ ys) (map-remove f xs i)
+
+act-named : (r : Request) (command : Command) → is_named_by command r ≡ false → is_act_for (source_of r) command ≡ false
+act-named r (Act bank row source) h = h
+act-named r (Rd bank row column source) h = refl
+act-named r (Wr bank row column source) h = refl
+act-named r (Pre bank source) h = refl
+act-named r (Prea rank) h = refl
+act-named r (Ref rank) h = refl
+
+-- what no command names has no mark
+pub unnamed-no_mark : (history : List CommandRow) (r : Request) → IsUnnamed history r → is_named history r ≡ false
+unnamed-no_mark [] r h = refl
+unnamed-no_mark (i ∷ history) r h = ap₂ (λ a b. a || b) (act-named r i.command h.0) (unnamed-no_mark history r h.1)
+
+pub unnamed-marks : (history : List CommandRow) (rs : List Request) → Each (IsUnnamed history) rs → marks history rs ≡ map (λ r. false) rs
+unnamed-marks history rs h = map-agree (is_named history) (λ r. false) rs (Each-weaker (IsUnnamed history) _ (unnamed-no_mark history) rs h)
+
+or-false : (x : Bool) → (x || false) ≡ x
+or-false true = refl
+or-false false = refl
+
+or-true : (x : Bool) → (x || true) ≡ true
+or-true true = refl
+or-true false = refl
+
+-- one command more may name it
+pub named-command : (history : List CommandRow) (i : CommandRow) (r : Request) → is_named (history ++ i ∷ []) r ≡ (is_named history r || is_act_for (source_of r) i.command)
+named-command history i r =
+    list_any-append (λ (j : CommandRow). is_act_for (source_of r) j.command) history (i ∷ [])
+    ∙ ap (λ b. is_named history r || b) (or-false (is_act_for (source_of r) i.command))
+
+-- a command that opens no row
+abbrev pub opens_none : Command → Bool
+opens_none (Act bank row source) = false
+opens_none (Rd bank row column source) = true
+opens_none (Wr bank row column source) = true
+opens_none (Pre bank source) = true
+opens_none (Prea rank) = true
+opens_none (Ref rank) = true
+
+no_act : (source : Source) (command : Command) → opens_none command ≡ true → is_act_for source command ≡ false
+no_act source (Act bank row other) h = cc
+no_act source (Rd bank row column other) h = refl
+no_act source (Wr bank row column other) h = refl
+no_act source (Pre bank other) h = refl
+no_act source (Prea rank) h = refl
+no_act source (Ref rank) h = refl
+
+each-all : {X : Type 0} (P : X → Type 0) → ((x : X) → P x) → (xs : List X) → Each P xs
+each-all P h [] = tt
+each-all P h (x ∷ xs) = (h x, each-all P h xs)
+
+-- it leaves the marks as they are
+pub marks-no_act : (history : List CommandRow) (i : CommandRow) (rs : List Request) → opens_none i.command ≡ true → marks (history ++ i ∷ []) rs ≡ marks history rs
+marks-no_act history i rs h =
+    map-agree (is_named (history ++ i ∷ [])) (is_named history) rs
+    (each-all _ (λ r. named-command history i r ∙ ap (λ b. is_named history r || b) (no_act (source_of r) i.command h) ∙ or-false (is_named history r)) rs)
+
+same_entry : (x q : Request) (source : Source) → is_source x source ≡ true → is_source q (source_of x) ≡ false → is_source q source ≡ false
+same_entry x q source h k = grind (arith, nat_tests)
+
+mark-first : (f : Request → Bool) (rs : List Request) (source : Source) → Differ rs → map (λ r. f r || is_source r source) rs ≡ marked_at (map f rs) rs source
+mark-first f [] source d = refl
+mark-first f (x ∷ xs) source d = by (is_source x source) refl (mark-first f xs source d.1)
+  where
+    next : (k : ℕ) → 1 + k ≡ suc k
+    next k = omega arith
+    by : (b : Bool) → is_source x source ≡ b → map (λ r. f r || is_source r source) xs ≡ marked_at (map f xs) xs source
+        → (f x || is_source x source) ∷ map (λ r. f r || is_source r source) xs
+        ≡ slice_set (f x ∷ map f xs) (cond (not (is_source x source)) (1 + position_or_len (λ r. is_source r source) xs) 0) true
+    by true e later =
+        let rest : map (λ r. f r || is_source r source) xs ≡ map f xs =
+        map-agree (λ r. f r || is_source r source) f xs
+        (Each-weaker (IsOther x) _ (λ q h. ap (λ b. f q || b) (same_entry x q source e h) ∙ or-false (f q)) xs d.0) in
+        ap₂ (λ b ys. b ∷ ys) (ap (λ b. f x || b) e ∙ or-true (f x)) rest
+        ∙ sym (ap (λ b. slice_set (f x ∷ map f xs) (cond (not b) (1 + position_or_len (λ r. is_source r source) xs) 0) true) e)
+    by false e later =
+        ap₂ (λ b ys. b ∷ ys) (ap (λ b. f x || b) e ∙ or-false (f x)) later
+        ∙ sym (ap (λ b. slice_set (f x ∷ map f xs) (cond (not b) (1 + position_or_len (λ r. is_source r source) xs) 0) true) e
+        ∙ ap (λ k. slice_set (f x ∷ map f xs) k true) (next (position_or_len (λ r. is_source r source) xs)))
+
+-- an ACT adds the mark of the request of its entry
+pub marks-act : (history : List CommandRow) (i : CommandRow) (rs : List Request) (bank : BankId) (row : ℕ) (source : Source) → Differ rs → i.command ≡ Act bank row source
+    → marks (history ++ i ∷ []) rs ≡ marked_at (marks history rs) rs source
+marks-act history i rs bank row source d e =
+    map-agree (is_named (history ++ i ∷ [])) (λ r. is_named history r || is_source r source) rs
+    (each-all _ (λ r. named-command history i r ∙ ap (λ c. is_named history r || is_act_for (source_of r) c) e) rs)
+    ∙ mark-first (is_named history) rs source d
+
+-- a command that moves the data of a request serves the requests of its entry
+pub serves-column : (q r : Request) → serves q (column_command r) ≡ is_source q (source_of r)
+serves-column q r =
+    cond_both r.write (Wr (bank_in r.place) r.place.row r.place.column (source_of r)) (Rd (bank_in r.place) r.place.row r.place.column (source_of r))
+    (λ c. serves q c ≡ is_source q (source_of r)) (λ e. refl) (λ e. refl)
+
+-- so it takes just one out of the queue
+pub served-remove : (rs : List Request) (i : ℕ) (r : Request) → Differ rs → slice_get rs i ≡ Some r → unserved_by (column_command r) rs ≡ remove rs i
+served-remove rs i r d e =
+    filter-agree (λ q. not (serves q (column_command r))) (λ q. not (is_source q (source_of r))) rs (each-all _ (λ q. ap not (serves-column q r)) rs)
+    ∙ unserved-remove rs i r d e
+
+-- a command that moves no data
+abbrev pub moves_none : Command → Bool
+moves_none (Rd bank row column source) = false
+moves_none (Wr bank row column source) = false
+moves_none (Act bank row source) = true
+moves_none (Pre bank source) = true
+moves_none (Prea rank) = true
+moves_none (Ref rank) = true
+
+serves_none : (r : Request) (command : Command) → moves_none command ≡ true → serves r command ≡ false
+serves_none r (Rd bank row column source) h = cc
+serves_none r (Wr bank row column source) h = cc
+serves_none r (Act bank row source) h = refl
+serves_none r (Pre bank source) h = refl
+serves_none r (Prea rank) h = refl
+serves_none r (Ref rank) h = refl
+
+-- takes none out
+pub served-none : (rs : List Request) (command : Command) → moves_none command ≡ true → unserved_by command rs ≡ rs
+served-none rs command h = filter-each (λ q. not (serves q command)) rs (each-all _ (λ q. ap not (serves_none q command h)) rs)
+
+-- data that is moved is a row hit where its request has no mark
+pub hit-mark : (history : List CommandRow) (r : Request) → is_hit history (column_command r) ≡ not (is_named history r)
+hit-mark history r =
+    cond_both r.write (Wr (bank_in r.place) r.place.row r.place.column (source_of r)) (Rd (bank_in r.place) r.place.row r.place.column (source_of r))
+    (λ c. is_hit history c ≡ not (is_named history r)) (λ e. refl) (λ e. refl)
+
+pub column-opens_none : (r : Request) → opens_none (column_command r) ≡ true
+column-opens_none r =
+    cond_both r.write (Wr (bank_in r.place) r.place.row r.place.column (source_of r)) (Rd (bank_in r.place) r.place.row r.place.column (source_of r))
+    (λ c. opens_none c ≡ true) (λ e. refl) (λ e. refl)

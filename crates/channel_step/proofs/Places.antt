@@ -1,0 +1,68 @@
+-- Where the requests that wait lie.
+use Rattle.std.proofs.Common.{◌≡◌, ℕ, ◌+◌, ◌<◌, ◌≤◌, Bool, true, false, ◌%◌, ◌/◌, List, [], ◌∷◌, length, Option, Some, None, refl, sym, ap, subst, ◌∙◌, arith, mod-lt}
+use Rattle.std.specs.List.{All, AllByRecursion as Each}
+use Rattle.std.proofs.lemmas.Bool.{cond_both}
+
+use Rattle.std.proofs.lemmas.List.Elements.{All-from_recursion}
+use Rattle.sim_base.proofs.Each.{Each-all, Each-filter}
+use Rattle.sim_base.proofs.Ordered.{Each-weaker}
+use Rattle.sim_base.specs.declared.config.Config.{Config}
+use Rattle.sim_base.specs.Fields.{is_field}
+use Rattle.sim_base.specs.Places.{field_size, digit_of, field_of, place_of}
+use Rattle.sim_base.specs.Scheduling.{is_waiting, waiting}
+use Rattle.sim_base.specs.declared.command.CommandRow.{CommandRow}
+use Rattle.sim_base.specs.declared.message.Message.{Message}
+use Rattle.sim_base.specs.declared.message.Request.{Request}
+use Rattle.sim_base.specs.declared.place.Place.{Place}
+use Rattle.sim_base.specs.declared.place.Field.{Field}
+use Rattle.sim_base.specs.declared.place.Field.TheVariants.{Rank, Group, Bank}
+use Rattle.fr_fcfs.specs.Columns.{IsInBanks}
+use Rattle.channel_step.specs.Past.{requests_of, IsRequestOf, CarriesRequest}
+use Rattle.channel_step.proofs.Requests.{carried}
+
+digit-below : (s : Config) (field : Field) (fields : List Field) (x : ℕ) → 0 < field_size s field → digit_of s field fields x < field_size s field
+unfolding digit_of
+digit-below s field [] x h = h
+digit-below s field (f ∷ fs) x h =
+    cond_both (is_field field f) (x % field_size s field) (digit_of s field fs (x / field_size s f)) (λ v. v < field_size s field)
+    (λ e. mod-lt x h) (λ e. digit-below s field fs (x / field_size s f) h)
+
+-- an address lies in one of the banks
+abbrev pub InBanks : Config → Request → Type 0
+InBanks s r = (r.place.rank < s.ranks) × (r.place.group < 4) × (r.place.bank < 4)
+
+place-in_banks : (s : Config) (address : ℕ) → ((place_of s address).rank < s.ranks) × ((place_of s address).group < 4) × ((place_of s address).bank < 4)
+unfolding place_of field_of
+place-in_banks s address =
+    let ranks : 1 ≤ s.ranks = s.memory_in_range.ranks_in.0 in
+    let groups : 2 ≤ s.groups = s.memory_in_range.groups_in.0 in
+    let most : s.groups ≤ 4 = s.memory_in_range.groups_in.1 in
+    let a : digit_of s Rank s.fields (address / 64) < s.ranks = digit-below s Rank s.fields (address / 64) (omega arith) in
+    let b : digit_of s Group s.fields (address / 64) < s.groups = digit-below s Group s.fields (address / 64) (omega arith) in
+    let d : digit_of s Bank s.fields (address / 64) < 4 = digit-below s Bank s.fields (address / 64) (omega arith) in
+    (a, omega arith, d)
+
+request-in_banks : (s : Config) (channel : ℕ) (m : Message) (r : Request) → IsRequestOf s channel m r → InBanks s r
+request-in_banks s channel m r h =
+    subst (λ (p : Place). (p.rank < s.ranks) × (p.group < 4) × (p.bank < 4)) (sym h.place) (place-in_banks s r.address)
+
+-- the requests that wait ask for banks that there are
+pub waiting-in_banks : (s : Config) (channel : ℕ) (history : List CommandRow) (mail : List Message) (until : ℕ) → Each (CarriesRequest s channel) mail
+    → Each (InBanks s) (waiting history mail until)
+unfolding waiting
+waiting-in_banks s channel history mail until h =
+    Each-filter (InBanks s) (is_waiting history until) (requests_of mail)
+    (carried s channel (InBanks s) mail h (Each-all _ (λ m r i. request-in_banks s channel m r i) mail))
+
+pub queue-in_banks : (s : Config) (channel ranks : ℕ) (history : List CommandRow) (mail : List Message) (until : ℕ) (queue : List Request) → ranks ≡ s.ranks
+    → Each (CarriesRequest s channel) mail → queue ≡ waiting history mail until → All (IsInBanks ranks) queue
+queue-in_banks s channel ranks history mail until queue e h is =
+    All-from_recursion (IsInBanks ranks) queue
+    (subst (Each (IsInBanks ranks)) (sym is)
+    (Each-weaker (InBanks s) (IsInBanks ranks) (λ r b. record { rank = omega arith; group = b.1; bank = b.2 }) (waiting history mail until) (waiting-in_banks s channel history mail until h)))
+
+pub queue-ranks : (s : Config) (channel : ℕ) (history : List CommandRow) (mail : List Message) (until : ℕ) (queue : List Request)
+    → Each (CarriesRequest s channel) mail → queue ≡ waiting history mail until → Each (λ (r : Request). r.place.rank < s.ranks) queue
+queue-ranks s channel history mail until queue h is =
+    subst (Each (λ (r : Request). r.place.rank < s.ranks)) (sym is)
+    (Each-weaker (InBanks s) (λ (r : Request). r.place.rank < s.ranks) (λ r b. b.0) (waiting history mail until) (waiting-in_banks s channel history mail until h))

@@ -1,0 +1,163 @@
+-- The requests that wait at a channel: what an arrival adds, and what a command takes away.
+use Rattle.std.proofs.Common.{◌≡◌, ℕ, zero, suc, ◌+◌, ◌<◌, ◌≤◌, Bool, true, false, cond, eqb, ltb, ◌&&◌, ◌||◌, List, [], ◌∷◌, ◌++◌, length, take, drop, Option, Some, None, refl, sym, ap, ap₂, subst, ◌∙◌, arith}
+use Rattle.std.specs.Prelude.{filter, filter_map, not, remove, slice_get}
+use Rattle.std.specs.Option.{IfSome}
+use Rattle.std.specs.List.{AllByRecursion as Each, list_any, cons_option}
+use Rattle.std.proofs.lemmas.Bool.{cond_both, cond-true, cond-false, lt-ltb, and_parts, or_parts}
+use Rattle.std.proofs.lemmas.Bool.Decides.{nat_tests}
+use Rattle.std.proofs.lemmas.List.{append-nil}
+use Rattle.std.proofs.lemmas.List.Elements.{filter-append, filter_map-append}
+use Rattle.std.proofs.lemmas.List.Folds.{list_any-append}
+use Rattle.sim_base.proofs.Ordered.{Each-weaker}
+use Rattle.sim_base.proofs.Each.{Each-append, Each-filter, Each-all}
+use Rattle.sim_base.proofs.Same.{Stamped}
+use Rattle.sim_base.specs.declared.config.Config.{Config}
+use Rattle.sim_base.specs.Scheduling.{request_in, is_source, source_of, serves, is_served, is_waiting, waiting}
+use Rattle.sim_base.specs.declared.command.Command.{Command}
+use Rattle.sim_base.specs.declared.command.Command.TheVariants.{Act, Rd, Wr, Pre, Prea, Ref}
+use Rattle.sim_base.specs.declared.command.CommandRow.{CommandRow}
+use Rattle.sim_base.specs.declared.command.Source.{Source}
+use Rattle.sim_base.specs.declared.message.Message.{Message}
+use Rattle.sim_base.specs.declared.message.Request.{Request}
+use Rattle.channel_step.specs.Past.{requests_of, IsRequestOf, IsRequestIn, CarriesRequest, IsOther, Differ}
+use Rattle.channel_step.specs.Fit.{is_named_by, IsUnnamed}
+
+-- a test of both, in one pass or in two
+pub filter-both : {X : Type 0} (p q r : X → Bool) → ((x : X) → r x ≡ (q x && p x)) → (xs : List X) → filter r xs ≡ filter p (filter q xs)
+filter-both p q r h [] = refl
+filter-both p q r h (x ∷ xs) =
+    let rest = filter-both p q r h xs in
+    cond_both (q x) (x ∷ filter q xs) (filter q xs) (λ z. filter r (x ∷ xs) ≡ filter p z)
+    (λ e. ap₂ (λ b y. cond b (x ∷ y) y) (h x ∙ ap (λ b. b && p x) e) rest)
+    (λ e. ap (λ b. cond b (x ∷ filter r xs) (filter r xs)) (h x ∙ ap (λ b. b && p x) e) ∙ rest)
+
+-- a test that each passes
+pub filter-each : {X : Type 0} (p : X → Bool) (xs : List X) → Each (λ x. p x ≡ true) xs → filter p xs ≡ xs
+filter-each p [] h = refl
+filter-each p (x ∷ xs) h = cond-true _ _ _ h.0 ∙ ap (λ y. x ∷ y) (filter-each p xs h.1)
+
+-- tests that agree on each
+pub filter-agree : {X : Type 0} (p q : X → Bool) (xs : List X) → Each (λ x. p x ≡ q x) xs → filter p xs ≡ filter q xs
+filter-agree p q [] h = refl
+filter-agree p q (x ∷ xs) h = ap₂ (λ b y. cond b (x ∷ y) y) h.0 (filter-agree p q xs h.1)
+
+-- what holds of each request that messages carry
+pub carried : (s : Config) (channel : ℕ) (P : Request → Type 0) (mail : List Message) → Each (CarriesRequest s channel) mail
+    → Each (λ (m : Message). (r : Request) → IsRequestOf s channel m r → P r) mail → Each P (requests_of mail)
+carried s channel P [] h k = tt
+carried s channel P (m ∷ ms) h k = by (request_in m.load) h.0 (carried s channel P ms h.1 k.1)
+  where
+    by : (o : Option Request) → IsRequestIn s channel m o → Each P (requests_of ms) → Each P (cons_option o (requests_of ms))
+    by None i rest = absurd i
+    by (Some r) i rest = (k.0 r i, rest)
+
+-- requests that arrived before a cycle
+abbrev pub ArrivedBefore : ℕ → Request → Type 0
+ArrivedBefore until r = r.arrival < until
+
+pub requests-arrived : (s : Config) (channel until : ℕ) (mail : List Message) → Each (CarriesRequest s channel) mail → Each (λ (m : Message). m.arrival < until) mail
+    → Each (ArrivedBefore until) (requests_of mail)
+requests-arrived s channel until mail h k =
+    carried s channel (ArrivedBefore until) mail h (Each-weaker (λ (m : Message). m.arrival < until) _ (λ m l r i. let e = i.arrival in omega arith) mail k)
+
+-- what carries a request says when it arrives
+pub carries-stamped : (s : Config) (channel : ℕ) (mail : List Message) → Each (CarriesRequest s channel) mail → Each Stamped mail
+carries-stamped s channel mail h = Each-weaker (CarriesRequest s channel) Stamped (λ m k. by m (request_in m.load) k) mail h
+  where
+    by : (m : Message) (o : Option Request) → IsRequestIn s channel m o → IfSome o (λ r. r.arrival ≡ m.arrival)
+    by m None i = absurd i
+    by m (Some r) i = i.arrival
+
+-- the requests of which no data was moved
+abbrev pub unserved : List CommandRow → List Request → List Request
+unserved history rs = filter (λ r. not (is_served history r)) rs
+
+-- where all requests have arrived, those wait of which no data was moved
+pub waiting-unserved : (history : List CommandRow) (mail : List Message) (until : ℕ) → Each (ArrivedBefore until) (requests_of mail)
+    → waiting history mail until ≡ unserved history (requests_of mail)
+unfolding waiting
+waiting-unserved history mail until h =
+    filter-agree (is_waiting history until) (λ r. not (is_served history r)) (requests_of mail)
+    (Each-weaker (ArrivedBefore until) _ (λ r l. ap (λ b. b && not (is_served history r)) (lt-ltb r.arrival until l)) (requests_of mail) h)
+
+-- no time has to pass for what has arrived
+pub waiting-until : (history : List CommandRow) (mail : List Message) (until later : ℕ) → until ≤ later → Each (ArrivedBefore until) (requests_of mail)
+    → waiting history mail later ≡ waiting history mail until
+waiting-until history mail until later l h =
+    waiting-unserved history mail later (Each-weaker (ArrivedBefore until) (ArrivedBefore later) (λ r k. omega arith) (requests_of mail) h)
+    ∙ sym (waiting-unserved history mail until h)
+
+pub requests-append : (mail more : List Message) → requests_of (mail ++ more) ≡ requests_of mail ++ requests_of more
+requests-append mail more = filter_map-append (λ (m : Message). request_in m.load) mail more
+
+serves-named : (r : Request) (command : Command) → is_named_by command r ≡ false → serves r command ≡ false
+serves-named r (Rd bank row column source) h = h
+serves-named r (Wr bank row column source) h = h
+serves-named r (Act bank row source) h = refl
+serves-named r (Pre bank source) h = refl
+serves-named r (Prea rank) h = refl
+serves-named r (Ref rank) h = refl
+
+-- what no command names is not served
+pub unnamed-unserved : (history : List CommandRow) (r : Request) → IsUnnamed history r → is_served history r ≡ false
+unfolding is_served
+unnamed-unserved [] r h = refl
+unnamed-unserved (i ∷ history) r h = ap₂ (λ a b. a || b) (serves-named r i.command h.0) (unnamed-unserved history r h.1)
+
+-- the queue with the requests that arrive in a cycle, which no command has named yet
+pub waiting-arrivals : (history : List CommandRow) (mail new : List Message) (now : ℕ) → Each (ArrivedBefore now) (requests_of mail)
+    → Each (ArrivedBefore (now + 1)) (requests_of new) → Each (IsUnnamed history) (requests_of new)
+    → waiting history (mail ++ new) (now + 1) ≡ waiting history mail now ++ requests_of new
+waiting-arrivals history mail new now h k u =
+    waiting-unserved history (mail ++ new) (now + 1)
+    (subst (Each (ArrivedBefore (now + 1))) (sym (requests-append mail new))
+    (Each-append (ArrivedBefore (now + 1)) (requests_of mail) (requests_of new)
+    (Each-weaker (ArrivedBefore now) (ArrivedBefore (now + 1)) (λ r l. omega arith) (requests_of mail) h) k))
+    ∙ ap (unserved history) (requests-append mail new)
+    ∙ filter-append (λ r. not (is_served history r)) (requests_of mail) (requests_of new)
+    ∙ ap₂ (λ xs ys. xs ++ ys) (sym (waiting-unserved history mail now h))
+    (filter-each (λ r. not (is_served history r)) (requests_of new)
+    (Each-weaker (IsUnnamed history) _ (λ r i. ap not (unnamed-unserved history r i)) (requests_of new) u))
+
+-- a command more, which may move the data of a request
+abbrev pub unserved_by : Command → List Request → List Request
+unserved_by command rs = filter (λ r. not (serves r command)) rs
+
+one_more : (b c d : Bool) → (b && not (c || (d || false))) ≡ ((b && not c) && not d)
+one_more true true d = refl
+one_more false c d = refl
+one_more true false true = refl
+one_more true false false = refl
+
+-- after one command more those wait that it does not serve
+pub waiting-command : (history : List CommandRow) (i : CommandRow) (mail : List Message) (until : ℕ)
+    → waiting (history ++ i ∷ []) mail until ≡ unserved_by i.command (waiting history mail until)
+unfolding waiting is_served
+waiting-command history i mail until =
+    filter-both (λ r. not (serves r i.command)) (is_waiting history until) (is_waiting (history ++ i ∷ []) until)
+    (λ r. ap (λ b. ltb r.arrival until && not b) (list_any-append (λ (j : CommandRow). serves r j.command) history (i ∷ [])) ∙ one_more (ltb r.arrival until) (is_served history r) (serves r i.command))
+    (requests_of mail)
+
+same_source : (a b : Request) → is_source a (source_of b) ≡ false → is_source b (source_of a) ≡ false
+same_source a b h = grind (arith, nat_tests)
+
+own_source : (r : Request) → is_source r (source_of r) ≡ true
+own_source r = grind (arith, nat_tests)
+
+other_at : (x r : Request) (xs : List Request) (i : ℕ) → Each (IsOther x) xs → slice_get xs i ≡ Some r → is_source x (source_of r) ≡ false
+other_at x r [] i h e = cc
+other_at x r (y ∷ ys) zero h e = let same : y ≡ r = cc in subst (λ z. is_source x (source_of z) ≡ false) same (same_source y x h.0)
+other_at x r (y ∷ ys) (suc i) h e = other_at x r ys i h.1 e
+
+-- of requests of different entries just one is of this entry
+pub unserved-remove : (rs : List Request) (i : ℕ) (r : Request) → Differ rs → slice_get rs i ≡ Some r
+    → filter (λ q. not (is_source q (source_of r))) rs ≡ remove rs i
+unserved-remove [] i r d e = cc
+unserved-remove (x ∷ xs) zero r d e =
+    let same : x ≡ r = cc in
+    let others = Each-weaker (IsOther x) (λ (q : Request). not (is_source q (source_of r)) ≡ true)
+    (λ q h. ap not (ap (λ z. is_source q (source_of z)) (sym same) ∙ h)) xs d.0 in
+    cond-false _ _ _ (ap not (ap (λ z. is_source z (source_of r)) same ∙ own_source r))
+    ∙ filter-each (λ q. not (is_source q (source_of r))) xs others
+unserved-remove (x ∷ xs) (suc i) r d e =
+    cond-true _ _ _ (ap not (other_at x r xs i d.0 e)) ∙ ap (λ y. x ∷ y) (unserved-remove xs i r d.1 e)

@@ -1,0 +1,137 @@
+-- One cycle of a channel, from what arrives in it on.
+use Rattle.std.proofs.Common.{◌≡◌, ℕ, zero, suc, ◌+◌, ◌<◌, ◌≤◌, Bool, List, [], ◌∷◌, ◌++◌, length, take, drop, Option, Some, None, refl, sym, ap, ap₂, subst, ◌∙◌, add-zero, arith, eqb}
+use Rattle.std.specs.Prelude.{count_by, filter_map, take_while}
+use Rattle.std.specs.List.{AllByRecursion as Each, cons_option, prefix_len}
+use Rattle.std.proofs.lemmas.List.{append_assoc, take-append-drop, length-append}
+use Rattle.std.proofs.lemmas.List.Folds.{length-prefix_len}
+use Rattle.std.proofs.lemmas.List.Sums.{prefix_len-le-length}
+use Rattle.sim_base.proofs.Ordered.{Each-weaker}
+use Rattle.sim_base.proofs.Same.{queue-same}
+use Rattle.sim_base.specs.declared.config.Config.{Config}
+use Rattle.sim_base.specs.Counts.{queue_length}
+use Rattle.sim_base.specs.History.{issued_commands}
+use Rattle.sim_base.specs.Machine.{channel_run}
+use Rattle.sim_base.specs.Scheduling.{request_in, waiting, drains_with, choice}
+use Rattle.sim_base.specs.declared.command.Command.{Command}
+use Rattle.sim_base.specs.declared.message.Message.{Message}
+use Rattle.sim_base.specs.declared.message.Request.{Request}
+use Rattle.statistics.proofs.ChannelMail.{AgreeUpTo-later}
+use Rattle.queue.specs.View.{drains_by}
+use Rattle.queue.specs.Columns.{write_count}
+use Rattle.channel_step.specs.Past.{requests_of, IsRequestIn, CarriesRequest}
+use Rattle.channel_step.specs.Fit.{queue_room, IsFit}
+use Rattle.channel_step.specs.Stands.{marks_of, HasJoined}
+use Rattle.channel_step.specs.Queued.{Queued, with_arrivals}
+use Rattle.channel_step.specs.Channels.{IsMadeFor, StandsFor, IsInCycle}
+use Rattle.channel_step.specs.Runs.{IsStep}
+use Rattle.channel_step.specs.declared.channel.Channel.{Channel}
+use Rattle.channel_step.proofs.Requests.{carries-stamped}
+use Rattle.channel_step.proofs.Spans.{queue-next}
+use Rattle.channel_step.proofs.Cycle.{Arrives, joined}
+use Rattle.channel_step.proofs.Fits.{due_count, fit-arrives, fit-rest, fit-later}
+
+pub due_count-is : (inbox : List Message) (now : ℕ) → length (take_while (λ (m : Message). eqb m.arrival now) inbox) ≡ due_count inbox now
+due_count-is inbox now = length-prefix_len (λ (m : Message). eqb m.arrival now) inbox
+
+pub due_count-le : (inbox : List Message) (now : ℕ) → due_count inbox now ≤ length inbox
+due_count-le inbox now = prefix_len-le-length (λ (m : Message). eqb m.arrival now) inbox
+
+-- each message has its request
+pub length-requests : (s : Config) (channel : ℕ) (mail : List Message) → Each (CarriesRequest s channel) mail → length (requests_of mail) ≡ length mail
+length-requests s channel [] h = refl
+length-requests s channel (m ∷ ms) h = by (request_in m.load) h.0 (length-requests s channel ms h.1)
+  where
+    by : (o : Option Request) → IsRequestIn s channel m o → length (requests_of ms) ≡ length ms → length (cons_option o (requests_of ms)) ≡ suc (length ms)
+    by None i e = absurd i
+    by (Some r) i e = ap (λ n. suc n) e
+
+-- the queue of a cycle has room for what arrives in it
+pub arrivals-room : (c : Channel) (s : Config) (channel : ℕ) (rows : List (Option Command)) (mail inbox : List Message) (now until : ℕ) → StandsFor c s channel rows mail → length rows ≡ now → now < until
+    → IsFit s channel rows mail inbox now until → length (c.waiting.queue.requests ++ requests_of (take (due_count inbox now) inbox)) ≤ queue_room s
+unfolding queue_length channel_run
+arrivals-room c s channel rows mail inbox now until h at l f =
+    let new = take (due_count inbox now) inbox in
+    let rest = drop (due_count inbox now) inbox in
+    let j = joined _ _ _ _ s channel rows mail new h.recalls (fit-arrives s channel rows mail inbox now until at f) in
+    let later = fit-later s channel rows mail inbox now until at f in
+    let whole : mail ++ inbox ≡ (mail ++ new) ++ rest = ap (λ x. mail ++ x) (sym (take-append-drop (due_count inbox now) inbox)) ∙ sym (append_assoc mail new rest) in
+    let fits = f.room 0 (omega arith) in
+    let is : queue_length channel rows (mail ++ inbox) (now + 0) ≡ length (c.waiting.queue.requests ++ requests_of new) =
+    ap₂ (λ m k. queue_length channel rows m k) whole (add-zero now ∙ sym at)
+    ∙ ap length (queue-same channel rows ((mail ++ new) ++ rest) (mail ++ new) (length rows)
+    (AgreeUpTo-later (length rows + 1) (mail ++ new) rest (carries-stamped s channel (mail ++ new) j.requests) (carries-stamped s channel rest later.0) later.1)
+    ∙ queue-next channel rows (mail ++ new) ∙ sym j.queue_is) in
+    omega arith
+
+-- when they have joined
+pub arrived-stands : (c : Channel) (s : Config) (channel : ℕ) (rows : List (Option Command)) (mail inbox : List Message) (now until : ℕ) (w : Queued) → StandsFor c s channel rows mail → length rows ≡ now → now < until
+    → IsFit s channel rows mail inbox now until → w ≡ with_arrivals c.waiting (requests_of (take (due_count inbox now) inbox))
+    → IsInCycle (record c { waiting = w }) s channel rows (mail ++ take (due_count inbox now) inbox)
+arrived-stands c s channel rows mail inbox now until w h at l f e =
+    let new = take (due_count inbox now) inbox in
+    let requests = requests_of new in
+    let j = joined _ _ _ _ s channel rows mail new h.recalls (fit-arrives s channel rows mail inbox now until at f) in
+    let drains : w.queue.settled ≡ drains_with s c.waiting.queue.settled (count_by (λ r. r.write) (c.waiting.queue.requests ++ requests)) =
+    ap (λ (x : Queued). x.queue.settled) e
+    ∙ ap₂ (λ high low. drains_by high low c.waiting.queue.settled (write_count (c.waiting.queue.requests ++ requests))) h.made_for.high_is h.made_for.low_is in
+    let room = arrivals-room c s channel rows mail inbox now until h at l f in
+    let same : length w.queue.requests ≡ length (c.waiting.queue.requests ++ requests) = ap (λ (x : Queued). length x.queue.requests) e in
+    record {
+      made_for = record {
+        config_is = h.made_for.config_is;
+        number_is = h.made_for.number_is;
+        high_is = ap (λ (x : Queued). x.queue.high) e ∙ h.made_for.high_is;
+        low_is = ap (λ (x : Queued). x.queue.low) e ∙ h.made_for.low_is;
+        room_is = ap (λ (x : Queued). x.queue.room) e ∙ h.made_for.room_is;
+        scratch_is = h.made_for.scratch_is;
+        within = omega arith;
+        longest = h.made_for.longest;
+      };
+      joined = record {
+        requests = j.requests;
+        arrived = j.arrived;
+        differ = j.differ;
+        queue_is = ap (λ (x : Queued). x.queue.requests) e ∙ j.queue_is;
+        drained_is = drains ∙ j.drained_is;
+        marks_are = ap (λ (x : Queued). x.marks) e ∙ j.marks_are ∙ ap (marks_of (issued_commands channel rows)) (sym (ap (λ (x : Queued). x.queue.requests) e));
+        stats_are = j.stats_are;
+      };
+      banks_stand = h.banks_stand;
+      refreshes_stand = h.refreshes_stand;
+    }
+
+-- there is room for them
+pub admit-room : (c : Channel) (s : Config) (channel : ℕ) (rows : List (Option Command)) (mail inbox : List Message) (now until n : ℕ) → StandsFor c s channel rows mail → length rows ≡ now → now < until
+    → IsFit s channel rows mail inbox now until → n ≡ due_count inbox now → length c.waiting.queue.requests + length (take n inbox) ≤ c.waiting.queue.room
+admit-room c s channel rows mail inbox now until n h at l f e =
+    let new = take (due_count inbox now) inbox in
+    let same : length (take n inbox) ≡ length new = ap (λ k. length (take k inbox)) e in
+    let each : length (requests_of new) ≡ length new = length-requests s channel new (fit-arrives s channel rows mail inbox now until at f).requests in
+    let room : c.waiting.queue.room ≡ queue_room s = h.made_for.room_is in
+    omega (arith, arrivals-room c s channel rows mail inbox now until h at l f, length-append c.waiting.queue.requests (requests_of new))
+
+-- the same, for as many messages as arrive
+pub arrived-in_cycle : (c : Channel) (s : Config) (channel : ℕ) (rows : List (Option Command)) (mail inbox : List Message) (now until n : ℕ) (w : Queued) → StandsFor c s channel rows mail → length rows ≡ now → now < until
+    → IsFit s channel rows mail inbox now until → n ≡ due_count inbox now → w ≡ with_arrivals c.waiting (requests_of (take n inbox))
+    → IsInCycle (record c { waiting = w }) s channel rows (mail ++ take n inbox)
+arrived-in_cycle c s channel rows mail inbox now until n w h at l f e x =
+    subst (λ k. IsInCycle (record c { waiting = w }) s channel rows (mail ++ take k inbox)) (sym e)
+    (arrived-stands c s channel rows mail inbox now until w h at l f (x ∙ ap (λ k. with_arrivals c.waiting (requests_of (take k inbox))) e))
+
+-- the whole cycle
+pub step-is : (c d : Channel) (s : Config) (channel : ℕ) (rows : List (Option Command)) (mail inbox : List Message) (now until n : ℕ) (w : Queued) (o : Option Command) → length rows ≡ now
+    → IsFit s channel rows mail inbox now until → n ≡ due_count inbox now → IsInCycle (record c { waiting = w }) s channel rows (mail ++ take n inbox)
+    → o ≡ choice s channel rows (mail ++ take n inbox) → StandsFor d s channel (rows ++ o ∷ []) (mail ++ take n inbox)
+    → IsStep d s channel rows mail inbox now until n o
+step-is c d s channel rows mail inbox now until n w o at f e h choose stands =
+    let k = due_count inbox now in
+    let joined_then = subst (λ i. IsInCycle (record c { waiting = w }) s channel rows (mail ++ take i inbox)) e h in
+    let left = fit-rest _ _ _ _ s channel rows mail inbox now until at f joined_then.joined in
+    let chosen : o ≡ choice s channel rows (mail ++ take k inbox) = choose ∙ ap (λ i. choice s channel rows (mail ++ take i inbox)) e in
+    record {
+      command_is = chosen ∙ sym left.1;
+      stands = stands;
+      fit = subst (λ i. IsFit s channel (rows ++ o ∷ []) (mail ++ take i inbox) (drop i inbox) (now + 1) until) (sym e)
+          (subst (λ x. IsFit s channel (rows ++ x ∷ []) (mail ++ take k inbox) (drop k inbox) (now + 1) until) (sym chosen) left.0);
+      some = omega (arith, due_count-le inbox now);
+    }

@@ -1,0 +1,38 @@
+use Rattle.std.proofs.Common.{◌≡◌, ◌<◌, ◌^◌, ◌∷◌, [], ◌++◌, length, Some, ap, sym, subst, ◌∙◌, arith, refl}
+use Rattle.sim_base.specs.History.{issued_commands}
+use Rattle.statistics.specs.Channels.{ChannelFits}
+use Rattle.channel_step.specs.Channels.{StandsFor}
+use Rattle.channel_step.specs.declared.channel.Channel.{Channel}
+use Rattle.channel_step.proofs.Issuing.{row_of, counted, slot-below, leaves-hit, counted-fits, issued-stands, issued-before, command-rank, command-owed, seen-counted}
+use Rattle.channel_step.proofs.channel.Channel.perform.Goals as goal
+
+pub take-hit-requires : goal.take-hit-requires
+take-hit-requires c = slot-below c.args.self.now.waiting.queue.requests c.args.chosen c.requires.slot
+
+pub note-requires-clause-rank : goal.note-requires-clause-rank
+note-requires-clause-rank c = let p = c.requires.chosen in command-rank c.args.self.now p.s p.channel p.rows p.mail c.args.chosen.command p.is_in p.chosen
+
+pub note_refresh-requires-clause-due : goal.note_refresh-requires-clause-due
+note_refresh-requires-clause-due c = let p = c.requires.chosen in command-owed c.args.self.now p.s p.channel p.rows p.mail c.args.chosen.command c.args.now p.is_in p.at p.chosen
+
+pub count-requires : goal.count-requires
+count-requires c =
+    let p = c.requires.chosen in
+    let early : length p.rows < 2 ^ 62 = omega arith in
+    let hit = leaves-hit c.args.self.now p.s p.channel p.rows p.mail c.args.chosen p.is_in c.requires.slot in
+    subst ChannelFits
+    (sym (seen-counted c.args.self.now p.s p.channel p.rows p.mail c.args.now c.args.seen (Some c.args.chosen.command) c.take-hit.result p.is_in p.at c.requires.seen))
+    (counted-fits c.args.self.now p.s p.channel p.rows p.mail (Some c.args.chosen.command) c.take-hit.result p.is_in early p.chosen (hit ∙ sym c.take-hit.ensures.hit))
+
+pub returns : goal.returns
+returns c s channel rows mail h at e =
+    let x = c.args.self.now in
+    let history = issued_commands channel rows in
+    let command = c.args.chosen.command in
+    subst (λ (z : Channel). StandsFor z s channel (rows ++ Some command ∷ []) mail) (sym c.count.ensures)
+    (issued-stands x s channel rows mail c.args.now c.args.chosen c.take-hit.new.self c.note.new.self c.note_refresh.new.refresh _ h at e c.requires.slot
+    c.take-hit.ensures.rest
+    (c.note.ensures.stands s history channel h.banks_stand (issued-before channel c.args.now rows at))
+    (c.note_refresh.ensures s history (row_of channel c.args.now command) refl h.refreshes_stand)
+    (seen-counted x s channel rows mail c.args.now c.args.seen (Some command) c.take-hit.result h at c.requires.seen
+    ∙ ap (counted x s history (length rows) (Some command)) c.take-hit.ensures.hit))

@@ -1,0 +1,67 @@
+-- What a `Channel` stands for.
+--     IsMadeFor c s channel      the channel with a number, of a machine with a configuration
+--     StandsFor c s channel rows mail      all that it keeps is what these rows, and the messages that arrived in them, make of it
+--     IsInCycle c s channel rows mail      the same in the cycle after these rows, when what arrives in it has joined the queue
+--     seen_of c now      what is seen of a channel in a cycle
+use Rattle.std.specs.Prelude.{◌≡◌, ℕ, ◌≤◌, List, length, is_some, Option, Some}
+use Rattle.sim_base.specs.declared.config.Config.{Config}
+use Rattle.sim_base.specs.History.{issued_commands}
+use Rattle.sim_base.specs.Scheduling.{choice}
+use Rattle.sim_base.specs.declared.command.Command.{Command}
+use Rattle.sim_base.specs.declared.message.Message.{Message}
+use Rattle.bank_ready.specs.Stands.{StandsFor as BanksStandFor}
+use Rattle.refresh.specs.Refreshes.{lowest_owed, StandsFor as RefreshesStandFor}
+use Rattle.queue.specs.View.{is_draining}
+use Rattle.channel_step.specs.Fit.{queue_room}
+use Rattle.channel_step.specs.Stands.{Recalls, HasJoined}
+use Rattle.channel_step.specs.declared.channel.Channel.{Channel}
+use Rattle.channel_step.specs.declared.counting.Seen.{Seen}
+
+-- the channel with a number, of a machine with a configuration, has a place in its queue for each credit, and never had more
+-- requests in it
+pub record IsMadeFor (c : Channel) (s : Config) (channel : ℕ) : Type 0 where
+  pub config_is : c.config ≡ s
+  pub number_is : c.number ≡ channel
+  pub high_is : c.waiting.queue.high ≡ s.write_high
+  pub low_is : c.waiting.queue.low ≡ s.write_low
+  pub room_is : c.waiting.queue.room ≡ queue_room s
+  pub scratch_is : c.scratch ≡ queue_room s
+  pub within : length c.waiting.queue.requests ≤ queue_room s
+  pub longest : c.stats.queued_max ≤ queue_room s
+
+-- All that a channel keeps between two cycles is what its rows so far, one a cycle, and the messages that arrived in them make of it.
+pub record StandsFor (c : Channel) (s : Config) (channel : ℕ) (rows : List (Option Command)) (mail : List Message) : Type 0 where
+  pub made_for : IsMadeFor c s channel
+  pub recalls : Recalls c.waiting.queue.requests c.waiting.queue.settled c.waiting.marks c.stats s channel rows mail
+  pub banks_stand : BanksStandFor c.banks s (issued_commands channel rows)
+  pub refreshes_stand : RefreshesStandFor c.refresh s (issued_commands channel rows)
+
+-- The same in the cycle after these rows, when what arrives in it has joined the queue.
+pub record IsInCycle (c : Channel) (s : Config) (channel : ℕ) (rows : List (Option Command)) (mail : List Message) : Type 0 where
+  pub made_for : IsMadeFor c s channel
+  pub joined : HasJoined c.waiting.queue.requests c.waiting.queue.settled c.waiting.marks c.stats s channel rows mail
+  pub banks_stand : BanksStandFor c.banks s (issued_commands channel rows)
+  pub refreshes_stand : RefreshesStandFor c.refresh s (issued_commands channel rows)
+
+-- a channel is in a cycle, after some rows
+pub record IsInSomeCycle (c : Channel) (now : ℕ) : Type 0 where
+  pub s : Config
+  pub channel : ℕ
+  pub rows : List (Option Command)
+  pub mail : List Message
+  pub is_in : IsInCycle c s channel rows mail
+  pub at : length rows ≡ now
+
+-- a channel is in a cycle, after some rows, and does this in it
+pub record IsChosen (c : Channel) (now : ℕ) (command : Command) : Type 0 where
+  pub s : Config
+  pub channel : ℕ
+  pub rows : List (Option Command)
+  pub mail : List Message
+  pub is_in : IsInCycle c s channel rows mail
+  pub at : length rows ≡ now
+  pub chosen : Some command ≡ choice s channel rows mail
+
+-- what is seen of a channel in a cycle, before it issues a command
+abbrev pub seen_of : Channel → ℕ → Seen
+seen_of c now = record { queued = length c.waiting.queue.requests; refreshing = is_some (lowest_owed c.refresh now); draining = is_draining c.waiting.queue }

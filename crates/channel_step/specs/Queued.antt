@@ -1,0 +1,71 @@
+-- The requests that wait at a channel, each with a mark: whether an ACT was issued for it.
+--     Queued      what a `Waiting` stands for
+--     no_requests room high low      no request waits
+--     with_arrivals w new      these requests join, and it is settled whether the channel drains its writes
+--     without w slot      one is served
+--     marked_at marks requests source, with_mark w source      the request of an entry gets its mark
+--     after w command slot      what a command leaves
+use Rattle.std.specs.Prelude.{◌≡◌, ℕ, Bool, true, false, not, List, [], length, map, ◌++◌, remove, slice_set, slice_index_or, Option, Some, None}
+use Rattle.std.specs.List.{position_or_len}
+use Rattle.sim_base.specs.Scheduling.{is_source}
+use Rattle.sim_base.specs.declared.command.Command.{Command}
+use Rattle.sim_base.specs.declared.command.Command.TheVariants.{Act, Rd, Wr, Pre, Prea, Ref}
+use Rattle.sim_base.specs.declared.command.Source.{Source}
+use Rattle.sim_base.specs.declared.message.Request.{Request}
+use Rattle.queue.specs.View.{QueueView, is_draining}
+
+-- the queue, and a mark for each of its requests
+pub record Queued : Type 0 where
+  pub queue : QueueView
+  pub marks : List Bool
+
+-- no request waits yet, where there is room for so many, and a drain begins and ends with so many writes
+abbrev pub no_requests : ℕ → ℕ → ℕ → Queued
+no_requests room high low = record { queue = record { room = room; high = high; low = low; requests = []; settled = false }; marks = [] }
+
+-- these requests come to a queue
+abbrev pub with_requests : QueueView → List Request → QueueView
+with_requests queue new = record queue { requests = queue.requests ++ new }
+
+-- the same, and it is settled whether it drains
+abbrev pub settled : QueueView → QueueView
+settled queue = record queue { settled = is_draining queue }
+
+-- these requests join, with no mark yet
+abbrev pub joined_with : Queued → List Request → Queued
+joined_with w new = record { queue = with_requests w.queue new; marks = w.marks ++ map (λ r. false) new }
+
+-- the same, and it is settled whether the channel drains its writes
+abbrev pub with_arrivals : Queued → List Request → Queued
+with_arrivals w new = record { queue = settled (with_requests w.queue new); marks = w.marks ++ map (λ r. false) new }
+
+-- the request at a place is served
+abbrev pub without : Queued → ℕ → Queued
+without w slot = record { queue = record w.queue { requests = remove w.queue.requests slot }; marks = remove w.marks slot }
+
+-- the marks with one for the request of this entry
+abbrev pub marked_at : List Bool → List Request → Source → List Bool
+marked_at marks requests source = slice_set marks (position_or_len (λ r. is_source r source) requests) true
+
+-- the request of this entry gets its mark
+abbrev pub with_mark : Queued → Source → Queued
+with_mark w source = record { queue = w.queue; marks = marked_at w.marks w.queue.requests source }
+
+-- what a command that moves no data leaves
+abbrev pub after_command : Queued → Command → Queued
+after_command w (Act bank row source) = with_mark w source
+after_command w (Rd bank row column source) = w
+after_command w (Wr bank row column source) = w
+after_command w (Pre bank source) = w
+after_command w (Prea rank) = w
+after_command w (Ref rank) = w
+
+-- what a command leaves, which moves the data of the request at this place, if it moves any
+abbrev pub after : Queued → Command → Option ℕ → Queued
+after w command (Some slot) = without w slot
+after w command None = after_command w command
+
+-- the data that it moves is a row hit
+abbrev pub moves_unmarked : Queued → Option ℕ → Bool
+moves_unmarked w (Some slot) = not (slice_index_or w.marks slot true)
+moves_unmarked w None = false

@@ -1,0 +1,64 @@
+-- What a channel does over a span of cycles.
+--     issued_in channel now o      the command of a cycle as a list of rows
+--     IsStep d s channel rows mail inbox now until n o      what one cycle leaves
+--     HasRun c s channel rows mail inbox from now until arrived commands messages      the same for the cycles so far
+--     IsDone done s channel rows mail inbox from until      and for all cycles of a span
+--     CanRun c inbox from until      a channel stands for a past after which messages are fit for a span
+--     CanStep c inbox now      they are fit for a span that begins with this cycle
+use Rattle.std.specs.Prelude.{◌≡◌, ℕ, ◌+◌, ◌-◌, ◌<◌, ◌≤◌, List, [], ◌∷◌, ◌++◌, length, take, drop, Option}
+use Rattle.std.specs.List.{cons_option}
+use Rattle.sim_base.specs.declared.config.Config.{Config}
+use Rattle.sim_base.specs.History.{issued_at, issued_commands, channel_messages}
+use Rattle.sim_base.specs.Machine.{channel_run}
+use Rattle.sim_base.specs.Scheduling.{choice}
+use Rattle.sim_base.specs.declared.command.Command.{Command}
+use Rattle.sim_base.specs.declared.command.CommandRow.{CommandRow}
+use Rattle.sim_base.specs.declared.message.Message.{Message}
+use Rattle.channel_step.specs.Fit.{IsFit}
+use Rattle.channel_step.specs.Channels.{StandsFor}
+use Rattle.channel_step.specs.declared.channel.Channel.{Channel}
+use Rattle.channel_step.specs.declared.done.ChannelDone.{ChannelDone}
+
+-- the command of a cycle as a list of rows
+abbrev pub issued_in : ℕ → ℕ → Option Command → List CommandRow
+issued_in channel now o = cons_option (issued_at channel now o) []
+
+-- After one cycle a channel, which took in the first n messages and did this, stands for a row more and those messages; the
+-- others are fit for the rest of the span.
+pub record IsStep (d : Channel) (s : Config) (channel : ℕ) (rows : List (Option Command)) (mail inbox : List Message) (now until n : ℕ) (o : Option Command) : Type 0 where
+  pub command_is : o ≡ choice s channel rows (mail ++ inbox)
+  pub stands : StandsFor d s channel (rows ++ o ∷ []) (mail ++ take n inbox)
+  pub fit : IsFit s channel (rows ++ o ∷ []) (mail ++ take n inbox) (drop n inbox) (now + 1) until
+  pub some : n ≤ length inbox
+
+-- After the cycles from one on and before another a channel stands for the rows of its run and for the messages that arrived in
+-- them; the others are fit for the rest of the span; and these commands and messages are those that came more.
+pub record HasRun (c : Channel) (s : Config) (channel : ℕ) (rows : List (Option Command)) (mail inbox : List Message) (from now until arrived : ℕ) (commands : List CommandRow) (messages : List Message) : Type 0 where
+  pub stands : StandsFor c s channel (channel_run s channel rows (mail ++ inbox) (now - from)) (mail ++ take arrived inbox)
+  pub fit : IsFit s channel (channel_run s channel rows (mail ++ inbox) (now - from)) (mail ++ take arrived inbox) (drop arrived inbox) now until
+  pub some : arrived ≤ length inbox
+  pub commands_are : issued_commands channel (channel_run s channel rows (mail ++ inbox) (now - from)) ≡ issued_commands channel rows ++ commands
+  pub messages_are : channel_messages s channel (channel_run s channel rows (mail ++ inbox) (now - from)) ≡ channel_messages s channel rows ++ messages
+
+-- What comes back stands for the rows of the channel's run over the span and for all messages that were sent to it. The commands
+-- and messages are those of the longer rows beyond those of the earlier ones.
+pub record IsDone (done : ChannelDone) (s : Config) (channel : ℕ) (rows : List (Option Command)) (mail inbox : List Message) (from until : ℕ) : Type 0 where
+  pub stands : StandsFor done.channel s channel (channel_run s channel rows (mail ++ inbox) (until - from)) (mail ++ inbox)
+  pub commands_are : issued_commands channel (channel_run s channel rows (mail ++ inbox) (until - from)) ≡ issued_commands channel rows ++ done.commands.items
+  pub messages_are : channel_messages s channel (channel_run s channel rows (mail ++ inbox) (until - from)) ≡ channel_messages s channel rows ++ done.messages.items
+
+-- a channel stands for some past, after which these messages are fit for a span
+pub record CanRun (c : Channel) (inbox : List Message) (from until : ℕ) : Type 0 where
+  pub s : Config
+  pub channel : ℕ
+  pub rows : List (Option Command)
+  pub mail : List Message
+  pub stands : StandsFor c s channel rows mail
+  pub at : length rows ≡ from
+  pub fit : IsFit s channel rows mail inbox from until
+
+-- the same for some span that begins with this cycle
+pub record CanStep (c : Channel) (inbox : List Message) (now : ℕ) : Type 0 where
+  pub until : ℕ
+  pub before_end : now < until
+  pub can_run : CanRun c inbox now until

@@ -1,0 +1,181 @@
+//! A channel that is run alone over a span of cycles.
+
+ghost use Rattle.std.specs.Prelude.{◌≡◌, ℕ, ◌+◌, ◌<◌, ◌≤◌, ◌^◌, ◌==◌, take_while, ◌++◌, List, [], ◌∷◌, length, Option, Some, None, option_map, IfSome, IfOk};
+ghost use Rattle.sim_base.specs.Scheduling.{choice};
+ghost use Rattle.sim_base.specs.declared.config.Config.{Config};
+ghost use Rattle.sim_base.specs.declared.command.Command.{Command};
+ghost use Rattle.sim_base.specs.declared.message.Message.{Message};
+ghost use Rattle.fr_fcfs.specs.Choices.{IsFor};
+ghost use Rattle.statistics.specs.Channels.{channel_joined, ChannelFits};
+ghost use Rattle.channel_step.specs.Counted.{cycle_with_hit};
+ghost use Rattle.channel_step.specs.Channels.{StandsFor, IsInCycle, IsInSomeCycle, IsChosen, seen_of};
+ghost use Rattle.channel_step.specs.Fit.{IsFit};
+ghost use Rattle.channel_step.specs.Runs.{IsStep, CanStep, CanRun, IsDone};
+
+use crate::counting::{Seen, cycle_stats};
+use crate::done::ChannelDone;
+use crate::noting::note_refresh;
+use crate::sending::tell;
+use crate::waiting::Waiting;
+use bank_ready::banks::Banks;
+use fr_fcfs::Scratch;
+use fr_fcfs::choice::{Choice, choose};
+use refresh::Refresh;
+use sim_base::command::Command;
+use sim_base::config::Config;
+use sim_base::message::{ChannelId, Cycle, Message};
+use statistics::channels::ChannelStats;
+use std::alloc::{AllocError, Global};
+
+/// A channel, with all that it keeps of its past.
+#[derive(Drop)]
+pub struct Channel {
+    config: Config,
+    number: ChannelId,
+    waiting: Waiting,
+    banks: Banks,
+    refresh: Refresh,
+    stats: ChannelStats,
+    scratch: Scratch,
+}
+
+impl Channel {
+    /// What the channel does in this cycle.
+    fn decide(&mut self, now: Cycle) -> Option<Choice>
+        requires { IsInSomeCycle self.old now }
+        ensures same { self.new ≡ self.old }
+        ensures command { (s : Config) (channel : ℕ) (rows : List (Option Command)) (mail : List Message)
+            → IsInCycle self.old s channel rows mail → length rows ≡ now → option_map (λ c. c.command) result ≡ choice s channel rows mail }
+        ensures slot { IfSome result (IsFor self.old.waiting.queue.requests) }
+    {
+        choose(
+            self.waiting.queue(),
+            &self.banks,
+            &self.refresh,
+            self.config.groups,
+            now,
+            &mut self.scratch,
+        )
+    }
+
+    /// What is seen of the channel before it issues a command.
+    fn seen(&self, now: Cycle) -> Seen
+        ensures { result ≡ seen_of self.now now }
+    {
+        Seen {
+            queued: self.waiting.queue().len(),
+            refreshing: self.refresh.lowest_due(now).is_some(),
+            draining: self.waiting.queue().draining(),
+        }
+    }
+
+    /// Counts a cycle.
+    fn count(&mut self, seen: Seen, command: Option<Command>, hit: bool)
+        requires { ChannelFits (channel_joined self.old.stats (cycle_with_hit self.old.config seen.queued seen.refreshing seen.draining command hit)) }
+        ensures { self.new ≡ record self.old { stats = channel_joined self.old.stats (cycle_with_hit self.old.config seen.queued seen.refreshing seen.draining command hit) } }
+    {
+        let cycle = cycle_stats(&self.config, seen, command, hit);
+        self.stats = self.stats.joined(cycle);
+    }
+
+    /// Does what was chosen for a cycle, and counts the cycle.
+    fn perform(&mut self, chosen: Choice, seen: Seen, now: Cycle)
+        requires chosen { IsChosen self.old now chosen.command }
+        requires now { now < 2 ^ 62 }
+        requires slot { IsFor self.old.waiting.queue.requests chosen }
+        requires seen { seen ≡ seen_of self.old now }
+        ensures { (s : Config) (channel : ℕ) (rows : List (Option Command)) (mail : List Message)
+            → IsInCycle self.old s channel rows mail → length rows ≡ now → Some chosen.command ≡ choice s channel rows mail
+            → StandsFor self.new s channel (rows ++ Some chosen.command ∷ []) mail }
+    {
+        let hit = self.waiting.take(chosen);
+        self.banks.note(chosen.command, now);
+        note_refresh(&mut self.refresh, chosen.command, now);
+        self.count(seen, Some(chosen.command), hit);
+    }
+
+    /// Does what a channel does in a cycle, once what arrives in it has joined the queue.
+    fn issue(&mut self, now: Cycle) -> Option<Command>
+        requires in_cycle { IsInSomeCycle self.old now }
+        requires now { now < 2 ^ 62 }
+        ensures command { (s : Config) (channel : ℕ) (rows : List (Option Command)) (mail : List Message)
+            → IsInCycle self.old s channel rows mail → length rows ≡ now → result ≡ choice s channel rows mail }
+        ensures stands { (s : Config) (channel : ℕ) (rows : List (Option Command)) (mail : List Message)
+            → IsInCycle self.old s channel rows mail → length rows ≡ now → StandsFor self.new s channel (rows ++ result ∷ []) mail }
+    {
+        let choice = self.decide(now);
+        let seen = self.seen(now);
+        match choice {
+            None => {
+                self.count(seen, None, false);
+                None
+            }
+            Some(chosen) => {
+                self.perform(chosen, seen, now);
+                Some(chosen.command)
+            }
+        }
+    }
+
+    /// One cycle, in which those of these messages arrive that come first. Tells how many, and what the channel does.
+    fn step(
+        &mut self,
+        inbox: &[Message],
+        now: Cycle,
+    ) -> Result<(usize, Option<Command>), AllocError>
+        requires can_step { CanStep self.old inbox.now now }
+        requires now { now < 2 ^ 62 }
+        ensures { (s : Config) (channel : ℕ) (rows : List (Option Command)) (mail : List Message) (until : ℕ)
+            → StandsFor self.old s channel rows mail → length rows ≡ now → now < until → IsFit s channel rows mail inbox.now now until
+            → IfOk result (λ done. IsStep self.new s channel rows mail inbox.now now until done.0 done.1) }
+    {
+        let due = due_count(inbox, now);
+        self.waiting.admit(&inbox[..due])?;
+        Ok((due, self.issue(now)))
+    }
+
+    /// Runs the channel over the cycles from `from` on and before `until`, in which these messages arrive, by arrival and then
+    /// by link. The channel that comes back stands at `until`. On an error, which is want of memory alone, it is gone.
+    pub fn run(
+        mut self,
+        alloc: Global,
+        inbox: &[Message],
+        from: Cycle,
+        until: Cycle,
+    ) -> Result<ChannelDone, AllocError>
+        requires can_run { CanRun self inbox.now from until }
+        requires span { from ≤ until }
+        requires until { until ≤ 2 ^ 62 }
+        ensures { (s : Config) (channel : ℕ) (rows : List (Option Command)) (mail : List Message)
+            → StandsFor self s channel rows mail → length rows ≡ from → IsFit s channel rows mail inbox.now from until
+            → IfOk result (λ done. IsDone done s channel rows mail inbox.now from until) }
+    {
+        let mut commands = Vec::new(alloc);
+        let mut messages = Vec::new(alloc);
+        let mut arrived = 0;
+        for now in from..until {
+            let (due, command) = self.step(&inbox[arrived..], now)?;
+            arrived += due;
+            tell(
+                &self.config,
+                self.number,
+                now,
+                command,
+                &mut commands,
+                &mut messages,
+            )?;
+        }
+        Ok(ChannelDone {
+            channel: self,
+            commands,
+            messages,
+        })
+    }
+}
+
+/// How many of these messages arrive in a cycle, as the first ones.
+fn due_count(inbox: &[Message], now: Cycle) -> usize
+    ensures { result ≡ length (take_while (λ m. m.arrival == now) inbox.now) }
+{
+    inbox.iter().take_while(|m| m.arrival == now).count()
+}

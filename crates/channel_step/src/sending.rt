@@ -1,0 +1,99 @@
+//! What a channel sends.
+
+ghost use Rattle.std.specs.Prelude.{◌≡◌, ◌<◌, ◌^◌, ◌++◌, IfOk};
+ghost use Rattle.sim_base.specs.History.{reply, credit, messages_of, messages_at};
+ghost use Rattle.channel_step.specs.Runs.{issued_in};
+
+use sim_base::command::{Command, CommandRow, Source};
+use sim_base::config::Config;
+use sim_base::message::{ChannelId, Cycle, Load, Message};
+use std::alloc::AllocError;
+
+#[tactic(auto, unfolding(sim_base::specs::History::reply))]
+fn reply_to(config: &Config, channel: ChannelId, now: Cycle, source: Source) -> Message
+    requires { now < 2 ^ 62 }
+    ensures { result ≡ reply config.now channel now source }
+{
+    let link = config.reply_link(source.core, channel);
+    let data = now + u64::from(config.timing.n_cl) + 4;
+    Message {
+        link,
+        arrival: data + u64::from(config.latency(link)),
+        load: Load::Reply(source.entry),
+    }
+}
+
+#[tactic(auto, unfolding(sim_base::specs::History::credit))]
+fn credit_for(
+    config: &Config,
+    channel: ChannelId,
+    now: Cycle,
+    write: bool,
+    source: Source,
+) -> Message
+    requires { now < 2 ^ 62 }
+    ensures { result ≡ credit config.now channel now write source }
+{
+    let link = config.credit_link(source.core, channel);
+    Message {
+        link,
+        arrival: now + u64::from(config.latency(link)),
+        load: Load::Credit {
+            write,
+            entry: source.entry,
+        },
+    }
+}
+
+/// Sends what follows from a command that a channel issues in a cycle. On an error some of it may be missing.
+#[tactic(auto, unfolding(sim_base::specs::History::messages_of))]
+pub(crate) fn send(
+    config: &Config,
+    channel: ChannelId,
+    now: Cycle,
+    command: Command,
+    messages: &mut Vec<Message>,
+) -> Result<(), AllocError>
+    requires { now < 2 ^ 62 }
+    ensures { IfOk result (λ u. messages.new.items ≡ messages.old.items ++ messages_of config.now channel now command) }
+{
+    match command {
+        Command::Rd { source, .. } => {
+            messages.push(reply_to(config, channel, now, source))?;
+            messages.push(credit_for(config, channel, now, false, source))?;
+        }
+        Command::Wr { source, .. } => {
+            messages.push(credit_for(config, channel, now, true, source))?;
+        }
+        Command::Act { .. }
+        | Command::Pre { .. }
+        | Command::Prea { .. }
+        | Command::Ref { .. } => {}
+    }
+    Ok(())
+}
+
+/// Adds what a channel does in a cycle to its commands, and what it sends to its messages. On an error some of it may be
+/// missing.
+pub(crate) fn tell(
+    config: &Config,
+    channel: ChannelId,
+    now: Cycle,
+    command: Option<Command>,
+    commands: &mut Vec<CommandRow>,
+    messages: &mut Vec<Message>,
+) -> Result<(), AllocError>
+    requires { now < 2 ^ 62 }
+    ensures commands { IfOk result (λ u. commands.new.items ≡ commands.old.items ++ issued_in channel now command) }
+    ensures messages { IfOk result (λ u. messages.new.items ≡ messages.old.items ++ messages_at config.now channel now command) }
+{
+    if let Some(command) = command {
+        commands.push(CommandRow {
+            cycle: now,
+            channel,
+            command,
+        })?;
+        send(config, channel, now, command, messages)?;
+    }
+    Ok(())
+}

@@ -1,0 +1,134 @@
+//! The requests that wait at a channel, and which of them an ACT was issued for.
+
+ghost use Rattle.std.specs.Prelude.{◌≡◌, ◌+◌, ◌<◌, ◌≤◌, [], ◌∷◌, position, length, IfOk, slice_index_or, true};
+ghost use Rattle.std.specs.Option.{ForSome};
+ghost use Rattle.sim_base.specs.Scheduling.{is_source};
+ghost use Rattle.channel_step.specs.Past.{requests_of};
+ghost use Rattle.channel_step.specs.Queued.{no_requests, settled, joined_with, with_arrivals, without, with_mark, after, moves_unmarked};
+
+use fr_fcfs::choice::Choice;
+use queue::Queue;
+use sim_base::command::{Command, Source};
+use sim_base::message::{Load, Message, Request};
+use std::alloc::{AllocError, Global};
+use std::marker::Model;
+
+/// The requests that wait, each with a mark: whether an ACT was issued in its name.
+#[derive(Drop)]
+pub(crate) struct Waiting {
+    queue: Queue,
+    marks: Vec<bool>,
+}
+
+impl Model for Waiting {
+    ghost use Rattle.channel_step.specs.Queued.{Queued};
+    ghost use Rattle.std.specs.Prelude.{◌≡◌, length};
+
+    ghost Value = { Queued };
+
+    ghost view = { λ w. record { queue = w.queue; marks = w.marks.items } };
+
+    ghost invariant = { λ w. length w.marks.items ≡ length w.queue.requests };
+}
+
+impl Waiting {
+    pub(crate) fn with_room(
+        alloc: Global,
+        room: usize,
+        high: u32,
+        low: u32,
+    ) -> Result<Self, AllocError>
+        ensures { IfOk result (λ w. w ≡ no_requests room high low) }
+    {
+        Ok(Waiting {
+            queue: Queue::with_room(alloc, room, high, low)?,
+            marks: Vec::new(alloc),
+        })
+    }
+
+    pub(crate) fn queue(&self) -> &Queue
+        ensures { result.now ≡ self.now.queue }
+    {
+        &self.queue
+    }
+
+    /// Takes out the request at a place, and tells its mark.
+    fn serve(&mut self, slot: usize) -> bool
+        requires { slot < length self.old.queue.requests }
+        ensures mark { result ≡ slice_index_or self.old.marks slot true }
+        ensures rest { self.new ≡ without self.old slot }
+    {
+        self.queue.serve(slot);
+        self.marks.remove(slot)
+    }
+
+    /// Takes in the request that a message carries, if it carries one. On an error nothing has changed.
+    fn join(&mut self, message: &Message) -> Result<(), AllocError>
+        requires { length self.old.queue.requests < self.old.queue.room }
+        ensures { IfOk result (λ u. self.new ≡ joined_with self.old (requests_of (message.now ∷ []))) }
+    {
+        if let Load::Request(request) = message.load {
+            self.marks.push(false)?;
+            self.queue.arrive(request);
+        }
+        Ok(())
+    }
+
+    fn settle(&mut self)
+        ensures { self.new ≡ record self.old { queue = settled self.old.queue } }
+    {
+        self.queue.settle();
+    }
+
+    /// Takes in the requests that arrive in a cycle, and settles whether the channel drains its writes in it.
+    #[tactic(auto, using(crate::proofs::Waits::joined_none, crate::proofs::Waits::joined_more, crate::proofs::Waits::joined_room))]
+    pub(crate) fn admit(&mut self, new: &[Message]) -> Result<(), AllocError>
+        requires { length self.old.queue.requests + length new.now ≤ self.old.queue.room }
+        ensures { IfOk result (λ u. self.new ≡ with_arrivals self.old (requests_of new.now)) }
+    {
+        for message in new {
+            self.join(message)?;
+        }
+        self.settle();
+        Ok(())
+    }
+
+    /// Marks the request of an entry, if it waits.
+    fn mark(&mut self, source: Source)
+        ensures { self.new ≡ with_mark self.old source }
+    {
+        if let Some(slot) = place_of_entry(self.queue.requests(), source) {
+            self.marks[slot] = true;
+        }
+    }
+
+    /// Does to the requests what a choice does, and tells whether it moves data that no ACT was issued for.
+    pub(crate) fn take(&mut self, choice: Choice) -> bool
+        requires { ForSome choice.slot (λ slot. slot < length self.old.queue.requests) }
+        ensures hit { result ≡ moves_unmarked self.old choice.slot }
+        ensures rest { self.new ≡ after self.old choice.command choice.slot }
+    {
+        match choice.slot {
+            Some(slot) => !self.serve(slot),
+            None => {
+                if let Command::Act { source, .. } = choice.command {
+                    self.mark(source);
+                }
+                false
+            }
+        }
+    }
+}
+
+fn is_of_entry(request: &Request, source: Source) -> bool
+    ensures { result ≡ is_source request.now source }
+{
+    request.core == source.core && request.entry == source.entry
+}
+
+/// The place of the first of these requests that is of an entry.
+fn place_of_entry(requests: &[Request], source: Source) -> Option<usize>
+    ensures { result ≡ position (λ r. is_source r source) requests.now }
+{
+    requests.iter().position(|r| is_of_entry(r, source))
+}
