@@ -77,7 +77,7 @@ fn take_again(
     }
 }
 
-// The messages of a span, as they are printed.
+// The links of messages, in their order.
 fn links_of(alloc: Global, inbox: &[Message]) -> Result<Vec<LinkId>, AllocError> {
     inbox.iter().map(|message| message.link).collect(alloc)
 }

@@ -1,4 +1,4 @@
-use Rattle.std.proofs.Common.{◌≡◌, ◌≤◌, ltb, length, IfSome, IfNone, rules}
+use Rattle.std.proofs.Common.{◌≤◌, ltb, length, IfSome, IfNone, rules}
 use Rattle.std.proofs.lemmas.List.Sorted.{IsPartitionPoint-from_clause}
 use Rattle.cpu_trace.proofs.Numbers.{IsPartitionedBy-numbers, IsPlaceOf, next_memory-get}
 use Rattle.cpu_trace.specs.NextMemory.{IsPlainBetween, IsNextMemory}
