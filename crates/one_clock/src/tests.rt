@@ -77,25 +77,24 @@ fn counts_one_read(rt: HostRuntime) -> Result<(), Fail> {
     let trace = Trace::from_entries(alloc, &[Entry::Read(0)])?;
     let traces = [trace];
     let outcome = run_plain(alloc, &s, &traces, 16)?;
-    assert_eq!(rt; outcome.commands.len(), 2);
-    assert_eq!(rt; outcome.stats.cycles, 16);
-    for core in &outcome.stats.cores {
-        assert_eq!(rt; (core.issued, core.retired, core.replies), (1, 1, 1));
-        assert_eq!(rt; (core.read_latency, core.stop_end), (15, 16));
-        assert_eq!(rt; core.finish, Some(15));
-    }
-    for channel in &outcome.stats.channels {
-        assert_eq!(rt; (channel.act, channel.rd, channel.hits), (1, 1, 0));
-        assert_eq!(rt;
-            (channel.queued, channel.queued_max, channel.idle),
-            (4, 1, 12)
-        );
-        assert_eq!(rt; channel.draining, None);
-    }
-    assert_eq!(rt; outcome.last.in_flight.len(), 0);
+    let whole = &outcome;
+    let rows = whole.commands.len();
+    let stats = &whole.stats;
+    let cycles = stats.cycles;
+    let flying = whole.last.in_flight.len();
+    assert_eq!(rt; (rows, cycles, flying), (2, 16, 0));
+    let units = (stats.cores.len(), stats.channels.len());
+    assert_eq!(rt; units, (1, 1));
+    let core = stats.cores[0];
+    assert_eq!(rt; (core.issued, core.retired, core.replies), (1, 1, 1));
+    assert_eq!(rt; (core.read_latency, core.stop_end), (15, 16));
+    assert_eq!(rt; core.finish, Some(15));
+    let channel = stats.channels[0];
+    assert_eq!(rt; (channel.act, channel.rd, channel.hits), (1, 1, 0));
     assert_eq!(rt;
-        (outcome.stats.cores.len(), outcome.stats.channels.len()),
-        (1, 1)
+        (channel.queued, channel.queued_max, channel.idle),
+        (4, 1, 12)
     );
+    assert_eq!(rt; channel.draining, None);
     Ok(())
 }
