@@ -1,5 +1,7 @@
-pub mod Entries
-pub mod Folds
 pub mod Units
 pub mod Next
 pub mod Runs
+pub mod Counted
+pub mod Joined
+pub mod Ended
+pub mod Lawful

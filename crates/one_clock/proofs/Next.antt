@@ -1,13 +1,13 @@
 -- What the machine keeps, one cycle more.
-use Rattle.std.proofs.Common.{◌≡◌, ℕ, zero, suc, ◌+◌, ◌-◌, ◌*◌, ◌<◌, ◌≤◌, Bool, true, false, cond, ltb, eqb, ◌%◌, ◌&&◌, ◌||◌, List, [], ◌∷◌, ◌++◌, length, map, take, Option, Some, None, refl, sym, ap, ap₂, subst, ◌∙◌, add-one, add-zero, zero-add, append_assoc, arith}
+use Rattle.std.proofs.Common.{◌≡◌, ℕ, zero, suc, ◌+◌, ◌<◌, ◌≤◌, Bool, true, false, cond, ltb, eqb, ◌%◌, ◌&&◌, ◌||◌, List, [], ◌∷◌, ◌++◌, length, map, Option, Some, None, refl, sym, ap, ap₂, subst, ◌∙◌, add-one, add-zero, zero-add, append_assoc, arith}
 use Rattle.std.specs.Prelude.{filter, filter_map, flat_map, fold, not, count_by, find, unwrap_or, option_map}
 use Rattle.std.specs.Option.{IfSome, option_to_list}
 use Rattle.std.specs.List.{list_all, list_any, enumerate_from, cons_option, range_with_len}
 use Rattle.std.proofs.Math.Seq.{take-length}
-use Rattle.std.proofs.lemmas.Bool.{cond_both, cond-true, cond-false}
+use Rattle.std.proofs.lemmas.Bool.{cond_both}
 use Rattle.std.proofs.lemmas.Bool.Decides.{nat_tests}
 use Rattle.std.proofs.lemmas.List.{map-append, length-map, append-nil, take-append-le}
-use Rattle.std.proofs.lemmas.List.Elements.{filter-append, filter_map-append}
+use Rattle.std.proofs.lemmas.List.Elements.{filter_map-append}
 use Rattle.std.proofs.lemmas.List.Folds.{list_any-append}
 use Rattle.std.proofs.lemmas.List.Concat.{flat_map-append}
 use Rattle.sim_base.specs.declared.config.Config.{Config}
@@ -17,8 +17,8 @@ use Rattle.sim_base.specs.declared.overrides.Override.{Override}
 use Rattle.sim_base.proofs.LinkNumbers.{found_in_range}
 use Rattle.sim_base.specs.Locality.{TravelsFor}
 use Rattle.sim_base.specs.Row.{Row, core_row, channel_row}
-use Rattle.sim_base.specs.History.{below, trace_of, core_rows, channel_rows, issued_at, issued_commands, commands_in, commands, core_messages, channel_messages, messages, messages_of_core, messages_of_channel, is_to, is_before, by_age, insert_by_age, inbox}
-use Rattle.sim_base.specs.Sends.{core_sends, channel_sends, sends}
+use Rattle.sim_base.specs.History.{below, core_rows, channel_rows, issued_at, issued_commands, commands_in, commands, core_messages, channel_messages, messages, messages_of_core, messages_of_channel, is_to, is_before, by_age, insert_by_age, inbox}
+use Rattle.sim_base.specs.Sends.{core_sends, sends}
 use Rattle.sim_base.specs.Scheduling.{request_in, serves, is_served, is_waiting, waiting, queue_in, writes_in, drains_with, drains_before, drains, candidates, lowest_due, choice_between, choice}
 use Rattle.sim_base.specs.Machine.{next_core_row, next_command, next_row, run, is_delivered}
 use Rattle.sim_base.specs.Counts.{is_in_flight, in_flight}
@@ -30,15 +30,17 @@ use Rattle.sim_base.specs.declared.message.Request.{Request}
 use Rattle.sim_base.specs.declared.message.Unit.{Unit as MachineUnit}
 use Rattle.sim_base.specs.declared.message.Unit.TheVariants.{Core, Channel}
 use Rattle.sim_base.specs.declared.trace.Entry.{Entry}
+use Rattle.sim_base.specs.declared.trace.Stop.{Stop}
+use Rattle.one_clock.specs.Steps.{core_step_of}
 use Rattle.sim_base.proofs.Below.{flat_map_below_more as flat_map_below_suc}
 use Rattle.sim_base.proofs.Arrived.{put, puts, by_age-puts, fold-puts}
 use Rattle.sim_base.proofs.Ordered.{Sorted, Sorted-puts, filter-puts, filter-by_age}
 use Rattle.sim_base.proofs.Grows.{core-grows, inbox-grows, by_age-filter-grows}
-use Rattle.sim_base.proofs.Same.{AgreeUpTo, drains-same}
+use Rattle.sim_base.proofs.Same.{drains-same}
 use Rattle.sim_base.proofs.Spans.{length-run, core_row-next, channel_row-next, inbox-run, inbox-stamped, has_channels}
-use Rattle.one_clock.specs.declared.scheduling.ChannelStep.{ChannelStep}
+use Rattle.plain_steps.specs.declared.scheduling.ChannelStep.{ChannelStep}
 use Rattle.one_clock.proofs.Units.{filter_map_below_more}
-use Rattle.one_clock.specs.Plain.{CoreView, core_view, ChannelView, channel_view, channel_step_of, queue_of, is_request_left, is_left, is_passed_over, is_left_by, is_late}
+use Rattle.plain_steps.specs.Plain.{CoreView, core_view, ChannelView, channel_view, channel_step_of, queue_of, is_request_left, is_left, is_passed_over, is_left_by, is_late}
 
 filter-both : {X : Type 0} (p q : X → Bool) (xs : List X) → filter (λ x. p x && q x) xs ≡ filter q (filter p xs)
 filter-both p q [] = refl
@@ -149,7 +151,7 @@ unfolding waiting queue_of
 waiting_is h mail until = waiting-left h until mail
 
 -- the queue of the next cycle
-queue_is : (k : ℕ) (rows : List (Option Command)) (mail : List Message) → queue_in k rows mail (length rows) ≡ queue_of (filter (is_left (issued_commands k rows)) mail) (length rows + 1)
+pub queue_is : (k : ℕ) (rows : List (Option Command)) (mail : List Message) → queue_in k rows mail (length rows) ≡ queue_of (filter (is_left (issued_commands k rows)) mail) (length rows + 1)
 unfolding queue_in
 queue_is k rows mail = ap (λ x. waiting (issued_commands k x) mail (length rows + 1)) (take-length rows) ∙ waiting_is (issued_commands k rows) mail (length rows + 1)
 
@@ -169,7 +171,7 @@ unfolding choice
 choice_next s k rows mail =
     ap (λ q. choice_between s (issued_commands k rows) (length rows) (candidates s (drains s k rows mail (length rows)) q) (lowest_due s (issued_commands k rows) (length rows))) (queue_is k rows mail)
 
-length-channel_rows : (k : ℕ) (history : List Row) → length (channel_rows k history) ≡ length history
+pub length-channel_rows : (k : ℕ) (history : List Row) → length (channel_rows k history) ≡ length history
 unfolding channel_rows
 length-channel_rows k history = length-map history (channel_row k)
 
@@ -440,11 +442,11 @@ unfolding messages
 no_messages s traces =
     ap₂ (λ a b. a ++ b) (flat_map_nothing _ s.cores (no_core_messages s traces)) (flat_map_nothing _ s.channels (no_channel_messages s))
 
-no_mail : (s : Config) (traces : List (List Entry)) (unit : MachineUnit) → inbox s traces [] unit ≡ []
+pub no_mail : (s : Config) (traces : List (List Entry)) (unit : MachineUnit) → inbox s traces [] unit ≡ []
 unfolding inbox by_age
 no_mail s traces unit = ap (λ ms. by_age (filter (is_to s unit) ms)) (no_messages s traces)
 
-run_none : (s : Config) (traces : List (List Entry)) → run s traces 0 ≡ []
+pub run_none : (s : Config) (traces : List (List Entry)) → run s traces 0 ≡ []
 unfolding run
 run_none s traces = refl
 
@@ -507,3 +509,13 @@ unfolding is_delivered in_flight
 delivered_is s traces history =
     none-late (λ m. ltb m.arrival (length history)) (messages s traces history)
     ∙ ap (λ n. eqb n 0) (sym (length-by_age (filter (is_in_flight history) (messages s traces history))))
+
+map-steps : {X Y Z : Type 0} (g : Y → Z) (f : X → Y) (xs : List X) → map g (map f xs) ≡ map (λ x. g (f x)) xs
+map-steps g f [] = refl
+map-steps g f (x ∷ xs) = ap (λ l. g (f x) ∷ l) (map-steps g f xs)
+
+-- what the cores do, without why they stop
+pub rows_of_steps : (s : Config) (traces : List (List Entry)) (n : ℕ)
+    → map (λ (x : CoreRow × Stop). x.0) (map (core_step_of s traces (run s traces n)) (below s.cores)) ≡ map (next_core_row s traces (run s traces n)) (below s.cores)
+unfolding core_step_of next_core_row
+rows_of_steps s traces n = map-steps (λ (x : CoreRow × Stop). x.0) (core_step_of s traces (run s traces n)) (below s.cores)

@@ -1,2 +1,3 @@
-pub mod Plain
+pub mod Steps
 pub mod Held
+pub mod Kept

@@ -2,10 +2,11 @@
 //! their whole past kept and searched.
 #![tactic(auto)]
 
-pub mod cores;
+mod counting;
+mod ending;
 pub mod machine;
-pub mod mail;
-pub mod rules;
-pub mod scheduling;
-pub mod sending;
-pub mod state;
+mod sending;
+mod state;
+mod tally;
+#[cfg(test)]
+mod tests;

@@ -6,18 +6,30 @@ ghost use Rattle.sim_base.specs.History.{below, trace_of, commands};
 ghost use Rattle.sim_base.specs.Machine.{next_core_row, next_row, run, is_retired, has_served, is_delivered, is_over, cycles_run};
 ghost use Rattle.sim_base.specs.Sends.{sends};
 ghost use Rattle.sim_base.specs.Counts.{in_flight};
-ghost use Rattle.one_clock.specs.Plain.{core_view, channel_view, channel_step_of, is_late};
+ghost use Rattle.plain_steps.specs.Plain.{core_view, channel_view, channel_step_of, is_late};
+ghost use Rattle.statistics.specs.Runs.{outcome_of};
+ghost use Rattle.laws.specs.Refreshes.{RefreshesAreInTime};
+ghost use Rattle.laws.specs.Tables.{IsOrdered, IsLegalTable, IsRefreshedTable};
+ghost use Rattle.one_clock.specs.Kept.{SharesDataBus};
+ghost use Rattle.one_clock.specs.Steps.{core_step_of};
 ghost use Rattle.one_clock.specs.Held.{HoldsRun};
 
-use crate::scheduling::ChannelStep;
 use crate::sending::{self, trace_of_core};
 use crate::state::{ChannelPast, CorePast, issued_row, push_row};
-use crate::{cores, mail, scheduling};
+use crate::{ending, tally};
 use cpu_trace::trace::Trace;
+use plain_steps::scheduling::ChannelStep;
+use plain_steps::{cores, mail, scheduling};
 use sim_base::command::CommandRow;
 use sim_base::config::Config;
 use sim_base::history::CoreRow;
 use sim_base::message::{ChannelId, CoreId, Message, Unit};
+use sim_base::trace::Stop;
+use statistics::channels::ChannelStats;
+use statistics::cores::CoreStats;
+use statistics::final_state::FinalState;
+use statistics::outcome::Outcome;
+use statistics::stats::Stats;
 use std::alloc::{AllocError, Global};
 use timing::gap_table::GapTable;
 
@@ -26,48 +38,70 @@ use timing::gap_table::GapTable;
 pub struct Machine {
     pub cores: Vec<CorePast>,
     pub channels: Vec<ChannelPast>,
+    pub core_counts: Vec<CoreStats>,
+    pub channel_counts: Vec<ChannelStats>,
     pub commands: Vec<CommandRow>,
     pub flight: Vec<Message>,
 }
 
-#[tactic(auto, unfolding(sim_base::specs::Machine::next_core_row, sim_base::specs::History::messages_of_core), using(crate::proofs::Next::length_rows))]
-fn next_row_of_core(
+#[tactic(auto, unfolding(crate::specs::Steps::core_step_of, sim_base::specs::History::messages_of_core), using(crate::proofs::Next::length_rows))]
+fn next_step_of_core(
     s: &Config,
     traces: &[Trace],
     cycle: u64,
     core: CoreId,
     past: &CorePast,
-) -> CoreRow
+) -> (CoreRow, Stop)
     requires core_in { core < s.now.cores }
     requires traces { length traces.now ≡ s.now.cores }
     requires early { cycle ≤ 10 ^ 12 }
     requires past { past.now ≡ core_view s.now traces.now (run s.now traces.now cycle) core }
-    ensures { result ≡ next_core_row s.now traces.now (run s.now traces.now cycle) core }
+    ensures { result ≡ core_step_of s.now traces.now (run s.now traces.now cycle) core }
 {
     let trace = trace_of_core(traces, core);
-    let step = cores::core_step(s, core, trace, past.rows(), past.sent(), past.inbox());
-    step.0
+    cores::core_step(s, core, trace, past.rows(), past.sent(), past.inbox())
 }
 
 #[tactic(auto, using(crate::proofs::Units::length_units, crate::proofs::Units::at_unit_of, crate::proofs::Units::map_below_more))]
-fn next_rows_of_cores(
+fn next_steps_of_cores(
     alloc: Global,
     s: &Config,
     traces: &[Trace],
     cycle: u64,
     cores: &[CorePast],
-) -> Result<Vec<CoreRow>, AllocError>
+) -> Result<Vec<(CoreRow, Stop)>, AllocError>
     requires traces { length traces.now ≡ s.now.cores }
     requires early { cycle ≤ 10 ^ 12 }
     requires cores { cores.now ≡ map (core_view s.now traces.now (run s.now traces.now cycle)) (below s.now.cores) }
+    ensures { IfOk result (λ v. v.items ≡ map (core_step_of s.now traces.now (run s.now traces.now cycle)) (below s.now.cores)) }
+{
+    let mut steps = Vec::new(alloc);
+    for core in 0..s.cores {
+        let step = next_step_of_core(s, traces, cycle, core, &cores[core as usize]);
+        steps.push(step)?;
+    }
+    Ok(steps)
+}
+
+fn rows_of_steps(alloc: Global, steps: &[(CoreRow, Stop)]) -> Result<Vec<CoreRow>, AllocError>
+    ensures { IfOk result (λ v. v.items ≡ map (λ step. step.0) steps.now) }
+{
+    steps.iter().map(|step| step.0).collect(alloc)
+}
+
+/// What each core does, without why it stops.
+#[tactic(auto, using(crate::proofs::Next::rows_of_steps))]
+fn rows_of_cores(
+    alloc: Global,
+    s: &Config,
+    traces: &[Trace],
+    cycle: u64,
+    steps: &[(CoreRow, Stop)],
+) -> Result<Vec<CoreRow>, AllocError>
+    requires { steps.now ≡ map (core_step_of s.now traces.now (run s.now traces.now cycle)) (below s.now.cores) }
     ensures { IfOk result (λ v. v.items ≡ map (next_core_row s.now traces.now (run s.now traces.now cycle)) (below s.now.cores)) }
 {
-    let mut rows = Vec::new(alloc);
-    for core in 0..s.cores {
-        let row = next_row_of_core(s, traces, cycle, core, &cores[core as usize]);
-        rows.push(row)?;
-    }
-    Ok(rows)
+    rows_of_steps(alloc, steps)
 }
 
 #[tactic(auto, using(crate::proofs::Next::step_is))]
@@ -415,6 +449,8 @@ impl Machine {
         Ok(Machine {
             cores: start_cores(alloc, s, traces)?,
             channels: start_channels(alloc, s, traces)?,
+            core_counts: tally::no_core_counts(alloc, s, traces)?,
+            channel_counts: tally::no_channel_counts(alloc, s, traces)?,
             commands: Vec::new(alloc),
             flight: Vec::new(alloc),
         })
@@ -435,38 +471,111 @@ impl Machine {
         requires machine { HoldsRun s.now traces.now cycle self.old }
         ensures { OnOk result (HoldsRun s.now traces.now (cycle + 1) self.new) }
     {
-        let rows = next_rows_of_cores(alloc, s, traces, cycle, &self.cores)?;
+        let core_steps = next_steps_of_cores(alloc, s, traces, cycle, &self.cores)?;
+        let rows = rows_of_cores(alloc, s, traces, cycle, &core_steps)?;
         let steps = next_steps_of_channels(alloc, s, gaps, traces, cycle, &self.channels)?;
         let fresh = sending::all_sends(alloc, s, traces, cycle, &self.cores, &rows, &steps)?;
+        self.core_counts = tally::core_counts(
+            alloc,
+            s,
+            traces,
+            cycle,
+            &self.cores,
+            &core_steps,
+            &self.core_counts,
+        )?;
+        self.channel_counts = tally::channel_counts(
+            alloc,
+            s,
+            traces,
+            cycle,
+            &self.channels,
+            &steps,
+            &self.channel_counts,
+        )?;
         note_cores(alloc, s, traces, cycle, &rows, &fresh, &mut self.cores)?;
         note_channels(alloc, s, traces, cycle, &steps, &fresh, &mut self.channels)?;
         note_commands(s, traces, cycle, &steps, &mut self.commands)?;
         note_flight(alloc, s, traces, cycle, &fresh, &mut self.flight)
     }
+
+    /// What the run leaves, where it ends after so many cycles.
+    #[tactic(auto, unfolding(statistics::specs::Runs::outcome_of, statistics::specs::Runs::outcome_after, statistics::specs::Runs::stats_of, statistics::specs::Runs::final_of), using(crate::proofs::Next::length_run))]
+    fn outcome(
+        self,
+        alloc: Global,
+        s: &Config,
+        traces: &[Trace],
+        cycle: u64,
+    ) -> Result<Outcome, AllocError>
+        requires traces { length traces.now ≡ s.now.cores }
+        requires early { cycle ≤ 10 ^ 12 }
+        requires machine { HoldsRun s.now traces.now cycle self }
+        ensures { IfOk result (λ o. o ≡ outcome_of s.now traces.now cycle) }
+    {
+        let last = FinalState {
+            cores: ending::cores_left(alloc, s, traces, cycle, &self.cores)?,
+            channels: ending::channels_left(alloc, s, traces, cycle, &self.channels)?,
+            in_flight: self.flight,
+        };
+        let stats = Stats {
+            cycles: cycle,
+            cores: self.core_counts,
+            channels: self.channel_counts,
+        };
+        Ok(Outcome {
+            commands: self.commands,
+            stats,
+            last,
+            ranks: s.ranks,
+        })
+    }
 }
 
-/// Runs the one-clock machine, cycle by cycle, and gives the commands that all channels issue, by cycle and then by channel.
-/// The run has as many cycles as the limit, or, where the configuration ends it drained, as many as it takes until all is
-/// retired, served and delivered. There is one trace for each core, and the limit is at most 10^12 cycles. The only error is
-/// want of memory.
 #[tactic(auto, using(crate::proofs::Runs::cycles_run_none, crate::proofs::Runs::cycles_run_more, crate::proofs::Runs::cycles_run_ends))]
-pub fn run_plain(
+fn run_machine(
     alloc: Global,
     s: &Config,
     traces: &[Trace],
     cycles: u64,
-) -> Result<Vec<CommandRow>, AllocError>
+) -> Result<Outcome, AllocError>
     requires one_trace_a_core { length traces.now ≡ s.now.cores }
     requires limit { cycles ≤ 10 ^ 12 }
-    ensures { IfOk result (λ v. v.items ≡ commands (run s.now traces.now (cycles_run s.now traces.now cycles))) }
+    ensures { IfOk result (λ o. o ≡ outcome_of s.now traces.now (cycles_run s.now traces.now cycles)) }
 {
     let gaps = GapTable::of(s);
     let mut machine = Machine::start(alloc, s, traces)?;
     for cycle in 0..cycles {
         if ends_here(alloc, s, traces, cycle, &machine)? {
-            return Ok(machine.commands);
+            return machine.outcome(alloc, s, traces, cycle);
         }
         machine.advance(alloc, s, &gaps, traces, cycle)?;
     }
-    Ok(machine.commands)
+    machine.outcome(alloc, s, traces, cycles)
+}
+
+/// Runs the one-clock machine, cycle by cycle, and gives the commands that all channels issue, by cycle and then by channel,
+/// the statistics of the run and the state in which it ends. The run has as many cycles as the limit, or, where the
+/// configuration ends it drained, as many as it takes until all is retired, served and delivered. There is one trace for each
+/// core, and the limit is at most 10^12 cycles. The only error is want of memory.
+///
+/// The commands stand in order, and each keeps the timing rules over those of its channel before it. No cycle of a channel's
+/// data bus belongs to two of them. Where ranks are refreshed, the n-th REF of each stands at cycle `n * nREFI` and the slack,
+/// or earlier, and no command comes while one is overdue.
+pub fn run_plain(
+    alloc: Global,
+    s: &Config,
+    traces: &[Trace],
+    cycles: u64,
+) -> Result<Outcome, AllocError>
+    requires one_trace_a_core { length traces.now ≡ s.now.cores }
+    requires limit { cycles ≤ 10 ^ 12 }
+    ensures outcome { IfOk result (λ o. o ≡ outcome_of s.now traces.now (cycles_run s.now traces.now cycles)) }
+    ensures ordered { IfOk result (λ o. IsOrdered o.commands) }
+    ensures legal { IfOk result (λ o. IsLegalTable s.now o.commands) }
+    ensures data_bus { IfOk result (λ o. SharesDataBus s.now o.commands) }
+    ensures refreshed { IfOk result (λ o. IsRefreshedTable s.now o.commands) }
+    ensures in_time { RefreshesAreInTime s.now traces.now (cycles_run s.now traces.now cycles) }
+{
+    run_machine(alloc, s, traces, cycles)
 }

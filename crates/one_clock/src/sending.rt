@@ -5,12 +5,12 @@ ghost use Rattle.sim_base.specs.Row.{Row};
 ghost use Rattle.sim_base.specs.History.{below, reply, credit, messages_of, messages_at, trace_of};
 ghost use Rattle.sim_base.specs.Machine.{next_core_row, next_row, run};
 ghost use Rattle.sim_base.specs.Sends.{core_sends, channel_sends, sends};
-ghost use Rattle.one_clock.specs.Plain.{core_view, channel_step_of};
+ghost use Rattle.plain_steps.specs.Plain.{core_view, channel_step_of};
 
-use crate::cores;
-use crate::scheduling::ChannelStep;
 use crate::state::CorePast;
 use cpu_trace::trace::Trace;
+use plain_steps::cores;
+use plain_steps::scheduling::ChannelStep;
 use sim_base::command::{Command, Source};
 use sim_base::config::Config;
 use sim_base::history::CoreRow;

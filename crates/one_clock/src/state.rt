@@ -3,10 +3,10 @@
 ghost use Rattle.std.specs.Prelude.{◌≡◌, ◌++◌, ◌∷◌, [], filter, fold, false, IfOk, OnOk};
 ghost use Rattle.std.specs.Option.{option_to_list};
 ghost use Rattle.sim_base.specs.History.{insert_by_age, issued_at};
-ghost use Rattle.one_clock.specs.Plain.{is_left, is_passed_over, is_left_by};
+ghost use Rattle.plain_steps.specs.Plain.{is_left, is_passed_over, is_left_by};
 
-use crate::scheduling::ChannelStep;
-use crate::{mail, scheduling};
+use plain_steps::scheduling::ChannelStep;
+use plain_steps::{mail, scheduling};
 use sim_base::command::{Command, CommandRow};
 use sim_base::history::CoreRow;
 use sim_base::message::{ChannelId, Message, Request};
@@ -22,7 +22,7 @@ pub struct CorePast {
 }
 
 impl Model for CorePast {
-    ghost use Rattle.one_clock.specs.Plain.{CoreView};
+    ghost use Rattle.plain_steps.specs.Plain.{CoreView};
 
     ghost Value = { CoreView };
 
@@ -83,7 +83,7 @@ pub struct ChannelPast {
 }
 
 impl Model for ChannelPast {
-    ghost use Rattle.one_clock.specs.Plain.{ChannelView};
+    ghost use Rattle.plain_steps.specs.Plain.{ChannelView};
 
     ghost Value = { ChannelView };
 

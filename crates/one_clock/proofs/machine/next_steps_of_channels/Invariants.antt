@@ -2,7 +2,7 @@
 use Rattle.std.proofs.Common.{◌≡◌, map}
 use Rattle.sim_base.specs.History.{below}
 use Rattle.sim_base.specs.Machine.{run}
-use Rattle.one_clock.specs.Plain.{channel_step_of}
+use Rattle.plain_steps.specs.Plain.{channel_step_of}
 use Rattle.one_clock.proofs.machine.next_steps_of_channels.Given as goal
 
 abbrev pub invariant-loop-channel : goal.invariant-loop-channel

@@ -1,9 +1,9 @@
 -- Each core in turn is taken a cycle further.
-use Rattle.std.proofs.Common.{◌≡◌, ℕ, ◌+◌, map, refl, sym, ap, ◌∙◌, arith}
+use Rattle.std.proofs.Common.{◌≡◌, ◌+◌, sym, ap, ◌∙◌, arith}
 use Rattle.std.proofs.Math.ListN.{set}
 use Rattle.std.specs.Prelude.{slice_index_or}
 use Rattle.sim_base.specs.Machine.{run}
-use Rattle.one_clock.specs.Plain.{core_view}
+use Rattle.plain_steps.specs.Plain.{core_view}
 use Rattle.one_clock.proofs.Units.{halfway, halfway_none, halfway_at, halfway_more, halfway_all}
 use Rattle.one_clock.proofs.machine.note_cores.Goals as goal
 

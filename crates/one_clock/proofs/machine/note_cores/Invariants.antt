@@ -1,7 +1,7 @@
 -- The cores that are done are a cycle further than the others.
 use Rattle.std.proofs.Common.{◌≡◌, ◌+◌}
 use Rattle.sim_base.specs.Machine.{run}
-use Rattle.one_clock.specs.Plain.{core_view}
+use Rattle.plain_steps.specs.Plain.{core_view}
 use Rattle.one_clock.proofs.Units.{halfway}
 use Rattle.one_clock.proofs.machine.note_cores.Given as goal
 

@@ -2,7 +2,7 @@
 use Rattle.std.proofs.Common.{◌≡◌, map}
 use Rattle.sim_base.specs.History.{below}
 use Rattle.sim_base.specs.Machine.{run}
-use Rattle.one_clock.specs.Plain.{core_view}
+use Rattle.plain_steps.specs.Plain.{core_view}
 use Rattle.one_clock.proofs.machine.start_cores.Given as goal
 
 abbrev pub invariant-loop-core : goal.invariant-loop-core

@@ -1,5 +1,5 @@
 -- The core has a row for each cycle.
-use Rattle.std.proofs.Common.{◌≡◌, ℕ, length, ap, ◌∙◌, arith}
+use Rattle.std.proofs.Common.{◌≡◌, length, ap, ◌∙◌, arith}
 use Rattle.one_clock.proofs.Next.{length_rows}
 use Rattle.one_clock.proofs.sending.requests_of_core.Goals as goal
 

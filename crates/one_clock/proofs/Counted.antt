@@ -1,0 +1,76 @@
+-- What a cycle of one core counts.
+use Rattle.std.proofs.Common.{◌≡◌, ℕ, zero, suc, ◌+◌, ◌<◌, ◌≤◌, Bool, false, List, [], length, get_or, take, drop, Option, Some, None, refl, sym, ap, ap₂, ◌∙◌, zero-add, arith}
+use Rattle.std.specs.Prelude.{count_by, slice_get}
+use Rattle.std.specs.Option.{option_to_list}
+use Rattle.std.proofs.lemmas.Bool.{le-leb, lt-leb}
+use Rattle.std.proofs.lemmas.List.Folds.{length-prefix_len}
+use Rattle.std.proofs.lemmas.List.Sums.{prefix_len_is, sum_by_more, sum_by-append}
+use Rattle.std.proofs.lemmas.List.FromFn.{length-range_with_len, get_or-range_with_len}
+use Rattle.sim_base.specs.Counts.{is_read, is_write, is_unissued_after, issue_cycle, wait_of, replied_entry}
+use Rattle.sim_base.specs.History.{below, issued_before}
+use Rattle.sim_base.specs.declared.history.CoreRow.{CoreRow}
+use Rattle.sim_base.specs.declared.message.Message.{Message}
+use Rattle.sim_base.specs.declared.trace.Entry.{Entry}
+use Rattle.statistics.specs.Counts.{one_if}
+use Rattle.statistics.specs.Cores.{waited}
+use Rattle.statistics.proofs.Lists.{count_below_more}
+use Rattle.statistics.proofs.Replies.{issued_before-take-later}
+use Rattle.plain_steps.proofs.Entries.{take_more, slice_get-drop}
+use Rattle.one_clock.specs.Steps.{is_read_in, is_write_in}
+
+pub issued_none : issued_before [] ≡ 0
+unfolding issued_before
+issued_none = refl
+
+pub issued_more : (rows : List CoreRow) (i : ℕ) (d : CoreRow) → i < length rows → issued_before (take (i + 1) rows) ≡ issued_before (take i rows) + (get_or rows i d).issued
+unfolding issued_before
+issued_more rows i d h = sum_by_more (λ (r : CoreRow). r.issued) rows i d h
+
+-- the first cycle by whose end an entry is issued
+issue_cycle_at : (rows : List CoreRow) (entry n : ℕ) → n ≤ length rows → issued_before (take n rows) ≤ entry → (n < length rows → entry < issued_before (take (n + 1) rows))
+    → issue_cycle rows entry ≡ n
+unfolding issue_cycle is_unissued_after
+issue_cycle_at rows entry n l before after =
+    let p = is_unissued_after rows entry in
+    let cycles = length rows in
+    let len : length (below cycles) ≡ cycles = length-range_with_len 0 cycles in
+    let at : (k : ℕ) → k < cycles → get_or (below cycles) k 0 ≡ k = λ k h. get_or-range_with_len 0 cycles k 0 h ∙ zero-add k in
+    length-prefix_len p (below cycles)
+    ∙ prefix_len_is p (below cycles) n 0 (omega arith)
+    (λ k h. ap p (at k (omega arith)) ∙ le-leb (issued_before (take (k + 1) rows)) entry (omega (arith, issued_before-take-later rows (k + 1) n (omega arith))))
+    (λ h. ap p (at n (omega arith)) ∙ lt-leb (issued_before (take (n + 1) rows)) entry (after (omega arith)))
+
+pub issue_cycle_found : (rows : List CoreRow) (entry i : ℕ) → i < length rows → issued_before (take i rows) ≤ entry → entry < issued_before (take (i + 1) rows) → issue_cycle rows entry ≡ i
+issue_cycle_found rows entry i l before after = issue_cycle_at rows entry i (omega arith) before (λ h. after)
+
+pub issue_cycle_none : (rows : List CoreRow) (entry i : ℕ) → i ≡ length rows → issued_before (take i rows) ≤ entry → issue_cycle rows entry ≡ i
+issue_cycle_none rows entry i e before = issue_cycle_at rows entry i (omega arith) before (λ h. absurd (omega arith))
+
+pub waited_none : (rows : List CoreRow) → waited rows [] ≡ 0
+unfolding waited
+waited_none rows = refl
+
+pub waited_more : (rows : List CoreRow) (ms : List Message) (i : ℕ) (d : Message) → i < length ms
+    → waited rows (take (i + 1) ms) ≡ waited rows (take i ms) + wait_of rows (get_or ms i d).arrival (replied_entry (get_or ms i d).load)
+unfolding waited
+waited_more rows ms i d h = sum_by_more (λ (m : Message). wait_of rows m.arrival (replied_entry m.load)) ms i d h
+
+counted : (p : Option Entry → Bool) (q : Entry → Bool) → p None ≡ false → ((e : Entry) → p (Some e) ≡ q e) → (trace : List Entry) (first m : ℕ)
+    → count_by (λ k. p (slice_get trace (first + k))) (below m) ≡ count_by q (take m (drop first trace))
+counted p q none some trace first zero = refl
+counted p q none some trace first (suc m) =
+    let rest = drop first trace in
+    count_below_more (λ k. p (slice_get trace (first + k))) m
+    ∙ ap₂ (λ a b. a + b) (counted p q none some trace first m) (ap (λ o. one_if (p o)) (sym (slice_get-drop trace first m)) ∙ one (slice_get rest m))
+    ∙ sym (sum_by-append (λ e. one_if (q e)) (take m rest) (option_to_list (slice_get rest m)))
+    ∙ ap (count_by q) (sym (take_more rest m))
+  where
+    one : (o : Option Entry) → one_if (p o) ≡ count_by q (option_to_list o)
+    one None = ap one_if none
+    one (Some e) = ap one_if (some e) ∙ sym (zero-add (one_if (q e)))
+
+pub reads_are : (trace : List Entry) (first m : ℕ) → count_by (λ k. is_read_in (slice_get trace (first + k))) (below m) ≡ count_by is_read (take m (drop first trace))
+reads_are trace first m = counted is_read_in is_read refl (λ e. refl) trace first m
+
+pub writes_are : (trace : List Entry) (first m : ℕ) → count_by (λ k. is_write_in (slice_get trace (first + k))) (below m) ≡ count_by is_write (take m (drop first trace))
+writes_are trace first m = counted is_write_in is_write refl (λ e. refl) trace first m

@@ -1,0 +1,208 @@
+-- The statistics of each unit, one cycle more, and why they fit.
+use Rattle.std.proofs.Common.{◌≡◌, ℕ, suc, ◌+◌, ◌*◌, ◌^◌, ◌<◌, ◌≤◌, Bool, true, false, cond, eqb, List, [], length, take, None, refl, sym, ap, ap₂, subst, ◌∙◌, add-one, arith}
+use Rattle.std.specs.Prelude.{count_by, is_some, max}
+use Rattle.std.proofs.Math.Seq.{take-length}
+use Rattle.std.proofs.lemmas.List.{length-take}
+use Rattle.std.proofs.lemmas.List.Sums.{count_by-le-length}
+use Rattle.std.proofs.lemmas.Nat.{mul-le}
+use Rattle.sim_base.specs.declared.config.Config.{Config}
+use Rattle.sim_base.specs.declared.history.CoreRow.{CoreRow}
+use Rattle.sim_base.specs.declared.message.Message.{Message}
+use Rattle.sim_base.specs.declared.message.Unit.TheVariants.{Core, Channel}
+use Rattle.sim_base.specs.declared.trace.Entry.{Entry}
+use Rattle.sim_base.specs.declared.trace.Stop.{Stop}
+use Rattle.sim_base.specs.declared.trace.Stop.TheVariants as stop
+use Rattle.sim_base.specs.Counts.{is_read, is_write, reads, writes, replies, read_latency, stops, stopped_by, finish, retire_cycle, hits, issued_of_kind, queue_length, queue_lengths, queued, queued_max, idle, has_refresh_due, refreshing, draining}
+use Rattle.sim_base.specs.History.{trace_of, core_rows, channel_rows, issued_commands, retired_before, issued_before, inbox}
+use Rattle.sim_base.specs.Machine.{next_command, run}
+use Rattle.sim_base.specs.Scheduling.{lowest_due, drains, choice}
+use Rattle.sim_base.proofs.Arrived.{arrived}
+use Rattle.sim_base.proofs.Spans.{length-run}
+use Rattle.statistics.specs.declared.channels.ChannelStats.{ChannelStats}
+use Rattle.statistics.specs.declared.cores.CoreStats.{CoreStats}
+use Rattle.statistics.specs.Channels.{draining_of, channel_stats, channel_cycle_with, channel_cycle, channel_none, channel_joined, ChannelFits}
+use Rattle.statistics.specs.Cores.{replies_in, core_stats, core_cycle_with, core_cycle, core_none, core_joined, CoreFits}
+use Rattle.statistics.specs.Runs.{stats_of_core, stats_of_channel}
+use Rattle.statistics.proofs.ChannelBounds.{channel_stats-fit}
+use Rattle.statistics.proofs.CoreBounds.{read_latency-le, stopped_by-le, KeepsToTrace, KeepsToTrace-run}
+use Rattle.statistics.proofs.CoreMail.{replies-same}
+use Rattle.statistics.proofs.ReplyBounds.{replies-le}
+use Rattle.statistics.proofs.RunSteps.{inbox-next, stats_of_core-next, stats_of_channel-next}
+use Rattle.plain_steps.specs.declared.scheduling.ChannelStep.{ChannelStep}
+use Rattle.plain_steps.specs.Plain.{CoreView, core_view, ChannelView, channel_view, channel_step_of, queue_of}
+use Rattle.one_clock.specs.Steps.{core_step_of}
+use Rattle.one_clock.proofs.Next.{length-core_rows, length-channel_rows, queue_is, no_mail, run_none}
+
+-- before the first cycle nothing is counted
+
+pub no_core_stats : (s : Config) (traces : List (List Entry)) (core : ℕ) → stats_of_core s traces (run s traces 0) core ≡ core_none
+unfolding stats_of_core core_stats core_rows issued_before retired_before reads writes replies read_latency stopped_by stops finish retire_cycle
+no_core_stats s traces core =
+    ap (λ h. stats_of_core s traces h core) (run_none s traces)
+    ∙ ap (core_stats s core (trace_of traces core) []) (no_mail s traces (Core core))
+    ∙ by (eqb (length (trace_of traces core)) 0)
+  where
+    by : (b : Bool)
+        → record {
+          issued = 0;
+          retired = 0;
+          reads = 0;
+          writes = 0;
+          replies = 0;
+          read_latency = 0;
+          stop_end = 0;
+          stop_width = 0;
+          stop_window = 0;
+          stop_memory = 0;
+          stop_credit = 0;
+          finish = cond b None None;
+        }
+        ≡ core_none
+    by true = refl
+    by false = refl
+
+pub no_channel_stats : (s : Config) (traces : List (List Entry)) (channel : ℕ) → stats_of_channel s traces (run s traces 0) channel ≡ record channel_none { draining = draining_of s 0 }
+unfolding stats_of_channel channel_stats channel_rows issued_commands issued_of_kind hits queue_lengths queued queued_max idle refreshing draining
+no_channel_stats s traces channel = ap (λ h. stats_of_channel s traces h channel) (run_none s traces)
+
+-- a core, one cycle more
+
+pub core_stats_issued : (s : Config) (traces : List (List Entry)) (n core : ℕ) (view : CoreView) (counts : CoreStats)
+    → view ≡ core_view s traces (run s traces n) core → counts ≡ stats_of_core s traces (run s traces n) core → counts.issued ≡ issued_before view.rows
+unfolding stats_of_core core_stats
+core_stats_issued s traces n core view counts e f = ap (λ (c : CoreStats). c.issued) f ∙ ap (λ (v : CoreView). issued_before v.rows) (sym e)
+
+pub core_stats_retired : (s : Config) (traces : List (List Entry)) (n core : ℕ) (view : CoreView) (counts : CoreStats)
+    → view ≡ core_view s traces (run s traces n) core → counts ≡ stats_of_core s traces (run s traces n) core → counts.retired ≡ retired_before view.rows
+unfolding stats_of_core core_stats
+core_stats_retired s traces n core view counts e f = ap (λ (c : CoreStats). c.retired) f ∙ ap (λ (v : CoreView). retired_before v.rows) (sym e)
+
+pub core_stats_within : (s : Config) (traces : List (List Entry)) (n core : ℕ) (counts : CoreStats)
+    → core < s.cores → counts ≡ stats_of_core s traces (run s traces n) core → counts.issued ≤ length (trace_of traces core)
+unfolding stats_of_core core_stats
+core_stats_within s traces n core counts l f =
+    let keeps = KeepsToTrace-run s traces core l n in
+    subst (λ (c : CoreStats). c.issued ≤ length (trace_of traces core)) (sym f) keeps.issued
+
+pub core_stats_next : (s : Config) (traces : List (List Entry)) (n core : ℕ) (view : CoreView) (step : CoreRow × Stop) (counts more : CoreStats)
+    → core < s.cores
+    → view ≡ core_view s traces (run s traces n) core
+    → step ≡ core_step_of s traces (run s traces n) core
+    → counts ≡ stats_of_core s traces (run s traces n) core
+    → more ≡ core_cycle_with (trace_of traces core) view.rows step.0 step.1 (replies_in (length view.rows) view.inbox)
+    → core_joined counts more ≡ stats_of_core s traces (run s traces (n + 1)) core
+unfolding core_cycle core_step_of
+core_stats_next s traces n core view step counts more l e f g h =
+    let trace = trace_of traces core in
+    let kept = core_view s traces (run s traces n) core in
+    ap₂ core_joined g
+    (h
+    ∙ ap (λ (v : CoreView). core_cycle_with trace v.rows step.0 step.1 (replies_in (length v.rows) v.inbox)) e
+    ∙ ap (λ (x : CoreRow × Stop). core_cycle_with trace kept.rows x.0 x.1 (replies_in (length kept.rows) kept.inbox)) f)
+    ∙ sym (stats_of_core-next s traces n core l)
+    ∙ ap (λ i. stats_of_core s traces (run s traces i) core) (sym (add-one n))
+
+count-take-le : (p : Entry → Bool) (n : ℕ) (trace : List Entry) → count_by p (take n trace) ≤ n
+count-take-le p n trace = omega (arith, count_by-le-length p (take n trace), length-take n trace)
+
+fits : (s : Config) (core : ℕ) (trace : List Entry) (rows : List CoreRow) (mail : List Message) → length rows ≤ 2 ^ 62 → KeepsToTrace trace rows → length trace < 2 ^ 64
+    → length (replies rows mail) < 2 ^ 64 → CoreFits (core_stats s core trace rows mail)
+unfolding core_stats reads writes
+fits s core trace rows mail cycles keeps short replied =
+    let most : length (replies rows mail) * length rows ≤ 2 ^ 64 * 2 ^ 62 = mul-le _ _ (2 ^ 64) (2 ^ 62) (omega arith) cycles in
+    let issued : issued_before rows ≤ length trace = keeps.issued in
+    let retired : retired_before rows ≤ issued_before rows = keeps.retired in
+    record {
+      issued = omega arith;
+      retired = omega arith;
+      reads = omega (arith, count-take-le is_read (issued_before rows) trace);
+      writes = omega (arith, count-take-le is_write (issued_before rows) trace);
+      replies = omega arith;
+      read_latency = omega (arith, read_latency-le rows mail);
+      stop_end = omega (arith, stopped_by-le s core trace rows mail stop.End);
+      stop_width = omega (arith, stopped_by-le s core trace rows mail stop.Width);
+      stop_window = omega (arith, stopped_by-le s core trace rows mail stop.Window);
+      stop_memory = omega (arith, stopped_by-le s core trace rows mail stop.Memory);
+      stop_credit = omega (arith, stopped_by-le s core trace rows mail stop.Credit);
+    }
+
+pub core_stats_fit : (s : Config) (traces : List (List Entry)) (n core : ℕ) (view : CoreView) (step : CoreRow × Stop) (counts more : CoreStats)
+    → core < s.cores
+    → view ≡ core_view s traces (run s traces n) core
+    → step ≡ core_step_of s traces (run s traces n) core
+    → counts ≡ stats_of_core s traces (run s traces n) core
+    → more ≡ core_cycle_with (trace_of traces core) view.rows step.0 step.1 (replies_in (length view.rows) view.inbox)
+    → n ≤ 10 ^ 12
+    → length (trace_of traces core) < 2 ^ 64
+    → length view.inbox < 2 ^ 64
+    → CoreFits (core_joined counts more)
+unfolding stats_of_core
+core_stats_fit s traces n core view step counts more l e f g h early short few =
+    let rows = core_rows core (run s traces (suc n)) in
+    let mail = inbox s traces (run s traces n) (Core core) in
+    let then = inbox s traces (run s traces (suc n)) (Core core) in
+    let len : length rows ≡ n + 1 = length-core_rows core (run s traces (suc n)) ∙ length-run s traces (suc n) ∙ sym (add-one n) in
+    let same : replies rows then ≡ replies rows mail = replies-same rows then mail (subst (λ i. arrived then i ≡ arrived mail i) (sym len) (inbox-next s traces n (Core core))) in
+    let kept : length view.inbox ≡ length mail = ap (λ (v : CoreView). length v.inbox) e in
+    let replied : length (replies rows then) ≤ length mail = subst (λ x. length x ≤ length mail) (sym same) (replies-le rows mail) in
+    subst CoreFits (ap (λ i. stats_of_core s traces (run s traces i) core) (sym (add-one n)) ∙ sym (core_stats_next s traces n core view step counts more l e f g h))
+    (fits s core (trace_of traces core) rows then (omega arith) (KeepsToTrace-run s traces core l (suc n)) short (omega arith))
+
+-- a channel, one cycle more
+
+cycle_is : (s : Config) (traces : List (List Entry)) (n channel : ℕ)
+    → let rows = channel_rows channel (run s traces n) in
+    let mail = inbox s traces (run s traces n) (Channel channel) in
+    let view = channel_view s traces (run s traces n) channel in
+    let step = channel_step_of s traces (run s traces n) channel in
+    channel_cycle_with s view.commands (length (queue_of view.pending (n + 1))) (is_some (lowest_due s view.commands n)) step.draining step.command
+    ≡ channel_cycle s channel rows mail (choice s channel rows mail)
+unfolding channel_cycle queue_length has_refresh_due next_command
+cycle_is s traces n channel =
+    let history = run s traces n in
+    let rows = channel_rows channel history in
+    let mail = inbox s traces history (Channel channel) in
+    let view = channel_view s traces history channel in
+    let o = choice s channel rows mail in
+    let past = length-run s traces n in
+    let len : length rows ≡ n = length-channel_rows channel history ∙ past in
+    ap (λ i. channel_cycle_with s view.commands (length (queue_of view.pending (i + 1))) (is_some (lowest_due s view.commands i)) (drains s channel rows mail (length history)) o) (sym len)
+    ∙ ap (λ i. channel_cycle_with s view.commands (length (queue_of view.pending (length rows + 1))) (is_some (lowest_due s view.commands (length rows))) (drains s channel rows mail i) o) (past ∙ sym len)
+    ∙ ap₂ (λ q x. channel_cycle_with s view.commands (length q) (is_some (lowest_due s (issued_commands channel x) (length rows))) (drains s channel rows mail (length rows)) o)
+    (sym (queue_is channel rows mail)) (sym (take-length rows))
+
+pub channel_stats_next : (s : Config) (traces : List (List Entry)) (n channel : ℕ) (view : ChannelView) (step : ChannelStep) (counts more : ChannelStats)
+    → channel < s.channels
+    → view ≡ channel_view s traces (run s traces n) channel
+    → step ≡ channel_step_of s traces (run s traces n) channel
+    → counts ≡ stats_of_channel s traces (run s traces n) channel
+    → more ≡ channel_cycle_with s view.commands (length (queue_of view.pending (n + 1))) (is_some (lowest_due s view.commands n)) step.draining step.command
+    → channel_joined counts more ≡ stats_of_channel s traces (run s traces (n + 1)) channel
+channel_stats_next s traces n channel view step counts more l e f g h =
+    let kept = channel_view s traces (run s traces n) channel in
+    ap₂ channel_joined g
+    (h
+    ∙ ap (λ (v : ChannelView). channel_cycle_with s v.commands (length (queue_of v.pending (n + 1))) (is_some (lowest_due s v.commands n)) step.draining step.command) e
+    ∙ ap (λ (x : ChannelStep). channel_cycle_with s kept.commands (length (queue_of kept.pending (n + 1))) (is_some (lowest_due s kept.commands n)) x.draining x.command) f
+    ∙ cycle_is s traces n channel)
+    ∙ sym (stats_of_channel-next s traces n channel l)
+    ∙ ap (λ i. stats_of_channel s traces (run s traces i) channel) (sym (add-one n))
+
+pub channel_stats_fit : (s : Config) (traces : List (List Entry)) (n channel : ℕ) (view : ChannelView) (step : ChannelStep) (counts more : ChannelStats)
+    → channel < s.channels
+    → view ≡ channel_view s traces (run s traces n) channel
+    → step ≡ channel_step_of s traces (run s traces n) channel
+    → counts ≡ stats_of_channel s traces (run s traces n) channel
+    → more ≡ channel_cycle_with s view.commands (length (queue_of view.pending (n + 1))) (is_some (lowest_due s view.commands n)) step.draining step.command
+    → n ≤ 10 ^ 12
+    → counts.queued_max < 2 ^ 64
+    → more.queued_max < 2 ^ 64
+    → ChannelFits (channel_joined counts more)
+unfolding stats_of_channel channel_stats
+channel_stats_fit s traces n channel view step counts more l e f g h early before now =
+    let rows = channel_rows channel (run s traces (n + 1)) in
+    let mail = inbox s traces (run s traces (n + 1)) (Channel channel) in
+    let len : length rows ≡ n + 1 = length-channel_rows channel (run s traces (n + 1)) ∙ length-run s traces (n + 1) in
+    let joined = channel_stats_next s traces n channel view step counts more l e f g h in
+    let most : max counts.queued_max more.queued_max ≡ queued_max channel rows mail = ap (λ (c : ChannelStats). c.queued_max) joined in
+    subst ChannelFits (sym joined) (channel_stats-fit s channel rows mail (omega arith) (omega arith))

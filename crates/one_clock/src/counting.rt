@@ -1,0 +1,318 @@
+//! What a cycle of one core and of one channel adds to their statistics.
+
+ghost use Rattle.std.specs.Prelude.{◌≡◌, ◌+◌, ◌*◌, ◌<◌, ◌≤◌, ◌^◌, length, count_by, slice_get, is_some, Some, None, nat_lt, nat_le, ◌&&◌, if◌then◌else◌, IfOk};
+ghost use Rattle.std.specs.List.{list_any};
+ghost use Rattle.sim_base.specs.Counts.{is_read, is_write, replied_entry, is_reply, issue_cycle, wait_of, is_stop, source_in, is_act_for, is_hit_of, is_hit};
+ghost use Rattle.sim_base.specs.History.{below, retired_before, issued_before};
+ghost use Rattle.sim_base.specs.Scheduling.{lowest_due};
+ghost use Rattle.statistics.specs.Counts.{one_if};
+ghost use Rattle.statistics.specs.Cores.{issued_in, is_reply_in, replies_in, waited, finish_in, core_cycle_with};
+ghost use Rattle.statistics.specs.Channels.{channel_none, draining_of, issues, moves_hit, channel_cycle_with};
+ghost use Rattle.plain_steps.specs.Plain.{queue_of};
+ghost use Rattle.one_clock.specs.Steps.{is_read_in, is_write_in};
+
+use cpu_trace::trace::Trace;
+use plain_steps::cores::entry_of;
+use plain_steps::rules::is_same_kind;
+use plain_steps::scheduling::{self, ChannelStep};
+use sim_base::command::{Command, CommandRow, Kind, Source};
+use sim_base::config::Config;
+use sim_base::history::CoreRow;
+use sim_base::message::{Load, Message};
+use sim_base::trace::{Entry, Stop};
+use statistics::channels::ChannelStats;
+use statistics::cores::CoreStats;
+use std::alloc::{AllocError, Global};
+
+fn one_where(holds: bool) -> u64
+    ensures { result ≡ one_if holds }
+{
+    if holds { 1 } else { 0 }
+}
+
+fn is_read_number(trace: &Trace, number: u64) -> bool
+    ensures { result ≡ is_read_in (slice_get trace.now number) }
+{
+    match entry_of(trace, number) {
+        Some(Entry::Read(_)) => true,
+        Some(Entry::Write(_) | Entry::Plain) | None => false,
+    }
+}
+
+fn is_write_number(trace: &Trace, number: u64) -> bool
+    ensures { result ≡ is_write_in (slice_get trace.now number) }
+{
+    match entry_of(trace, number) {
+        Some(Entry::Write(_)) => true,
+        Some(Entry::Read(_) | Entry::Plain) | None => false,
+    }
+}
+
+/// The Reads among so many entries from `first` on.
+fn read_count(trace: &Trace, first: u64, count: u16) -> usize
+    requires { first + count < 2 ^ 64 }
+    ensures { result ≡ count_by (λ k. is_read_in (slice_get trace.now (first + k))) (below count) }
+{
+    (0..count)
+        .filter(|k| is_read_number(trace, first + u64::from(*k)))
+        .count()
+}
+
+/// The Writes among so many entries from `first` on.
+fn write_count(trace: &Trace, first: u64, count: u16) -> usize
+    requires { first + count < 2 ^ 64 }
+    ensures { result ≡ count_by (λ k. is_write_in (slice_get trace.now (first + k))) (below count) }
+{
+    (0..count)
+        .filter(|k| is_write_number(trace, first + u64::from(*k)))
+        .count()
+}
+
+fn entry_replied(load: Load) -> Option<u64>
+    ensures { result ≡ replied_entry load }
+{
+    match load {
+        Load::Reply(entry) => Some(entry),
+        Load::Request(_) | Load::Credit { .. } => None,
+    }
+}
+
+fn is_reply_now(now: u64, m: Message) -> bool
+    ensures { result ≡ is_reply_in now m }
+{
+    entry_replied(m.load).is_some() && m.arrival == now
+}
+
+/// The replies that arrive in a cycle.
+#[tactic(auto, unfolding(statistics::specs::Cores::replies_in))]
+fn replies_now(alloc: Global, now: u64, inbox: &[Message]) -> Result<Vec<Message>, AllocError>
+    ensures { IfOk result (λ v. v.items ≡ replies_in now inbox.now) }
+{
+    inbox
+        .iter()
+        .copied()
+        .filter(|m| is_reply_now(now, *m))
+        .collect(alloc)
+}
+
+/// The cycle in which an entry issues; the number of cycles, where it does not.
+#[tactic(auto, using(crate::proofs::Counted::issue_cycle_found, crate::proofs::Counted::issue_cycle_none, crate::proofs::Counted::issued_none, crate::proofs::Counted::issued_more))]
+fn cycle_of_issue(rows: &[CoreRow], entry: u64) -> u64
+    requires { length rows.now < 2 ^ 40 }
+    ensures { result ≡ issue_cycle rows.now entry }
+{
+    let mut issued = 0u64;
+    let mut cycle = 0u64;
+    for row in rows {
+        issued += u64::from(row.issued);
+        if entry < issued {
+            return cycle;
+        }
+        cycle += 1;
+    }
+    cycle
+}
+
+/// How long a reply's entry waited for it.
+fn wait(rows: &[CoreRow], m: Message) -> u64
+    requires { length rows.now < 2 ^ 40 }
+    ensures { result ≡ wait_of rows.now m.arrival (replied_entry m.load) }
+{
+    match entry_replied(m.load) {
+        Some(entry) => m.arrival.saturating_sub(cycle_of_issue(rows, entry)),
+        None => 0,
+    }
+}
+
+/// How long the entries of these replies waited for them.
+#[tactic(auto, using(crate::proofs::Counted::waited_none, crate::proofs::Counted::waited_more))]
+fn total_wait(rows: &[CoreRow], arrived: &[Message]) -> u128
+    requires { length rows.now < 2 ^ 40 }
+    ensures { result ≡ waited rows.now arrived.now }
+{
+    let mut total = 0u128;
+    for m in arrived {
+        total += u128::from(wait(rows, *m));
+    }
+    total
+}
+
+/// The cycle, if the last of so many entries retires in it.
+fn finish_now(entries: u64, now: u64, gone: u64, retired: u16) -> Option<u64>
+    ensures { result ≡ (if nat_lt gone entries && nat_le entries (gone + retired) then Some now else None) }
+{
+    if gone < entries && entries - gone <= u64::from(retired) {
+        Some(now)
+    } else {
+        None
+    }
+}
+
+fn is_same_stop(a: Stop, b: Stop) -> bool
+    ensures { result ≡ is_stop a b }
+{
+    match (a, b) {
+        (Stop::End, Stop::End)
+        | (Stop::Width, Stop::Width)
+        | (Stop::Window, Stop::Window)
+        | (Stop::Memory, Stop::Memory)
+        | (Stop::Credit, Stop::Credit) => true,
+        _ => false,
+    }
+}
+
+/// The statistics of the cycle after these rows, in which a core that has issued and retired so much does this and stops
+/// for this cause.
+#[tactic(auto, unfolding(statistics::specs::Cores::core_cycle_with, statistics::specs::Cores::finish_in), using(crate::proofs::Counted::reads_are, crate::proofs::Counted::writes_are))]
+pub fn core_cycle_stats(
+    alloc: Global,
+    trace: &Trace,
+    rows: &[CoreRow],
+    inbox: &[Message],
+    issued: u64,
+    retired: u64,
+    step: (CoreRow, Stop),
+) -> Result<CoreStats, AllocError>
+    requires few { length rows.now < 2 ^ 40 }
+    requires issued { issued ≡ issued_before rows.now }
+    requires retired { retired ≡ retired_before rows.now }
+    requires within { issued ≤ length trace.now }
+    ensures value { IfOk result (λ c. c ≡ core_cycle_with trace.now rows.now step.0 step.1 (replies_in (length rows.now) inbox.now)) }
+    ensures trace_fits { length trace.now ≤ 2 ^ 62 }
+    ensures inbox_fits { length inbox.now < 2 ^ 64 }
+{
+    let (row, why) = step;
+    let now = rows.len() as u64;
+    let entries = trace.len();
+    let arrived = replies_now(alloc, now, inbox)?;
+    Ok(CoreStats {
+        issued: u64::from(row.issued),
+        retired: u64::from(row.retired),
+        reads: read_count(trace, issued, row.issued) as u64,
+        writes: write_count(trace, issued, row.issued) as u64,
+        replies: arrived.len() as u64,
+        read_latency: total_wait(rows, &arrived),
+        stop_end: one_where(is_same_stop(Stop::End, why)),
+        stop_width: one_where(is_same_stop(Stop::Width, why)),
+        stop_window: one_where(is_same_stop(Stop::Window, why)),
+        stop_memory: one_where(is_same_stop(Stop::Memory, why)),
+        stop_credit: one_where(is_same_stop(Stop::Credit, why)),
+        finish: finish_now(entries, now, retired, row.retired),
+    })
+}
+
+fn does_issue(kind: Kind, command: Option<Command>) -> bool
+    ensures { result ≡ issues kind command }
+{
+    match command {
+        Some(command) => is_same_kind(command.kind(), kind),
+        None => false,
+    }
+}
+
+fn source_named(command: Command) -> Option<Source>
+    ensures { result ≡ source_in command }
+{
+    match command {
+        Command::Act { source, .. }
+        | Command::Rd { source, .. }
+        | Command::Wr { source, .. }
+        | Command::Pre { source, .. } => Some(source),
+        Command::Prea { .. } | Command::Ref { .. } => None,
+    }
+}
+
+fn opens_for(source: Source, command: Command) -> bool
+    ensures { result ≡ is_act_for source command }
+{
+    match command {
+        Command::Act { source: other, .. } => {
+            source.core == other.core && source.entry == other.entry
+        }
+        _ => false,
+    }
+}
+
+fn was_opened_for(source: Source, history: &[CommandRow]) -> bool
+    ensures { result ≡ list_any (λ i. is_act_for source i.command) history.now }
+{
+    history.iter().any(|i| opens_for(source, i.command))
+}
+
+fn needs_no_act(history: &[CommandRow], source: Option<Source>) -> bool
+    ensures { result ≡ is_hit_of history.now source }
+{
+    match source {
+        Some(source) => !was_opened_for(source, history),
+        None => false,
+    }
+}
+
+fn is_command_hit(history: &[CommandRow], command: Command) -> bool
+    ensures { result ≡ is_hit history.now command }
+{
+    scheduling::is_column(command) && needs_no_act(history, source_named(command))
+}
+
+/// Whether the channel moves data for a request that no ACT was issued for.
+fn does_hit(history: &[CommandRow], command: Option<Command>) -> bool
+    ensures { result ≡ moves_hit history.now command }
+{
+    match command {
+        Some(command) => is_command_hit(history, command),
+        None => false,
+    }
+}
+
+fn draining_count(s: &Config, draining: bool) -> Option<u64>
+    ensures { result ≡ draining_of s.now (one_if draining) }
+{
+    if 0 < s.write_high {
+        Some(one_where(draining))
+    } else {
+        None
+    }
+}
+
+/// The statistics of a channel in no cycle.
+pub fn no_channel_stats(s: &Config) -> ChannelStats
+    ensures { result ≡ record channel_none { draining = draining_of s.now 0 } }
+{
+    let draining = if 0 < s.write_high { Some(0) } else { None };
+    ChannelStats {
+        draining,
+        ..ChannelStats::new()
+    }
+}
+
+/// The statistics of the cycle `now`, after these commands and with these messages pending, in which a channel does this.
+#[tactic(auto, unfolding(statistics::specs::Channels::channel_cycle_with))]
+pub fn channel_cycle_stats(
+    alloc: Global,
+    s: &Config,
+    history: &[CommandRow],
+    pending: &[Message],
+    now: u64,
+    step: ChannelStep,
+) -> Result<ChannelStats, AllocError>
+    requires early { now < 2 ^ 41 }
+    ensures value { IfOk result (λ c. c ≡ channel_cycle_with s.now history.now (length (queue_of pending.now (now + 1))) (is_some (lowest_due s.now history.now now)) step.draining step.command) }
+    ensures queue_fits { IfOk result (λ c. c.queued_max < 2 ^ 64) }
+{
+    let queued = scheduling::queue(alloc, pending, now + 1)?.len();
+    let due = scheduling::lowest_rank_due(s, history, now);
+    Ok(ChannelStats {
+        act: one_where(does_issue(Kind::Act, step.command)),
+        rd: one_where(does_issue(Kind::Rd, step.command)),
+        wr: one_where(does_issue(Kind::Wr, step.command)),
+        pre: one_where(does_issue(Kind::Pre, step.command)),
+        prea: one_where(does_issue(Kind::Prea, step.command)),
+        refs: one_where(does_issue(Kind::Ref, step.command)),
+        hits: one_where(does_hit(history, step.command)),
+        queued: queued as u128,
+        queued_max: queued as u64,
+        idle: one_where(queued == 0),
+        refreshing: one_where(due.is_some()),
+        draining: draining_count(s, step.draining),
+    })
+}

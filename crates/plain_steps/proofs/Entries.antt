@@ -1,0 +1,82 @@
+-- The entries of a trace, one more at a time.
+use Rattle.std.proofs.Common.{◌≡◌, ℕ, zero, suc, ◌+◌, ◌-◌, false, ◌||◌, List, [], ◌∷◌, ◌++◌, take, drop, Option, Some, None, refl, sym, ap, ap₂, ◌∙◌, add-zero, zero-add, arith}
+use Rattle.std.proofs.Math.Nat.{suc-add}
+use Rattle.std.specs.Prelude.{filter_map, slice_get, option_map, option_and_then}
+use Rattle.std.specs.Option.{option_to_list}
+use Rattle.std.specs.List.{list_any, enumerate_from, cons_option}
+use Rattle.std.proofs.lemmas.List.Elements.{filter_map-append}
+use Rattle.std.proofs.lemmas.List.Folds.{list_any-append}
+use Rattle.sim_base.specs.declared.config.Config.{Config}
+use Rattle.sim_base.specs.declared.message.Message.{Message}
+use Rattle.sim_base.specs.declared.trace.Entry.{Entry}
+use Rattle.sim_base.specs.History.{below, request_of, requests_between}
+use Rattle.sim_base.specs.Windows.{is_memory, is_memory_in, has_memory}
+use Rattle.sim_base.proofs.Below.{below_more}
+
+pub take_more : {X : Type 0} (xs : List X) (k : ℕ) → take (suc k) xs ≡ take k xs ++ option_to_list (slice_get xs k)
+take_more [] zero = refl
+take_more [] (suc k) = refl
+take_more (x ∷ xs) zero = refl
+take_more (x ∷ xs) (suc k) = ap (λ l. x ∷ l) (take_more xs k)
+
+pub slice_get-drop : {X : Type 0} (xs : List X) (n k : ℕ) → slice_get (drop n xs) k ≡ slice_get xs (n + k)
+slice_get-drop [] zero k = refl
+slice_get-drop [] (suc n) k = refl
+slice_get-drop (x ∷ xs) zero k = ap (slice_get (x ∷ xs)) (sym (zero-add k))
+slice_get-drop (x ∷ xs) (suc n) k = slice_get-drop xs n k ∙ ap (slice_get (x ∷ xs)) (sym (suc-add n k))
+
+slice_get-enumerate : {X : Type 0} (i : ℕ) (xs : List X) (k : ℕ) → slice_get (enumerate_from i xs) k ≡ option_map (λ x. (i + k, x)) (slice_get xs k)
+slice_get-enumerate i [] k = refl
+slice_get-enumerate i (x ∷ xs) zero = ap (λ n. Some (n, x)) (sym (add-zero i))
+slice_get-enumerate i (x ∷ xs) (suc k) =
+    let e : i + 1 + k ≡ i + suc k = omega arith in
+    slice_get-enumerate (i + 1) xs k ∙ ap (λ n. option_map (λ x. (n, x)) (slice_get xs k)) e
+
+one_request : (s : Config) (core cycle n : ℕ) (o : Option Entry)
+    → filter_map (λ (e : ℕ × Entry). request_of s core cycle e.0 e.1) (option_to_list (option_map (λ x. (0 + n, x)) o)) ≡ option_to_list (option_and_then (request_of s core cycle n) o)
+one_request s core cycle n None = refl
+one_request s core cycle n (Some x) = ap (λ i. cons_option (request_of s core cycle i x) []) (zero-add n) ∙ as_list (request_of s core cycle n x)
+  where
+    as_list : (o : Option Message) → cons_option o [] ≡ option_to_list o
+    as_list None = refl
+    as_list (Some m) = refl
+
+pub requests_between_none : (s : Config) (core : ℕ) (trace : List Entry) (cycle first : ℕ) → requests_between s core trace cycle first (first + 0) ≡ []
+unfolding requests_between
+requests_between_none s core trace cycle first =
+    let e : first + 0 - first ≡ 0 = omega arith in
+    ap (λ n. filter_map (λ (e : ℕ × Entry). request_of s core cycle e.0 e.1) (take n (drop first (enumerate_from 0 trace)))) e
+
+pub requests_between_more : (s : Config) (core : ℕ) (trace : List Entry) (cycle first k : ℕ)
+    → requests_between s core trace cycle first (first + (k + 1)) ≡ requests_between s core trace cycle first (first + k) ++ option_to_list (option_and_then (request_of s core cycle (first + k)) (slice_get trace (first + k)))
+unfolding requests_between
+requests_between_more s core trace cycle first k =
+    let es = drop first (enumerate_from 0 trace) in
+    let f = λ (e : ℕ × Entry). request_of s core cycle e.0 e.1 in
+    let e1 : first + (k + 1) - first ≡ suc k = omega arith in
+    let e2 : first + k - first ≡ k = omega arith in
+    ap (λ n. filter_map f (take n es)) e1
+    ∙ ap (filter_map f) (take_more es k)
+    ∙ filter_map-append f (take k es) (option_to_list (slice_get es k))
+    ∙ ap₂ (λ a b. a ++ b) (ap (λ n. filter_map f (take n es)) (sym e2))
+    (ap (λ o. filter_map f (option_to_list o)) (slice_get-drop (enumerate_from 0 trace) first k ∙ slice_get-enumerate 0 trace (first + k))
+    ∙ one_request s core cycle (first + k) (slice_get trace (first + k)))
+
+one_memory : (o : Option Entry) → list_any is_memory (option_to_list o) ≡ (is_memory_in o || false)
+one_memory None = refl
+one_memory (Some e) = refl
+
+has_memory_below : (trace : List Entry) (first m : ℕ) → list_any (λ k. is_memory_in (slice_get trace (first + k))) (below m) ≡ list_any is_memory (take m (drop first trace))
+has_memory_below trace first zero = refl
+has_memory_below trace first (suc m) =
+    let p = λ (k : ℕ). is_memory_in (slice_get trace (first + k)) in
+    ap (list_any p) (below_more m)
+    ∙ list_any-append p (below m) (m ∷ [])
+    ∙ ap₂ (λ a b. a || b) (has_memory_below trace first m)
+    (ap (λ o. is_memory_in o || false) (sym (slice_get-drop trace first m)) ∙ sym (one_memory (slice_get (drop first trace) m)))
+    ∙ sym (list_any-append is_memory (take m (drop first trace)) (option_to_list (slice_get (drop first trace) m)))
+    ∙ ap (list_any is_memory) (sym (take_more (drop first trace) m))
+
+pub has_memory_numbers : (trace : List Entry) (first m : ℕ) → has_memory trace first m ≡ list_any (λ k. is_memory_in (slice_get trace (first + k))) (below m)
+unfolding has_memory
+has_memory_numbers trace first m = sym (has_memory_below trace first m)

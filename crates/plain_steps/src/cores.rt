@@ -1,0 +1,459 @@
+//! What a core does in a cycle.
+
+ghost use Rattle.std.specs.Prelude.{◌≡◌, ◌+◌, ◌*◌, ◌<◌, ◌≤◌, ◌^◌, length, count_by, find, slice_get, option_and_then, ◌++◌, IfOk, OnOk};
+ghost use Rattle.std.specs.Option.{option_to_list};
+ghost use Rattle.std.specs.List.{list_any};
+ghost use Rattle.sim_base.specs.History.{below, request, request_of, retired_before, issued_before, requests_between, core_messages};
+ghost use Rattle.sim_base.specs.Windows.{is_reply_to, is_replied, is_done_as, is_done, done_from, retires, is_request_for, is_credit, credit_cap, is_credit_on, held, lacks_credit};
+ghost use Rattle.sim_base.specs.Windows.{is_memory, is_memory_in, has_memory, meets_memory, stop_after, has_cause, first_stop, step_with, step};
+
+use address_map::place_of;
+use cpu_trace::trace::Trace;
+use sim_base::config::Config;
+use sim_base::history::CoreRow;
+use sim_base::message::{CoreId, Load, Message, Request};
+use sim_base::trace::{Entry, Stop};
+use std::alloc::{AllocError, Global};
+
+#[tactic(auto, unfolding(sim_base::specs::History::request))]
+fn request_message(
+    s: &Config,
+    core: CoreId,
+    cycle: usize,
+    entry: u64,
+    write: bool,
+    address: u64,
+) -> Message
+    requires early { cycle < 2 ^ 41 }
+    ensures { result ≡ request s.now core cycle entry write address }
+{
+    let place = place_of(s, address);
+    let link = s.request_link(core, place.channel);
+    let arrival = cycle as u64 + u64::from(s.latency(link));
+    let load = Load::Request(Request {
+        core,
+        entry,
+        write,
+        address,
+        place,
+        arrival,
+        link,
+    });
+    Message {
+        link,
+        arrival,
+        load,
+    }
+}
+
+fn request_for(s: &Config, core: CoreId, cycle: usize, number: u64, entry: Entry) -> Option<Message>
+    requires early { cycle < 2 ^ 41 }
+    ensures { result ≡ request_of s.now core cycle number entry }
+{
+    match entry {
+        Entry::Plain => None,
+        Entry::Read(address) => Some(request_message(s, core, cycle, number, false, address)),
+        Entry::Write(address) => Some(request_message(s, core, cycle, number, true, address)),
+    }
+}
+
+/// How many entries were retired.
+#[tactic(auto, unfolding(sim_base::specs::History::retired_before))]
+pub fn retired_count(rows: &[CoreRow]) -> u64
+    requires { length rows.now < 2 ^ 40 }
+    ensures value { result ≡ retired_before rows.now }
+    ensures small { result < 2 ^ 63 }
+{
+    let mut total = 0u64;
+    for row in rows {
+        total += u64::from(row.retired);
+    }
+    total
+}
+
+/// How many entries were issued.
+#[tactic(auto, unfolding(sim_base::specs::History::issued_before))]
+pub fn issued_count(rows: &[CoreRow]) -> u64
+    requires { length rows.now < 2 ^ 40 }
+    ensures value { result ≡ issued_before rows.now }
+    ensures small { result < 2 ^ 63 }
+{
+    let mut total = 0u64;
+    for row in rows {
+        total += u64::from(row.issued);
+    }
+    total
+}
+
+/// The entry of a number, where there is one.
+pub fn entry_of(trace: &Trace, number: u64) -> Option<Entry>
+    ensures { result ≡ slice_get trace.now number }
+{
+    if number < trace.len() {
+        Some(trace.entry_at(number))
+    } else {
+        None
+    }
+}
+
+fn request_of_number(
+    s: &Config,
+    core: CoreId,
+    trace: &Trace,
+    cycle: usize,
+    number: u64,
+) -> Option<Message>
+    requires early { cycle < 2 ^ 41 }
+    ensures { result ≡ option_and_then (request_of s.now core cycle number) (slice_get trace.now number) }
+{
+    match entry_of(trace, number) {
+        Some(entry) => request_for(s, core, cycle, number, entry),
+        None => None,
+    }
+}
+
+fn push_some(sent: &mut Vec<Message>, message: Option<Message>) -> Result<(), AllocError>
+    ensures { OnOk result (sent.new.items ≡ sent.old.items ++ option_to_list message) }
+{
+    if let Some(m) = message {
+        sent.push(m)?;
+    }
+    Ok(())
+}
+
+/// The requests among `count` entries from `first` on.
+#[tactic(auto, using(crate::proofs::Entries::requests_between_none, crate::proofs::Entries::requests_between_more))]
+pub fn requests_of_entries(
+    alloc: Global,
+    s: &Config,
+    core: CoreId,
+    trace: &Trace,
+    cycle: usize,
+    first: u64,
+    count: u16,
+) -> Result<Vec<Message>, AllocError>
+    requires early { cycle < 2 ^ 41 }
+    requires fits { first < 2 ^ 63 }
+    ensures { IfOk result (λ v. v.items ≡ requests_between s.now core trace.now cycle first (first + count)) }
+{
+    let mut sent = Vec::new(alloc);
+    for k in 0..count {
+        push_some(
+            &mut sent,
+            request_of_number(s, core, trace, cycle, first + u64::from(k)),
+        )?;
+    }
+    Ok(sent)
+}
+
+fn is_reply(entry: u64, load: Load) -> bool
+    ensures { result ≡ is_reply_to entry load }
+{
+    match load {
+        Load::Reply(other) => entry == other,
+        Load::Request(_) | Load::Credit { .. } => false,
+    }
+}
+
+#[tactic(auto, unfolding(sim_base::specs::Windows::is_replied))]
+fn has_reply(inbox: &[Message], now: usize, entry: u64) -> bool
+    ensures { result ≡ is_replied inbox.now now entry }
+{
+    inbox
+        .iter()
+        .any(|m| is_reply(entry, m.load) && m.arrival <= now as u64)
+}
+
+#[tactic(auto, unfolding(sim_base::specs::Windows::is_done))]
+fn is_entry_done(trace: &Trace, inbox: &[Message], now: usize, entry: u64) -> bool
+    ensures { result ≡ is_done trace.now inbox.now now entry }
+{
+    match entry_of(trace, entry) {
+        Some(Entry::Read(_)) => has_reply(inbox, now, entry),
+        Some(Entry::Write(_) | Entry::Plain) => true,
+        None => false,
+    }
+}
+
+#[tactic(auto, unfolding(sim_base::specs::Windows::done_from))]
+fn done_count(trace: &Trace, inbox: &[Message], now: usize, n: u16, first: u64) -> u16
+    requires { first + n < 2 ^ 64 }
+    ensures value { result ≡ done_from trace.now inbox.now now n first }
+    ensures small { result ≤ n }
+{
+    (first..first + u64::from(n))
+        .take_while(|entry| is_entry_done(trace, inbox, now, *entry))
+        .count() as u16
+}
+
+/// How many entries retire in the next cycle.
+#[tactic(auto, unfolding(sim_base::specs::Windows::retires))]
+fn retire_count(s: &Config, trace: &Trace, rows: &[CoreRow], inbox: &[Message]) -> u16
+    requires { length rows.now < 2 ^ 40 }
+    ensures value { result ≡ retires s.now trace.now rows.now inbox.now }
+{
+    let first = retired_count(rows);
+    let issued = issued_count(rows);
+    let most = u64::from(s.width).min(issued.saturating_sub(first)) as u16;
+    done_count(trace, inbox, rows.len(), most, first)
+}
+
+fn is_request(channel: u32, write: bool, load: Load) -> bool
+    ensures { result ≡ is_request_for channel write load }
+{
+    match load {
+        Load::Request(r) => r.place.channel == channel && (if write { r.write } else { !r.write }),
+        Load::Reply(_) | Load::Credit { .. } => false,
+    }
+}
+
+fn is_credit_for(write: bool, load: Load) -> bool
+    ensures { result ≡ is_credit write load }
+{
+    match load {
+        Load::Credit { write: w, .. } => { if write { w } else { !w } }
+        Load::Request(_) | Load::Reply(_) => false,
+    }
+}
+
+fn cap(s: &Config, write: bool) -> u32
+    ensures { result ≡ credit_cap s.now write }
+{
+    if write {
+        s.write_credits
+    } else {
+        s.read_credits
+    }
+}
+
+fn is_link_credit(link: u64, write: bool, until: usize, m: Message) -> bool
+    ensures { result ≡ is_credit_on link write until m }
+{
+    m.link == link && is_credit_for(write, m.load) && m.arrival < until as u64
+}
+
+fn credits_received(inbox: &[Message], link: u64, write: bool, until: usize) -> usize
+    ensures value { result ≡ count_by (is_credit_on link write until) inbox.now }
+    ensures small { result < 2 ^ 63 }
+{
+    inbox
+        .iter()
+        .filter(|m| is_link_credit(link, write, until, **m))
+        .count()
+}
+
+fn request_count(sent: &[Message], channel: u32, write: bool) -> usize
+    ensures { result ≡ count_by (λ m. is_request_for channel write m.load) sent.now }
+{
+    sent.iter()
+        .filter(|m| is_request(channel, write, m.load))
+        .count()
+}
+
+/// Credits that a core holds for a channel.
+#[tactic(auto, unfolding(sim_base::specs::Windows::held))]
+pub fn held_count(
+    s: &Config,
+    core: CoreId,
+    inbox: &[Message],
+    sent: &[Message],
+    channel: u32,
+    write: bool,
+    until: usize,
+) -> usize
+    ensures { result ≡ held s.now core inbox.now sent.now channel write until }
+{
+    let link = s.credit_link(core, channel);
+    let received = cap(s, write) as usize + credits_received(inbox, link, write, until);
+    received.saturating_sub(request_count(sent, channel, write))
+}
+
+#[tactic(auto, unfolding(sim_base::specs::Windows::lacks_credit))]
+fn is_out_of_credit(
+    s: &Config,
+    core: CoreId,
+    inbox: &[Message],
+    sent: &[Message],
+    now: usize,
+    entry: Option<Entry>,
+) -> bool
+    requires early { now < 2 ^ 41 }
+    ensures { result ≡ lacks_credit s.now core inbox.now sent.now now entry }
+{
+    match entry {
+        Some(Entry::Read(address)) => {
+            let channel = place_of(s, address).channel;
+            held_count(s, core, inbox, sent, channel, false, now + 1) == 0
+        }
+        Some(Entry::Write(address)) => {
+            let channel = place_of(s, address).channel;
+            held_count(s, core, inbox, sent, channel, true, now + 1) == 0
+        }
+        Some(Entry::Plain) | None => false,
+    }
+}
+
+fn is_memory_entry(entry: Entry) -> bool
+    ensures { result ≡ is_memory entry }
+{
+    match entry {
+        Entry::Plain => false,
+        Entry::Read(_) | Entry::Write(_) => true,
+    }
+}
+
+fn is_some_memory_entry(entry: Option<Entry>) -> bool
+    ensures { result ≡ is_memory_in entry }
+{
+    match entry {
+        Some(entry) => is_memory_entry(entry),
+        None => false,
+    }
+}
+
+fn is_memory_number(trace: &Trace, number: u64) -> bool
+    ensures { result ≡ is_memory_in (slice_get trace.now number) }
+{
+    is_some_memory_entry(entry_of(trace, number))
+}
+
+fn has_memory_number(trace: &Trace, first: u64, m: u16) -> bool
+    requires { first + m < 2 ^ 64 }
+    ensures { result ≡ list_any (λ k. is_memory_in (slice_get trace.now (first + k))) (below m) }
+{
+    (0..m).any(|k| is_memory_number(trace, first + u64::from(k)))
+}
+
+#[tactic(auto, using(crate::proofs::Entries::has_memory_numbers))]
+fn has_memory_entry(trace: &Trace, first: u64, m: u16) -> bool
+    requires { first + m < 2 ^ 64 }
+    ensures { result ≡ has_memory trace.now first m }
+{
+    has_memory_number(trace, first, m)
+}
+
+#[tactic(auto, unfolding(sim_base::specs::Windows::meets_memory))]
+fn meets_memory_entry(trace: &Trace, first: u64, m: u16) -> bool
+    requires { first + m < 2 ^ 64 }
+    ensures { result ≡ meets_memory trace.now first m }
+{
+    is_memory_number(trace, first + u64::from(m)) && has_memory_entry(trace, first, m)
+}
+
+/// Why the core issues no entry more after m in this cycle.
+#[tactic(auto, unfolding(sim_base::specs::Windows::stop_after))]
+fn stop_cause(
+    s: &Config,
+    core: CoreId,
+    trace: &Trace,
+    inbox: &[Message],
+    sent: &[Message],
+    now: usize,
+    first: u64,
+    gone: u64,
+    m: u16,
+) -> Option<Stop>
+    requires early { now < 2 ^ 41 }
+    requires first_fits { first < 2 ^ 63 }
+    ensures { result ≡ stop_after s.now core trace.now inbox.now sent.now now first gone m }
+{
+    let next = first + u64::from(m);
+    let entry = entry_of(trace, next);
+    if next == trace.len() {
+        Some(Stop::End)
+    } else if m == s.width {
+        Some(Stop::Width)
+    } else if next.saturating_sub(gone) == u64::from(s.window) {
+        Some(Stop::Window)
+    } else if meets_memory_entry(trace, first, m) {
+        Some(Stop::Memory)
+    } else if is_out_of_credit(s, core, inbox, sent, now, entry) {
+        Some(Stop::Credit)
+    } else {
+        None
+    }
+}
+
+#[tactic(auto, unfolding(sim_base::specs::Windows::has_cause))]
+fn has_stop_cause(
+    s: &Config,
+    core: CoreId,
+    trace: &Trace,
+    inbox: &[Message],
+    sent: &[Message],
+    now: usize,
+    first: u64,
+    gone: u64,
+    m: u16,
+) -> bool
+    requires early { now < 2 ^ 41 }
+    requires first_fits { first < 2 ^ 63 }
+    ensures { result ≡ has_cause s.now core trace.now inbox.now sent.now now first gone m }
+{
+    stop_cause(s, core, trace, inbox, sent, now, first, gone, m).is_some()
+}
+
+fn first_cause(
+    s: &Config,
+    core: CoreId,
+    trace: &Trace,
+    inbox: &[Message],
+    sent: &[Message],
+    now: usize,
+    first: u64,
+    gone: u64,
+) -> Option<u16>
+    requires early { now < 2 ^ 41 }
+    requires first_fits { first < 2 ^ 63 }
+    ensures { result ≡ find (has_cause s.now core trace.now inbox.now sent.now now first gone) (below (s.now.width + 1)) }
+{
+    (0..s.width + 1).find(|m| has_stop_cause(s, core, trace, inbox, sent, now, first, gone, *m))
+}
+
+/// The least count of entries at which there is a cause to stop.
+#[tactic(auto, unfolding(sim_base::specs::Windows::first_stop))]
+fn issue_count(
+    s: &Config,
+    core: CoreId,
+    trace: &Trace,
+    inbox: &[Message],
+    sent: &[Message],
+    now: usize,
+    first: u64,
+    gone: u64,
+) -> u16
+    requires early { now < 2 ^ 41 }
+    requires first_fits { first < 2 ^ 63 }
+    ensures { result ≡ first_stop s.now core trace.now inbox.now sent.now now first gone }
+{
+    first_cause(s, core, trace, inbox, sent, now, first, gone).unwrap_or(s.width)
+}
+
+fn step_from(retired: u16, m: u16, why: Option<Stop>) -> (CoreRow, Stop)
+    ensures { result ≡ step_with retired m why }
+{
+    (CoreRow { retired, issued: m }, why.unwrap_or(Stop::Width))
+}
+
+/// What a core does in the next cycle, and why it stops.
+#[tactic(auto, unfolding(sim_base::specs::Windows::step))]
+pub fn core_step(
+    s: &Config,
+    core: CoreId,
+    trace: &Trace,
+    rows: &[CoreRow],
+    sent: &[Message],
+    inbox: &[Message],
+) -> (CoreRow, Stop)
+    requires few { length rows.now < 2 ^ 40 }
+    requires sent { sent.now ≡ core_messages s.now core trace.now rows.now }
+    ensures { result ≡ step s.now core trace.now rows.now inbox.now }
+{
+    let now = rows.len();
+    let retired = retire_count(s, trace, rows, inbox);
+    let first = issued_count(rows);
+    let gone = retired_count(rows) + u64::from(retired);
+    let m = issue_count(s, core, trace, inbox, sent, now, first, gone);
+    let why = stop_cause(s, core, trace, inbox, sent, now, first, gone, m);
+    step_from(retired, m, why)
+}

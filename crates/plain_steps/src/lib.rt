@@ -1,0 +1,7 @@
+//! What one core and one channel of the plain machine do in a cycle, by a search of their whole past.
+#![tactic(auto)]
+
+pub mod cores;
+pub mod mail;
+pub mod rules;
+pub mod scheduling;

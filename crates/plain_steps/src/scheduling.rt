@@ -1,0 +1,471 @@
+//! First-ready first-come-first-served scheduling of one channel.
+
+ghost use Rattle.std.specs.Prelude.{◌≡◌, ◌≤◌, ◌+◌, ◌<◌, ◌^◌, ◌&&◌, not, find, filter, filter_map, count_by, take, length, IfOk};
+ghost use Rattle.sim_base.specs.Places.{is_line, bank_in};
+ghost use Rattle.sim_base.specs.Scheduling.{request_in, is_source, source_of, serves, is_served, drains_with};
+ghost use Rattle.sim_base.specs.Scheduling.{asks_for_line, first_of_lines, is_favoured, favour, candidates, column_command, needed_at, needed, is_column_command, is_row_hit, has_hit, is_withheld, ready_hit, ready_row, first_ready, refreshes, due, lowest_due, refresh_command, if_legal, choice_between};
+ghost use Rattle.plain_steps.specs.Plain.{queue_of, is_request_left, is_left};
+
+use crate::rules;
+use sim_base::command::{Command, CommandRow, Kind, Source};
+use sim_base::config::Config;
+use sim_base::message::{Load, Message, Request};
+use sim_base::place::{BankId, Place};
+use std::alloc::{AllocError, Global};
+use timing::gap_table::GapTable;
+
+pub fn request_of_load(load: Load) -> Option<Request>
+    ensures { result ≡ request_in load }
+{
+    match load {
+        Load::Request(r) => Some(r),
+        Load::Reply(_) | Load::Credit { .. } => None,
+    }
+}
+
+fn is_from(r: Request, source: Source) -> bool
+    ensures { result ≡ is_source r source }
+{
+    r.core == source.core && r.entry == source.entry
+}
+
+fn source(r: Request) -> Source
+    ensures { result ≡ source_of r }
+{
+    Source {
+        core: r.core,
+        entry: r.entry,
+    }
+}
+
+pub fn does_serve(r: Request, command: Command) -> bool
+    ensures { result ≡ serves r command }
+{
+    match command {
+        Command::Rd { source, .. } | Command::Wr { source, .. } => is_from(r, source),
+        _ => false,
+    }
+}
+
+#[tactic(auto, unfolding(sim_base::specs::Scheduling::is_served))]
+fn is_request_served(history: &[CommandRow], r: Request) -> bool
+    ensures { result ≡ is_served history.now r }
+{
+    history.iter().any(|i| does_serve(r, i.command))
+}
+
+fn is_request_unserved(history: &[CommandRow], request: Option<Request>) -> bool
+    ensures { result ≡ is_request_left history.now request }
+{
+    match request {
+        Some(r) => !is_request_served(history, r),
+        None => true,
+    }
+}
+
+fn is_unserved(history: &[CommandRow], m: Message) -> bool
+    ensures { result ≡ is_left history.now m }
+{
+    is_request_unserved(history, request_of_load(m.load))
+}
+
+/// The messages whose requests are not served yet.
+pub fn unserved(
+    alloc: Global,
+    history: &[CommandRow],
+    messages: &[Message],
+) -> Result<Vec<Message>, AllocError>
+    ensures { IfOk result (λ v. v.items ≡ filter (is_left history.now) messages.now) }
+{
+    messages
+        .iter()
+        .copied()
+        .filter(|m| is_unserved(history, *m))
+        .collect(alloc)
+}
+
+/// The requests among these messages that arrived before a cycle.
+#[tactic(auto, unfolding(crate::specs::Plain::queue_of))]
+pub fn queue(alloc: Global, pending: &[Message], until: u64) -> Result<Vec<Request>, AllocError>
+    ensures { IfOk result (λ v. v.items ≡ queue_of pending.now until) }
+{
+    pending
+        .iter()
+        .filter_map(|m| request_of_load(m.load))
+        .filter(|r| r.arrival < until)
+        .collect(alloc)
+}
+
+fn write_count(queue: &[Request]) -> usize
+    ensures { result ≡ count_by (λ r. r.write) queue.now }
+{
+    queue.iter().filter(|r| r.write).count()
+}
+
+fn drains_at(s: &Config, draining: bool, writes: usize) -> bool
+    ensures { result ≡ drains_with s.now draining writes }
+{
+    let high = s.write_high as usize;
+    let low = s.write_low as usize;
+    (0 < high && high <= writes) || (draining && low < writes)
+}
+
+fn is_same_line(a: Place, b: Place) -> bool
+    ensures { result ≡ is_line a b }
+{
+    a.channel == b.channel
+        && rules::is_same_bank(bank_of_place(a), bank_of_place(b))
+        && a.row == b.row
+        && a.column == b.column
+}
+
+fn bank_of_place(place: Place) -> BankId
+    ensures { result ≡ bank_in place }
+{
+    BankId {
+        rank: place.rank,
+        group: place.group,
+        bank: place.bank,
+    }
+}
+
+#[tactic(auto, unfolding(sim_base::specs::Scheduling::asks_for_line))]
+fn is_line_asked(place: Place, requests: &[Request], count: usize) -> bool
+    ensures { result ≡ asks_for_line place (take count requests.now) }
+{
+    requests
+        .iter()
+        .take(count)
+        .any(|q| is_same_line(q.place, place))
+}
+
+/// The requests with no older one for the same line.
+#[tactic(auto, unfolding(sim_base::specs::Scheduling::first_of_lines))]
+fn first_for_lines(alloc: Global, queue: &[Request]) -> Result<Vec<Request>, AllocError>
+    ensures { IfOk result (λ v. v.items ≡ first_of_lines queue.now) }
+{
+    queue
+        .iter()
+        .enumerate()
+        .filter(|(older, r)| !is_line_asked(r.place, queue, *older))
+        .map(|(_, r)| *r)
+        .collect(alloc)
+}
+
+fn is_favoured_request(draining: bool, r: Request) -> bool
+    ensures { result ≡ is_favoured draining r }
+{
+    if draining { r.write } else { !r.write }
+}
+
+fn favoured_requests(
+    alloc: Global,
+    draining: bool,
+    eligible: &[Request],
+) -> Result<Vec<Request>, AllocError>
+    ensures { IfOk result (λ v. v.items ≡ filter (is_favoured draining) eligible.now) }
+{
+    eligible
+        .iter()
+        .copied()
+        .filter(|r| is_favoured_request(draining, *r))
+        .collect(alloc)
+}
+
+/// The requests that may be served next, by age.
+#[tactic(auto, unfolding(sim_base::specs::Scheduling::favour, sim_base::specs::Scheduling::candidates))]
+fn candidate_requests(
+    alloc: Global,
+    s: &Config,
+    draining: bool,
+    queue: &[Request],
+) -> Result<Vec<Request>, AllocError>
+    ensures { IfOk result (λ v. v.items ≡ candidates s.now draining queue.now) }
+{
+    let eligible = first_for_lines(alloc, queue)?;
+    let favoured = favoured_requests(alloc, draining, &eligible)?;
+    if 0 < s.write_high && 0 < favoured.len() {
+        Ok(favoured)
+    } else {
+        Ok(eligible)
+    }
+}
+
+fn column_command_of(r: Request) -> Command
+    ensures { result ≡ column_command r }
+{
+    let bank = bank_of_place(r.place);
+    let source = source(r);
+    let row = r.place.row;
+    let column = r.place.column;
+    if r.write {
+        Command::Wr {
+            bank,
+            row,
+            column,
+            source,
+        }
+    } else {
+        Command::Rd {
+            bank,
+            row,
+            column,
+            source,
+        }
+    }
+}
+
+fn needed_with(open_row: Option<u32>, r: Request) -> Command
+    ensures { result ≡ needed_at open_row r }
+{
+    match open_row {
+        None => Command::Act {
+            bank: bank_of_place(r.place),
+            row: r.place.row,
+            source: source(r),
+        },
+        Some(row) => {
+            if row == r.place.row {
+                column_command_of(r)
+            } else {
+                Command::Pre {
+                    bank: bank_of_place(r.place),
+                    source: source(r),
+                }
+            }
+        }
+    }
+}
+
+/// The command that a request needs next.
+#[tactic(auto, unfolding(sim_base::specs::Scheduling::needed))]
+fn needed_command(history: &[CommandRow], r: Request) -> Command
+    ensures { result ≡ needed history.now r }
+{
+    needed_with(rules::row_of_bank(bank_of_place(r.place), history), r)
+}
+
+/// Whether the command moves data.
+pub fn is_column(command: Command) -> bool
+    ensures { result ≡ is_column_command command }
+{
+    let kind = command.kind();
+    rules::is_same_kind(kind, Kind::Rd) || rules::is_same_kind(kind, Kind::Wr)
+}
+
+fn hits_row(r: Request, bank: BankId, open_row: Option<u32>) -> bool
+    ensures { result ≡ is_row_hit r bank open_row }
+{
+    rules::is_same_bank(bank_of_place(r.place), bank) && rules::is_same_row(r.place.row, open_row)
+}
+
+fn is_hit_in(history: &[CommandRow], requests: &[Request], bank: BankId) -> bool
+    ensures { result ≡ has_hit history.now requests.now bank }
+{
+    let open_row = rules::row_of_bank(bank, history);
+    requests.iter().any(|r| hits_row(*r, bank, open_row))
+}
+
+/// Whether a row hit among the requests keeps the command's bank from being closed.
+#[tactic(auto, unfolding(sim_base::specs::Scheduling::is_withheld))]
+fn is_command_withheld(history: &[CommandRow], requests: &[Request], command: Command) -> bool
+    ensures { result ≡ is_withheld history.now requests.now command }
+{
+    match command {
+        Command::Pre { bank, .. } => is_hit_in(history, requests, bank),
+        _ => false,
+    }
+}
+
+#[tactic(auto, unfolding(sim_base::specs::Scheduling::ready_hit))]
+fn is_ready_hit(s: &Config, gaps: &GapTable, history: &[CommandRow], now: u64, r: Request) -> bool
+    requires { gaps.now ≡ s.now.timing }
+    ensures { result ≡ ready_hit s.now history.now now r }
+{
+    let command = needed_command(history, r);
+    is_column(command) && rules::is_legal_now(s, gaps, history, now, command)
+}
+
+#[tactic(auto, unfolding(sim_base::specs::Scheduling::ready_row))]
+fn is_ready_row(
+    s: &Config,
+    gaps: &GapTable,
+    history: &[CommandRow],
+    now: u64,
+    requests: &[Request],
+    r: Request,
+) -> bool
+    requires { gaps.now ≡ s.now.timing }
+    ensures { result ≡ ready_row s.now history.now now requests.now r }
+{
+    let command = needed_command(history, r);
+    !is_column(command)
+        && rules::is_legal_now(s, gaps, history, now, command)
+        && !is_command_withheld(history, requests, command)
+}
+
+fn first_hit(
+    s: &Config,
+    gaps: &GapTable,
+    history: &[CommandRow],
+    now: u64,
+    requests: &[Request],
+) -> Option<Request>
+    requires { gaps.now ≡ s.now.timing }
+    ensures { result ≡ find (ready_hit s.now history.now now) requests.now }
+{
+    requests
+        .iter()
+        .copied()
+        .find(|r| is_ready_hit(s, gaps, history, now, *r))
+}
+
+fn first_row(
+    s: &Config,
+    gaps: &GapTable,
+    history: &[CommandRow],
+    now: u64,
+    requests: &[Request],
+) -> Option<Request>
+    requires { gaps.now ≡ s.now.timing }
+    ensures { result ≡ find (ready_row s.now history.now now requests.now) requests.now }
+{
+    requests
+        .iter()
+        .copied()
+        .find(|r| is_ready_row(s, gaps, history, now, requests, *r))
+}
+
+/// The command of the first request that is ready: row hits first.
+#[tactic(auto, unfolding(sim_base::specs::Scheduling::first_ready))]
+fn first_ready_command(
+    s: &Config,
+    gaps: &GapTable,
+    history: &[CommandRow],
+    now: u64,
+    requests: &[Request],
+) -> Option<Command>
+    requires { gaps.now ≡ s.now.timing }
+    ensures { result ≡ first_ready s.now history.now now requests.now }
+{
+    match first_hit(s, gaps, history, now, requests) {
+        Some(r) => Some(needed_command(history, r)),
+        None => match first_row(s, gaps, history, now, requests) {
+            Some(r) => Some(needed_command(history, r)),
+            None => None,
+        },
+    }
+}
+
+fn is_refresh_of(rank: u32, command: Command) -> bool
+    ensures { result ≡ refreshes rank command }
+{
+    rules::is_same_kind(command.kind(), Kind::Ref) && command.rank() == rank
+}
+
+fn refresh_count(rank: u32, history: &[CommandRow]) -> usize
+    ensures { result ≡ count_by (λ i. refreshes rank i.command) history.now }
+{
+    history
+        .iter()
+        .filter(|i| is_refresh_of(rank, i.command))
+        .count()
+}
+
+/// How many refreshes of a rank are due.
+#[tactic(auto, unfolding(sim_base::specs::Scheduling::due))]
+pub fn due_count(s: &Config, rank: u32, history: &[CommandRow], now: u64) -> u64
+    ensures { result ≡ due s.now rank history.now now }
+{
+    if s.timing.n_refi == 0 {
+        0
+    } else {
+        (now / u64::from(s.timing.n_refi)).saturating_sub(refresh_count(rank, history) as u64)
+    }
+}
+
+/// The lowest rank with a refresh that is due.
+#[tactic(auto, unfolding(sim_base::specs::Scheduling::lowest_due))]
+pub fn lowest_rank_due(s: &Config, history: &[CommandRow], now: u64) -> Option<u32>
+    ensures { result ≡ lowest_due s.now history.now now }
+{
+    (0..s.ranks).find(|rank| 0 < due_count(s, *rank, history, now))
+}
+
+#[tactic(auto, unfolding(sim_base::specs::Scheduling::refresh_command))]
+fn refresh_command_of(s: &Config, history: &[CommandRow], rank: u32) -> Command
+    ensures { result ≡ refresh_command s.now history.now rank }
+{
+    if rules::has_open_bank_of_rank(s, history, rank) {
+        Command::Prea { rank }
+    } else {
+        Command::Ref { rank }
+    }
+}
+
+#[tactic(auto, unfolding(sim_base::specs::Scheduling::if_legal))]
+fn command_if_legal(
+    s: &Config,
+    gaps: &GapTable,
+    history: &[CommandRow],
+    now: u64,
+    command: Command,
+) -> Option<Command>
+    requires { gaps.now ≡ s.now.timing }
+    ensures { result ≡ if_legal s.now history.now now command }
+{
+    if rules::is_legal_now(s, gaps, history, now, command) {
+        Some(command)
+    } else {
+        None
+    }
+}
+
+#[tactic(auto, unfolding(sim_base::specs::Scheduling::choice_between))]
+fn choice_of(
+    s: &Config,
+    gaps: &GapTable,
+    history: &[CommandRow],
+    now: u64,
+    requests: &[Request],
+    due: Option<u32>,
+) -> Option<Command>
+    requires { gaps.now ≡ s.now.timing }
+    ensures { result ≡ choice_between s.now history.now now requests.now due }
+{
+    match due {
+        Some(rank) => command_if_legal(s, gaps, history, now, refresh_command_of(s, history, rank)),
+        None => first_ready_command(s, gaps, history, now, requests),
+    }
+}
+
+/// What a channel does in a cycle: its command, if there is one, and whether it drains its writes.
+#[derive(Clone, Copy, PartialEq, Eq, Debug)]
+pub struct ChannelStep {
+    pub command: Option<Command>,
+    pub draining: bool,
+}
+
+/// What a channel does in the cycle `now`, after these commands, with these messages still pending, where it drained its
+/// writes in the cycle before or not.
+pub fn channel_step(
+    alloc: Global,
+    s: &Config,
+    gaps: &GapTable,
+    now: u64,
+    history: &[CommandRow],
+    pending: &[Message],
+    drained: bool,
+) -> Result<ChannelStep, AllocError>
+    requires gaps { gaps.now ≡ s.now.timing }
+    requires early { now < 2 ^ 41 }
+    ensures draining { IfOk result (λ step. step.draining ≡ drains_with s.now drained (count_by (λ r. r.write) (queue_of pending.now (now + 1)))) }
+    ensures command { IfOk result (λ step. step.command ≡ choice_between s.now history.now now (candidates s.now step.draining (queue_of pending.now (now + 1))) (lowest_due s.now history.now now)) }
+{
+    let queue = queue(alloc, pending, now + 1)?;
+    let draining = drains_at(s, drained, write_count(&queue));
+    let requests = candidate_requests(alloc, s, draining, &queue)?;
+    let due = lowest_rank_due(s, history, now);
+    let command = choice_of(s, gaps, history, now, &requests, due);
+    Ok(ChannelStep { command, draining })
+}
