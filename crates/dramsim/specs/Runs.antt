@@ -2,7 +2,7 @@
 --     traces_of core texts      the entries of traces, of which the first is that of this core
 --     limits_of cores texts cycles workers      whether there is one trace a core, and so on
 --     input_of config texts cycles workers      the entries of all traces, or the first fault of a run's input
---     IsRunOf config texts cycles workers simulated      the commands of the one-clock machine that the bytes describe
+--     IsRunOf config texts cycles workers outcome      what the one-clock machine that the bytes describe did and left
 use Rattle.std.specs.Prelude.{◌≡◌, ℕ, ◌+◌, ◌==◌, nat_le, Bool, ◌&&◌, List, [], ◌∷◌, length, Result, Ok, Err, if◌then◌else◌}
 use Rattle.sim_base.specs.declared.config.Config.{Config}
 use Rattle.sim_base.specs.declared.fault.Fault.{Fault}
@@ -11,9 +11,9 @@ use Rattle.sim_base.specs.declared.trace.Entry.{Entry}
 use Rattle.sim_base.specs.Document.{document_of}
 use Rattle.sim_base.specs.Values.{values_of}
 use Rattle.sim_base.specs.TraceText.{◌>>=◌, trace_answer}
-use Rattle.sim_base.specs.History.{commands}
-use Rattle.sim_base.specs.Machine.{run, cycles_run}
-use Rattle.dramsim.specs.declared.runs.Simulated.{Simulated}
+use Rattle.sim_base.specs.Machine.{cycles_run}
+use Rattle.statistics.specs.Runs.{outcome_of}
+use Rattle.statistics.specs.Values.{RunOutcome}
 
 -- a fault, where a test is not passed
 abbrev pub unless : Bool → Fault → Result (Unit {0}) Fault
@@ -41,12 +41,12 @@ input_of config texts cycles workers = do
   _ ← limits_of values.cores (length texts) cycles workers
   traces_of 0 texts
 
--- The configuration is what the document states, the traces are what the texts mean, and the commands are those of the
--- machine that advances every core, link and channel one cycle at a time, up to the limit or until all is done.
-pub record IsRunOf (config : List ℕ) (texts : List (List ℕ)) (cycles workers : ℕ) (simulated : Simulated) : Type 0 where
+-- The configuration is what the document states, the traces are what the texts mean, and the outcome is that of the machine
+-- that advances every core, link and channel one cycle at a time, up to the limit or until all is done: its commands, what it
+-- counted, and the state before the next cycle.
+pub record IsRunOf (config : List ℕ) (texts : List (List ℕ)) (cycles workers : ℕ) (outcome : RunOutcome) : Type 0 where
   pub machine : Config
   pub traces : List (List Entry)
   pub configured : document_of config ≡ Ok (values_of machine)
   pub read : input_of config texts cycles workers ≡ Ok traces
-  pub commands_are : simulated.commands.items ≡ commands (run machine traces (cycles_run machine traces cycles))
-  pub ranks_are : simulated.ranks ≡ machine.ranks
+  pub outcome_is : outcome ≡ outcome_of machine traces (cycles_run machine traces cycles)

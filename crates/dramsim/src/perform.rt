@@ -3,13 +3,14 @@
 ghost use Rattle.std.specs.Prelude.{◌≡◌, ◌≤◌};
 
 use crate::files::FileSet;
-use crate::runs::{Simulated, simulate_plain};
+use crate::runs::simulate_plain;
 use crate::words::{Ask, read_words};
 use address_map::place_of;
-use reports::write_commands;
+use reports::{write_commands, write_final, write_stats};
 use sim_base::document::read_config;
 use sim_base::fault::Fault;
 use sim_base::message::Cycle;
+use statistics::outcome::Outcome;
 use std::alloc::Global;
 use std::io::Write;
 
@@ -43,16 +44,29 @@ fn read_texts<F: FileSet>(
     Ok(texts)
 }
 
-// Writes the tables of a run. Nothing is opened before the run is over.
+// Where a table is written.
+fn path_of_table(alloc: Global, out: &str, name: &str) -> Result<String, Fault> {
+    Ok(format!(in alloc; "{out}/{name}")?)
+}
+
+// Writes the tables of a run, one after the other. Nothing is opened before the run is over.
 fn write_tables<F: FileSet>(
     alloc: Global,
     files: &mut F,
     out: &str,
-    run: &Simulated,
+    run: &Outcome,
 ) -> Result<(), Fault> {
-    let path = format!(in alloc; "{out}/commands.csv")?;
+    let path = path_of_table(alloc, out, "commands.csv")?;
     let mut table = files.create(alloc, path.as_str())?;
     write_commands(alloc, run.ranks, &run.commands, &mut table)?;
+    files.close(alloc, path.as_str(), table)?;
+    let path = path_of_table(alloc, out, "stats.csv")?;
+    let mut table = files.create(alloc, path.as_str())?;
+    write_stats(alloc, &run.stats, &mut table)?;
+    files.close(alloc, path.as_str(), table)?;
+    let path = path_of_table(alloc, out, "final.csv")?;
+    let mut table = files.create(alloc, path.as_str())?;
+    write_final(alloc, &run.last, run.ranks, &mut table)?;
     files.close(alloc, path.as_str(), table)
 }
 

@@ -6,11 +6,11 @@ ghost use Rattle.dramsim.specs.Runs.{unless, limits_of, traces_of, input_of, IsR
 use cpu_trace::reader::read_trace;
 use cpu_trace::trace::Trace;
 use one_clock::machine::run_plain;
-use sim_base::command::CommandRow;
 use sim_base::config::Config;
 use sim_base::document::read_config;
 use sim_base::fault::Fault;
 use sim_base::message::{CoreId, Cycle};
+use statistics::outcome::Outcome;
 use std::alloc::Global;
 
 /// The greatest limit of a run, in cycles.
@@ -18,13 +18,6 @@ pub const MOST_CYCLES: Cycle = 1_000_000_000_000;
 
 /// The greatest number of workers.
 pub const MOST_WORKERS: u64 = 64;
-
-/// What a run gives: the commands of all channels by cycle and then by channel, and how many ranks a channel has.
-#[derive(Drop)]
-pub struct Simulated {
-    pub commands: Vec<CommandRow>,
-    pub ranks: u32,
-}
 
 // One trace a core.
 fn check_count(cores: u16, texts: usize) -> Result<(), Fault>
@@ -88,7 +81,8 @@ fn read_traces(alloc: Global, texts: &[Vec<u8>]) -> Result<Vec<Trace>, Fault>
     Ok(traces)
 }
 
-/// Runs the one-clock machine that a configuration and one trace a core describe, for at most `cycles` cycles.
+/// Runs the one-clock machine that a configuration and one trace a core describe, for at most `cycles` cycles, and gives
+/// its commands, its statistics and the state in which it ends.
 ///
 /// The input is tested in this order: the configuration, the number of traces, the number of workers (1 to 64, not used yet),
 /// the limit (at most 10^12 cycles), and the traces by core. The first fault is answered. `Fault::Memory` may come at any time,
@@ -99,7 +93,7 @@ pub fn simulate_plain(
     texts: &[Vec<u8>],
     cycles: Cycle,
     workers: u64,
-) -> Result<Simulated, Fault>
+) -> Result<Outcome, Fault>
     ensures run { IfOk result (IsRunOf config.now (map (λ t. t.items) texts.now) cycles workers) }
     ensures refused { IfErr result (λ e. e ≢ Fault.Memory → input_of config.now (map (λ t. t.items) texts.now) cycles workers ≡ Err e) }
 {
@@ -114,11 +108,8 @@ pub fn simulate_plain(
         Ok(traces) => traces,
         Err(fault) => return Err(fault),
     };
-    let Ok(commands) = run_plain(alloc, &config, &traces, cycles) else {
+    let Ok(outcome) = run_plain(alloc, &config, &traces, cycles) else {
         return Err(Fault::Memory);
     };
-    Ok(Simulated {
-        commands,
-        ranks: config.ranks,
-    })
+    Ok(outcome)
 }

@@ -2,8 +2,8 @@
 use Rattle.std.proofs.Common.{◌≡◌, ℕ, ◌≤◌, List, length, map, Ok, Err, vec_len, refl, sym, ap, ◌∙◌, arith}
 use Rattle.std.proofs.lemmas.List.{length-map}
 use Rattle.sim_base.specs.Values.{values_of}
-use Rattle.sim_base.specs.History.{commands}
-use Rattle.sim_base.specs.Machine.{run, cycles_run}
+use Rattle.sim_base.specs.Machine.{cycles_run}
+use Rattle.statistics.specs.Runs.{outcome_of}
 use Rattle.dramsim.specs.Runs.{limits_of, traces_of, input_of, IsRunOf}
 use Rattle.dramsim.proofs.TraceLists.{texts_from}
 use Rattle.dramsim.proofs.Inputs.{input_config, input_limits, input_traces, limits_count, limits_cycles}
@@ -58,8 +58,7 @@ returns-clause-run c =
           input_traces c.args.config.now texts c.args.cycles c.args.workers (values_of c.in-Ok.config) (c.in-Ok.ensures {u = tt}).ok
           (ap (λ k. limits_of cores k c.args.cycles c.args.workers) n ∙ sym c.check_limits.ensures ∙ c.in_default.is)
           ∙ (c.in-Ok-read_traces.ensures {u = tt}).ok;
-      commands_are =
-          (c.in-Ok-run_plain.ensures {u = tt})
-          ∙ ap (λ ts. commands (run c.in-Ok.config ts (cycles_run c.in-Ok.config ts c.args.cycles))) c.deref.ensures.value;
-      ranks_are = refl;
+      outcome_is =
+          (c.in-Ok-run_plain.ensures {u = tt}).outcome
+          ∙ ap (λ ts. outcome_of c.in-Ok.config ts (cycles_run c.in-Ok.config ts c.args.cycles)) c.deref.ensures.value;
     }
