@@ -79,7 +79,7 @@ fn check_records(alloc: Global, config: &Config, records: &[ByteRecord]) -> Resu
 ///
 /// A malformed row is `CheckRow` with its number, counted from 1 by records and not by lines; 0 is a missing or wrong header.
 /// A broken rule is no error, but the verdict that names the row and the lowest rule that it breaks. Else only memory is
-/// refused. The time is in proportion to the length of the table.
+/// refused. The time is in proportion to the length of the table, and its records are held in memory until the end.
 #[tactic(auto, using(crate::proofs::Legals::legal_just_where))]
 pub fn check(alloc: Global, config: &Config, table: &[u8]) -> Result<Verdict, Fault>
     ensures ok { IfOk result (λ v. verdict config.now (records_of table.now) ≡ Ok v) }
