@@ -15,3 +15,6 @@ mod window;
 
 pub use table::check;
 pub use verdict::Verdict;
+
+#[cfg(test)]
+mod tests;

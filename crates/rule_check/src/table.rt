@@ -1,10 +1,10 @@
 //! The verdict on a whole table.
 
-ghost use Rattle.std.specs.Prelude.{ℕ, ◌≡◌, ◌≢◌, ◌+◌, ◌<◌, ◌^◌, [], ◌∷◌, length, map, Ok, Err, IfOk, IfErr};
+ghost use Rattle.std.specs.Prelude.{ℕ, ◌≡◌, ◌≢◌, ◌↔◌, ◌+◌, ◌<◌, ◌^◌, [], ◌∷◌, length, map, Ok, Err, IfOk, IfErr};
 ghost use Rattle.csv.specs.Reading.{AreRecords, default_config, strip_bom};
 ghost use Rattle.csv.specs.Records.{fields_of};
 ghost use Rattle.csv.specs.declared.parser.State.TheVariants as st;
-ghost use Rattle.rule_check.specs.Verdict.{records_of, verdict, verdict_after, IsCheckFault};
+ghost use Rattle.rule_check.specs.Verdict.{records_of, verdict, verdict_after, IsCheckFault, IsLegalTable};
 
 use crate::fields::{is_header, row_in};
 use crate::past::{lowest_broken, note, start};
@@ -79,10 +79,12 @@ fn check_records(alloc: Global, config: &Config, records: &[ByteRecord]) -> Resu
 ///
 /// A malformed row is `CheckRow` with its number, counted from 1 by records and not by lines; 0 is a missing or wrong header.
 /// A broken rule is no error, but the verdict that names the row and the lowest rule that it breaks. Else only memory is
-/// refused. The time is in proportion to the length of the table.
+/// refused. The time is in proportion to the length of the table, and its records are held in memory until the end.
+#[tactic(auto, using(crate::proofs::Legals::legal_just_where))]
 pub fn check(alloc: Global, config: &Config, table: &[u8]) -> Result<Verdict, Fault>
     ensures ok { IfOk result (λ v. verdict config.now (records_of table.now) ≡ Ok v) }
     ensures refused { IfErr result (λ e. e ≢ Fault.Memory → verdict config.now (records_of table.now) ≡ Err e) }
+    ensures legal { IfOk result (λ v. (v ≡ Verdict.Legal) ↔ IsLegalTable config.now (records_of table.now)) }
     ensures fault { IfErr result IsCheckFault }
 {
     let records = read_records(alloc, table)?;
