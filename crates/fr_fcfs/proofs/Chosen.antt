@@ -12,7 +12,7 @@ use Rattle.queue.specs.Columns.{marked_items}
 use Rattle.queue.specs.View.{QueueView}
 use Rattle.refresh.specs.Refreshes.{is_due_at}
 use Rattle.fr_fcfs.specs.Columns.{IsSurvey, is_hit, is_free, candidates_of}
-use Rattle.fr_fcfs.proofs.Tests.{find_head, find_kept}
+use Rattle.fr_fcfs.proofs.Booleans.{find_head, find_kept}
 use Rattle.fr_fcfs.proofs.Legal.{legal_at}
 use Rattle.fr_fcfs.proofs.Marked.{kept_marks, marked_mark, at_first, get_within}
 use Rattle.fr_fcfs.proofs.Ready.{legal_now, first_ready_is, some_ready}

@@ -16,7 +16,7 @@ use Rattle.sim_base.specs.Scheduling.{source_of, column_command, needed_at, need
 use Rattle.bank_ready.specs.Stands.{IsAllowedFrom}
 use Rattle.queue.specs.Columns.{bank_number}
 use Rattle.fr_fcfs.specs.Columns.{IsInBanks, IsLegalFrom, is_hit}
-use Rattle.fr_fcfs.proofs.Tests.{and_false, and_true, eqb_swap, any_never}
+use Rattle.fr_fcfs.proofs.Booleans.{and_false, and_true, eqb_swap, any_never}
 
 -- the command that moves the data of a request, if it writes or not
 abbrev column_of : Bool → Request → Command

@@ -1,4 +1,4 @@
-pub mod Tests
+pub mod Booleans
 pub mod Legal
 pub mod Marked
 pub mod Ready

@@ -9,7 +9,7 @@ use Rattle.sim_base.specs.Places.{bank_in}
 use Rattle.sim_base.specs.Rules.{is_legal}
 use Rattle.sim_base.specs.Scheduling.{needed, has_hit, ready_hit, ready_row, or_else, first_ready}
 use Rattle.fr_fcfs.specs.Columns.{is_hit, is_free}
-use Rattle.fr_fcfs.proofs.Tests.{find_kept, find_rest, found_any, any_either}
+use Rattle.fr_fcfs.proofs.Booleans.{find_kept, find_rest, found_any, any_either}
 use Rattle.fr_fcfs.proofs.Legal.{withheld_is}
 
 -- what a request needs is legal now

@@ -17,7 +17,7 @@ use Rattle.lane_scan.specs.Marks.{mark, is_marked, both_marks}
 use Rattle.queue.specs.Columns.{bank_number, bank_column, marked_items}
 use Rattle.queue.specs.View.{QueueView, is_draining}
 use Rattle.fr_fcfs.specs.Columns.{IsInBanks, IsLegalFrom, IsSurvey, is_hit, is_free, candidates_of}
-use Rattle.fr_fcfs.proofs.Tests.{and_false, and_true, or_false, or_true}
+use Rattle.fr_fcfs.proofs.Booleans.{and_false, and_true, or_false, or_true}
 use Rattle.fr_fcfs.proofs.Legal.{withheld_is, hit_in}
 use Rattle.fr_fcfs.proofs.Marked.{kept_marks, marked_mark, any_marked}
 

@@ -87,11 +87,7 @@ fn choice_at(banks: &Banks, requests: &[Request], slot: usize) -> Choice
     ensures place { IsFor requests.now result }
 {
     let need = need_of(banks, requests[slot]);
-    let place = if is_column(need.command) {
-        Some(slot)
-    } else {
-        None
-    };
+    let place = is_column(need.command).then_some(slot);
     Choice {
         command: need.command,
         slot: place,

@@ -7,3 +7,6 @@ mod scratch;
 mod survey;
 
 pub use scratch::Scratch;
+
+#[cfg(test)]
+mod tests;

@@ -3,7 +3,7 @@ use Rattle.std.proofs.Common.{◌≡◌, true, false, ◌||◌, sym, ap, ◌∙�
 use Rattle.std.specs.List.{list_any}
 use Rattle.sim_base.specs.History.{below}
 use Rattle.sim_base.specs.Rules.{has_open_bank_in_group, has_open_bank}
-use Rattle.fr_fcfs.proofs.Tests.{any_below_at, any_below_more}
+use Rattle.fr_fcfs.proofs.Booleans.{any_below_at, any_below_more}
 use Rattle.fr_fcfs.proofs.needs.has_open_bank.Goals as goal
 
 pub returns-then-has_open_bank_in_group : goal.returns-then-has_open_bank_in_group
