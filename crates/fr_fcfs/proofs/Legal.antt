@@ -1,0 +1,181 @@
+-- What requests and ranks need, and when it is legal.
+use Rattle.std.proofs.Common.{◌≡◌, ℕ, ◌+◌, ◌*◌, ◌<◌, ◌≤◌, ◌↔◌, IsTrue, Bool, true, false, not, cond, ◌&&◌, ◌||◌, eqb, leb, eq-eqb, ne_eqb, List, Option, Some, None, refl, sym, ap, subst, ◌∙◌, inl, inr, arith}
+use Rattle.std.proofs.lemmas.Bool.{cases_Bool, cases_lt, cases_eq, eqb-true, eqb-false, and_parts, and_from, le-leb, lt-leb, leb-true, leb-false, false_from_ne_true, false≢true, cond-true, cond-false}
+use Rattle.std.specs.List.{list_any}
+use Rattle.std.specs.Option.{is_some}
+use Rattle.sim_base.specs.declared.config.Config.{Config}
+use Rattle.sim_base.specs.declared.command.Command.{Command}
+use Rattle.sim_base.specs.declared.command.Command.TheVariants.{Act, Rd, Wr, Pre, Prea, Ref}
+use Rattle.sim_base.specs.declared.command.CommandRow.{CommandRow}
+use Rattle.sim_base.specs.declared.message.Request.{Request}
+use Rattle.sim_base.specs.declared.place.Place.{Place}
+use Rattle.sim_base.specs.declared.place.BankId.{BankId}
+use Rattle.sim_base.specs.Places.{bank_in, is_bank}
+use Rattle.sim_base.specs.Rules.{is_legal, is_allowed, finds_its_banks, open_row, is_row, bank_of, has_open_bank}
+use Rattle.sim_base.specs.Scheduling.{source_of, column_command, needed_at, needed, is_column_command, is_withheld, has_hit, is_row_hit, refresh_command}
+use Rattle.bank_ready.specs.Stands.{IsAllowedFrom}
+use Rattle.queue.specs.Columns.{bank_number}
+use Rattle.fr_fcfs.specs.Columns.{IsInBanks, IsLegalFrom, is_hit}
+use Rattle.fr_fcfs.proofs.Tests.{and_false, and_true, eqb_swap, any_never}
+
+-- the command that moves the data of a request, if it writes or not
+abbrev column_of : Bool → Request → Command
+column_of w r = cond w (Wr (bank_in r.place) r.place.row r.place.column (source_of r)) (Rd (bank_in r.place) r.place.row r.place.column (source_of r))
+
+column_is : (w : Bool) (r : Request) → is_column_command (column_of w r) ≡ true
+column_is true r = refl
+column_is false r = refl
+
+column_finds : (s : Config) (history : List CommandRow) (w : Bool) (r : Request) → is_row r.place.row (open_row (bank_in r.place) history) ≡ true
+    → finds_its_banks s history (column_of w r) ≡ true
+column_finds s history true r hit = hit
+column_finds s history false r hit = hit
+
+column_bank : (w : Bool) (r : Request) → bank_of (column_of w r) ≡ Some (bank_in r.place)
+column_bank true r = refl
+column_bank false r = refl
+
+column_free : (history : List CommandRow) (requests : List Request) (w : Bool) (r : Request) → is_withheld history requests (column_of w r) ≡ false
+unfolding is_withheld
+column_free history requests true r = refl
+column_free history requests false r = refl
+
+pub needed_bank : (open_row : Option ℕ) (r : Request) → bank_of (needed_at open_row r) ≡ Some (bank_in r.place)
+needed_bank None r = refl
+needed_bank (Some row) r = elim (cases_Bool (eqb row r.place.row)) [
+  | inl same ↦ ap (λ b. bank_of (cond b (column_of r.write r) (Pre (bank_in r.place) (source_of r)))) same ∙ column_bank r.write r
+  | inr apart ↦ ap (λ b. bank_of (cond b (column_of r.write r) (Pre (bank_in r.place) (source_of r)))) apart
+]
+
+-- a request needs its data alone where its row is open
+pub hit_at : (open_row : Option ℕ) (r : Request) → is_column_command (needed_at open_row r) ≡ is_row r.place.row open_row
+hit_at None r = refl
+hit_at (Some row) r = elim (cases_Bool (eqb row r.place.row)) [
+  | inl same ↦
+      ap (λ b. is_column_command (cond b (column_of r.write r) (Pre (bank_in r.place) (source_of r)))) same
+      ∙ column_is r.write r
+      ∙ sym (eqb_swap r.place.row row ∙ same)
+  | inr apart ↦ ap (λ b. is_column_command (cond b (column_of r.write r) (Pre (bank_in r.place) (source_of r)))) apart ∙ sym (eqb_swap r.place.row row ∙ apart)
+]
+
+pub column_needed : (open_row : Option ℕ) (r : Request) → is_column_command (needed_at open_row r) ≡ true → needed_at open_row r ≡ column_command r
+column_needed None r hit = absurd (false≢true hit)
+column_needed (Some row) r hit = elim (cases_Bool (eqb row r.place.row)) [
+  | inl same ↦ cond-true (eqb row r.place.row) (column_command r) (Pre (bank_in r.place) (source_of r)) same
+  | inr apart ↦ absurd (false≢true (sym (ap (λ b. is_column_command (cond b (column_of r.write r) (Pre (bank_in r.place) (source_of r)))) apart) ∙ hit))
+]
+
+finds_at : (s : Config) (history : List CommandRow) (r : Request) (row : Option ℕ) → open_row (bank_in r.place) history ≡ row → finds_its_banks s history (needed_at row r) ≡ true
+finds_at s history r None is = ap (λ o. not (is_some o)) is
+finds_at s history r (Some row) is = elim (cases_Bool (eqb row r.place.row)) [
+  | inl same ↦
+      ap (λ b. finds_its_banks s history (cond b (column_of r.write r) (Pre (bank_in r.place) (source_of r)))) same
+      ∙ column_finds s history r.write r (ap (is_row r.place.row) is ∙ eqb_swap r.place.row row ∙ same)
+  | inr apart ↦ ap (λ b. finds_its_banks s history (cond b (column_of r.write r) (Pre (bank_in r.place) (source_of r)))) apart
+]
+
+-- what a request needs finds its bank as it should
+pub finds_needed : (s : Config) (history : List CommandRow) (r : Request) → finds_its_banks s history (needed history r) ≡ true
+unfolding needed
+finds_needed s history r = finds_at s history r (open_row (bank_in r.place) history) refl
+
+pub legal_from : (s : Config) (history : List CommandRow) (command : Command) (cycle : ℕ) → finds_its_banks s history command ≡ true → IsAllowedFrom s history command cycle
+    → IsLegalFrom s history command cycle
+unfolding is_legal
+legal_from s history command cycle finds allowed = λ now.
+    let same : (finds_its_banks s history command && is_allowed s.timing history now command) ≡ is_allowed s.timing history now command =
+    ap (λ b. b && is_allowed s.timing history now command) finds in
+    (λ late. same ∙ (allowed now).0 late, λ legal. (allowed now).1 (sym same ∙ legal))
+
+pub legal_at : (s : Config) (history : List CommandRow) (command : Command) (cycle : ℕ) → IsLegalFrom s history command cycle → (now : ℕ)
+    → is_legal s history now command ≡ leb cycle now
+legal_at s history command cycle from now = elim (cases_Bool (leb cycle now)) [
+  | inl late ↦ (from now).0 (leb-true cycle now late) ∙ sym late
+  | inr early ↦
+      false_from_ne_true (is_legal s history now command)
+      (λ legal. let over : cycle ≤ now = (from now).1 legal in let before : now < cycle = leb-false cycle now early in absurd (omega arith))
+      ∙ sym early
+]
+
+withheld_at : (history : List CommandRow) (requests : List Request) (r : Request) (row : Option ℕ) → open_row (bank_in r.place) history ≡ row
+    → is_withheld history requests (needed_at row r) ≡ (has_hit history requests (bank_in r.place) && not (is_column_command (needed_at row r)))
+unfolding is_withheld
+withheld_at history requests r None is =
+    let none : has_hit history requests (bank_in r.place) ≡ false =
+    ap (λ (o : Option ℕ). list_any (λ (x : Request). is_bank (bank_in x.place) (bank_in r.place) && is_row x.place.row o) requests) is
+    ∙ any_never (λ (x : Request). is_bank (bank_in x.place) (bank_in r.place)) requests in
+    sym (ap (λ b. b && true) none)
+withheld_at history requests r (Some row) is =
+    let command = λ (b : Bool). cond b (column_of r.write r) (Pre (bank_in r.place) (source_of r)) in
+    let hit = has_hit history requests (bank_in r.place) in
+    elim (cases_Bool (eqb row r.place.row)) [
+      | inl same ↦
+          ap (λ b. is_withheld history requests (cond b (column_of r.write r) (Pre (bank_in r.place) (source_of r)))) same
+          ∙ column_free history requests r.write r
+          ∙ sym (and_false hit)
+          ∙ ap (λ b. hit && not b) (sym (column_is r.write r))
+          ∙ ap (λ b. hit && not (is_column_command (cond b (column_of r.write r) (Pre (bank_in r.place) (source_of r))))) (sym same)
+      | inr apart ↦
+          ap (λ b. is_withheld history requests (cond b (column_of r.write r) (Pre (bank_in r.place) (source_of r)))) apart
+          ∙ sym (and_true hit)
+          ∙ ap (λ b. hit && not (is_column_command (cond b (column_of r.write r) (Pre (bank_in r.place) (source_of r))))) (sym apart)
+    ]
+
+-- what a request needs is withheld where some row hit wants its bank, and it is none
+pub withheld_is : (history : List CommandRow) (requests : List Request) (r : Request)
+    → is_withheld history requests (needed history r) ≡ (has_hit history requests (bank_in r.place) && not (is_hit history r))
+unfolding needed
+withheld_is history requests r = withheld_at history requests r (open_row (bank_in r.place) history) refl
+
+pub hit_is : (history : List CommandRow) (r : Request) → is_hit history r ≡ is_row r.place.row (open_row (bank_in r.place) history)
+unfolding needed
+hit_is history r = hit_at (open_row (bank_in r.place) history) r
+
+same_bank : (a b : BankId) → is_bank a b ≡ true → a ≡ b
+same_bank a b same =
+    let bank = and_parts (eqb a.rank b.rank && eqb a.group b.group) (eqb a.bank b.bank) same in
+    let group = and_parts (eqb a.rank b.rank) (eqb a.group b.group) bank.0 in
+    λ i. record {
+      rank = eqb-true a.rank b.rank group.0 i;
+      group = eqb-true a.group b.group group.1 i;
+      bank = eqb-true a.bank b.bank bank.1 i;
+    }
+
+bank_itself : (a : BankId) → is_bank a a ≡ true
+bank_itself a =
+    and_from (eqb a.rank a.rank && eqb a.group a.group) (eqb a.bank a.bank)
+    (and_from (eqb a.rank a.rank) (eqb a.group a.group) (eq-eqb a.rank a.rank refl) (eq-eqb a.group a.group refl)) (eq-eqb a.bank a.bank refl)
+
+-- banks with one number are one bank
+number_same : (ranks : ℕ) (a b : Request) → IsInBanks ranks a → IsInBanks ranks b → bank_number a.place ≡ bank_number b.place → bank_in a.place ≡ bank_in b.place
+number_same ranks a b in_a in_b same =
+    let group_a = in_a.group in
+    let group_b = in_b.group in
+    let bank_a = in_a.bank in
+    let bank_b = in_b.bank in
+    let rank : a.place.rank ≡ b.place.rank = omega arith in
+    let group : a.place.group ≡ b.place.group = omega arith in
+    let bank : a.place.bank ≡ b.place.bank = omega arith in
+    λ i. record { rank = rank i; group = group i; bank = bank i }
+
+-- a row hit in the bank of another request, by the bank's number
+pub hit_in : (history : List CommandRow) (ranks : ℕ) (x r : Request) → IsInBanks ranks x → IsInBanks ranks r
+    → (is_hit history x && eqb (bank_number x.place) (bank_number r.place)) ≡ is_row_hit x (bank_in r.place) (open_row (bank_in r.place) history)
+hit_in history ranks x r in_x in_r = elim (cases_Bool (eqb (bank_number x.place) (bank_number r.place))) [
+  | inl same ↦
+      let bank = number_same ranks x r in_x in_r (eqb-true (bank_number x.place) (bank_number r.place) same) in
+      let there : is_bank (bank_in x.place) (bank_in r.place) ≡ true = ap (is_bank (bank_in x.place)) (sym bank) ∙ bank_itself (bank_in x.place) in
+      ap (λ b. is_hit history x && b) same
+      ∙ and_true (is_hit history x)
+      ∙ hit_is history x
+      ∙ ap (λ b. is_row x.place.row (open_row b history)) bank
+      ∙ ap (λ b. b && is_row x.place.row (open_row (bank_in r.place) history)) (sym there)
+  | inr apart ↦
+      let other : is_bank (bank_in x.place) (bank_in r.place) ≡ false =
+      false_from_ne_true (is_bank (bank_in x.place) (bank_in r.place))
+      (λ same. eqb-false (bank_number x.place) (bank_number r.place) apart
+      (ap (λ (b : BankId). (b.rank * 4 + b.group) * 4 + b.bank) (same_bank (bank_in x.place) (bank_in r.place) same))) in
+      ap (λ b. is_hit history x && b) apart
+      ∙ and_false (is_hit history x)
+      ∙ ap (λ b. b && is_row x.place.row (open_row (bank_in r.place) history)) (sym other)
+]

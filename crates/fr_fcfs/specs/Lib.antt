@@ -1,0 +1,3 @@
+pub mod Columns
+pub mod Cycles
+pub mod Choices

@@ -1,0 +1,9 @@
+//! First ready, first come, first served: the command of the next cycle, and when there is one.
+#![tactic(auto)]
+
+pub mod choice;
+mod needs;
+mod scratch;
+mod survey;
+
+pub use scratch::Scratch;

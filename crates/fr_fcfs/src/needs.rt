@@ -1,0 +1,162 @@
+//! What a request and a rank need next, and from which cycle on that may be issued.
+
+ghost use Rattle.std.specs.Prelude.{◌≡◌, ◌<◌, ◌≤◌, List, false, true};
+ghost use Rattle.sim_base.specs.Places.{bank_in};
+ghost use Rattle.sim_base.specs.Rules.{kind_of, bank_of, is_open, has_open_bank_in_group, has_open_bank};
+ghost use Rattle.sim_base.specs.Scheduling.{source_of, column_command, needed_at, needed, is_column_command, refresh_command};
+ghost use Rattle.sim_base.specs.declared.config.Config.{Config};
+ghost use Rattle.sim_base.specs.declared.command.CommandRow.{CommandRow};
+ghost use Rattle.bank_ready.specs.Words.{names_bank, names_rank};
+ghost use Rattle.bank_ready.specs.Stands.{rank_count, StandsFor};
+ghost use Rattle.fr_fcfs.specs.Columns.{IsInBanks, IsLegalFrom};
+
+use bank_ready::banks::Banks;
+use sim_base::command::{Command, Kind, Source};
+use sim_base::message::{Cycle, Request};
+use sim_base::place::{BankId, Place};
+
+/// What is needed next, and from which cycle on it may be issued.
+#[derive(Clone, Copy)]
+pub(crate) struct Need {
+    pub(crate) command: Command,
+    pub(crate) ready: Cycle,
+}
+
+fn source_of(request: Request) -> Source
+    ensures { result ≡ source_of request }
+{
+    Source {
+        core: request.core,
+        entry: request.entry,
+    }
+}
+
+fn bank_of_place(place: Place) -> BankId
+    ensures { result ≡ bank_in place }
+{
+    BankId {
+        rank: place.rank,
+        group: place.group,
+        bank: place.bank,
+    }
+}
+
+fn column_command(request: Request) -> Command
+    ensures { result ≡ column_command request }
+{
+    let bank = bank_of_place(request.place);
+    let source = source_of(request);
+    let row = request.place.row;
+    let column = request.place.column;
+    if request.write {
+        Command::Wr {
+            bank,
+            row,
+            column,
+            source,
+        }
+    } else {
+        Command::Rd {
+            bank,
+            row,
+            column,
+            source,
+        }
+    }
+}
+
+fn needed_with(open_row: Option<u32>, request: Request) -> Command
+    ensures { result ≡ needed_at open_row request }
+{
+    match open_row {
+        None => Command::Act {
+            bank: bank_of_place(request.place),
+            row: request.place.row,
+            source: source_of(request),
+        },
+        Some(row) => {
+            if row == request.place.row {
+                column_command(request)
+            } else {
+                Command::Pre {
+                    bank: bank_of_place(request.place),
+                    source: source_of(request),
+                }
+            }
+        }
+    }
+}
+
+/// Whether a command moves data.
+pub(crate) fn is_column(command: Command) -> bool
+    ensures { result ≡ is_column_command command }
+{
+    matches!(command.kind(), Kind::Rd | Kind::Wr)
+}
+
+/// What a request needs next.
+pub(crate) fn need_of(banks: &Banks, request: Request) -> Need
+    requires { IsInBanks (rank_count banks.now) request }
+    ensures command { (s : Config) (history : List CommandRow) → StandsFor banks.now s history → result.command ≡ needed history request }
+    ensures ready { (s : Config) (history : List CommandRow) → StandsFor banks.now s history → IsLegalFrom s history (needed history request) result.ready }
+    ensures column { is_column_command result.command ≡ true → result.command ≡ column_command request }
+{
+    let bank = bank_of_place(request.place);
+    let command = needed_with(banks.open_row(bank), request);
+    let ready = banks.earliest(command.kind(), bank);
+    Need { command, ready }
+}
+
+fn is_open(banks: &Banks, rank: u32, group: u32, bank: u32) -> bool
+    requires rank { rank < rank_count banks.now }
+    requires group { group < 4 }
+    requires bank { bank < 4 }
+    ensures { (s : Config) (history : List CommandRow) → StandsFor banks.now s history → result ≡ is_open history (record { rank = rank; group = group; bank = bank }) }
+{
+    banks.open_row(BankId { rank, group, bank }).is_some()
+}
+
+fn has_open_bank_in_group(banks: &Banks, rank: u32, group: u32) -> bool
+    requires rank { rank < rank_count banks.now }
+    requires group { group < 4 }
+    ensures { (s : Config) (history : List CommandRow) → StandsFor banks.now s history → result ≡ has_open_bank_in_group history rank group }
+{
+    is_open(banks, rank, group, 0)
+        || is_open(banks, rank, group, 1)
+        || is_open(banks, rank, group, 2)
+        || is_open(banks, rank, group, 3)
+}
+
+fn has_open_bank(banks: &Banks, rank: u32, groups: u32) -> bool
+    requires rank { rank < rank_count banks.now }
+    requires groups { groups ≤ 4 }
+    ensures { (s : Config) (history : List CommandRow) → StandsFor banks.now s history → s.groups ≡ groups → result ≡ has_open_bank s history rank }
+{
+    for group in 0..groups {
+        if has_open_bank_in_group(banks, rank, group) {
+            return true;
+        }
+    }
+    false
+}
+
+/// What a rank needs that is to be refreshed.
+pub(crate) fn refresh_need(banks: &Banks, rank: u32, groups: u32) -> Need
+    requires rank { rank < rank_count banks.now }
+    requires groups { groups ≤ 4 }
+    ensures command { (s : Config) (history : List CommandRow) → StandsFor banks.now s history → s.groups ≡ groups → result.command ≡ refresh_command s history rank }
+    ensures ready { (s : Config) (history : List CommandRow) → StandsFor banks.now s history → s.groups ≡ groups → IsLegalFrom s history (refresh_command s history rank) result.ready }
+    ensures other { is_column_command result.command ≡ false }
+{
+    if has_open_bank(banks, rank, groups) {
+        Need {
+            command: Command::Prea { rank },
+            ready: banks.earliest_all(Kind::Prea, rank),
+        }
+    } else {
+        Need {
+            command: Command::Ref { rank },
+            ready: banks.earliest_all(Kind::Ref, rank),
+        }
+    }
+}
