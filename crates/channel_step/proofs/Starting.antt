@@ -9,7 +9,11 @@ use Rattle.sim_base.specs.Scheduling.{waiting, drains_with, drains_before, drain
 use Rattle.sim_base.specs.declared.command.Command.{Command}
 use Rattle.sim_base.specs.declared.message.Message.{Message}
 use Rattle.sim_base.specs.declared.message.Request.{Request}
-use Rattle.bank_ready.specs.Stands.{rank_count}
+use Rattle.bank_ready.specs.Stands.{rank_count, StandsFor as BanksStandFor}
+use Rattle.refresh.specs.Refreshes.{StandsFor as RefreshesStandFor}
+use Rattle.statistics.specs.declared.channels.ChannelStats.{ChannelStats}
+use Rattle.channel_step.specs.Fit.{queue_room}
+use Rattle.channel_step.specs.Queued.{Queued, no_requests}
 use Rattle.statistics.specs.Channels.{channel_none, channel_stats, draining_of}
 use Rattle.queue.specs.View.{QueueView, is_draining, drains_by}
 use Rattle.queue.specs.Columns.{write_count}
@@ -89,3 +93,28 @@ pub at-first : (c : Channel) (s : Config) (channel : ℕ) (rows : List (Option C
     → IsFirstCycle (λ cycle. is_some (choice s channel (rows ++ replicate (cycle - from) None) mail)) from o
 at-first c s channel rows mail from queue o h at e f =
     first-agree _ _ from (λ cycle l. ap is_some (at-choice c s channel rows mail from cycle queue h at l e)) o f
+
+pub start-stands : (c : Channel) (s : Config) (number : ℕ) → c.config ≡ s → c.number ≡ number → c.waiting ≡ no_requests (queue_room s) s.write_high s.write_low
+    → BanksStandFor c.banks s [] → RefreshesStandFor c.refresh s [] → c.stats ≡ record channel_none { draining = draining_of s 0 } → c.scratch ≡ queue_room s
+    → StandsFor c s number [] []
+unfolding issued_commands
+start-stands c s number config is waiting banks refresh stats scratch =
+    let R : Queued → ChannelStats → Type 0 = λ w t. Recalls w.queue.requests w.queue.settled w.marks t s number [] [] in
+    let base : R (no_requests (queue_room s) s.write_high s.write_low) (record channel_none { draining = draining_of s 0 }) = recalls-none s number in
+    let none : length c.waiting.queue.requests ≡ 0 = ap (λ (w : Queued). length w.queue.requests) waiting in
+    let zero_yet : c.stats.queued_max ≡ 0 = ap (λ (t : ChannelStats). t.queued_max) stats in
+    record {
+      made_for = record {
+        config_is = config;
+        number_is = is;
+        high_is = ap (λ (w : Queued). w.queue.high) waiting;
+        low_is = ap (λ (w : Queued). w.queue.low) waiting;
+        room_is = ap (λ (w : Queued). w.queue.room) waiting;
+        scratch_is = scratch;
+        within = omega arith;
+        longest = omega arith;
+      };
+      recalls = subst (λ w. R w c.stats) (sym waiting) (subst (R (no_requests (queue_room s) s.write_high s.write_low)) (sym stats) base);
+      banks_stand = banks;
+      refreshes_stand = refresh;
+    }
