@@ -62,15 +62,15 @@ run-goes_on c d s channel rows mail inbox from now until arrived n o commands mo
           (subst (λ i. IsFit s channel (before ++ o ∷ []) ((mail ++ take arrived inbox) ++ take n (drop arrived inbox)) i (now + 1) until) (sym rest) k.fit));
       some = omega (arith, h.some, k.some, length-drop arrived inbox);
       commands_are =
-        ap (issued_commands channel) rows_are
-        ∙ issued-after channel before o (issued_commands channel rows) commands h.commands_are
-        ∙ ap (λ i. issued_commands channel rows ++ (commands ++ issued_in channel i o)) len
-        ∙ ap (λ x. issued_commands channel rows ++ x) (sym e);
+          ap (issued_commands channel) rows_are
+          ∙ issued-after channel before o (issued_commands channel rows) commands h.commands_are
+          ∙ ap (λ i. issued_commands channel rows ++ (commands ++ issued_in channel i o)) len
+          ∙ ap (λ x. issued_commands channel rows ++ x) (sym e);
       messages_are =
-        ap (channel_messages s channel) rows_are
-        ∙ messages-after s channel before o (channel_messages s channel rows) messages h.messages_are
-        ∙ ap (λ i. channel_messages s channel rows ++ (messages ++ messages_at s channel i o)) len
-        ∙ ap (λ x. channel_messages s channel rows ++ x) (sym f);
+          ap (channel_messages s channel) rows_are
+          ∙ messages-after s channel before o (channel_messages s channel rows) messages h.messages_are
+          ∙ ap (λ i. channel_messages s channel rows ++ (messages ++ messages_at s channel i o)) len
+          ∙ ap (λ x. channel_messages s channel rows ++ x) (sym f);
     }
 
 none_left : (until : ℕ) (ms : List Message) → Each (λ (m : Message). (until ≤ m.arrival) × (m.arrival < until)) ms → ms ≡ []

@@ -43,11 +43,7 @@ pub struct Channel {
 
 impl Channel {
     /// The channel with a number, of a machine with this configuration, before the first cycle.
-    pub fn start(
-        alloc: Global,
-        config: &Config,
-        number: ChannelId,
-    ) -> Result<Channel, AllocError>
+    pub fn start(alloc: Global, config: &Config, number: ChannelId) -> Result<Channel, AllocError>
         ensures { IfOk result (λ channel. StandsFor channel config.now number [] []) }
     {
         let credits = config.read_credits as usize + config.write_credits as usize;
@@ -135,7 +131,8 @@ impl Channel {
         ensures { self.new ≡ record self.old { stats = channel_joined self.old.stats (cycle_with_hit self.old.config seen.queued seen.refreshing seen.draining command hit) } }
     {
         let cycle = cycle_stats(&self.config, seen, command, hit);
-        self.stats = self.stats.joined(cycle);
+        let counted = &mut self.stats;
+        *counted = counted.joined(cycle);
     }
 
     /// Does what was chosen for a cycle, and counts the cycle.

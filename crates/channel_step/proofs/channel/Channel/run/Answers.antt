@@ -14,9 +14,9 @@ pub loop-now-init : goal.loop-now-init
 loop-now-init c = (
   omega arith,
   λ s channel rows mail h at f.
-    subst (λ x. HasRun c.args.self s channel rows mail c.args.inbox.now c.args.from c.args.from c.args.until 0 x c.new-messages.result.items) (sym c.new-commands.ensures.items)
-    (subst (λ x. HasRun c.args.self s channel rows mail c.args.inbox.now c.args.from c.args.from c.args.until 0 [] x) (sym c.new-messages.ensures.items)
-    (run-begins c.args.self s channel rows mail c.args.inbox.now c.args.from c.args.until h f)),
+      subst (λ x. HasRun c.args.self s channel rows mail c.args.inbox.now c.args.from c.args.from c.args.until 0 x c.new-messages.result.items) (sym c.new-commands.ensures.items)
+      (subst (λ x. HasRun c.args.self s channel rows mail c.args.inbox.now c.args.from c.args.from c.args.until 0 [] x) (sym c.new-messages.ensures.items)
+      (run-begins c.args.self s channel rows mail c.args.inbox.now c.args.from c.args.until h f)),
 )
 
 pub step-requires-clause-can_step : goal.step-requires-clause-can_step
@@ -59,13 +59,12 @@ stepped_and_told c s channel rows mail stands at f =
 pub loop-now-preserved : goal.loop-now-preserved
 loop-now-preserved c =
     let p = c.requires.can_run in
-    let first = stepped_and_told c p.s p.channel p.rows p.mail p.stands p.at p.fit in
-    (
+    let first = stepped_and_told c p.s p.channel p.rows p.mail p.stands p.at p.fit in (
       omega (arith, first.some, ap length (take_rest c.args.inbox.now c.loop-now.arrived), length-drop c.loop-now.arrived c.args.inbox.now),
       λ s channel rows mail stands at f.
-        run-cycle c.loop-now.self c.step.new.self s channel rows mail c.args.inbox.now c.args.from c.loop-now.now c.args.until c.loop-now.arrived c.in_ok-due.due c.in_ok-due.command _ _ _ _ at (omega arith)
-        (c.loop-now.invariant.1 s channel rows mail stands at f) (stepped_and_told c s channel rows mail stands at f)
-        (c.in_ok-tell.ensures {u = tt}).commands (c.in_ok-tell.ensures {u = tt}).messages,
+          run-cycle c.loop-now.self c.step.new.self s channel rows mail c.args.inbox.now c.args.from c.loop-now.now c.args.until c.loop-now.arrived c.in_ok-due.due c.in_ok-due.command _ _ _ _ at (omega arith)
+          (c.loop-now.invariant.1 s channel rows mail stands at f) (stepped_and_told c s channel rows mail stands at f)
+          (c.in_ok-tell.ensures {u = tt}).commands (c.in_ok-tell.ensures {u = tt}).messages,
     )
 
 pub returns : goal.returns
