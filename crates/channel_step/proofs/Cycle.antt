@@ -63,12 +63,12 @@ joined queue drained marks stats s channel rows mail new h a =
       differ = a.differ;
       queue_is = same;
       drained_is =
-        ap₂ (λ d q. drains_with s d (count_by (λ r. r.write) q))
-        (h.drained_is ∙ sym (drains-same s channel rows (mail ++ new) mail now (AgreeUpTo-later now mail new stamped later (not_before now new a.now)))) same
-        ∙ sym (drains-next s channel rows (mail ++ new));
+          ap₂ (λ d q. drains_with s d (count_by (λ r. r.write) q))
+          (h.drained_is ∙ sym (drains-same s channel rows (mail ++ new) mail now (AgreeUpTo-later now mail new stamped later (not_before now new a.now)))) same
+          ∙ sym (drains-next s channel rows (mail ++ new));
       marks_are =
-        ap₂ (λ x y. x ++ y) h.marks_are (sym (unnamed-marks history (requests_of new) a.unnamed))
-        ∙ sym (map-append (is_named history) queue (requests_of new));
+          ap₂ (λ x y. x ++ y) h.marks_are (sym (unnamed-marks history (requests_of new) a.unnamed))
+          ∙ sym (map-append (is_named history) queue (requests_of new));
       stats_are = h.stats_are ∙ sym (channel_stats-later s channel rows mail new stamped later (not_before now new a.now));
     }
 
@@ -128,15 +128,15 @@ recalled queue drained marks stats s channel rows mail h =
         differ = h.differ;
       };
       queue_is =
-        ap (queue_after o) h.queue_is
-        ∙ sym (waiting-after history channel now o mail (now + 1))
-        ∙ ap₂ (λ x u. waiting x mail u) (sym issued) (one ∙ sym len);
+          ap (queue_after o) h.queue_is
+          ∙ sym (waiting-after history channel now o mail (now + 1))
+          ∙ ap₂ (λ x u. waiting x mail u) (sym issued) (one ∙ sym len);
       drained_is = h.drained_is ∙ sym (drains_before-row s channel rows o mail);
       marks_are = ap (λ x. marks_of x (queue_after o queue)) (sym issued);
       stats_are =
-        ap₂ (λ q d. channel_joined stats (channel_cycle_with s history (length q) (is_some (lowest_due s history now)) d o)) h.queue_is h.drained_is
-        ∙ ap₂ channel_joined h.stats_are (sym (cycle-with s channel rows mail o))
-        ∙ sym (channel_stats-push s channel rows o mail (choice-not_late s channel rows mail));
+          ap₂ (λ q d. channel_joined stats (channel_cycle_with s history (length q) (is_some (lowest_due s history now)) d o)) h.queue_is h.drained_is
+          ∙ ap₂ channel_joined h.stats_are (sym (cycle-with s channel rows mail o))
+          ∙ sym (channel_stats-push s channel rows o mail (choice-not_late s channel rows mail));
     }
 
 Differ-filter : (p : Request → Bool) (rs : List Request) → Differ rs → Differ (filter p rs)

@@ -105,10 +105,11 @@ fit-arrives s channel rows mail inbox now until at h =
 pub fit-later : (s : Config) (channel : ℕ) (rows : List (Option Command)) (mail inbox : List Message) (now until : ℕ) → length rows ≡ now → IsFit s channel rows mail inbox now until
     → Each (CarriesRequest s channel) (drop (due_count inbox now) inbox) × NotBefore (length rows + 1) (drop (due_count inbox now) inbox)
 fit-later s channel rows mail inbox now until at h =
-    let n = due_count inbox now in
-    ((split-each (CarriesRequest s channel) n inbox h.requests).1,
-    Each-weaker (λ (m : Message). now + 1 ≤ m.arrival) (λ (m : Message). length rows + 1 ≤ m.arrival) (λ m l. omega arith) (drop n inbox)
-    (arrive-later now inbox h.by_age (Each-weaker (λ (m : Message). (now ≤ m.arrival) × (m.arrival < until)) (λ (m : Message). now ≤ m.arrival) (λ m k. k.0) inbox h.in_span)))
+    let n = due_count inbox now in (
+      (split-each (CarriesRequest s channel) n inbox h.requests).1,
+      Each-weaker (λ (m : Message). now + 1 ≤ m.arrival) (λ (m : Message). length rows + 1 ≤ m.arrival) (λ m l. omega arith) (drop n inbox)
+          (arrive-later now inbox h.by_age (Each-weaker (λ (m : Message). (now ≤ m.arrival) × (m.arrival < until)) (λ (m : Message). now ≤ m.arrival) (λ m k. k.0) inbox h.in_span)),
+    )
 
 unnamed_by : (command : Command) (rest : List Request) → IfSome (source_in command) (λ source. Each (λ (r : Request). is_source r source ≡ false) rest)
     → Each (λ (r : Request). is_named_by command r ≡ false) rest
@@ -169,8 +170,7 @@ fit-rest queue drained marks stats s channel rows mail inbox now until at h j =
     let apart = split-differ (requests_of (mail ++ new)) (requests_of rest) (subst Differ (ap requests_of whole ∙ requests-append (mail ++ new) rest) h.differ) in
     let before : Each (IsUnnamed (issued_commands channel rows)) (requests_of rest) =
     (split-append (IsUnnamed (issued_commands channel rows)) (requests_of new) (requests_of rest)
-    (subst (Each (IsUnnamed (issued_commands channel rows))) (ap requests_of (sym (take-append-drop n inbox)) ∙ requests-append new rest) h.unnamed)).1 in
-    (
+    (subst (Each (IsUnnamed (issued_commands channel rows))) (ap requests_of (sym (take-append-drop n inbox)) ∙ requests-append new rest) h.unnamed)).1 in (
       record {
         requests = carries;
         by_age = split-age n inbox h.by_age;
@@ -188,6 +188,7 @@ fit-rest queue drained marks stats s channel rows mail inbox now until at h j =
         → Each (λ (m : Message). (low ≤ m.arrival) × (m.arrival < high)) ms
     both low high [] a b = tt
     both low high (m ∷ ms) a b = ((a.0, b.0), both low high ms a.1 b.1)
+
     fits : (k : ℕ) → queue_length channel (channel_run s channel rows (mail ++ inbox) (suc k)) (mail ++ inbox) (now + suc k) ≤ queue_room s
         → let new = take (due_count inbox now) inbox in
         let rest = drop (due_count inbox now) inbox in

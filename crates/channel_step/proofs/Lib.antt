@@ -11,3 +11,4 @@ pub mod Deciding
 pub mod Issuing
 pub mod Stepping
 pub mod Running
+pub mod Starting

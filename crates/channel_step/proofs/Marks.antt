@@ -100,6 +100,7 @@ mark-first f (x ∷ xs) source d = by (is_source x source) refl (mark-first f xs
   where
     next : (k : ℕ) → 1 + k ≡ suc k
     next k = omega arith
+
     by : (b : Bool) → is_source x source ≡ b → map (λ r. f r || is_source r source) xs ≡ marked_at (map f xs) xs source
         → (f x || is_source x source) ∷ map (λ r. f r || is_source r source) xs
         ≡ slice_set (f x ∷ map f xs) (cond (not (is_source x source)) (1 + position_or_len (λ r. is_source r source) xs) 0) true

@@ -2,7 +2,6 @@
 use Rattle.std.proofs.Common.{◌≡◌, ℕ, ◌+◌, ◌<◌, ◌≤◌, Bool, true, false, ◌%◌, ◌/◌, List, [], ◌∷◌, length, Option, Some, None, refl, sym, ap, subst, ◌∙◌, arith, mod-lt}
 use Rattle.std.specs.List.{All, AllByRecursion as Each}
 use Rattle.std.proofs.lemmas.Bool.{cond_both}
-
 use Rattle.std.proofs.lemmas.List.Elements.{All-from_recursion}
 use Rattle.sim_base.proofs.Each.{Each-all, Each-filter}
 use Rattle.sim_base.proofs.Ordered.{Each-weaker}

@@ -2,7 +2,7 @@
 use Rattle.std.proofs.Common.{◌≡◌, ℕ, zero, suc, ◌+◌, ◌-◌, ◌<◌, ◌≤◌, List, [], ◌∷◌, ◌++◌, length, take, drop, Option, Some, None, refl, sym, ap, ap₂, subst, ◌∙◌, arith}
 use Rattle.std.specs.List.{AllByRecursion as Each}
 use Rattle.std.proofs.Math.Seq.{take-add, take-length}
-use Rattle.std.proofs.lemmas.List.{append-nil, append_assoc, take-append-drop, drop-drop, length-drop}
+use Rattle.std.proofs.lemmas.List.{append-nil, append_assoc, take-append-drop, drop-drop, length-drop, take_rest}
 use Rattle.sim_base.specs.declared.config.Config.{Config}
 use Rattle.sim_base.specs.History.{issued_commands, channel_messages, messages_at}
 use Rattle.sim_base.specs.Machine.{channel_run}
@@ -12,7 +12,7 @@ use Rattle.sim_base.specs.declared.command.CommandRow.{CommandRow}
 use Rattle.sim_base.specs.declared.message.Message.{Message}
 use Rattle.channel_step.specs.Fit.{IsFit}
 use Rattle.channel_step.specs.Channels.{StandsFor}
-use Rattle.channel_step.specs.Runs.{issued_in, IsStep, HasRun, IsDone}
+use Rattle.channel_step.specs.Runs.{issued_in, IsStep, HasRun, IsDone, CanStep}
 use Rattle.channel_step.specs.declared.channel.Channel.{Channel}
 use Rattle.channel_step.proofs.Spans.{length-channel_run, channel_run-one, issued-after, messages-after}
 
@@ -62,15 +62,15 @@ run-goes_on c d s channel rows mail inbox from now until arrived n o commands mo
           (subst (λ i. IsFit s channel (before ++ o ∷ []) ((mail ++ take arrived inbox) ++ take n (drop arrived inbox)) i (now + 1) until) (sym rest) k.fit));
       some = omega (arith, h.some, k.some, length-drop arrived inbox);
       commands_are =
-        ap (issued_commands channel) rows_are
-        ∙ issued-after channel before o (issued_commands channel rows) commands h.commands_are
-        ∙ ap (λ i. issued_commands channel rows ++ (commands ++ issued_in channel i o)) len
-        ∙ ap (λ x. issued_commands channel rows ++ x) (sym e);
+          ap (issued_commands channel) rows_are
+          ∙ issued-after channel before o (issued_commands channel rows) commands h.commands_are
+          ∙ ap (λ i. issued_commands channel rows ++ (commands ++ issued_in channel i o)) len
+          ∙ ap (λ x. issued_commands channel rows ++ x) (sym e);
       messages_are =
-        ap (channel_messages s channel) rows_are
-        ∙ messages-after s channel before o (channel_messages s channel rows) messages h.messages_are
-        ∙ ap (λ i. channel_messages s channel rows ++ (messages ++ messages_at s channel i o)) len
-        ∙ ap (λ x. channel_messages s channel rows ++ x) (sym f);
+          ap (channel_messages s channel) rows_are
+          ∙ messages-after s channel before o (channel_messages s channel rows) messages h.messages_are
+          ∙ ap (λ i. channel_messages s channel rows ++ (messages ++ messages_at s channel i o)) len
+          ∙ ap (λ x. channel_messages s channel rows ++ x) (sym f);
     }
 
 none_left : (until : ℕ) (ms : List Message) → Each (λ (m : Message). (until ≤ m.arrival) × (m.arrival < until)) ms → ms ≡ []
@@ -84,3 +84,46 @@ run-ends c s channel rows mail inbox from until arrived commands messages h =
     let rest : drop arrived inbox ≡ [] = none_left until (drop arrived inbox) h.fit.in_span in
     let all : take arrived inbox ≡ inbox = sym (append-nil (take arrived inbox)) ∙ ap (λ x. take arrived inbox ++ x) (sym rest) ∙ take-append-drop arrived inbox in
     subst (λ m. StandsFor c s channel (channel_run s channel rows (mail ++ inbox) (until - from)) (mail ++ m)) all h.stands
+
+-- the messages that are left
+abbrev pub rest_of : List Message → ℕ → List Message
+rest_of inbox arrived = take (length inbox - arrived) (drop arrived inbox)
+
+-- what is left is fit for the next cycle
+pub run-fit : (c : Channel) (s : Config) (channel : ℕ) (rows : List (Option Command)) (mail inbox : List Message) (from now until arrived : ℕ) (commands : List CommandRow) (messages : List Message)
+    → HasRun c s channel rows mail inbox from now until arrived commands messages
+    → IsFit s channel (channel_run s channel rows (mail ++ inbox) (now - from)) (mail ++ take arrived inbox) (rest_of inbox arrived) now until
+run-fit c s channel rows mail inbox from now until arrived commands messages h =
+    subst (λ i. IsFit s channel (channel_run s channel rows (mail ++ inbox) (now - from)) (mail ++ take arrived inbox) i now until) (sym (take_rest inbox arrived)) h.fit
+
+pub run-can_step : (c : Channel) (s : Config) (channel : ℕ) (rows : List (Option Command)) (mail inbox : List Message) (from now until arrived : ℕ) (commands : List CommandRow) (messages : List Message)
+    → length rows ≡ from → from ≤ now → now < until → HasRun c s channel rows mail inbox from now until arrived commands messages → CanStep c (rest_of inbox arrived) now
+run-can_step c s channel rows mail inbox from now until arrived commands messages at l e h =
+    record {
+      until = until;
+      before_end = e;
+      can_run = record {
+        s = s;
+        channel = channel;
+        rows = channel_run s channel rows (mail ++ inbox) (now - from);
+        mail = mail ++ take arrived inbox;
+        stands = h.stands;
+        at = run-length s channel rows (mail ++ inbox) from now at l;
+        fit = run-fit c s channel rows mail inbox from now until arrived commands messages h;
+      };
+    }
+
+-- one cycle more, as it is told
+pub run-cycle : (c d : Channel) (s : Config) (channel : ℕ) (rows : List (Option Command)) (mail inbox : List Message) (from now until arrived n : ℕ) (o : Option Command)
+    (commands more_commands : List CommandRow) (messages more_messages : List Message) → length rows ≡ from → from ≤ now
+    → HasRun c s channel rows mail inbox from now until arrived commands messages
+    → IsStep d s channel (channel_run s channel rows (mail ++ inbox) (now - from)) (mail ++ take arrived inbox) (rest_of inbox arrived) now until n o
+    → more_commands ≡ commands ++ issued_in d.number now o → more_messages ≡ messages ++ messages_at d.config d.number now o
+    → HasRun d s channel rows mail inbox from (now + 1) until (arrived + n) more_commands more_messages
+run-cycle c d s channel rows mail inbox from now until arrived n o commands more_commands messages more_messages at l h k e f =
+    let number = k.stands.made_for.number_is in
+    let config = k.stands.made_for.config_is in
+    run-goes_on c d s channel rows mail inbox from now until arrived n o commands more_commands messages more_messages at l h
+    (subst (λ i. IsStep d s channel (channel_run s channel rows (mail ++ inbox) (now - from)) (mail ++ take arrived inbox) i now until n o) (take_rest inbox arrived) k)
+    (e ∙ ap (λ i. commands ++ issued_in i now o) number)
+    (f ∙ ap₂ (λ x i. messages ++ messages_at x i now o) config number)

@@ -53,7 +53,7 @@ pub record IsFit (s : Config) (channel : ℕ) (rows : List (Option Command)) (ma
   pub differ : Differ (requests_of (mail ++ inbox))
   pub unnamed : Each (IsUnnamed (issued_commands channel rows)) (requests_of inbox)
   pub room : (n : ℕ) → from + n < until
-    → queue_length channel (channel_run s channel rows (mail ++ inbox) n) (mail ++ inbox) (from + n) ≤ queue_room s
+      → queue_length channel (channel_run s channel rows (mail ++ inbox) n) (mail ++ inbox) (from + n) ≤ queue_room s
 
 -- A channel issues nothing in the n cycles after these rows, if nothing arrives in them.
 abbrev pub IsIdle : Config → ℕ → List (Option Command) → List Message → ℕ → Type 0

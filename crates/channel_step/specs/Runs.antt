@@ -5,6 +5,7 @@
 --     IsDone done s channel rows mail inbox from until      and for all cycles of a span
 --     CanRun c inbox from until      a channel stands for a past after which messages are fit for a span
 --     CanStep c inbox now      they are fit for a span that begins with this cycle
+--     StandsAt c from      a channel stands for some past at a cycle
 use Rattle.std.specs.Prelude.{◌≡◌, ℕ, ◌+◌, ◌-◌, ◌<◌, ◌≤◌, List, [], ◌∷◌, ◌++◌, length, take, drop, Option}
 use Rattle.std.specs.List.{cons_option}
 use Rattle.sim_base.specs.declared.config.Config.{Config}
@@ -62,3 +63,12 @@ pub record CanStep (c : Channel) (inbox : List Message) (now : ℕ) : Type 0 whe
   pub until : ℕ
   pub before_end : now < until
   pub can_run : CanRun c inbox now until
+
+-- a channel stands for some past at a cycle
+pub record StandsAt (c : Channel) (from : ℕ) : Type 0 where
+  pub s : Config
+  pub channel : ℕ
+  pub rows : List (Option Command)
+  pub mail : List Message
+  pub stands : StandsFor c s channel rows mail
+  pub at : length rows ≡ from

@@ -1,29 +1,31 @@
 //! A channel that is run alone over a span of cycles.
 
-ghost use Rattle.std.specs.Prelude.{◌≡◌, ℕ, ◌+◌, ◌<◌, ◌≤◌, ◌^◌, ◌==◌, take_while, ◌++◌, List, [], ◌∷◌, length, Option, Some, None, option_map, IfSome, IfOk};
-ghost use Rattle.sim_base.specs.Scheduling.{choice};
+ghost use Rattle.std.specs.Prelude.{◌≡◌, ℕ, ◌+◌, ◌-◌, ◌<◌, ◌≤◌, ◌^◌, ◌==◌, take_while, ◌++◌, List, [], ◌∷◌, length, Option, Some, None, option_map, replicate, is_some, IfSome, IfOk};
+ghost use Rattle.sim_base.specs.History.{issued_commands};
+ghost use Rattle.sim_base.specs.Scheduling.{choice, waiting};
 ghost use Rattle.sim_base.specs.declared.config.Config.{Config};
 ghost use Rattle.sim_base.specs.declared.command.Command.{Command};
 ghost use Rattle.sim_base.specs.declared.message.Message.{Message};
 ghost use Rattle.fr_fcfs.specs.Choices.{IsFor};
-ghost use Rattle.statistics.specs.Channels.{channel_joined, ChannelFits};
+ghost use Rattle.fr_fcfs.specs.Cycles.{IsFirstCycle};
+ghost use Rattle.statistics.specs.Channels.{channel_stats, channel_joined, ChannelFits};
 ghost use Rattle.channel_step.specs.Counted.{cycle_with_hit};
 ghost use Rattle.channel_step.specs.Channels.{StandsFor, IsInCycle, IsInSomeCycle, IsChosen, seen_of};
 ghost use Rattle.channel_step.specs.Fit.{IsFit};
-ghost use Rattle.channel_step.specs.Runs.{IsStep, CanStep, CanRun, IsDone};
+ghost use Rattle.channel_step.specs.Runs.{IsStep, CanStep, CanRun, IsDone, StandsAt};
 
-use crate::counting::{Seen, cycle_stats};
+use crate::counting::{Seen, cycle_stats, drained};
 use crate::done::ChannelDone;
 use crate::noting::note_refresh;
 use crate::sending::tell;
 use crate::waiting::Waiting;
 use bank_ready::banks::Banks;
 use fr_fcfs::Scratch;
-use fr_fcfs::choice::{Choice, choose};
+use fr_fcfs::choice::{Choice, choose, wake};
 use refresh::Refresh;
 use sim_base::command::Command;
 use sim_base::config::Config;
-use sim_base::message::{ChannelId, Cycle, Message};
+use sim_base::message::{ChannelId, Cycle, Message, Request};
 use statistics::channels::ChannelStats;
 use std::alloc::{AllocError, Global};
 
@@ -40,6 +42,60 @@ pub struct Channel {
 }
 
 impl Channel {
+    /// The channel with a number, of a machine with this configuration, before the first cycle.
+    pub fn start(alloc: Global, config: &Config, number: ChannelId) -> Result<Channel, AllocError>
+        ensures { IfOk result (λ channel. StandsFor channel config.now number [] []) }
+    {
+        let credits = config.read_credits as usize + config.write_credits as usize;
+        let room = usize::from(config.cores) * credits;
+        let mut stats = ChannelStats::new();
+        stats.draining = drained(config, 0);
+        Ok(Channel {
+            config: config.copy(alloc)?,
+            number,
+            waiting: Waiting::with_room(alloc, room, config.write_high, config.write_low)?,
+            banks: Banks::new(alloc, config)?,
+            refresh: Refresh::new(config.timing.n_refi, config.ranks),
+            stats,
+            scratch: Scratch::with_room(alloc, room)?,
+        })
+    }
+
+    /// The statistics of the cycles so far.
+    pub fn stats(&self) -> ChannelStats
+        ensures { (s : Config) (channel : ℕ) (rows : List (Option Command)) (mail : List Message)
+            → StandsFor self.now s channel rows mail → result ≡ channel_stats s channel rows mail }
+    {
+        self.stats
+    }
+
+    /// The requests that wait, by age.
+    pub fn requests(&self) -> &[Request]
+        ensures { (s : Config) (channel : ℕ) (rows : List (Option Command)) (mail : List Message)
+            → StandsFor self.now s channel rows mail → result.now ≡ waiting (issued_commands channel rows) mail (length rows) }
+    {
+        self.waiting.queue().requests()
+    }
+
+    /// The first cycle from `from` on, where the channel stands, in which it issues a command, if nothing arrives; None where
+    /// there is none.
+    pub fn next_act(&mut self, from: Cycle) -> Option<Cycle>
+        requires { StandsAt self.old from }
+        ensures same { self.new ≡ self.old }
+        ensures first { (s : Config) (channel : ℕ) (rows : List (Option Command)) (mail : List Message)
+            → StandsFor self.old s channel rows mail → length rows ≡ from
+            → IsFirstCycle (λ cycle. is_some (choice s channel (rows ++ replicate (cycle - from) None) mail)) from result }
+    {
+        wake(
+            self.waiting.queue(),
+            &self.banks,
+            &self.refresh,
+            self.config.groups,
+            from,
+            &mut self.scratch,
+        )
+    }
+
     /// What the channel does in this cycle.
     fn decide(&mut self, now: Cycle) -> Option<Choice>
         requires { IsInSomeCycle self.old now }
@@ -75,7 +131,8 @@ impl Channel {
         ensures { self.new ≡ record self.old { stats = channel_joined self.old.stats (cycle_with_hit self.old.config seen.queued seen.refreshing seen.draining command hit) } }
     {
         let cycle = cycle_stats(&self.config, seen, command, hit);
-        self.stats = self.stats.joined(cycle);
+        let counted = &mut self.stats;
+        *counted = counted.joined(cycle);
     }
 
     /// Does what was chosen for a cycle, and counts the cycle.

@@ -65,10 +65,7 @@ pub(crate) fn send(
         Command::Wr { source, .. } => {
             messages.push(credit_for(config, channel, now, true, source))?;
         }
-        Command::Act { .. }
-        | Command::Pre { .. }
-        | Command::Prea { .. }
-        | Command::Ref { .. } => {}
+        Command::Act { .. } | Command::Pre { .. } | Command::Prea { .. } | Command::Ref { .. } => {}
     }
     Ok(())
 }

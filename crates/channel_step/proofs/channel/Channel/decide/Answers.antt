@@ -8,5 +8,5 @@ choose-requires-clause-places c = cycle-in_banks c.args.self.now c.args.now c.qu
 
 pub returns-clause-command : goal.returns-clause-command
 returns-clause-command c s channel rows mail h at =
-    c.choose.ensures.chooses s (issued_commands channel rows) (cycle-stands c.args.self.now s channel rows mail c.queue.result.now h c.queue.ensures)
+    c.choose.ensures.command s (issued_commands channel rows) (cycle-stands c.args.self.now s channel rows mail c.queue.result.now h c.queue.ensures)
     ∙ cycle-choice c.args.self.now s channel rows mail c.args.now c.queue.result.now h at c.queue.ensures

@@ -1,0 +1,120 @@
+-- A channel before its first cycle, and a channel between two cycles.
+use Rattle.std.proofs.Common.{◌≡◌, ℕ, zero, suc, ◌+◌, ◌-◌, ◌<◌, ◌≤◌, Bool, true, false, List, [], ◌∷◌, ◌++◌, length, Option, Some, None, refl, sym, ap, ap₂, subst, ◌∙◌, arith}
+use Rattle.std.specs.Prelude.{count_by, is_some, replicate}
+use Rattle.std.specs.List.{All, AllByRecursion as Each}
+use Rattle.sim_base.specs.declared.config.Config.{Config}
+use Rattle.sim_base.specs.Counts.{issued_of_kind, hits, queue_lengths, queued, queued_max, idle, refreshing, draining}
+use Rattle.sim_base.specs.History.{issued_commands}
+use Rattle.sim_base.specs.Scheduling.{waiting, drains_with, drains_before, drains, candidates, choice_between, choice, lowest_due}
+use Rattle.sim_base.specs.declared.command.Command.{Command}
+use Rattle.sim_base.specs.declared.message.Message.{Message}
+use Rattle.sim_base.specs.declared.message.Request.{Request}
+use Rattle.bank_ready.specs.Stands.{rank_count, StandsFor as BanksStandFor}
+use Rattle.refresh.specs.Refreshes.{StandsFor as RefreshesStandFor}
+use Rattle.statistics.specs.declared.channels.ChannelStats.{ChannelStats}
+use Rattle.channel_step.specs.Fit.{queue_room}
+use Rattle.channel_step.specs.Queued.{Queued, no_requests}
+use Rattle.statistics.specs.Channels.{channel_none, channel_stats, draining_of}
+use Rattle.queue.specs.View.{QueueView, is_draining, drains_by}
+use Rattle.queue.specs.Columns.{write_count}
+use Rattle.fr_fcfs.specs.Columns.{IsInBanks}
+use Rattle.fr_fcfs.specs.Choices.{StandFor, choice_in}
+use Rattle.fr_fcfs.specs.Cycles.{IsFirst, IsFirstCycle}
+use Rattle.channel_step.specs.Past.{requests_of}
+use Rattle.channel_step.specs.Stands.{Recalls}
+use Rattle.channel_step.specs.Channels.{StandsFor}
+use Rattle.channel_step.specs.Runs.{StandsAt}
+use Rattle.channel_step.specs.declared.channel.Channel.{Channel}
+use Rattle.channel_step.proofs.Requests.{ArrivedBefore, requests-arrived, waiting-until}
+use Rattle.channel_step.proofs.Spans.{drains-next}
+use Rattle.channel_step.proofs.Stretches.{idle-choice}
+use Rattle.channel_step.proofs.Places.{queue-in_banks}
+
+-- there is no past yet
+pub recalls-none : (s : Config) (channel : ℕ) → Recalls [] false [] (record channel_none { draining = draining_of s 0 }) s channel [] []
+unfolding waiting issued_commands drains_before channel_stats issued_of_kind hits queue_lengths queued queued_max idle refreshing draining
+recalls-none s channel = record {
+  past = record { requests = tt; arrived = tt; differ = tt };
+  queue_is = refl;
+  drained_is = refl;
+  marks_are = refl;
+  stats_are = refl;
+}
+
+pub at-in_banks : (c : Channel) (from : ℕ) (queue : QueueView) → StandsAt c from → queue ≡ c.waiting.queue → All (IsInBanks (rank_count c.banks)) queue.requests
+at-in_banks c from queue h e =
+    let i = h.stands in
+    queue-in_banks h.s h.channel (rank_count c.banks) (issued_commands h.channel h.rows) h.mail (length h.rows) queue.requests
+    i.banks_stand.ranks i.recalls.past.requests (ap (λ (q : QueueView). q.requests) e ∙ i.recalls.queue_is)
+
+pub at-stand : (c : Channel) (s : Config) (channel : ℕ) (rows : List (Option Command)) (mail : List Message) (queue : QueueView) → StandsFor c s channel rows mail → queue ≡ c.waiting.queue
+    → StandFor c.banks c.refresh queue c.config.groups s (issued_commands channel rows)
+at-stand c s channel rows mail queue h e =
+    record {
+      banks_stand = h.banks_stand;
+      refreshes_stand = h.refreshes_stand;
+      groups_are = ap (λ (x : Config). x.groups) (sym h.made_for.config_is);
+      high_is = sym h.made_for.high_is ∙ ap (λ (q : QueueView). q.high) (sym e);
+    }
+
+at-drains : (c : Channel) (s : Config) (channel : ℕ) (rows : List (Option Command)) (mail : List Message) → StandsFor c s channel rows mail
+    → is_draining c.waiting.queue ≡ drains s channel rows mail (length rows)
+at-drains c s channel rows mail h =
+    let r = h.recalls in
+    let before : Each (ArrivedBefore (length rows)) (requests_of mail) = requests-arrived s channel (length rows) mail r.past.requests r.past.arrived in
+    ap₂ (λ high low. drains_by high low c.waiting.queue.settled (write_count c.waiting.queue.requests)) h.made_for.high_is h.made_for.low_is
+    ∙ ap₂ (λ d q. drains_with s d (write_count q)) r.drained_is
+    (r.queue_is ∙ sym (waiting-until (issued_commands channel rows) mail (length rows) (length rows + 1) (omega arith) before))
+    ∙ sym (drains-next s channel rows mail)
+
+-- what would be chosen in a later cycle, if nothing is issued and nothing arrives before it
+at-choice : (c : Channel) (s : Config) (channel : ℕ) (rows : List (Option Command)) (mail : List Message) (from cycle : ℕ) (queue : QueueView) → StandsFor c s channel rows mail → length rows ≡ from → from ≤ cycle
+    → queue ≡ c.waiting.queue → choice_in s (issued_commands channel rows) queue cycle ≡ choice s channel (rows ++ replicate (cycle - from) None) mail
+at-choice c s channel rows mail from cycle queue h at l e =
+    let r = h.recalls in
+    let history = issued_commands channel rows in
+    let before : Each (ArrivedBefore (length rows)) (requests_of mail) = requests-arrived s channel (length rows) mail r.past.requests r.past.arrived in
+    let then : cycle ≡ length rows + (cycle - from) = omega arith in
+    ap₂ (λ t (q : QueueView). choice_between s history t (candidates s (is_draining q) q.requests) (lowest_due s history t)) then e
+    ∙ ap₂ (λ d q. choice_between s history (length rows + (cycle - from)) (candidates s d q) (lowest_due s history (length rows + (cycle - from)))) (at-drains c s channel rows mail h) r.queue_is
+    ∙ sym (idle-choice s channel rows mail before (cycle - from))
+
+first-agree : (p q : ℕ → Bool) (now : ℕ) → ((cycle : ℕ) → now ≤ cycle → p cycle ≡ q cycle) → (o : Option ℕ) → IsFirstCycle p now o → IsFirstCycle q now o
+first-agree p q now same None h = λ cycle l. sym (same cycle l) ∙ h cycle l
+first-agree p q now same (Some first) h =
+    record {
+      from_now = h.from_now;
+      holds_then = sym (same first h.from_now) ∙ h.holds_then;
+      not_before = λ cycle l e. sym (same cycle l) ∙ h.not_before cycle l e;
+    }
+
+pub at-first : (c : Channel) (s : Config) (channel : ℕ) (rows : List (Option Command)) (mail : List Message) (from : ℕ) (queue : QueueView) (o : Option ℕ) → StandsFor c s channel rows mail → length rows ≡ from
+    → queue ≡ c.waiting.queue → IsFirstCycle (λ cycle. is_some (choice_in s (issued_commands channel rows) queue cycle)) from o
+    → IsFirstCycle (λ cycle. is_some (choice s channel (rows ++ replicate (cycle - from) None) mail)) from o
+at-first c s channel rows mail from queue o h at e f =
+    first-agree _ _ from (λ cycle l. ap is_some (at-choice c s channel rows mail from cycle queue h at l e)) o f
+
+pub start-stands : (c : Channel) (s : Config) (number : ℕ) → c.config ≡ s → c.number ≡ number → c.waiting ≡ no_requests (queue_room s) s.write_high s.write_low
+    → BanksStandFor c.banks s [] → RefreshesStandFor c.refresh s [] → c.stats ≡ record channel_none { draining = draining_of s 0 } → c.scratch ≡ queue_room s
+    → StandsFor c s number [] []
+unfolding issued_commands
+start-stands c s number config is waiting banks refresh stats scratch =
+    let R : Queued → ChannelStats → Type 0 = λ w t. Recalls w.queue.requests w.queue.settled w.marks t s number [] [] in
+    let base : R (no_requests (queue_room s) s.write_high s.write_low) (record channel_none { draining = draining_of s 0 }) = recalls-none s number in
+    let none : length c.waiting.queue.requests ≡ 0 = ap (λ (w : Queued). length w.queue.requests) waiting in
+    let zero_yet : c.stats.queued_max ≡ 0 = ap (λ (t : ChannelStats). t.queued_max) stats in
+    record {
+      made_for = record {
+        config_is = config;
+        number_is = is;
+        high_is = ap (λ (w : Queued). w.queue.high) waiting;
+        low_is = ap (λ (w : Queued). w.queue.low) waiting;
+        room_is = ap (λ (w : Queued). w.queue.room) waiting;
+        scratch_is = scratch;
+        within = omega arith;
+        longest = omega arith;
+      };
+      recalls = subst (λ w. R w c.stats) (sym waiting) (subst (R (no_requests (queue_room s) s.write_high s.write_low)) (sym stats) base);
+      banks_stand = banks;
+      refreshes_stand = refresh;
+    }
