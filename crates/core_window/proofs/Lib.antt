@@ -1,2 +1,5 @@
 pub mod Segments
 pub mod Stopping
+pub mod Ranges
+pub mod Retiring
+pub mod Issuing
