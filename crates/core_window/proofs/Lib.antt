@@ -3,3 +3,5 @@ pub mod Stopping
 pub mod Ranges
 pub mod Retiring
 pub mod Issuing
+pub mod Stepping
+pub mod Turning

@@ -18,7 +18,7 @@ use Rattle.core_window.proofs.Segments.{has_memory-false, has_memory-true}
 
 find_from : (p : ℕ → Bool) (a n m : ℕ) → m < n → ((k : ℕ) → k < m → p (a + k) ≡ false) → p (a + m) ≡ true → find p (range_with_len a n) ≡ Some (a + m)
 find_from p a zero m l before here = absurd (omega arith)
-find_from p a (suc n) zero l before here = 
+find_from p a (suc n) zero l before here =
     let e : a + 0 ≡ a = omega arith in
     ap (λ b. cond b (Some a) (find p (range_with_len (a + 1) n))) (ap p (sym e) ∙ here) ∙ ap Some (sym e)
 find_from p a (suc n) (suc m) l before here =
@@ -105,7 +105,6 @@ no_stop s core trace inbox sent now number gone one two lacks h k width window s
     let e5 : lacks_credit s core inbox sent now (slice_get trace (number + k)) ≡ false = lacks_at s core trace inbox sent now number gone one two lacks h k second first in
     rw (e1, e2, e3, e4, e5) refl
 
-
 -- the number of entries that issue
 issue_count-reaches : (s : Config) (trace : List Entry) (number gone one two : ℕ) (lacks : Bool) → number ≤ gone + s.window → gone ≤ number → number ≤ one → number ≤ two
     → Reaches s trace number gone one two (issue_count s.width s.window number gone one two lacks) lacks
@@ -126,21 +125,21 @@ issue_count-met : (s : Config) (number gone one two : ℕ) (lacks : Bool) → nu
     → Met s number gone one two (issue_count s.width s.window number gone one two lacks) lacks
 issue_count-met s number gone one two true window retired l1 l2 =
     elim (least_of s.width (s.window - (number - gone)) (two - number) (one - number)) [
-      inl e ↦ inl e
-    | inr r ↦ elim r [
-        inl e ↦ inr (inl (omega arith))
-      | inr q ↦ elim q [
-          inl e ↦ inr (inr (inl (omega arith)))
-        | inr e ↦ inr (inr (inr (refl, omega arith)))
+      | inl e ↦ inl e
+      | inr r ↦ elim r [
+        | inl e ↦ inr (inl (omega arith))
+        | inr q ↦ elim q [
+          | inl e ↦ inr (inr (inl (omega arith)))
+          | inr e ↦ inr (inr (inr (refl, omega arith)))
         ]
       ]
     ]
 issue_count-met s number gone one two false window retired l1 l2 =
     elim (least_of_three s.width (s.window - (number - gone)) (two - number)) [
-      inl e ↦ inl e
-    | inr r ↦ elim r [
-        inl e ↦ inr (inl (omega arith))
-      | inr e ↦ inr (inr (inl (omega arith)))
+      | inl e ↦ inl e
+      | inr r ↦ elim r [
+        | inl e ↦ inr (inl (omega arith))
+        | inr e ↦ inr (inr (inl (omega arith)))
       ]
     ]
 
@@ -164,28 +163,28 @@ last_cause : (s : Config) (core : ℕ) (trace : List Entry) (inbox sent : List M
 last_cause s core trace inbox sent now number gone one two lacks h m reach met e1 e2 e3 =
     let end : two ≤ length trace = two_within s core trace inbox sent now number gone one two lacks h in
     elim met [
-      inl e ↦ absurd (e2 e)
-    | inr r ↦ elim r [
-        inl e ↦ absurd (e3 (omega (arith, h.retired)))
-      | inr q ↦ ⊎_elim
-          (λ less. elim q [
-            inl e ↦ absurd (omega arith)
-          | inr l ↦
-            let at_one : number + m ≡ one = l.1 in
-            let a : meets_memory trace number m ≡ false = meets-false trace number one two m h.ahead less in
-            let b : eqb (number + m) two ≡ false = ne_eqb _ _ (λ e. omega arith) in
-            let inside : one < length trace = omega arith in
-            let d : lacks_credit s core inbox sent now (slice_get trace (number + m)) ≡ true =
-            ap (λ n. lacks_credit s core inbox sent now (slice_get trace n)) at_one
-            ∙ sym (ap (λ t. t && lacks_credit s core inbox sent now (slice_get trace one)) (lt-ltb one (length trace) inside))
-            ∙ sym h.credit ∙ l.0 in
-            rw (a, b, d) refl
-          ])
-          (λ most. let e : number + m ≡ two = omega (arith, reach.second) in
-          let a : meets_memory trace number m ≡ true = meets-true trace number one two m h.ahead e (two_inside e) in
-          let b : eqb (number + m) two ≡ true = eq-eqb _ _ e in
-          rw (a, b) refl)
-          (cases_lt (number + m) two)
+      | inl e ↦ absurd (e2 e)
+      | inr r ↦ elim r [
+        | inl e ↦ absurd (e3 (omega (arith, h.retired)))
+        | inr q ↦ ⊎_elim
+            (λ less. elim q [
+              | inl e ↦ absurd (omega arith)
+              | inr l ↦
+                  let at_one : number + m ≡ one = l.1 in
+                  let a : meets_memory trace number m ≡ false = meets-false trace number one two m h.ahead less in
+                  let b : eqb (number + m) two ≡ false = ne_eqb _ _ (λ e. omega arith) in
+                  let inside : one < length trace = omega arith in
+                  let d : lacks_credit s core inbox sent now (slice_get trace (number + m)) ≡ true =
+                  ap (λ n. lacks_credit s core inbox sent now (slice_get trace n)) at_one
+                  ∙ sym (ap (λ t. t && lacks_credit s core inbox sent now (slice_get trace one)) (lt-ltb one (length trace) inside))
+                  ∙ sym h.credit ∙ l.0 in
+                  rw (a, b, d) refl
+            ])
+            (λ most. let e : number + m ≡ two = omega (arith, reach.second) in
+            let a : meets_memory trace number m ≡ true = meets-true trace number one two m h.ahead e (two_inside e) in
+            let b : eqb (number + m) two ≡ true = eq-eqb _ _ e in
+            rw (a, b) refl)
+            (cases_lt (number + m) two)
       ]
     ]
   where
@@ -226,9 +225,9 @@ is_last s core trace inbox sent now number gone one two lacks h m e =
     let here : stop_after s core trace inbox sent now number gone m ≡ Some (cause_at s.width s.window (length trace) number gone two m) = stop_here s core trace inbox sent now number gone one two lacks h m reach met in
     record {
       count = ap (λ o. unwrap_or o s.width)
-      (find_below (has_cause s core trace inbox sent now number gone) (s.width + 1) m (omega (arith, reach.width))
-      (λ k l. ap is_some (no_stop s core trace inbox sent now number gone one two lacks h k (omega (arith, reach.width)) (omega (arith, reach.window)) (omega (arith, reach.second)) (λ t. omega (arith, reach.first t))))
-      (ap is_some here));
+          (find_below (has_cause s core trace inbox sent now number gone) (s.width + 1) m (omega (arith, reach.width))
+          (λ k l. ap is_some (no_stop s core trace inbox sent now number gone one two lacks h k (omega (arith, reach.width)) (omega (arith, reach.window)) (omega (arith, reach.second)) (λ t. omega (arith, reach.first t))))
+          (ap is_some here));
       cause = here;
       window = reach.window;
       second = reach.second;

@@ -5,3 +5,4 @@ pub mod Fit
 pub mod Inside
 pub mod Turns
 pub mod Causes
+pub mod CoreViews

@@ -134,3 +134,9 @@ pub record IsTurn (s : Config) (core : ℕ) (trace : List Entry) (rows : List Co
   pub window : issued_before rows + row.issued ≤ retired_before rows + row.retired + s.window
   pub issues : IsIssued trace (issued_before rows) row.issued memory
   pub credit : IfSome memory (λ e. lacks_credit s core mail (core_messages s core trace rows) (length rows) (Some e.entry) ≡ false)
+
+-- a core that holds these credits for each channel has none for this entry
+abbrev pub lacks_by : Config → (ℕ → Credits) → Entry → Bool
+lacks_by s credits Plain = false
+lacks_by s credits (Read address) = (credits (place_of s address).channel).read == 0
+lacks_by s credits (Write address) = (credits (place_of s address).channel).write == 0

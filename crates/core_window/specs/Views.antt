@@ -1,9 +1,6 @@
--- What contracts see of a core and of what it gives back.
---     CoreView      of Core
---     DoneView      of CoreDone
+-- All that a core keeps.
 use Rattle.std.specs.Prelude.{ℕ, List}
 use Rattle.sim_base.specs.declared.config.Config.{Config}
-use Rattle.sim_base.specs.declared.message.Message.{Message}
 use Rattle.sim_base.specs.declared.trace.Entry.{Entry}
 use Rattle.statistics.specs.declared.cores.CoreStats.{CoreStats}
 use Rattle.statistics.specs.declared.final_state.Credits.{Credits}
@@ -19,8 +16,3 @@ pub record CoreView : Type 0 where
   pub waiting : List WaitingRead
   pub credits : List Credits
   pub stats : CoreStats
-
--- a core that ran, and the messages that it sent
-pub record DoneView : Type 0 where
-  pub core : CoreView
-  pub messages : List Message

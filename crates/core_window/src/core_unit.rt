@@ -1,1 +1,109 @@
 //! A core.
+
+ghost use Rattle.std.specs.Prelude.{◌≡◌, ◌==◌, ◌^◌, ◌+◌, ◌≤◌, ◌<◌, ℕ, Some, List, length, slice_get, OnOk, OnErr, IfOk};
+ghost use Rattle.sim_base.specs.declared.history.CoreRow.{CoreRow};
+ghost use Rattle.sim_base.specs.declared.message.Message.{Message};
+ghost use Rattle.sim_base.specs.declared.config.Config.{Config};
+ghost use Rattle.sim_base.specs.declared.trace.Entry.{Entry};
+ghost use Rattle.statistics.specs.declared.final_state.Credits.{Credits};
+ghost use Rattle.core_window.specs.Turns.{lacks_by, IsTurn};
+ghost use Rattle.core_window.specs.CoreViews.{view_of};
+ghost use Rattle.core_window.specs.Inside.{IsStanding, StandsAt, Advances};
+
+use crate::counts::cycle_counts;
+use crate::issue::{entry_issued, issue_of, next_two};
+use crate::issue_effects::{send, spend, wait_for};
+use crate::retire::retire_count;
+use crate::waiting::WaitingRead;
+use address_map::place_of;
+use cpu_trace::entries::MemoryEntry;
+use cpu_trace::trace::Trace;
+use sim_base::config::Config;
+use sim_base::history::CoreRow;
+use sim_base::message::{CoreId, Cycle, Message};
+use sim_base::trace::{Entry, Stop};
+use statistics::cores::CoreStats;
+use statistics::final_state::Credits;
+use std::alloc::{AllocError, Global};
+
+/// A core, with all that it knows of what it did.
+#[derive(Drop)]
+pub struct Core {
+    config: Config,
+    id: CoreId,
+    trace: Trace,
+    cycle: Cycle,
+    waiting: Vec<WaitingRead>,
+    credits: Vec<Credits>,
+    stats: CoreStats,
+}
+
+/// What a core does in a cycle, and why it stops; with the memory entry that it issues, if it issues one.
+#[derive(Clone, Copy, PartialEq, Eq, Debug)]
+pub struct Turn {
+    pub row: CoreRow,
+    pub why: Stop,
+    pub memory: Option<MemoryEntry>,
+}
+
+fn is_without_credit(credits: &[Credits], config: &Config, entry: Entry) -> bool
+    requires { length credits.now ≡ config.now.channels }
+    ensures { (held : ℕ → Credits) → ((channel : ℕ) → channel < config.now.channels → slice_get credits.now channel ≡ Some (held channel))
+        → result ≡ lacks_by config.now held entry }
+{
+    match entry {
+        Entry::Read(address) => credits[place_of(config, address).channel as usize].read == 0,
+        Entry::Write(address) => credits[place_of(config, address).channel as usize].write == 0,
+        Entry::Plain => false,
+    }
+}
+
+impl Core {
+    /// What the core does in the next cycle.
+    fn turn(&self) -> Turn
+        requires { IsStanding (view_of self.now) }
+        ensures { (s : Config) (core : ℕ) (trace : List Entry) (rows : List CoreRow) (mail : List Message)
+            → StandsAt s core trace rows mail (view_of self.now) → IsTurn s core trace rows mail result.row result.why result.memory }
+    {
+        let len = self.trace.len();
+        let number = self.stats.issued;
+        let retired = retire_count(self.config.width, &self.waiting, number, self.stats.retired);
+        let gone = self.stats.retired + u64::from(retired);
+        let ahead = next_two(&self.trace, number);
+        let lacks = ahead.one < len
+            && is_without_credit(&self.credits, &self.config, self.trace.entry_at(ahead.one));
+        let issue = issue_of(&self.config, len, number, gone, &ahead, lacks);
+        let memory = entry_issued(&self.trace, number, ahead.one, issue.count);
+        Turn {
+            row: CoreRow {
+                retired,
+                issued: issue.count,
+            },
+            why: issue.why,
+            memory,
+        }
+    }
+
+    /// Goes on by a cycle, in which no further message comes.
+    fn step(&mut self, sent: &mut Vec<Message>) -> Result<(), AllocError>
+        requires stands { IsStanding (view_of self.old) }
+        requires early { self.old.cycle < 2 ^ 62 }
+        ensures { OnOk result (Advances 1 (view_of self.old) sent.old.items (view_of self.new) sent.new.items) }
+    {
+        let turn = self.turn();
+        wait_for(&mut self.waiting, turn.memory, self.cycle)?;
+        spend(&mut self.credits, &self.config, turn.memory);
+        send(sent, &self.config, self.id, self.cycle, turn.memory)?;
+        let counts = cycle_counts(
+            turn.row,
+            turn.why,
+            turn.memory,
+            self.stats.retired,
+            self.trace.len(),
+            self.cycle,
+        );
+        self.stats = self.stats.joined(counts);
+        self.cycle += 1;
+        Ok(())
+    }
+}

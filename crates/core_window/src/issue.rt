@@ -53,15 +53,7 @@ pub struct Issue {
 }
 
 /// Why no more entries issue than so many.
-fn cause_at(
-    width: u16,
-    window: u32,
-    len: u64,
-    number: u64,
-    gone: u64,
-    two: u64,
-    count: u16,
-) -> Stop
+fn cause_at(width: u16, window: u32, len: u64, number: u64, gone: u64, two: u64, count: u16) -> Stop
     requires { number ≤ 2 ^ 62 }
     ensures { result ≡ cause_at width window len number gone two count }
 {
@@ -80,18 +72,13 @@ fn cause_at(
 }
 
 /// How many entries issue from a number on, where so many were retired.
-fn count_of(
-    width: u16,
-    window: u32,
-    number: u64,
-    gone: u64,
-    ahead: &Ahead,
-    lacks: bool,
-) -> u16
+fn count_of(width: u16, window: u32, number: u64, gone: u64, ahead: &Ahead, lacks: bool) -> u16
     ensures { result ≡ issue_count width window number gone ahead.now.one ahead.now.two lacks }
 {
     let room = u64::from(window).saturating_sub(number.saturating_sub(gone));
-    let most = u64::from(width).min(room).min(ahead.two.saturating_sub(number));
+    let most = u64::from(width)
+        .min(room)
+        .min(ahead.two.saturating_sub(number));
     let count = if lacks {
         most.min(ahead.one.saturating_sub(number))
     } else {

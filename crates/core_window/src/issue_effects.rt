@@ -102,24 +102,10 @@ pub fn send(
     if let Some(next) = memory {
         match next.entry {
             Entry::Read(address) => {
-                sent.push(request_of_address(
-                    config,
-                    core,
-                    now,
-                    next.number,
-                    false,
-                    address,
-                ))?
+                sent.push(request_of_address(config, core, now, next.number, false, address))?
             }
             Entry::Write(address) => {
-                sent.push(request_of_address(
-                    config,
-                    core,
-                    now,
-                    next.number,
-                    true,
-                    address,
-                ))?
+                sent.push(request_of_address(config, core, now, next.number, true, address))?
             }
             Entry::Plain => (),
         }
