@@ -5,3 +5,4 @@ pub mod Retiring
 pub mod Issuing
 pub mod Stepping
 pub mod Turning
+pub mod Receiving

@@ -60,7 +60,7 @@ writes-issued trace first m (Some e) h =
     ∙ ap (λ o. count_by is_write (option_to_list o)) h.is_at ∙ one_counted is_write e.entry
 
 -- a reply of the cycle or of one before it followed its entry
-follows-read : (rows : List CoreRow) (row : CoreRow) (mail : List Message) → Each (λ m. m.arrival ≤ length rows) mail → Each (FollowsItsEntry rows) mail → RepliesFollowReads (rows ++ row ∷ []) mail
+pub follows-read : (rows : List CoreRow) (row : CoreRow) (mail : List Message) → Each (λ m. m.arrival ≤ length rows) mail → Each (FollowsItsEntry rows) mail → RepliesFollowReads (rows ++ row ∷ []) mail
 follows-read rows row [] a h = tt
 follows-read rows row (m ∷ mail) a h = (by (replied_entry m.load) h.0, follows-read rows row mail a.1 h.1)
   where
@@ -199,6 +199,7 @@ past-push s core trace rows mail row why memory past turn =
     let within : issued_before rows + row.issued ≤ length trace = subst (λ (x : CoreRow). issued_before rows + x.issued ≤ length trace) row_is (issues-le s core trace rows mail past.issued) in
     let most : row.retired ≤ issued_before rows - retired_before rows = subst (λ n. n ≤ issued_before rows - retired_before rows) retired_is (retires-le s trace rows mail) in
     record {
+      fits = past.fits;
       issued = omega arith;
       retired = omega (arith, past.retired);
       window = omega (arith, turn.window);
@@ -231,7 +232,7 @@ none_arrived rows row (m ∷ mail) h =
     and_false true = refl
     and_false false = refl
 
-with_none_arrived : (a : CoreStats) (rows : List CoreRow) (mail : List Message) → replies_in (length rows) mail ≡ [] → core_joined a (core_arrived rows mail) ≡ a
+pub with_none_arrived : (a : CoreStats) (rows : List CoreRow) (mail : List Message) → replies_in (length rows) mail ≡ [] → core_joined a (core_arrived rows mail) ≡ a
 unfolding waited
 with_none_arrived a rows mail h = rw h (simp add-zero)
 
@@ -279,7 +280,7 @@ step-stands s core trace rows mail a b row why memory h turn i =
         ∙ ap (λ n. count (retired_before rows) (length trace) n) h.now
 
 -- the statistics with this cycle fit
-replies-le : (n : ℕ) (mail : List Message) → length (filter (is_reply_before n) mail) ≤ length (filter is_reply mail)
+pub replies-le : (n : ℕ) (mail : List Message) → length (filter (is_reply_before n) mail) ≤ length (filter is_reply mail)
 replies-le n [] = omega arith
 replies-le n (m ∷ mail) = by (replies-le n mail) (is_reply m) (ltb m.arrival n)
   where

@@ -11,6 +11,7 @@ use Rattle.sim_base.specs.declared.trace.Entry.{Entry}
 use Rattle.statistics.specs.Cores.{core_stats, core_joined, replies_in, waited}
 use Rattle.statistics.specs.declared.cores.CoreStats.{CoreStats}
 use Rattle.statistics.specs.declared.final_state.Credits.{Credits}
+use Rattle.core_window.specs.Fit.{IsDue}
 use Rattle.core_window.specs.Stands.{IsPast, credits_had, credits_spent}
 use Rattle.core_window.specs.Views.{CoreView}
 use Rattle.core_window.specs.Waiting.{reads_waiting}
@@ -69,3 +70,14 @@ Advances n a before b after =
     (s : Config) (core : ℕ) (trace : List Entry) (rows : List CoreRow) (mail base : List Message)
     → StandsAt s core trace rows mail a → core_messages s core trace rows ≡ base ++ before
     → StandsAt s core trace (core_run s core trace rows mail n) mail b × (core_messages s core trace (core_run s core trace rows mail n) ≡ base ++ after)
+
+-- a core stands at the cycle in which a message comes, and the message may come
+pub record IsReceiving (view : CoreView) (m : Message) : Type 0 where
+  pub s : Config
+  pub core : ℕ
+  pub trace : List Entry
+  pub rows : List CoreRow
+  pub mail : List Message
+  pub stands : StandsAt s core trace rows mail view
+  pub now : m.arrival ≡ length rows
+  pub due : IsDue s core trace rows mail m

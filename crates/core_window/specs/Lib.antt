@@ -6,3 +6,4 @@ pub mod Inside
 pub mod Turns
 pub mod Causes
 pub mod CoreViews
+pub mod Replies

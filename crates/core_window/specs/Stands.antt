@@ -1,7 +1,7 @@
 -- What a core stands for.
 --     IsPast s core trace rows mail      what holds of the rows of a core and of the messages that it had
 --     StandsFor s core trace rows mail view      all that a core keeps is what its rows and its messages make of it
-use Rattle.std.specs.Prelude.{◌≡◌, ℕ, ◌+◌, ◌<◌, ◌≤◌, Bool, true, false, List, length, filter, count_by, slice_get, Some}
+use Rattle.std.specs.Prelude.{◌≡◌, ℕ, ◌^◌, ◌+◌, ◌<◌, ◌≤◌, Bool, true, false, List, length, filter, count_by, slice_get, Some}
 use Rattle.std.specs.Option.{IfSome}
 use Rattle.std.specs.List.{AllByRecursion as Each}
 use Rattle.sim_base.specs.declared.config.Config.{Config}
@@ -36,6 +36,8 @@ credits_spent s core trace rows channel write = count_by (λ m. is_request_for c
 
 -- What holds of the rows of a core, one a cycle, and of the messages that it had, those of the next cycle perhaps included.
 pub record IsPast (s : Config) (core : ℕ) (trace : List Entry) (rows : List CoreRow) (mail : List Message) : Type 0 where
+  -- a trace has at most 2^62 entries
+  pub fits : length trace ≤ 2 ^ 62
   -- it issues in order, up to the end of its trace
   pub issued : issued_before rows ≤ length trace
   -- it retires what it issued

@@ -1,18 +1,22 @@
 //! A core.
 
-ghost use Rattle.std.specs.Prelude.{◌≡◌, ◌==◌, ◌^◌, ◌+◌, ◌≤◌, ◌<◌, ℕ, Some, List, length, slice_get, OnOk, OnErr, IfOk};
+ghost use Rattle.std.specs.Prelude.{[], ◌∷◌, ◌++◌, ◌/◌, ◌%◌, find, if◌then◌else◌, ◌≡◌, ◌==◌, ◌^◌, ◌+◌, ◌≤◌, ◌<◌, ℕ, Some, List, length, slice_get, OnOk, OnErr, IfOk};
 ghost use Rattle.sim_base.specs.declared.history.CoreRow.{CoreRow};
 ghost use Rattle.sim_base.specs.declared.message.Message.{Message};
 ghost use Rattle.sim_base.specs.declared.config.Config.{Config};
 ghost use Rattle.sim_base.specs.declared.trace.Entry.{Entry};
 ghost use Rattle.statistics.specs.declared.final_state.Credits.{Credits};
-ghost use Rattle.core_window.specs.Turns.{lacks_by, IsTurn};
+ghost use Rattle.core_window.specs.Turns.{lacks_by, IsTurn, credits_of_kind, more_credit};
 ghost use Rattle.core_window.specs.CoreViews.{view_of};
-ghost use Rattle.core_window.specs.Inside.{IsStanding, StandsAt, Advances};
+ghost use Rattle.core_window.specs.Fit.{IsDue};
+ghost use Rattle.core_window.specs.Inside.{IsStanding, IsReceiving, StandsAt, Advances};
+ghost use Rattle.core_window.specs.Replies.{MayTakeReply, after_reply};
+ghost use Rattle.core_window.specs.declared.waiting.WaitingRead.{WaitingRead};
 
 use crate::counts::cycle_counts;
 use crate::issue::{entry_issued, issue_of, next_two};
 use crate::issue_effects::{send, spend, wait_for};
+use crate::receive::{add_credit_at, count_reply, issue_cycle_of, remove_read};
 use crate::retire::retire_count;
 use crate::waiting::WaitingRead;
 use address_map::place_of;
@@ -20,7 +24,7 @@ use cpu_trace::entries::MemoryEntry;
 use cpu_trace::trace::Trace;
 use sim_base::config::Config;
 use sim_base::history::CoreRow;
-use sim_base::message::{CoreId, Cycle, Message};
+use sim_base::message::{CoreId, Cycle, LinkId, Load, Message};
 use sim_base::trace::{Entry, Stop};
 use statistics::cores::CoreStats;
 use statistics::final_state::Credits;
@@ -105,5 +109,46 @@ impl Core {
         self.stats = self.stats.joined(counts);
         self.cycle += 1;
         Ok(())
+    }
+
+    /// A reply comes: its Read waits no more.
+    fn take_reply(&mut self, entry: u64)
+        requires { MayTakeReply (view_of self.old) entry }
+        ensures { (read : WaitingRead) → find (λ r. r.entry == entry) self.old.waiting.items ≡ Some read
+            → view_of self.new ≡ after_reply (view_of self.old) read }
+    {
+        if let Some(read) = issue_cycle_of(&self.waiting, entry) {
+            count_reply(&mut self.stats, self.cycle.saturating_sub(read.issued));
+            remove_read(&mut self.waiting, read.entry);
+        }
+    }
+
+    /// A credit comes.
+    fn take_credit_on(&mut self, link: LinkId, write: bool)
+        requires { length self.old.credits.items ≡ self.old.config.channels }
+        ensures rest { view_of self.new ≡ record (view_of self.old) { credits = self.new.credits.items } }
+        ensures len { length self.new.credits.items ≡ length self.old.credits.items }
+        ensures credits { (channel : ℕ) (c : Credits) → slice_get self.old.credits.items channel ≡ Some c
+            → (link / 3 % self.old.config.channels ≡ channel → credits_of_kind write c + 1 < 2 ^ 64)
+            → slice_get self.new.credits.items channel
+            ≡ Some (if link / 3 % self.old.config.channels == channel then more_credit write c else c) }
+    {
+        let channel = link / 3 % u64::from(self.config.channels);
+        add_credit_at(&mut self.credits, channel as usize, write);
+    }
+
+    /// Takes a message of the cycle at which the core stands.
+    fn receive(&mut self, message: Message)
+        requires stands { IsReceiving (view_of self.old) message }
+        requires early { self.old.cycle < 2 ^ 62 }
+        ensures { (s : Config) (core : ℕ) (trace : List Entry) (rows : List CoreRow) (mail : List Message)
+            → StandsAt s core trace rows mail (view_of self.old) → message.arrival ≡ length rows → IsDue s core trace rows mail message
+            → StandsAt s core trace rows (mail ++ message ∷ []) (view_of self.new) }
+    {
+        match message.load {
+            Load::Reply(entry) => self.take_reply(entry),
+            Load::Credit { write, .. } => self.take_credit_on(message.link, write),
+            Load::Request(_) => (),
+        }
     }
 }

@@ -1,12 +1,12 @@
 //! What a message changes.
 
-ghost use Rattle.std.specs.Prelude.{◌≡◌, ◌+◌, ◌-◌, ◌<◌, ◌^◌, ◌==◌, not, filter, find, length, slice_get, Some};
+ghost use Rattle.std.specs.Prelude.{◌≡◌, ◌+◌, ◌-◌, ◌<◌, ◌^◌, ◌==◌, not, filter, find, length, slice_get, ℕ, Some, if◌then◌else◌};
 ghost use Rattle.core_window.specs.Turns.{more_credit, less_credit, credits_of_kind};
 ghost use Rattle.core_window.specs.declared.waiting.WaitingRead.{WaitingRead};
 ghost use Rattle.statistics.specs.declared.final_state.Credits.{Credits};
 
 use crate::waiting::WaitingRead;
-use sim_base::message::Cycle;
+use statistics::cores::CoreStats;
 use statistics::final_state::Credits;
 
 /// The cycle in which a Read that waits was issued.
@@ -43,4 +43,24 @@ pub fn take_credit(credits: &mut Credits, write: bool)
     } else {
         credits.read = credits.read.saturating_sub(1);
     }
+}
+
+/// One credit more for a channel.
+pub fn add_credit_at(credits: &mut [Credits], place: usize, write: bool)
+    requires { place < length credits.old }
+    ensures { (channel : ℕ) (c : Credits) → slice_get credits.old channel ≡ Some c
+        → (place ≡ channel → credits_of_kind write c + 1 < 2 ^ 64)
+        → slice_get credits.new channel ≡ Some (if place == channel then more_credit write c else c) }
+{
+    add_credit(&mut credits[place], write);
+}
+
+/// Counts a reply, and how long it was waited for.
+pub fn count_reply(stats: &mut CoreStats, waited: u64)
+    requires count { stats.old.replies + 1 < 2 ^ 64 }
+    requires sum { stats.old.read_latency + waited < 2 ^ 128 }
+    ensures { stats.new ≡ record stats.old { replies = stats.old.replies + 1; read_latency = stats.old.read_latency + waited } }
+{
+    stats.replies += 1;
+    stats.read_latency += u128::from(waited);
 }
