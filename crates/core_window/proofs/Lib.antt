@@ -6,3 +6,4 @@ pub mod Issuing
 pub mod Stepping
 pub mod Turning
 pub mod Receiving
+pub mod Running

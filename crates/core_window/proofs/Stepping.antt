@@ -322,12 +322,12 @@ pub step-advances : (a b : CoreView) (row : CoreRow) (why : Stop) (memory : Opti
     → ((s : Config) (core : ℕ) (trace : List Entry) (rows : List CoreRow) (mail : List Message) → StandsAt s core trace rows mail a → IsTurn s core trace rows mail row why memory)
     → IsStep a b row why memory → after ≡ before ++ requests_issued a.config a.core a.now memory → Advances 1 a before b after
 unfolding core_run
-step-advances a b row why memory before after turn i e s core trace rows mail base h sent =
+step-advances a b row why memory before after turn i e s core trace rows mail h =
     let t : IsTurn s core trace rows mail row why memory = turn s core trace rows mail h in
     let one : rows ++ (step s core trace rows mail).0 ∷ [] ≡ rows ++ row ∷ [] = ap (λ (x : CoreRow × Stop). rows ++ x.0 ∷ []) t.does in
     let request : Config → ℕ → ℕ → List Message = λ x c n. requests_issued x c n memory in
     (subst (λ r. StandsAt s core trace r mail b) (sym one) (step-stands s core trace rows mail a b row why memory h t i),
-    ap (core_messages s core trace) one
+    λ base sent. ap (core_messages s core trace) one
     ∙ messages-push s core trace rows row memory t.issues
     ∙ ap₂ (λ x y. x ++ y) sent (sym (ap (λ x. request x a.core a.now) h.config ∙ ap (λ c. request s c a.now) h.number ∙ ap (request s core) h.now))
     ∙ append_assoc base before (requests_issued a.config a.core a.now memory)

@@ -5,7 +5,7 @@ use Rattle.std.specs.Prelude.{◌≡◌, ℕ, ◌+◌, ◌-◌, ◌<◌, ◌≤�
 use Rattle.std.specs.List.{AllByRecursion as Each}
 use Rattle.sim_base.specs.declared.config.Config.{Config}
 use Rattle.sim_base.specs.Config.{credit_link}
-use Rattle.sim_base.specs.History.{issued_before}
+use Rattle.sim_base.specs.History.{issued_before, core_messages}
 use Rattle.sim_base.specs.Machine.{core_run}
 use Rattle.sim_base.specs.Windows.{credit_cap}
 use Rattle.sim_base.specs.declared.history.CoreRow.{CoreRow}
@@ -13,7 +13,8 @@ use Rattle.sim_base.specs.declared.message.Load.{Load}
 use Rattle.sim_base.specs.declared.message.Load.TheVariants as load
 use Rattle.sim_base.specs.declared.message.Message.{Message}
 use Rattle.sim_base.specs.declared.trace.Entry.{Entry}
-use Rattle.core_window.specs.Stands.{credits_had, credits_spent}
+use Rattle.core_window.specs.Stands.{credits_had, credits_spent, StandsFor}
+use Rattle.core_window.specs.Views.{CoreView}
 use Rattle.core_window.specs.Waiting.{is_read_at, is_answered}
 
 -- a reply is of a Read that was issued in an earlier cycle, and that had none
@@ -55,3 +56,22 @@ pub record Fit (s : Config) (core : ℕ) (trace : List Entry) (rows : List CoreR
   -- than it ever had
   pub due : (before after : List Message) (m : Message) → inbox ≡ before ++ m ∷ after
       → IsDue s core trace (core_run s core trace rows (mail ++ inbox) (m.arrival - from)) (mail ++ before) m
+
+-- a core stands for some rows and messages, after which these may arrive
+pub record MayRun (view : CoreView) (from until : ℕ) (inbox : List Message) : Type 0 where
+  pub s : Config
+  pub core : ℕ
+  pub trace : List Entry
+  pub rows : List CoreRow
+  pub mail : List Message
+  pub stands : StandsFor s core trace rows mail view
+  pub fit : Fit s core trace rows mail from until inbox
+
+-- A core goes over a span of cycles, in which these messages arrive, from one state to another, and sends these messages:
+-- whatever it stood for, and the arrivals are fit for, it then stands for the longer run, and sent what that sends more.
+abbrev pub Runs : CoreView → ℕ → ℕ → List Message → CoreView → List Message → Type 0
+Runs before from until inbox after sent =
+    (s : Config) (core : ℕ) (trace : List Entry) (rows : List CoreRow) (mail : List Message)
+    → StandsFor s core trace rows mail before → Fit s core trace rows mail from until inbox
+    → StandsFor s core trace (core_run s core trace rows (mail ++ inbox) (until - from)) (mail ++ inbox) after
+    × (core_messages s core trace (core_run s core trace rows (mail ++ inbox) (until - from)) ≡ core_messages s core trace rows ++ sent)

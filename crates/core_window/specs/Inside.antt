@@ -1,7 +1,8 @@
 -- What a core stands for within a span, where messages of the cycle at which it stands may have come already.
 --     StandsAt s core trace rows mail view      what the core stands for
 --     Advances n a b sent      a core goes n cycles, in which no message comes, and sends these
-use Rattle.std.specs.Prelude.{◌≡◌, ℕ, ◌+◌, ◌-◌, ◌<◌, ◌≤◌, Bool, false, true, List, ◌++◌, length, slice_get, Some, None}
+use Rattle.std.specs.Prelude.{◌≡◌, ℕ, ◌+◌, ◌-◌, ◌<◌, ◌≤◌, Bool, false, true, List, [], ◌∷◌, ◌++◌, length, take, drop, slice_get, Some, None}
+use Rattle.std.specs.List.{AllByRecursion as Each}
 use Rattle.sim_base.specs.declared.config.Config.{Config}
 use Rattle.sim_base.specs.History.{core_messages}
 use Rattle.sim_base.specs.Machine.{core_run}
@@ -67,9 +68,10 @@ pub record IsStanding (view : CoreView) : Type 0 where
 -- messages do.
 abbrev pub Advances : ℕ → CoreView → List Message → CoreView → List Message → Type 0
 Advances n a before b after =
-    (s : Config) (core : ℕ) (trace : List Entry) (rows : List CoreRow) (mail base : List Message)
-    → StandsAt s core trace rows mail a → core_messages s core trace rows ≡ base ++ before
-    → StandsAt s core trace (core_run s core trace rows mail n) mail b × (core_messages s core trace (core_run s core trace rows mail n) ≡ base ++ after)
+    (s : Config) (core : ℕ) (trace : List Entry) (rows : List CoreRow) (mail : List Message)
+    → StandsAt s core trace rows mail a
+    → StandsAt s core trace (core_run s core trace rows mail n) mail b
+    × ((base : List Message) → core_messages s core trace rows ≡ base ++ before → core_messages s core trace (core_run s core trace rows mail n) ≡ base ++ after)
 
 -- a core stands at the cycle in which a message comes, and the message may come
 pub record IsReceiving (view : CoreView) (m : Message) : Type 0 where
@@ -81,3 +83,11 @@ pub record IsReceiving (view : CoreView) (m : Message) : Type 0 where
   pub stands : StandsAt s core trace rows mail view
   pub now : m.arrival ≡ length rows
   pub due : IsDue s core trace rows mail m
+
+-- within a span a core has taken so many messages of its inbox, and sent these; no other comes before the cycle where it stands
+pub record IsMidway (s : Config) (core : ℕ) (trace : List Entry) (rows : List CoreRow) (mail : List Message) (from until : ℕ) (inbox : List Message) (taken : ℕ) (view : CoreView) (sent : List Message) : Type 0 where
+  pub since : from ≤ view.now
+  pub stands : StandsAt s core trace (core_run s core trace rows (mail ++ inbox) (view.now - from)) (mail ++ take taken inbox) view
+  pub messages : core_messages s core trace (core_run s core trace rows (mail ++ inbox) (view.now - from)) ≡ core_messages s core trace rows ++ sent
+  pub others : Each (λ m. view.now ≤ m.arrival) (drop taken inbox)
+  pub until_then : view.now ≤ until

@@ -1,6 +1,6 @@
 //! A core.
 
-ghost use Rattle.std.specs.Prelude.{[], ◌∷◌, ◌++◌, ◌/◌, ◌%◌, find, if◌then◌else◌, ◌≡◌, ◌==◌, ◌^◌, ◌+◌, ◌≤◌, ◌<◌, ℕ, Some, List, length, slice_get, OnOk, OnErr, IfOk};
+ghost use Rattle.std.specs.Prelude.{[], ◌∷◌, ◌++◌, ◌/◌, ◌%◌, find, if◌then◌else◌, ◌≡◌, ◌==◌, ◌^◌, ◌+◌, ◌-◌, ◌≤◌, ◌<◌, ℕ, Some, List, length, slice_get, OnOk, OnErr, IfOk};
 ghost use Rattle.sim_base.specs.declared.history.CoreRow.{CoreRow};
 ghost use Rattle.sim_base.specs.declared.message.Message.{Message};
 ghost use Rattle.sim_base.specs.declared.config.Config.{Config};
@@ -8,7 +8,8 @@ ghost use Rattle.sim_base.specs.declared.trace.Entry.{Entry};
 ghost use Rattle.statistics.specs.declared.final_state.Credits.{Credits};
 ghost use Rattle.core_window.specs.Turns.{lacks_by, IsTurn, credits_of_kind, more_credit};
 ghost use Rattle.core_window.specs.CoreViews.{view_of};
-ghost use Rattle.core_window.specs.Fit.{IsDue};
+ghost use Rattle.core_window.specs.Fit.{IsDue, MayRun, Runs};
+ghost use Rattle.core_window.specs.Stands.{StandsFor};
 ghost use Rattle.core_window.specs.Inside.{IsStanding, IsReceiving, StandsAt, Advances};
 ghost use Rattle.core_window.specs.Replies.{MayTakeReply, after_reply};
 ghost use Rattle.core_window.specs.declared.waiting.WaitingRead.{WaitingRead};
@@ -62,6 +63,13 @@ fn is_without_credit(credits: &[Credits], config: &Config, entry: Entry) -> bool
     }
 }
 
+/// A core after a span of cycles, and the messages that it sent in them.
+#[derive(Drop)]
+pub struct CoreDone {
+    pub core: Core,
+    pub messages: Vec<Message>,
+}
+
 impl Core {
     /// What the core does in the next cycle.
     fn turn(&self) -> Turn
@@ -92,7 +100,8 @@ impl Core {
     fn step(&mut self, sent: &mut Vec<Message>) -> Result<(), AllocError>
         requires stands { IsStanding (view_of self.old) }
         requires early { self.old.cycle < 2 ^ 62 }
-        ensures { OnOk result (Advances 1 (view_of self.old) sent.old.items (view_of self.new) sent.new.items) }
+        ensures cycle { OnOk result (self.new.cycle ≡ self.old.cycle + 1) }
+        ensures advances { OnOk result (Advances 1 (view_of self.old) sent.old.items (view_of self.new) sent.new.items) }
     {
         let turn = self.turn();
         wait_for(&mut self.waiting, turn.memory, self.cycle)?;
@@ -150,5 +159,93 @@ impl Core {
             Load::Credit { write, .. } => self.take_credit_on(message.link, write),
             Load::Request(_) => (),
         }
+    }
+
+    /// Goes on up to a cycle, while no further message comes.
+    fn advance(&mut self, until: Cycle, sent: &mut Vec<Message>) -> Result<(), AllocError>
+        requires stands { IsStanding (view_of self.old) }
+        requires order { self.old.cycle ≤ until }
+        requires early { until < 2 ^ 62 }
+        ensures cycle { OnOk result (self.new.cycle ≡ until) }
+        ensures advances { OnOk result (Advances (until - self.old.cycle) (view_of self.old) sent.old.items (view_of self.new) sent.new.items) }
+    {
+        'cycles: while self.cycle < until {
+            self.step(sent)?;
+        }
+        Ok(())
+    }
+
+    /// A core that has done nothing yet, with its trace. Only memory can be refused.
+    pub fn start(
+        alloc: Global,
+        config: &Config,
+        id: CoreId,
+        trace: Trace,
+    ) -> Result<Core, AllocError>
+        ensures { IfOk result (λ core. StandsFor config.now id trace [] [] (view_of core)) }
+    {
+        prove!(trace.len() <= 1 << 62);
+        let credits = Credits {
+            read: u64::from(config.read_credits),
+            write: u64::from(config.write_credits),
+        };
+        Ok(Core {
+            config: config.copy(alloc)?,
+            id,
+            trace,
+            cycle: 0,
+            waiting: Vec::with_capacity(alloc, config.window as usize)?,
+            credits: vec![in alloc; credits; usize::from(config.channels)]?,
+            stats: CoreStats::new(),
+        })
+    }
+
+    /// Runs the cycles from `from`, where the core stands, up to and without `until`, below 2^62. The messages that arrive in
+    /// them are given, and those that the core sends in them come back. Only memory can be refused; the core is then gone.
+    pub fn run(
+        self,
+        alloc: Global,
+        inbox: &[Message],
+        from: Cycle,
+        until: Cycle,
+    ) -> Result<CoreDone, AllocError>
+        requires at { self.cycle ≡ from }
+        requires order { from ≤ until }
+        requires early { until < 2 ^ 62 }
+        requires fit { MayRun (view_of self) from until inbox.now }
+        ensures { IfOk result (λ done. Runs (view_of self) from until inbox.now (view_of done.core) done.messages.items) }
+    {
+        let mut core = self;
+        let mut sent = Vec::new(alloc);
+        for message in inbox {
+            core.advance(message.arrival, &mut sent)?;
+            core.receive(*message);
+        }
+        core.advance(until, &mut sent)?;
+        Ok(CoreDone {
+            core,
+            messages: sent,
+        })
+    }
+
+    /// The cycle where the core stands: all before it are done.
+    pub fn now(&self) -> Cycle
+        ensures { result ≡ (view_of self.now).now }
+    {
+        self.cycle
+    }
+
+    /// What statistics count of the cycles before the one where the core stands.
+    pub fn stats(&self) -> CoreStats
+        ensures { result ≡ (view_of self.now).stats }
+    {
+        self.stats
+    }
+
+    /// The credits that the core holds for each channel, by number.
+    pub fn credits(&self) -> &[Credits]
+        ensures { result.now ≡ (view_of self.now).credits }
+    {
+        &self.credits
     }
 }

@@ -33,8 +33,8 @@ joined-self-requires c =
     ∙ ap (λ n. cycle_counts c.turn-turn.result.row c.turn-turn.result.why c.turn-turn.result.memory c.args.self.now.stats.retired n c.args.self.now.cycle) c.len.ensures.value))
     (fits_then c)
 
-pub returns : goal.returns
-returns c s core trace rows mail base h sent =
+pub returns-clause-advances : goal.returns-clause-advances
+returns-clause-advances c s core trace rows mail h =
     let kept : (with_items c.args.self.now.credits c.spend.new.credits).items ≡ c.spend.new.credits =
     with_items_is c.args.self.now.credits c.spend.new.credits (c.spend.auto.credits ∙ c.deref_mut.ensures.len) in
     step-advances (view_of c.args.self.now) _ c.turn-turn.result.row c.turn-turn.result.why c.turn-turn.result.memory c.args.sent.now.items c.send.new.sent.items
@@ -53,4 +53,4 @@ returns c s core trace rows mail base h sent =
       (c.cycle_counts-counts.ensures
       ∙ ap (λ n. cycle_counts c.turn-turn.result.row c.turn-turn.result.why c.turn-turn.result.memory c.args.self.now.stats.retired n c.args.self.now.cycle) c.len.ensures.value);
     })
-    (c.in_ok-send.ensures {u = tt}) s core trace rows mail base h sent
+    (c.in_ok-send.ensures {u = tt}) s core trace rows mail h
