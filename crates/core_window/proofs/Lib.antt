@@ -7,3 +7,4 @@ pub mod Stepping
 pub mod Turning
 pub mod Receiving
 pub mod Running
+pub mod Starting
