@@ -8,3 +8,5 @@ pub mod Turning
 pub mod Receiving
 pub mod Running
 pub mod Starting
+pub mod Fitting
+pub mod Resting

@@ -20,7 +20,7 @@ use Rattle.statistics.specs.declared.cores.CoreStats.{CoreStats}
 use Rattle.statistics.specs.declared.final_state.Credits.{Credits}
 use Rattle.statistics.proofs.CoreBounds.{retires-le}
 use Rattle.core_window.specs.Causes.{first_undone, issue_count}
-use Rattle.core_window.specs.Inside.{credits_now, core_arrived, StandsAt, IsStanding}
+use Rattle.core_window.specs.Inside.{credits_now, core_arrived, StandsAt, IsStanding, IsLike}
 use Rattle.core_window.specs.Stands.{IsPast}
 use Rattle.core_window.specs.Turns.{IsAhead, IsIssued, IsLast, MayIssue, IsTurn, lacks_by}
 use Rattle.core_window.specs.Views.{CoreView}
@@ -120,19 +120,22 @@ turn-from s core trace rows mail r one two lacks m why memory past found =
         ∙ lacks-false lacks (ltb one (length trace)) (lacks_credit s core mail sent now (slice_get trace one)) found.credit (lt-ltb one (length trace) inside)
         (λ t. omega (arith, last.first t, i.is_below, a))
 
-pub turn-is : (s : Config) (core : ℕ) (trace : List Entry) (rows : List CoreRow) (mail : List Message) (a : CoreView) (r one two : ℕ) (lacks : Bool) (m : ℕ) (why : Stop) (memory : Option MemoryEntry)
-    → StandsAt s core trace rows mail a
+pub turn-is : (s : Config) (core : ℕ) (trace : List Entry) (rows : List CoreRow) (mail : List Message) (a v : CoreView) (r one two : ℕ) (lacks : Bool) (m : ℕ) (why : Stop) (memory : Option MemoryEntry)
+    → IsLike a v → StandsAt s core trace rows mail v
     → Found a.config core a.trace mail (core_messages s core trace rows) (length rows) a.stats.issued a.stats.retired a.waiting r one two lacks m why memory
     → IsTurn s core trace rows mail (record { retired = r; issued = m }) why memory
-turn-is s core trace rows mail a r one two lacks m why memory h found =
+turn-is s core trace rows mail a v r one two lacks m why memory i h found =
     let P : Config → List Entry → ℕ → ℕ → List WaitingRead → Type 0 =
     λ x t n b w. Found x core t mail (core_messages s core trace rows) (length rows) n b w r one two lacks m why memory in
-    let f1 : P s a.trace a.stats.issued a.stats.retired a.waiting = subst (λ x. P x a.trace a.stats.issued a.stats.retired a.waiting) h.config found in
-    let f2 : P s trace a.stats.issued a.stats.retired a.waiting = subst (λ x. P s x a.stats.issued a.stats.retired a.waiting) h.entries f1 in
-    let f3 : P s trace (issued_before rows) a.stats.retired a.waiting = subst (λ x. P s trace x a.stats.retired a.waiting) (issued_of s core trace rows mail a h) f2 in
-    let f4 : P s trace (issued_before rows) (retired_before rows) a.waiting = subst (λ x. P s trace (issued_before rows) x a.waiting) (retired_of s core trace rows mail a h) f3 in
-    let f5 : P s trace (issued_before rows) (retired_before rows) (reads_waiting trace rows mail) = subst (λ x. P s trace (issued_before rows) (retired_before rows) x) h.waiting f4 in
+    let f1 : P s a.trace a.stats.issued a.stats.retired a.waiting = subst (λ x. P x a.trace a.stats.issued a.stats.retired a.waiting) (sym i.config ∙ h.config) found in
+    let f2 : P s trace a.stats.issued a.stats.retired a.waiting = subst (λ x. P s x a.stats.issued a.stats.retired a.waiting) (sym i.entries ∙ h.entries) f1 in
+    let f3 : P s trace (issued_before rows) a.stats.retired a.waiting = subst (λ x. P s trace x a.stats.retired a.waiting) (sym i.issued ∙ issued_of s core trace rows mail v h) f2 in
+    let f4 : P s trace (issued_before rows) (retired_before rows) a.waiting = subst (λ x. P s trace (issued_before rows) x a.waiting) (sym i.retired ∙ retired_of s core trace rows mail v h) f3 in
+    let f5 : P s trace (issued_before rows) (retired_before rows) (reads_waiting trace rows mail) = subst (λ x. P s trace (issued_before rows) (retired_before rows) x) (sym i.waiting ∙ h.waiting) f4 in
     turn-from s core trace rows mail r one two lacks m why memory h.past f5
+
+pub like-self : (a : CoreView) → IsLike a a
+like-self a = record { config = refl; entries = refl; waiting = refl; credits = refl; issued = refl; retired = refl }
 
 -- whether the core lacks a credit, by those that it holds
 lacks_credit-by : (s : Config) (core : ℕ) (trace : List Entry) (rows : List CoreRow) (mail : List Message) (entry : Entry) → Each (λ m. m.arrival ≤ length rows) mail
@@ -143,14 +146,15 @@ lacks_credit-by s core trace rows mail (Read address) h = ap (λ n. eqb n 0) (he
 lacks_credit-by s core trace rows mail (Write address) h = ap (λ n. eqb n 0) (held-now s core mail (core_messages s core trace rows) (place_of s address).channel true (length rows) h)
 
 -- what a core finds out of its credits
-pub lacks_here : (s : Config) (core : ℕ) (trace : List Entry) (rows : List CoreRow) (mail : List Message) (a : CoreView) (entry : Entry) (result : Bool) → StandsAt s core trace rows mail a
+pub lacks_here : (s : Config) (core : ℕ) (trace : List Entry) (rows : List CoreRow) (mail : List Message) (a v : CoreView) (entry : Entry) (result : Bool) → IsLike a v → StandsAt s core trace rows mail v
     → ((held : ℕ → Credits) → ((channel : ℕ) → channel < a.config.channels → slice_get a.credits channel ≡ Some (held channel)) → result ≡ lacks_by a.config held entry)
     → result ≡ lacks_credit a.config core mail (core_messages s core trace rows) (length rows) (Some entry)
-lacks_here s core trace rows mail a entry result h says =
-    says (credits_now s core trace rows mail) (λ channel l. h.credits channel (subst (λ (x : Config). channel < x.channels) h.config l))
-    ∙ ap (λ x. lacks_by x (credits_now s core trace rows mail) entry) h.config
+lacks_here s core trace rows mail a v entry result i h says =
+    let config : a.config ≡ s = sym i.config ∙ h.config in
+    says (credits_now s core trace rows mail) (λ channel l. ap (λ (cs : List Credits). slice_get cs channel) (sym i.credits) ∙ h.credits channel (subst (λ (x : Config). channel < x.channels) config l))
+    ∙ ap (λ x. lacks_by x (credits_now s core trace rows mail) entry) config
     ∙ sym (lacks_credit-by s core trace rows mail entry h.past.arrived)
-    ∙ ap (λ x. lacks_credit x core mail (core_messages s core trace rows) (length rows) (Some entry)) (sym h.config)
+    ∙ ap (λ x. lacks_credit x core mail (core_messages s core trace rows) (length rows) (Some entry)) (sym config)
 
 ahead_from : (trace : List Entry) (number one two : ℕ) → IsAhead trace number one two → number ≤ length trace → number ≤ two
 ahead_from trace number one two h l =

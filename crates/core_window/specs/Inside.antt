@@ -91,3 +91,13 @@ pub record IsMidway (s : Config) (core : ℕ) (trace : List Entry) (rows : List 
   pub messages : core_messages s core trace (core_run s core trace rows (mail ++ inbox) (view.now - from)) ≡ core_messages s core trace rows ++ sent
   pub others : Each (λ m. view.now ≤ m.arrival) (drop taken inbox)
   pub until_then : view.now ≤ until
+
+-- one core may do what another may: they differ in the cycle where they stand, and in what they counted but for the entries that
+-- they issued and retired
+pub record IsLike (a v : CoreView) : Type 0 where
+  pub config : v.config ≡ a.config
+  pub entries : v.trace ≡ a.trace
+  pub waiting : v.waiting ≡ a.waiting
+  pub credits : v.credits ≡ a.credits
+  pub issued : v.stats.issued ≡ a.stats.issued
+  pub retired : v.stats.retired ≡ a.stats.retired

@@ -7,3 +7,4 @@ pub mod Turns
 pub mod Causes
 pub mod CoreViews
 pub mod Replies
+pub mod Rests

@@ -1,6 +1,6 @@
 //! A core.
 
-ghost use Rattle.std.specs.Prelude.{[], ◌∷◌, ◌++◌, ◌/◌, ◌%◌, find, if◌then◌else◌, ◌≡◌, ◌==◌, ◌^◌, ◌+◌, ◌-◌, ◌≤◌, ◌<◌, ℕ, Some, List, length, slice_get, OnOk, OnErr, IfOk};
+ghost use Rattle.std.specs.Prelude.{[], ◌∷◌, ◌++◌, ◌/◌, ◌%◌, find, if◌then◌else◌, ◌≡◌, ◌==◌, ◌^◌, ◌+◌, ◌-◌, ◌≤◌, ◌<◌, ℕ, Some, List, length, replicate, slice_get, OnOk, OnErr, IfOk};
 ghost use Rattle.sim_base.specs.declared.history.CoreRow.{CoreRow};
 ghost use Rattle.sim_base.specs.declared.message.Message.{Message};
 ghost use Rattle.sim_base.specs.declared.config.Config.{Config};
@@ -10,7 +10,9 @@ ghost use Rattle.core_window.specs.Turns.{lacks_by, IsTurn, credits_of_kind, mor
 ghost use Rattle.core_window.specs.CoreViews.{view_of};
 ghost use Rattle.core_window.specs.Fit.{IsDue, MayRun, Runs};
 ghost use Rattle.core_window.specs.Stands.{StandsFor};
-ghost use Rattle.core_window.specs.Inside.{IsStanding, IsReceiving, StandsAt, Advances};
+ghost use Rattle.core_window.specs.Inside.{IsStanding, IsReceiving, IsLike, StandsAt, Advances};
+ghost use Rattle.core_window.specs.Views.{CoreView};
+ghost use Rattle.core_window.specs.Rests.{Rests, IsNextAct, MayRest, MaySkip, idle_row};
 ghost use Rattle.core_window.specs.Replies.{MayTakeReply, after_reply};
 ghost use Rattle.core_window.specs.declared.waiting.WaitingRead.{WaitingRead};
 
@@ -74,8 +76,8 @@ impl Core {
     /// What the core does in the next cycle.
     fn turn(&self) -> Turn
         requires { IsStanding (view_of self.now) }
-        ensures { (s : Config) (core : ℕ) (trace : List Entry) (rows : List CoreRow) (mail : List Message)
-            → StandsAt s core trace rows mail (view_of self.now) → IsTurn s core trace rows mail result.row result.why result.memory }
+        ensures { (v : CoreView) (s : Config) (core : ℕ) (trace : List Entry) (rows : List CoreRow) (mail : List Message)
+            → IsLike (view_of self.now) v → StandsAt s core trace rows mail v → IsTurn s core trace rows mail result.row result.why result.memory }
     {
         let len = self.trace.len();
         let number = self.stats.issued;
@@ -226,6 +228,47 @@ impl Core {
             core,
             messages: sent,
         })
+    }
+
+    /// The first cycle from `from`, where the core stands, in which it retires or issues an entry, while no message comes; none,
+    /// where it never does.
+    pub fn next_act(&self, from: Cycle) -> Option<Cycle>
+        requires at { self.now.cycle ≡ from }
+        requires stands { MayRest (view_of self.now) }
+        ensures { (s : Config) (core : ℕ) (trace : List Entry) (rows : List CoreRow) (mail : List Message)
+            → StandsFor s core trace rows mail (view_of self.now) → IsNextAct s core trace rows mail result }
+    {
+        let row = self.turn().row;
+        if row.retired == 0 && row.issued == 0 {
+            None
+        } else {
+            Some(from)
+        }
+    }
+
+    /// Goes on up to a cycle, at most the one in which the core acts next, with no message before it.
+    pub fn skip(&mut self, until: Cycle)
+        requires stands { MaySkip (view_of self.old) until }
+        requires early { until < 2 ^ 62 }
+        ensures { (s : Config) (core : ℕ) (trace : List Entry) (rows : List CoreRow) (mail : List Message)
+            → StandsFor s core trace rows mail (view_of self.old)
+            → StandsFor s core trace (rows ++ replicate (until - self.old.cycle) idle_row) mail (view_of self.new)
+            × Rests s core trace rows mail (until - self.old.cycle) }
+    {
+        let turn = self.turn();
+        let idle = cycle_counts(
+            CoreRow {
+                retired: 0,
+                issued: 0,
+            },
+            turn.why,
+            None,
+            0,
+            0,
+            self.cycle,
+        );
+        self.stats = self.stats.joined(idle.times(until - self.cycle));
+        self.cycle = until;
     }
 
     /// The cycle where the core stands: all before it are done.

@@ -2,9 +2,11 @@
 #![tactic(auto)]
 
 pub mod core_unit;
-pub mod counts;
-pub mod issue;
-pub mod issue_effects;
-pub mod receive;
-pub mod retire;
+mod counts;
+mod issue;
+mod issue_effects;
+mod receive;
+mod retire;
+#[cfg(test)]
+mod tests;
 pub mod waiting;

@@ -21,19 +21,19 @@ pub next_two-ahead-requires : goal.next_two-ahead-requires
 next_two-ahead-requires c = let h : IsSound (view_of c.args.self.now) = sound _ c.requires in h.issued
 
 pub returns : goal.returns
-returns c s core trace rows mail h =
+returns c v s core trace rows mail i h =
     let one = c.next_two-ahead.result.one in
     let a = view_of c.args.self.now in
     let lack = λ (b : Bool). b && lacks_credit a.config core mail (core_messages s core trace rows) (length rows) (slice_get a.trace one) in
-    turn-is s core trace rows mail (view_of c.args.self.now) c.retire_count-retired.result one c.next_two-ahead.result.two c.if-ahead-len.lacks
-    c.issue_of-issue.result.count c.issue_of-issue.result.why c.entry_issued-memory.result h
+    turn-is s core trace rows mail (view_of c.args.self.now) v c.retire_count-retired.result one c.next_two-ahead.result.two c.if-ahead-len.lacks
+    c.issue_of-issue.result.count c.issue_of-issue.result.why c.entry_issued-memory.result i h
     (record {
       retired = c.retire_count-retired.ensures ∙ ap (λ (ws : List WaitingRead). min a.config.width (first_undone a.stats.issued ws - a.stats.retired)) c.deref.ensures.value;
       ahead = c.next_two-ahead.ensures;
       credit = elim c.if-ahead-len.branch [
         then-ahead-len w ↦
           w.lacks-is
-          ∙ lacks_here s core trace rows mail a w.entry_at.result w.is_without_credit-lacks.result h
+          ∙ lacks_here s core trace rows mail a v w.entry_at.result w.is_without_credit-lacks.result i h
           (λ held says. w.is_without_credit-lacks.ensures held (λ channel l. ap (λ (cs : List Credits). slice_get cs channel) w.deref-then-ahead-len.ensures.value ∙ says channel l))
           ∙ ap (lacks_credit a.config core mail (core_messages s core trace rows) (length rows)) (sym w.entry_at.ensures)
           ∙ ap lack (sym (lt-ltb one (length a.trace) (omega (arith, c.len-len.ensures.value))))
