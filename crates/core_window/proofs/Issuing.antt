@@ -1,19 +1,17 @@
 -- What one cycle more changes: the Reads that wait, the messages that were sent, and the credits.
-use Rattle.std.proofs.Common.{◌≡◌, ℕ, zero, suc, ◌+◌, ◌-◌, ◌<◌, ◌≤◌, Bool, true, false, cond, not, ◌&&◌, ◌||◌, eqb, ltb, leb, List, [], ◌∷◌, ◌++◌, length, take, drop, Option, Some, None, refl, sym, ap, ap₂, subst, ◌∙◌, add-zero, add-one, zero-add, arith, ⊎_elim}
-use Rattle.std.specs.Prelude.{slice_get, count_by, sum_by, option_and_then}
+use Rattle.std.proofs.Common.{◌≡◌, ℕ, zero, suc, ◌+◌, ◌-◌, ◌<◌, ◌≤◌, Bool, true, false, cond, not, ◌&&◌, ◌||◌, eqb, List, [], ◌∷◌, ◌++◌, length, take, Option, Some, None, refl, sym, ap, ap₂, ◌∙◌, add-one, arith, ⊎_elim}
+use Rattle.std.specs.Prelude.{slice_get, count_by, option_and_then}
 use Rattle.std.specs.Option.{IfSome, option_to_list}
-use Rattle.std.specs.List.{AllByRecursion as Each, filter_map, prefix_len, range_with_len, list_any}
+use Rattle.std.specs.List.{AllByRecursion as Each, filter_map, prefix_len, range_with_len}
 use Rattle.std.proofs.Math.Seq.{take-append_seam, take-length}
-use Rattle.std.proofs.lemmas.Bool.{cases_lt, lt-ltb, lt-leb, le-leb, ne_eqb, false≢true}
-use Rattle.std.proofs.lemmas.List.{append-nil}
+use Rattle.std.proofs.lemmas.Bool.{cases_lt, lt-ltb, lt-leb, le-leb, ne_eqb}
 use Rattle.std.proofs.lemmas.List.Elements.{filter_map-append}
-use Rattle.std.proofs.lemmas.List.Sums.{sum_by-append, sum_by-cons}
+use Rattle.std.proofs.lemmas.List.Sums.{sum_by-append}
 use Rattle.sim_base.specs.declared.config.Config.{Config}
-use Rattle.sim_base.specs.Config.{credit_link}
-use Rattle.sim_base.specs.Counts.{is_read, is_write, replied_entry, is_unissued_after, issue_cycle}
-use Rattle.sim_base.specs.History.{below, request, request_of, retired_before, issued_before, requests_between, requests_in, core_messages}
+use Rattle.sim_base.specs.Counts.{is_read, replied_entry, is_unissued_after, issue_cycle}
+use Rattle.sim_base.specs.History.{below, request, request_of, issued_before, requests_between, requests_in, core_messages}
 use Rattle.sim_base.specs.Places.{place_of}
-use Rattle.sim_base.specs.Windows.{is_reply_to, is_request_for, is_credit, is_credit_on, credit_cap, held, lacks_credit}
+use Rattle.sim_base.specs.Windows.{is_reply_to, is_request_for}
 use Rattle.sim_base.specs.declared.history.CoreRow.{CoreRow}
 use Rattle.sim_base.specs.declared.message.Load.{Load}
 use Rattle.sim_base.specs.declared.message.Load.TheVariants as load
@@ -29,11 +27,11 @@ use Rattle.statistics.proofs.CoreSteps.{issued_before-push, issued_before-take-l
 use Rattle.statistics.proofs.Lists.{length-push_suc, take-push}
 use Rattle.core_window.specs.declared.waiting.WaitingRead.{WaitingRead}
 use Rattle.core_window.specs.Inside.{credits_now}
-use Rattle.core_window.specs.Stands.{IsPast, FollowsItsEntry, is_credit_from, credits_had, credits_spent}
-use Rattle.core_window.specs.Turns.{IsAmong, IsIssued, reads_issued, requests_issued, less_credit, credit_after_entry, credit_after, is_read_among, is_write_among}
+use Rattle.core_window.specs.Stands.{FollowsItsEntry, credits_had, credits_spent}
+use Rattle.core_window.specs.Turns.{IsAmong, IsIssued, reads_issued, requests_issued, less_credit, credit_after_entry, credit_after}
 use Rattle.core_window.specs.Waiting.{is_read_in, is_read_at, is_answered, waiting_read, reads_waiting}
 use Rattle.core_window.proofs.Ranges.{range-add, filter_map_range-more, filter_map_range-same, filter_map_range-none, prefix_len_range}
-use Rattle.core_window.proofs.Segments.{request_at, requests_between_none, requests_between_more, one_of_segment, count_none, count_one}
+use Rattle.core_window.proofs.Segments.{request_at, requests_between_none, requests_between_more, one_of_segment}
 use Rattle.std.proofs.lemmas.List.Folds.{length-prefix_len}
 
 -- the other entries that issue are Plain

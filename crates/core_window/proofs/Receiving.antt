@@ -1,22 +1,21 @@
 -- A core that stands for some messages stands, after one more, for those and this one.
-use Rattle.std.proofs.Common.{◌⊎◌, inl, inr, ◌≡◌, ℕ, zero, suc, ◌+◌, ◌-◌, ◌*◌, ◌/◌, ◌%◌, ◌^◌, ◌<◌, ◌≤◌, Bool, true, false, cond, not, ◌&&◌, ◌||◌, eqb, ltb, List, [], ◌∷◌, ◌++◌, length, take, Option, Some, None, refl, sym, ap, ap₂, subst, ◌∙◌, add-zero, add-one, zero-add, arith, ⊎_elim}
-use Rattle.std.specs.Prelude.{slice_get, count_by, sum_by, filter, find, is_some}
+use Rattle.std.proofs.Common.{◌⊎◌, inl, inr, ◌≡◌, ℕ, zero, suc, ◌+◌, ◌-◌, ◌*◌, ◌/◌, ◌%◌, ◌^◌, ◌<◌, ◌≤◌, Bool, true, false, cond, not, ◌&&◌, ◌||◌, eqb, List, [], ◌∷◌, ◌++◌, length, take, Option, Some, None, refl, sym, ap, ap₂, subst, ◌∙◌, add-one, arith, ⊎_elim}
+use Rattle.std.specs.Prelude.{slice_get, sum_by, filter, find, is_some}
 use Rattle.std.specs.Option.{IfSome}
-use Rattle.std.specs.List.{AllByRecursion as Each, filter_map, range_with_len, list_any, cons_option}
+use Rattle.std.specs.List.{filter_map, range_with_len, cons_option}
 use Rattle.std.proofs.Math.Seq.{take-length}
 use Rattle.std.proofs.lemmas.Nat.{mod-mul-add, mul-le}
-use Rattle.std.proofs.lemmas.Bool.{cases_lt, ne_eqb, eq-eqb, eqb-true, eqb-false, false≢true, cond_both}
-use Rattle.std.proofs.lemmas.List.{length-append, append-nil}
+use Rattle.std.proofs.lemmas.Bool.{cases_lt, ne_eqb, eq-eqb, eqb-true, eqb-false, cond_both}
+use Rattle.std.proofs.lemmas.List.{append-nil}
 use Rattle.std.proofs.lemmas.List.Elements.{filter-append}
 use Rattle.std.proofs.lemmas.List.Folds.{list_any-append}
-use Rattle.std.proofs.lemmas.List.Sums.{sum_by-append, sum_by-cons, sum_by_push}
+use Rattle.std.proofs.lemmas.List.Sums.{sum_by_push}
 use Rattle.sim_base.specs.declared.config.Config.{Config}
 use Rattle.sim_base.specs.Config.{credit_link}
-use Rattle.sim_base.specs.Counts.{is_reply, replies, replied_entry, wait_of, issue_cycle, read_latency}
-use Rattle.sim_base.specs.History.{below, retired_before, issued_before, core_messages}
-use Rattle.sim_base.specs.Windows.{is_reply_to, is_credit, credit_cap}
+use Rattle.sim_base.specs.Counts.{is_reply, replies, replied_entry, wait_of, issue_cycle}
+use Rattle.sim_base.specs.History.{below, issued_before}
+use Rattle.sim_base.specs.Windows.{is_reply_to, is_credit}
 use Rattle.sim_base.specs.declared.history.CoreRow.{CoreRow}
-use Rattle.sim_base.specs.declared.message.Load.{Load}
 use Rattle.sim_base.specs.declared.message.Load.TheVariants as load
 use Rattle.sim_base.specs.declared.message.Message.{Message}
 use Rattle.sim_base.specs.declared.trace.Entry.{Entry}
@@ -29,13 +28,13 @@ use Rattle.statistics.proofs.CoreBounds.{read_latency-le}
 use Rattle.statistics.proofs.CoreMail.{core_stats-later}
 use Rattle.statistics.proofs.CoreSteps.{replies-push, read_latency-push}
 use Rattle.statistics.proofs.Lists.{length-push_suc}
-use Rattle.core_window.specs.Fit.{IsAwaited, IsOwed, IsDue}
+use Rattle.core_window.specs.Fit.{IsAwaited, IsOwed}
 use Rattle.core_window.specs.Inside.{credits_now, core_arrived, StandsAt}
 use Rattle.core_window.specs.Replies.{MayTakeReply, after_reply}
 use Rattle.core_window.specs.Stands.{IsPast, FollowsItsEntry, is_credit_from, credits_had, credits_spent}
 use Rattle.core_window.specs.Turns.{more_credit, credits_of_kind}
 use Rattle.core_window.specs.Views.{CoreView}
-use Rattle.core_window.specs.Waiting.{is_read_in, is_read_at, is_answered, waiting_read, reads_waiting}
+use Rattle.core_window.specs.Waiting.{is_read_at, is_answered, waiting_read, reads_waiting}
 use Rattle.core_window.specs.declared.waiting.WaitingRead.{WaitingRead}
 use Rattle.core_window.proofs.Ranges.{filter_map_range-same}
 use Rattle.core_window.proofs.Stepping.{follows-read, replies-le}
@@ -326,7 +325,7 @@ credit-stands s core trace rows mail m a b write entry h now is due rest len eac
       waiting = ap (λ (x : CoreView). x.waiting) rest ∙ h.waiting ∙ sym waits;
       channels = len ∙ h.channels;
       credits = λ channel l. each channel (credits_now s core trace rows mail channel) (h.credits channel l) (λ e. room channel (sym at ∙ e))
-      ∙ ap Some (ap (λ n. cond (eqb n channel) (more_credit write (credits_now s core trace rows mail channel)) (credits_now s core trace rows mail channel)) at ∙ owed channel l);
+          ∙ ap Some (ap (λ n. cond (eqb n channel) (more_credit write (credits_now s core trace rows mail channel)) (credits_now s core trace rows mail channel)) at ∙ owed channel l);
       stats = ap (λ (x : CoreView). x.stats) rest ∙ h.stats ∙ stats;
       past = past-receives s core trace rows mail m h.past now (subst (λ x. IfSome (replied_entry x) (λ k. k < issued_before (take m.arrival rows))) (sym is) tt) answered;
     }

@@ -1,11 +1,11 @@
 -- A core that does nothing in a cycle does nothing in those after it, while no message comes.
-use Rattle.std.proofs.Common.{◌≡◌, ℕ, zero, suc, ◌+◌, ◌-◌, ◌*◌, ◌^◌, ◌<◌, ◌≤◌, Bool, true, false, cond, ◌&&◌, ltb, leb, eqb, List, [], ◌∷◌, ◌++◌, length, Option, Some, None, refl, sym, ap, ap₂, subst, ◌∙◌, add-zero, add-one, zero-add, append_assoc, arith, ⊎_elim}
+use Rattle.std.proofs.Common.{◌≡◌, ℕ, zero, suc, ◌+◌, ◌-◌, ◌*◌, ◌^◌, ◌<◌, Bool, true, false, cond, ◌&&◌, ltb, leb, eqb, List, [], ◌∷◌, ◌++◌, length, Option, Some, None, refl, sym, ap, ap₂, subst, ◌∙◌, add-zero, append_assoc, arith, ⊎_elim}
 use Rattle.std.specs.Prelude.{replicate}
 use Rattle.std.specs.Option.{option_or}
 use Rattle.std.proofs.lemmas.List.{append-nil}
 use Rattle.std.proofs.lemmas.Bool.{cases_lt, le-ltb, lt-leb}
 use Rattle.sim_base.specs.declared.config.Config.{Config}
-use Rattle.sim_base.specs.History.{retired_before, issued_before}
+use Rattle.sim_base.specs.History.{issued_before}
 use Rattle.sim_base.specs.Machine.{core_run}
 use Rattle.sim_base.specs.Windows.{step}
 use Rattle.sim_base.specs.declared.history.CoreRow.{CoreRow}
@@ -16,7 +16,7 @@ use Rattle.sim_base.specs.declared.trace.Stop.TheVariants as stop
 use Rattle.sim_base.specs.Counts.{is_stop}
 use Rattle.statistics.specs.Counts.{one_if}
 use Rattle.cpu_trace.specs.declared.entries.MemoryEntry.{MemoryEntry}
-use Rattle.statistics.specs.Cores.{core_stats, core_joined, core_times, CoreFits}
+use Rattle.statistics.specs.Cores.{core_joined, core_times, CoreFits}
 use Rattle.statistics.specs.declared.cores.CoreStats.{CoreStats}
 use Rattle.core_window.specs.Inside.{StandsAt, IsStanding, IsLike}
 use Rattle.core_window.specs.Rests.{idle_row, Rests, IsFirstAct, IsAtRest, MayRest, MaySkip}
@@ -26,7 +26,7 @@ use Rattle.std.specs.List.{AllByRecursion as Each}
 use Rattle.core_window.specs.Stands.{StandsFor}
 use Rattle.core_window.specs.Turns.{IsIssued, IsTurn, cycle_counts}
 use Rattle.core_window.specs.Views.{CoreView}
-use Rattle.core_window.proofs.Stepping.{IsStep, step-stands, past-fits}
+use Rattle.core_window.proofs.Stepping.{step-stands, past-fits}
 use Rattle.core_window.proofs.Running.{stands-at, stands-for, length-core_run}
 
 -- what is counted in a cycle in which a core does nothing
@@ -134,9 +134,10 @@ idle-stands s core trace rows mail a why memory turn h (suc n) = by (idle-stands
           channels = refl;
           credits = λ channel c e. e;
           stats = sym (idle-more a.stats why n a.now v.stats.retired (length a.trace) v.now);
-        }) in
-        (subst (λ r. StandsAt s core trace r mail (idle_view a why (suc n))) (replicate-more n idle_row rows) stands,
-        ap (λ r. r ++ (step s core trace r mail).0 ∷ []) d.1 ∙ ap (λ (x : CoreRow × Stop). before ++ x.0 ∷ []) t.does ∙ replicate-more n idle_row rows)
+        }) in (
+          subst (λ r. StandsAt s core trace r mail (idle_view a why (suc n))) (replicate-more n idle_row rows) stands,
+          ap (λ r. r ++ (step s core trace r mail).0 ∷ []) d.1 ∙ ap (λ (x : CoreRow × Stop). before ++ x.0 ∷ []) t.does ∙ replicate-more n idle_row rows,
+        )
 
 -- what a core does in a cycle, whatever else it counted
 abbrev pub Turns : CoreView → CoreRow → Stop → Option MemoryEntry → Type 0
@@ -180,9 +181,11 @@ length-rested s core trace rows mail n h = ap length (sym h) ∙ length-core_run
 rested : (s : Config) (core : ℕ) (trace : List Entry) (rows : List CoreRow) (mail : List Message) (v : CoreView) (n : ℕ) → Each (λ (m : Message). m.arrival < length rows) mail
     → StandsAt s core trace (rows ++ replicate n idle_row) mail v × Rests s core trace rows mail n → StandsFor s core trace (rows ++ replicate n idle_row) mail v × Rests s core trace rows mail n
 rested s core trace rows mail v n before d =
-    let len = length-rested s core trace rows mail n d.1 in
-    (stands-for s core trace (rows ++ replicate n idle_row) mail v d.0
-    (Each-weaker (λ (m : Message). m.arrival < length rows) (λ m. m.arrival < length (rows ++ replicate n idle_row)) (λ m k. omega arith) mail before), d.1)
+    let len = length-rested s core trace rows mail n d.1 in (
+      stands-for s core trace (rows ++ replicate n idle_row) mail v d.0
+          (Each-weaker (λ (m : Message). m.arrival < length rows) (λ m. m.arrival < length (rows ++ replicate n idle_row)) (λ m k. omega arith) mail before),
+      d.1,
+    )
 
 -- a core that skips
 pub skipped : (a : CoreView) (until : ℕ) (row : CoreRow) (why : Stop) (memory : Option MemoryEntry) → MaySkip a until → Turns a row why memory

@@ -1,15 +1,12 @@
 -- How many entries retire, by the first Read that waits.
-use Rattle.std.proofs.Common.{◌≡◌, ℕ, zero, suc, ◌+◌, ◌-◌, ◌<◌, ◌≤◌, min, Bool, true, false, cond, not, ◌&&◌, ◌||◌, nat_le, List, [], ◌∷◌, ◌++◌, length, take, Option, Some, None, refl, sym, ap, ap₂, subst, ◌∙◌, add-zero, add-one, zero-add, arith, ⊎_elim}
-use Rattle.std.specs.Prelude.{slice_get, take_while}
-use Rattle.std.specs.Option.{option_to_list}
+use Rattle.std.proofs.Common.{◌≡◌, ℕ, zero, suc, ◌+◌, ◌-◌, ◌<◌, ◌≤◌, min, Bool, true, false, cond, not, ◌&&◌, ◌||◌, List, [], ◌∷◌, ◌++◌, length, Option, Some, None, refl, sym, ap, ap₂, subst, ◌∙◌, arith}
+use Rattle.std.specs.Prelude.{slice_get}
 use Rattle.std.specs.List.{AllByRecursion as Each, filter_map, prefix_len, range_with_len, cons_option, list_any}
-use Rattle.std.proofs.lemmas.Bool.{false≢true, cases_lt, le-leb, and_right, not-true, not-false}
+use Rattle.std.proofs.lemmas.Bool.{false≢true, le-leb}
 use Rattle.std.proofs.lemmas.List.Elements.{filter_map-append}
 use Rattle.std.proofs.lemmas.List.Folds.{length-prefix_len}
-use Rattle.std.proofs.lemmas.List.Sums.{prefix_len_passes}
-use Rattle.std.proofs.lemmas.List.FromFn.{length-range_with_len, get_or-range_with_len}
 use Rattle.sim_base.specs.declared.config.Config.{Config}
-use Rattle.sim_base.specs.Counts.{is_read, issue_cycle}
+use Rattle.sim_base.specs.Counts.{issue_cycle}
 use Rattle.sim_base.specs.History.{below, retired_before, issued_before}
 use Rattle.sim_base.specs.Windows.{is_reply_to, is_replied, is_done_as, is_done, done_from, retires}
 use Rattle.sim_base.specs.declared.history.CoreRow.{CoreRow}

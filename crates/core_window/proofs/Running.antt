@@ -1,9 +1,9 @@
 -- A core over many cycles.
-use Rattle.std.proofs.Common.{get_or, ◌≡◌, ℕ, zero, suc, ◌+◌, ◌-◌, ◌^◌, ◌<◌, ◌≤◌, Bool, true, false, ◌&&◌, cond, eqb, ltb, List, [], ◌∷◌, ◌++◌, length, take, drop, Option, Some, None, refl, sym, ap, ap₂, subst, ◌∙◌, add-zero, add-one, zero-add, append_assoc, arith, ⊎_elim}
-use Rattle.std.specs.Prelude.{slice_get, count_by, filter}
+use Rattle.std.proofs.Common.{get_or, ◌≡◌, ℕ, zero, suc, ◌+◌, ◌-◌, ◌<◌, ◌≤◌, Bool, true, false, ◌&&◌, cond, eqb, List, [], ◌∷◌, ◌++◌, length, take, drop, Some, refl, sym, ap, ap₂, subst, ◌∙◌, add-zero, append_assoc, arith}
+use Rattle.std.specs.Prelude.{count_by, filter}
 use Rattle.std.specs.List.{AllByRecursion as Each}
 use Rattle.std.proofs.Math.Seq.{take-length}
-use Rattle.std.proofs.lemmas.Bool.{cases_lt, lt-ltb, ne_eqb}
+use Rattle.std.proofs.lemmas.Bool.{lt-ltb, ne_eqb}
 use Rattle.std.proofs.lemmas.List.{append-nil}
 use Rattle.std.proofs.lemmas.List.Sums.{sum_by-cons}
 use Rattle.sim_base.specs.declared.config.Config.{Config}
@@ -15,19 +15,19 @@ use Rattle.sim_base.specs.Final.{credits_left}
 use Rattle.sim_base.specs.declared.history.CoreRow.{CoreRow}
 use Rattle.sim_base.specs.declared.message.Message.{Message}
 use Rattle.sim_base.specs.declared.trace.Entry.{Entry}
-use Rattle.sim_base.proofs.Arrived.{arrived, NotBefore}
+use Rattle.sim_base.proofs.Arrived.{NotBefore}
 use Rattle.sim_base.proofs.Ordered.{Each-weaker}
 use Rattle.sim_base.proofs.Same.{step-same}
 use Rattle.statistics.specs.Counts.{one_if}
 use Rattle.sim_base.specs.Counts.{is_reply}
-use Rattle.statistics.specs.Cores.{core_stats, core_joined, replies_in, is_reply_in}
+use Rattle.statistics.specs.Cores.{core_stats, replies_in, is_reply_in}
 use Rattle.statistics.specs.Runs.{credits_of}
 use Rattle.statistics.specs.declared.final_state.Credits.{Credits}
 use Rattle.statistics.proofs.Lists.{length-push_suc}
 use Rattle.statistics.proofs.Messages.{arrived-later, NotBefore-sooner}
 use Rattle.core_window.specs.Fit.{IsDue, IsByArrival, Fit, MayRun, Runs}
-use Rattle.core_window.specs.Inside.{credits_now, core_arrived, StandsAt, IsStanding, IsReceiving, IsMidway, Advances}
-use Rattle.core_window.specs.Stands.{IsPast, StandsFor, is_credit_from, credits_had, credits_spent}
+use Rattle.core_window.specs.Inside.{credits_now, StandsAt, IsStanding, IsReceiving, IsMidway, Advances}
+use Rattle.core_window.specs.Stands.{StandsFor, is_credit_from, credits_had}
 use Rattle.core_window.specs.Views.{CoreView}
 use Rattle.core_window.proofs.Stepping.{with_none_arrived}
 
@@ -81,13 +81,14 @@ underway-more until a b d x y z u l n adv =
       since = omega (arith, u.since);
       until_then = omega arith;
       advances = λ s core trace rows mail h.
-      let one = u.advances s core trace rows mail h in
-      let two = adv s core trace (core_run s core trace rows mail (b.now - a.now)) mail one.0 in
-      let sum : d.now - a.now ≡ (b.now - a.now) + 1 = omega (arith, u.since) in
-      let e : core_run s core trace (core_run s core trace rows mail (b.now - a.now)) mail 1 ≡ core_run s core trace rows mail (d.now - a.now) =
-      sym (core_run-add s core trace rows mail (b.now - a.now) 1) ∙ ap (core_run s core trace rows mail) (sym sum) in
-      (subst (λ r. StandsAt s core trace r mail d) e two.0,
-      λ base f. ap (core_messages s core trace) (sym e) ∙ two.1 base (one.1 base f));
+          let one = u.advances s core trace rows mail h in
+          let two = adv s core trace (core_run s core trace rows mail (b.now - a.now)) mail one.0 in
+          let sum : d.now - a.now ≡ (b.now - a.now) + 1 = omega (arith, u.since) in
+          let e : core_run s core trace (core_run s core trace rows mail (b.now - a.now)) mail 1 ≡ core_run s core trace rows mail (d.now - a.now) =
+          sym (core_run-add s core trace rows mail (b.now - a.now) 1) ∙ ap (core_run s core trace rows mail) (sym sum) in (
+            subst (λ r. StandsAt s core trace r mail d) e two.0,
+            λ base f. ap (core_messages s core trace) (sym e) ∙ two.1 base (one.1 base f),
+          );
     }
 
 pub underway-standing : (until : ℕ) (a b : CoreView) (x y : List Message) → IsUnderway until a x b y → IsStanding a → IsStanding b
@@ -281,7 +282,7 @@ taking-first a from until inbox at l s core trace rows mail h fit =
     record {
       since = omega arith;
       stands = subst (λ k. StandsAt s core trace (core_run s core trace rows (mail ++ inbox) k) (mail ++ []) a) (sym z)
-      (subst (λ ms. StandsAt s core trace rows ms a) (sym (append-nil mail)) (stands-at s core trace rows mail a h));
+          (subst (λ ms. StandsAt s core trace rows ms a) (sym (append-nil mail)) (stands-at s core trace rows mail a h));
       messages = ap (λ k. core_messages s core trace (core_run s core trace rows (mail ++ inbox) k)) z ∙ sym (append-nil (core_messages s core trace rows));
       others = Each-weaker (λ (m : Message). from ≤ m.arrival) (λ m. a.now ≤ m.arrival) (λ m k. omega arith) inbox fit.from_then;
       until_then = omega arith;
@@ -369,9 +370,10 @@ taking-last a from until inbox b d x y start l h adv s core trace rows mail st f
     let P : ℕ → List Message → Type 0 = λ k ms. StandsAt s core trace (core_run s core trace rows (mail ++ inbox) (k - from)) ms d in
     let st1 : P until (mail ++ take n inbox) = subst (λ k. P k (mail ++ take n inbox)) now mid.stands in
     let st2 : StandsAt s core trace rows' (mail ++ inbox) d = subst (λ ms. P until ms) all st1 in
-    let long : length rows' ≡ until = sym st2.now ∙ now in
-    (stands-for s core trace rows' (mail ++ inbox) d st2
-    (Each-both (λ (m : Message). m.arrival < length rows') mail inbox
-    (Each-weaker (λ (m : Message). m.arrival < length rows) (λ m. m.arrival < length rows') (λ m k. omega (arith, before.since)) mail st.before)
-    (Each-weaker (λ (m : Message). m.arrival < until) (λ m. m.arrival < length rows') (λ m k. omega arith) inbox fit.until_then)),
-    ap (λ k. core_messages s core trace (core_run s core trace rows (mail ++ inbox) (k - from))) (sym now) ∙ mid.messages)
+    let long : length rows' ≡ until = sym st2.now ∙ now in (
+      stands-for s core trace rows' (mail ++ inbox) d st2
+          (Each-both (λ (m : Message). m.arrival < length rows') mail inbox
+          (Each-weaker (λ (m : Message). m.arrival < length rows) (λ m. m.arrival < length rows') (λ m k. omega (arith, before.since)) mail st.before)
+          (Each-weaker (λ (m : Message). m.arrival < until) (λ m. m.arrival < length rows') (λ m k. omega arith) inbox fit.until_then)),
+      ap (λ k. core_messages s core trace (core_run s core trace rows (mail ++ inbox) (k - from))) (sym now) ∙ mid.messages,
+    )

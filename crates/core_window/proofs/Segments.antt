@@ -12,9 +12,8 @@ use Rattle.std.proofs.lemmas.List.{append-nil}
 use Rattle.sim_base.specs.declared.config.Config.{Config}
 use Rattle.sim_base.specs.declared.message.Message.{Message}
 use Rattle.sim_base.specs.declared.trace.Entry.{Entry}
-use Rattle.sim_base.specs.History.{below, request_of, requests_between}
+use Rattle.sim_base.specs.History.{request_of, requests_between}
 use Rattle.sim_base.specs.Windows.{is_memory, is_memory_in, has_memory}
-use Rattle.sim_base.proofs.Below.{below_more}
 use Rattle.statistics.specs.Counts.{one_if}
 
 take_more : {X : Type 0} (xs : List X) (k : ℕ) → take (suc k) xs ≡ take k xs ++ option_to_list (slice_get xs k)

@@ -1,9 +1,9 @@
 -- A core that stands for some rows stands, after what it does in a cycle, for one row more.
-use Rattle.std.proofs.Common.{get_or, ◌≡◌, ℕ, zero, suc, ◌+◌, ◌-◌, ◌*◌, ◌^◌, ◌<◌, ◌≤◌, min, Bool, true, false, cond, not, ◌&&◌, ◌||◌, eqb, ltb, leb, List, [], ◌∷◌, ◌++◌, length, take, drop, Option, Some, None, refl, sym, ap, ap₂, subst, ◌∙◌, add-zero, add-one, zero-add, append_assoc, arith, ⊎_elim}
-use Rattle.std.specs.Prelude.{slice_get, count_by, sum_by, filter, option_and_then}
-use Rattle.std.specs.Option.{IfSome, option_or, option_to_list}
-use Rattle.std.specs.List.{AllByRecursion as Each, filter_map, prefix_len, range_with_len, list_any}
-use Rattle.std.proofs.lemmas.Bool.{cases_lt, lt-ltb, ne_eqb, eqb-false, false≢true, le-leb, eqb-true, ltb-true, cond_both, and_parts}
+use Rattle.std.proofs.Common.{get_or, ◌≡◌, ℕ, ◌+◌, ◌-◌, ◌^◌, ◌<◌, ◌≤◌, min, Bool, true, false, cond, not, ◌&&◌, eqb, ltb, leb, List, [], ◌∷◌, ◌++◌, length, take, drop, Option, Some, None, refl, sym, ap, ap₂, subst, ◌∙◌, add-zero, zero-add, append_assoc, arith, ⊎_elim}
+use Rattle.std.specs.Prelude.{slice_get, count_by, filter}
+use Rattle.std.specs.Option.{IfSome, option_to_list}
+use Rattle.std.specs.List.{AllByRecursion as Each, prefix_len, range_with_len}
+use Rattle.std.proofs.lemmas.Bool.{cases_lt, lt-ltb, ne_eqb, eqb-false, false≢true, eqb-true}
 use Rattle.std.proofs.lemmas.List.{length-append}
 use Rattle.std.proofs.lemmas.List.Folds.{length-prefix_len}
 use Rattle.std.proofs.lemmas.List.Sums.{prefix_len_passes, prefix_len-le-length, sum_by-cons}
@@ -11,13 +11,11 @@ use Rattle.std.proofs.lemmas.List.FromFn.{length-range_with_len, get_or-range_wi
 use Rattle.sim_base.specs.declared.config.Config.{Config}
 use Rattle.sim_base.specs.Config.{credit_link}
 use Rattle.sim_base.specs.Counts.{is_read, is_write, is_reply, is_reply_before, replies, replied_entry}
-use Rattle.sim_base.specs.History.{below, retired_before, issued_before, core_messages}
+use Rattle.sim_base.specs.History.{retired_before, issued_before, core_messages}
 use Rattle.sim_base.specs.Places.{place_of}
 use Rattle.sim_base.specs.Windows.{is_credit, is_credit_on, is_request_for, credit_cap, held, lacks_credit, is_done, is_done_as, is_replied, done_from, retires, step}
 use Rattle.sim_base.specs.Machine.{core_run}
 use Rattle.sim_base.specs.declared.history.CoreRow.{CoreRow}
-use Rattle.sim_base.specs.declared.message.Load.{Load}
-use Rattle.sim_base.specs.declared.message.Load.TheVariants as load
 use Rattle.sim_base.specs.declared.message.Message.{Message}
 use Rattle.sim_base.specs.declared.trace.Entry.{Entry}
 use Rattle.sim_base.specs.declared.trace.Entry.TheVariants.{Plain, Read, Write}
@@ -25,7 +23,7 @@ use Rattle.sim_base.specs.declared.trace.Stop.{Stop}
 use Rattle.sim_base.proofs.Ordered.{Each-weaker}
 use Rattle.cpu_trace.specs.declared.entries.MemoryEntry.{MemoryEntry}
 use Rattle.statistics.specs.Counts.{one_if}
-use Rattle.statistics.specs.Cores.{core_stats, core_cycle, core_cycle_with, core_joined, issued_in, replies_in, finish_in, is_reply_in, waited, FollowsItsRead, RepliesFollowReads, CoreFits}
+use Rattle.statistics.specs.Cores.{core_stats, core_cycle, core_cycle_with, core_joined, issued_in, replies_in, finish_in, is_reply_in, waited, RepliesFollowReads, CoreFits}
 use Rattle.statistics.specs.declared.cores.CoreStats.{CoreStats}
 use Rattle.statistics.specs.declared.final_state.Credits.{Credits}
 use Rattle.statistics.proofs.CoreBounds.{retires-le, issues-le, core_stats-fit}
@@ -34,7 +32,7 @@ use Rattle.statistics.proofs.CoreStretches.{core_joined-assoc}
 use Rattle.statistics.proofs.Lists.{length-push_suc, take-push, option_or-none}
 use Rattle.core_window.specs.Inside.{credits_now, core_arrived, StandsAt, Advances}
 use Rattle.core_window.specs.Stands.{IsPast, FollowsItsEntry, is_credit_from, credits_had, credits_spent}
-use Rattle.core_window.specs.Turns.{IsAmong, IsIssued, IsTurn, reads_issued, requests_issued, credit_after, cycle_counts, is_read_among, is_write_among}
+use Rattle.core_window.specs.Turns.{IsIssued, IsTurn, reads_issued, requests_issued, credit_after, cycle_counts, is_read_among, is_write_among}
 use Rattle.core_window.specs.Views.{CoreView}
 use Rattle.core_window.specs.declared.waiting.WaitingRead.{WaitingRead}
 use Rattle.core_window.specs.Waiting.{is_read_in, is_read_at, is_answered, reads_waiting}
@@ -325,10 +323,11 @@ unfolding core_run
 step-advances a b row why memory before after turn i e s core trace rows mail h =
     let t : IsTurn s core trace rows mail row why memory = turn s core trace rows mail h in
     let one : rows ++ (step s core trace rows mail).0 ∷ [] ≡ rows ++ row ∷ [] = ap (λ (x : CoreRow × Stop). rows ++ x.0 ∷ []) t.does in
-    let request : Config → ℕ → ℕ → List Message = λ x c n. requests_issued x c n memory in
-    (subst (λ r. StandsAt s core trace r mail b) (sym one) (step-stands s core trace rows mail a b row why memory h t i),
-    λ base sent. ap (core_messages s core trace) one
-    ∙ messages-push s core trace rows row memory t.issues
-    ∙ ap₂ (λ x y. x ++ y) sent (sym (ap (λ x. request x a.core a.now) h.config ∙ ap (λ c. request s c a.now) h.number ∙ ap (request s core) h.now))
-    ∙ append_assoc base before (requests_issued a.config a.core a.now memory)
-    ∙ ap (λ x. base ++ x) (sym e))
+    let request : Config → ℕ → ℕ → List Message = λ x c n. requests_issued x c n memory in (
+      subst (λ r. StandsAt s core trace r mail b) (sym one) (step-stands s core trace rows mail a b row why memory h t i),
+      λ base sent. ap (core_messages s core trace) one
+          ∙ messages-push s core trace rows row memory t.issues
+          ∙ ap₂ (λ x y. x ++ y) sent (sym (ap (λ x. request x a.core a.now) h.config ∙ ap (λ c. request s c a.now) h.number ∙ ap (request s core) h.now))
+          ∙ append_assoc base before (requests_issued a.config a.core a.now memory)
+          ∙ ap (λ x. base ++ x) (sym e),
+    )

@@ -1,9 +1,8 @@
 -- Where a core stops issuing.
-use Rattle.std.proofs.Common.{subst, ◌⊎◌, inl, inr, ◌≡◌, ℕ, zero, suc, ◌+◌, ◌-◌, ◌<◌, ◌≤◌, min, Bool, true, false, ◌&&◌, List, length, Option, Some, None, refl, sym, ap, ap₂, ◌∙◌, ltb, eqb, cond, arith, ⊎_elim}
+use Rattle.std.proofs.Common.{subst, ◌⊎◌, inl, inr, ◌≡◌, ℕ, zero, suc, ◌+◌, ◌-◌, ◌<◌, ◌≤◌, min, Bool, true, false, ◌&&◌, List, length, Option, Some, None, refl, sym, ap, ap₂, ◌∙◌, eqb, cond, arith, ⊎_elim}
 use Rattle.std.specs.Prelude.{slice_get, find, is_some, unwrap_or}
 use Rattle.std.specs.List.{range_with_len}
-use Rattle.std.proofs.lemmas.Bool.{false≢true, lt-ltb, le-ltb, cases_lt, ne_eqb, eq-eqb, cond_both, eqb-true, eqb-false, and_right}
-use Rattle.std.proofs.lemmas.Bool.Decides.{nat_tests}
+use Rattle.std.proofs.lemmas.Bool.{false≢true, lt-ltb, cases_lt, ne_eqb, eq-eqb, eqb-false, and_right}
 use Rattle.sim_base.specs.declared.config.Config.{Config}
 use Rattle.sim_base.specs.declared.message.Message.{Message}
 use Rattle.sim_base.specs.declared.trace.Entry.{Entry}
@@ -13,7 +12,7 @@ use Rattle.sim_base.specs.History.{below}
 use Rattle.sim_base.specs.Windows.{is_memory_in, has_memory, meets_memory, lacks_credit, stop_after, has_cause, first_stop}
 use Rattle.cpu_trace.specs.NextMemory.{IsPlainBetween}
 use Rattle.core_window.specs.Causes.{issue_count, cause_at}
-use Rattle.core_window.specs.Turns.{IsNextOrEnd, IsAhead, MayIssue, IsLast}
+use Rattle.core_window.specs.Turns.{IsAhead, MayIssue, IsLast}
 use Rattle.core_window.proofs.Segments.{has_memory-false, has_memory-true}
 
 find_from : (p : ℕ → Bool) (a n m : ℕ) → m < n → ((k : ℕ) → k < m → p (a + k) ≡ false) → p (a + m) ≡ true → find p (range_with_len a n) ≡ Some (a + m)

@@ -1,26 +1,25 @@
 -- What a core finds out for a cycle is what it does.
-use Rattle.std.proofs.Common.{◌≡◌, ℕ, zero, suc, ◌+◌, ◌-◌, ◌^◌, ◌<◌, ◌≤◌, min, Bool, true, false, ◌&&◌, eqb, ltb, List, [], ◌∷◌, ◌++◌, length, Option, Some, None, refl, sym, ap, ap₂, subst, ◌∙◌, add-zero, zero-add, arith, ⊎_elim}
-use Rattle.std.specs.Prelude.{slice_get, unwrap_or}
+use Rattle.std.proofs.Common.{◌≡◌, ℕ, ◌+◌, ◌-◌, ◌<◌, ◌≤◌, min, Bool, true, false, ◌&&◌, eqb, ltb, List, length, Option, Some, None, refl, sym, ap, subst, ◌∙◌, add-zero, arith, ⊎_elim}
+use Rattle.std.specs.Prelude.{slice_get}
 use Rattle.std.specs.Option.{IfSome}
 use Rattle.std.specs.List.{AllByRecursion as Each}
 use Rattle.std.proofs.lemmas.Bool.{cases_lt, lt-ltb, false≢true}
 use Rattle.sim_base.specs.declared.config.Config.{Config}
 use Rattle.sim_base.specs.History.{retired_before, issued_before, core_messages}
 use Rattle.sim_base.specs.Places.{place_of}
-use Rattle.sim_base.specs.Windows.{lacks_credit, retires, first_stop, stop_after, step_with, step}
+use Rattle.sim_base.specs.Windows.{lacks_credit, first_stop, stop_after, step_with, step}
 use Rattle.sim_base.specs.declared.history.CoreRow.{CoreRow}
 use Rattle.sim_base.specs.declared.message.Message.{Message}
 use Rattle.sim_base.specs.declared.trace.Entry.{Entry}
 use Rattle.sim_base.specs.declared.trace.Entry.TheVariants.{Plain, Read, Write}
 use Rattle.sim_base.specs.declared.trace.Stop.{Stop}
-use Rattle.sim_base.specs.declared.trace.Stop.TheVariants as stop
 use Rattle.cpu_trace.specs.declared.entries.MemoryEntry.{MemoryEntry}
-use Rattle.statistics.specs.Cores.{core_stats, core_joined}
+use Rattle.statistics.specs.Cores.{core_stats}
 use Rattle.statistics.specs.declared.cores.CoreStats.{CoreStats}
 use Rattle.statistics.specs.declared.final_state.Credits.{Credits}
 use Rattle.statistics.proofs.CoreBounds.{retires-le}
 use Rattle.core_window.specs.Causes.{first_undone, issue_count}
-use Rattle.core_window.specs.Inside.{credits_now, core_arrived, StandsAt, IsStanding, IsLike}
+use Rattle.core_window.specs.Inside.{credits_now, StandsAt, IsStanding, IsLike}
 use Rattle.core_window.specs.Stands.{IsPast}
 use Rattle.core_window.specs.Turns.{IsAhead, IsIssued, IsLast, MayIssue, IsTurn, lacks_by}
 use Rattle.core_window.specs.Views.{CoreView}
@@ -81,8 +80,8 @@ unfolding step
 turn-from s core trace rows mail r one two lacks m why memory past found =
     record {
       does = ap does_with (retires-by s core trace rows mail past ∙ sym found.retired)
-      ∙ ap (λ k. step_with r k (stop_after s core trace mail sent now first (before + r) k)) last.count
-      ∙ ap (step_with r m) last.cause;
+          ∙ ap (λ k. step_with r k (stop_after s core trace mail sent now first (before + r) k)) last.count
+          ∙ ap (step_with r m) last.cause;
       window = last.window;
       issues = found.issues;
       credit = by memory found.issues found.at;

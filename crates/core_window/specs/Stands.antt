@@ -1,7 +1,7 @@
 -- What a core stands for.
 --     IsPast s core trace rows mail      what holds of the rows of a core and of the messages that it had
 --     StandsFor s core trace rows mail view      all that a core keeps is what its rows and its messages make of it
-use Rattle.std.specs.Prelude.{◌≡◌, ℕ, ◌^◌, ◌+◌, ◌<◌, ◌≤◌, Bool, true, false, List, length, filter, count_by, slice_get, Some}
+use Rattle.std.specs.Prelude.{◌≡◌, ℕ, ◌^◌, ◌+◌, ◌<◌, ◌≤◌, Bool, true, List, length, filter, count_by, slice_get, Some}
 use Rattle.std.specs.Option.{IfSome}
 use Rattle.std.specs.List.{AllByRecursion as Each}
 use Rattle.sim_base.specs.declared.config.Config.{Config}

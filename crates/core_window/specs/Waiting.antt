@@ -2,7 +2,7 @@
 --     is_read_at trace entry      the entry of this number is a Read
 --     is_answered mail entry      a reply to it is among these messages
 --     reads_waiting trace rows mail      the Reads that were issued and have no reply, in order, each with its cycle
-use Rattle.std.specs.Prelude.{ℕ, Bool, true, false, not, ◌&&◌, List, slice_get, Option, Some, None, if◌then◌else◌}
+use Rattle.std.specs.Prelude.{ℕ, Bool, false, not, ◌&&◌, List, slice_get, Option, Some, None, if◌then◌else◌}
 use Rattle.std.specs.List.{filter_map, list_any}
 use Rattle.sim_base.specs.Counts.{is_read, issue_cycle}
 use Rattle.sim_base.specs.History.{below, issued_before}

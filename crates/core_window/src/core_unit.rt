@@ -47,7 +47,7 @@ pub struct Core {
 
 /// What a core does in a cycle, and why it stops; with the memory entry that it issues, if it issues one.
 #[derive(Clone, Copy, PartialEq, Eq, Debug)]
-pub struct Turn {
+pub(crate) struct Turn {
     pub row: CoreRow,
     pub why: Stop,
     pub memory: Option<MemoryEntry>,
@@ -275,20 +275,22 @@ impl Core {
     pub fn now(&self) -> Cycle
         ensures { result ≡ (view_of self.now).now }
     {
-        self.cycle
+        let Core { cycle, .. } = self;
+        *cycle
     }
 
     /// What statistics count of the cycles before the one where the core stands.
     pub fn stats(&self) -> CoreStats
         ensures { result ≡ (view_of self.now).stats }
     {
-        self.stats
+        let Core { stats, .. } = self;
+        *stats
     }
 
     /// The credits that the core holds for each channel, by number.
     pub fn credits(&self) -> &[Credits]
         ensures { result.now ≡ (view_of self.now).credits }
     {
-        &self.credits
+        self.credits.as_slice()
     }
 }

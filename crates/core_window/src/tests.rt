@@ -101,7 +101,12 @@ fn run_alone(
 #[test]
 fn two_reads_issue_one_a_cycle(rt: HostRuntime) -> Result<(), Fail> {
     let config = config(rt.alloc(), 8, 4)?;
-    let Alone { core, sent } = run_alone(rt.alloc(), &config, &[Entry::Read(0), Entry::Read(64)], 15)?;
+    let Alone { core, sent } = run_alone(
+        rt.alloc(),
+        &config,
+        &[Entry::Read(0), Entry::Read(64)],
+        15,
+    )?;
     let stats = core.stats();
     assert_eq!(rt; core.now(), 15);
     assert_eq!(rt; stats.issued, 2);
@@ -118,7 +123,12 @@ fn two_reads_issue_one_a_cycle(rt: HostRuntime) -> Result<(), Fail> {
 #[test]
 fn second_read_waits_for_the_only_credit(rt: HostRuntime) -> Result<(), Fail> {
     let config = config(rt.alloc(), 8, 1)?;
-    let Alone { core, sent } = run_alone(rt.alloc(), &config, &[Entry::Read(0), Entry::Read(64)], 7)?;
+    let Alone { core, sent } = run_alone(
+        rt.alloc(),
+        &config,
+        &[Entry::Read(0), Entry::Read(64)],
+        7,
+    )?;
     let stats = core.stats();
     assert_eq!(rt; stats.issued, 1);
     assert_eq!(rt; stats.stop_memory, 1);
@@ -134,7 +144,12 @@ fn second_read_waits_for_the_only_credit(rt: HostRuntime) -> Result<(), Fail> {
 #[test]
 fn window_of_one_entry_is_full(rt: HostRuntime) -> Result<(), Fail> {
     let config = config(rt.alloc(), 1, 4)?;
-    let Alone { core, sent } = run_alone(rt.alloc(), &config, &[Entry::Read(0), Entry::Read(64)], 15)?;
+    let Alone { core, sent } = run_alone(
+        rt.alloc(),
+        &config,
+        &[Entry::Read(0), Entry::Read(64)],
+        15,
+    )?;
     assert_eq!(rt; core.stats().stop_window, 15);
     assert_eq!(rt; core.stats().issued, 1);
     assert_eq!(rt; sent.len(), 1);

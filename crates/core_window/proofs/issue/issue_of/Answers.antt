@@ -1,6 +1,4 @@
-use Rattle.std.proofs.Common.{◌≡◌, ℕ, List, length, sym, subst, ap, ◌∙◌}
-use Rattle.sim_base.specs.declared.message.Message.{Message}
-use Rattle.sim_base.specs.declared.trace.Entry.{Entry}
+use Rattle.std.proofs.Common.{sym, subst, ap, ◌∙◌}
 use Rattle.core_window.specs.Turns.{IsLast}
 use Rattle.core_window.specs.Causes.{cause_at}
 use Rattle.core_window.proofs.Stopping.{is_last}

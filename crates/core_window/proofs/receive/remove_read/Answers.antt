@@ -1,4 +1,4 @@
-use Rattle.std.proofs.Common.{rules, ◌==◌, not, filter, ℕ, Bool, ◌≡◌, eqb, refl}
+use Rattle.std.proofs.Common.{rules, not, eqb}
 use Rattle.std.proofs.lemmas.Fn.{filter_same}
 use Rattle.core_window.specs.declared.waiting.WaitingRead.{WaitingRead}
 use Rattle.core_window.proofs.receive.remove_read.Goals as goal

@@ -1,5 +1,5 @@
 -- Each cycle goes on from the last.
-use Rattle.std.proofs.Common.{◌≡◌, ◌-◌, ℕ, subst, sym, ap, arith}
+use Rattle.std.proofs.Common.{◌≡◌, ◌-◌, subst, arith}
 use Rattle.core_window.specs.CoreViews.{view_of}
 use Rattle.core_window.specs.Inside.{Advances}
 use Rattle.core_window.proofs.Running.{underway-first, underway-more, underway-standing}

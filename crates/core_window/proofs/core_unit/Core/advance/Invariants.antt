@@ -1,5 +1,5 @@
 -- As many cycles are done as the core went on.
-use Rattle.std.proofs.Common.{◌≤◌, ◌-◌}
+use Rattle.std.proofs.Common.{◌-◌}
 use Rattle.core_window.specs.CoreViews.{view_of}
 use Rattle.core_window.proofs.Running.{IsUnderway}
 use Rattle.core_window.proofs.core_unit.Core.advance.Given as goal

@@ -1,8 +1,7 @@
 -- A core that does nothing in the next cycle never acts.
-use Rattle.std.proofs.Common.{◌≡◌, ℕ, ap, sym, arith}
+use Rattle.std.proofs.Common.{ap}
 use Rattle.sim_base.specs.declared.history.CoreRow.{CoreRow}
 use Rattle.core_window.specs.CoreViews.{view_of}
-use Rattle.core_window.specs.Rests.{idle_row}
 use Rattle.core_window.proofs.Resting.{rest-standing, row_is_idle, at_rest, first_act}
 use Rattle.core_window.proofs.core_unit.Core.next_act.Goals as goal
 use Rattle.core_window.proofs.core_unit.Core.next_act.Goals.{else-row-eq0-via-then-row-eq0+else-row-eq0-2, else-row-eq0-via-else-row-eq0}
@@ -19,7 +18,7 @@ pub returns-else-row-eq0 : goal.returns-else-row-eq0
 returns-else-row-eq0 c s core trace rows mail h =
     first_act s core trace rows mail (view_of c.args.self.now) c.turn.result.row c.turn.result.why c.turn.result.memory c.args.from c.requires.at
     (λ e. elim c.else-row-eq0.branch [
-      else-row-eq0-via-then-row-eq0+else-row-eq0-2 w ↦ w.if-row-eq0-2.false (ap (λ (r : CoreRow). r.issued) e)
-    | else-row-eq0-via-else-row-eq0 w ↦ w.if-row-eq0.false (ap (λ (r : CoreRow). r.retired) e)
+      | else-row-eq0-via-then-row-eq0+else-row-eq0-2 w ↦ w.if-row-eq0-2.false (ap (λ (r : CoreRow). r.issued) e)
+      | else-row-eq0-via-else-row-eq0 w ↦ w.if-row-eq0.false (ap (λ (r : CoreRow). r.retired) e)
     ])
     c.turn.ensures h

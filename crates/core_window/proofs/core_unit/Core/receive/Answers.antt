@@ -1,7 +1,6 @@
 -- A reply and a credit, each by its lemma; no request is due at a core.
-use Rattle.std.proofs.Common.{◌≡◌, ◌∙◌, ◌<◌, ℕ, List, [], ◌∷◌, ◌++◌, Some, sym, ap, subst, find, eqb}
+use Rattle.std.proofs.Common.{◌∙◌, ap, subst, find, eqb}
 use Rattle.sim_base.specs.Counts.{issue_cycle}
-use Rattle.sim_base.specs.declared.message.Load.TheVariants as load
 use Rattle.core_window.specs.CoreViews.{view_of}
 use Rattle.core_window.specs.Fit.{IsDueLoad}
 use Rattle.core_window.specs.declared.waiting.WaitingRead.{WaitingRead}

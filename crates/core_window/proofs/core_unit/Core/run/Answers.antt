@@ -1,7 +1,7 @@
 -- The core goes on up to each message, takes it, and goes on to the end.
-use Rattle.std.proofs.Common.{◌≡◌, ◌-◌, ◌<◌, ◌^◌, ℕ, length, subst, sym, ap, arith}
+use Rattle.std.proofs.Common.{◌≡◌, ◌<◌, ◌^◌, ℕ, length, subst, sym, arith}
 use Rattle.core_window.specs.CoreViews.{view_of}
-use Rattle.core_window.proofs.Running.{IsAt, IsTaking, is_at, taking-first, taking-standing, taking-order, taking-within, taking-until, taking-on, taking-now, taking-receives, taking-more, taking-last}
+use Rattle.core_window.proofs.Running.{IsTaking, is_at, taking-first, taking-standing, taking-order, taking-within, taking-until, taking-on, taking-receives, taking-more, taking-last}
 use Rattle.core_window.proofs.core_unit.Core.run.Goals as goal
 
 pub loop-message-init : goal.loop-message-init

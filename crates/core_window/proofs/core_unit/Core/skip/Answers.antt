@@ -1,5 +1,5 @@
 -- The cycles that are skipped count as a product.
-use Rattle.std.proofs.Common.{◌≡◌, ◌∙◌, ◌+◌, ◌-◌, ℕ, List, ◌++◌, ap, ap₂, sym, subst, arith}
+use Rattle.std.proofs.Common.{◌≡◌, ◌∙◌, ◌+◌, ◌-◌, ℕ, ◌++◌, ap, ap₂, sym, subst, arith}
 use Rattle.std.specs.Prelude.{replicate}
 use Rattle.statistics.specs.Cores.{core_joined, core_times, CoreFits}
 use Rattle.statistics.specs.declared.cores.CoreStats.{CoreStats}
@@ -7,7 +7,7 @@ use Rattle.core_window.specs.CoreViews.{view_of}
 use Rattle.core_window.specs.Rests.{idle_row, Rests}
 use Rattle.core_window.specs.Stands.{StandsFor}
 use Rattle.core_window.specs.Views.{CoreView}
-use Rattle.core_window.proofs.Resting.{idle_counts, idle_view, rest-standing, skipped, skip-fits}
+use Rattle.core_window.proofs.Resting.{idle_counts, rest-standing, skipped, skip-fits}
 use Rattle.core_window.proofs.core_unit.Core.skip.Goals as goal
 
 pub turn-turn-requires : goal.turn-turn-requires

@@ -1,6 +1,5 @@
 -- It stands for no rows and no messages.
-use Rattle.std.proofs.Common.{rules, ◌≡◌, ◌∙◌, ◌-◌, ℕ, length, subst, sym, ap, refl, arith}
-use Rattle.core_window.specs.CoreViews.{view_of}
+use Rattle.std.proofs.Common.{rules, refl, arith}
 use Rattle.core_window.proofs.Starting.{start-stands}
 use Rattle.core_window.proofs.core_unit.Core.start.Goals as goal
 

@@ -1,5 +1,5 @@
 -- The parts change a core as its turn says.
-use Rattle.std.proofs.Common.{◌≡◌, ◌∙◌, ℕ, List, length, sym, ap, refl, subst, arith}
+use Rattle.std.proofs.Common.{◌≡◌, ◌∙◌, List, length, sym, ap, refl, subst, arith}
 use Rattle.std.specs.Prelude.{slice_get}
 use Rattle.std.specs.Vec.{with_items}
 use Rattle.std.proofs.lemmas.List.{with_items_is}
@@ -48,10 +48,10 @@ returns-clause-advances c s core trace rows mail h =
       waiting = c.in_ok-wait_for.ensures {u = tt};
       channels = ap length kept ∙ c.spend.auto.credits ∙ ap length c.deref_mut.ensures.value;
       credits = λ channel x e. ap (λ (cs : List Credits). slice_get cs channel) kept
-      ∙ c.spend.ensures channel x (ap (λ (cs : List Credits). slice_get cs channel) c.deref_mut.ensures.value ∙ e);
+          ∙ c.spend.ensures channel x (ap (λ (cs : List Credits). slice_get cs channel) c.deref_mut.ensures.value ∙ e);
       stats = c.joined-self.ensures
-      ∙ ap (core_joined c.args.self.now.stats)
-      (c.cycle_counts-counts.ensures
-      ∙ ap (λ n. cycle_counts c.turn-turn.result.row c.turn-turn.result.why c.turn-turn.result.memory c.args.self.now.stats.retired n c.args.self.now.cycle) c.len.ensures.value);
+          ∙ ap (core_joined c.args.self.now.stats)
+          (c.cycle_counts-counts.ensures
+          ∙ ap (λ n. cycle_counts c.turn-turn.result.row c.turn-turn.result.why c.turn-turn.result.memory c.args.self.now.stats.retired n c.args.self.now.cycle) c.len.ensures.value);
     })
     (c.in_ok-send.ensures {u = tt}) s core trace rows mail h
