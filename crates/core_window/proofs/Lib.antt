@@ -1,0 +1,12 @@
+pub mod Segments
+pub mod Stopping
+pub mod Ranges
+pub mod Retiring
+pub mod Issuing
+pub mod Stepping
+pub mod Turning
+pub mod Receiving
+pub mod Running
+pub mod Starting
+pub mod Fitting
+pub mod Resting

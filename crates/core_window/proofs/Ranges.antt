@@ -1,0 +1,58 @@
+-- Numbers in a row, and what is found among them.
+use Rattle.std.proofs.Common.{◌≡◌, ℕ, zero, suc, ◌+◌, ◌<◌, ◌≤◌, Bool, true, false, cond, [], ◌∷◌, ◌++◌, length, Option, Some, None, refl, sym, ap, ap₂, ◌∙◌, add-zero, zero-add, arith}
+use Rattle.std.specs.Option.{option_to_list}
+use Rattle.std.specs.List.{filter_map, prefix_len, range_with_len, cons_option}
+use Rattle.std.proofs.lemmas.List.Elements.{filter_map-append}
+
+pub range-add : (a m n : ℕ) → range_with_len a (m + n) ≡ range_with_len a m ++ range_with_len (a + m) n
+range-add a zero n = ap₂ range_with_len (sym (add-zero a)) (zero-add n)
+range-add a (suc m) n =
+    let e1 : suc m + n ≡ suc (m + n) = omega arith in
+    let e2 : a + 1 + m ≡ a + suc m = omega arith in
+    ap (range_with_len a) e1 ∙ ap (λ l. a ∷ l) (range-add (a + 1) m n ∙ ap (λ b. range_with_len (a + 1) m ++ range_with_len b n) e2)
+
+pub range-more : (a n : ℕ) → range_with_len a (suc n) ≡ range_with_len a n ++ (a + n) ∷ []
+range-more a n = let e : suc n ≡ n + 1 = omega arith in ap (range_with_len a) e ∙ range-add a n 1
+
+as_list : {X : Type 0} (o : Option X) → cons_option o [] ≡ option_to_list o
+as_list None = refl
+as_list (Some x) = refl
+
+pub filter_map_range-more : {X : Type 0} (f : ℕ → Option X) (a n : ℕ) → filter_map f (range_with_len a (suc n)) ≡ filter_map f (range_with_len a n) ++ option_to_list (f (a + n))
+filter_map_range-more f a n =
+    ap (filter_map f) (range-more a n) ∙ filter_map-append f (range_with_len a n) ((a + n) ∷ [])
+    ∙ ap (λ l. filter_map f (range_with_len a n) ++ l) (as_list (f (a + n)))
+
+pub filter_map_range-same : {X : Type 0} (f g : ℕ → Option X) (a n : ℕ) → ((k : ℕ) → k < n → f (a + k) ≡ g (a + k)) → filter_map f (range_with_len a n) ≡ filter_map g (range_with_len a n)
+filter_map_range-same f g a zero h = refl
+filter_map_range-same f g a (suc n) h =
+    filter_map_range-more f a n
+    ∙ ap₂ (λ x y. x ++ option_to_list y) (filter_map_range-same f g a n (λ k l. h k (omega arith))) (h n (omega arith))
+    ∙ sym (filter_map_range-more g a n)
+
+pub filter_map_range-none : {X : Type 0} (f : ℕ → Option X) (a n : ℕ) → ((k : ℕ) → k < n → f (a + k) ≡ None) → filter_map f (range_with_len a n) ≡ []
+filter_map_range-none f a zero h = refl
+filter_map_range-none f a (suc n) h =
+    filter_map_range-more f a n ∙ ap₂ (λ x y. x ++ option_to_list y) (filter_map_range-none f a n (λ k l. h k (omega arith))) (h n (omega arith))
+
+pub length-filter_map_range : {X : Type 0} (f : ℕ → Option X) (a n : ℕ) → length (filter_map f (range_with_len a n)) ≤ n
+length-filter_map_range {X = X} f a zero = omega arith
+length-filter_map_range {X = X} f a (suc n) = by (length-filter_map_range f (a + 1) n) (f a)
+  where
+    by : length (filter_map f (range_with_len (a + 1) n)) ≤ n → (o : Option X) → length (cons_option o (filter_map f (range_with_len (a + 1) n))) ≤ suc n
+    by h None = omega arith
+    by h (Some x) = omega arith
+
+-- so many pass, and the next does not
+pub prefix_len_range : (p : ℕ → Bool) (a n m : ℕ) → m < n → ((k : ℕ) → k < m → p (a + k) ≡ true) → p (a + m) ≡ false → prefix_len p (range_with_len a n) ≡ m
+prefix_len_range p a zero m l before here = absurd (omega arith)
+prefix_len_range p a (suc n) zero l before here =
+    let e : a + 0 ≡ a = omega arith in
+    ap (λ b. cond b (1 + prefix_len p (range_with_len (a + 1) n)) 0) (ap p (sym e) ∙ here)
+prefix_len_range p a (suc n) (suc m) l before here =
+    let e0 : a + 0 ≡ a = omega arith in
+    let e1 : a + 1 + m ≡ a + suc m = omega arith in
+    let e2 : 1 + m ≡ suc m = omega arith in
+    ap (λ b. cond b (1 + prefix_len p (range_with_len (a + 1) n)) 0) (ap p (sym e0) ∙ before 0 (omega arith))
+    ∙ ap (λ k. 1 + k) (prefix_len_range p (a + 1) n m (omega arith) (λ k j. let e : a + 1 + k ≡ a + suc k = omega arith in ap p e ∙ before (suc k) (omega arith)) (ap p e1 ∙ here))
+    ∙ e2

@@ -1,0 +1,379 @@
+-- A core over many cycles.
+use Rattle.std.proofs.Common.{get_or, ◌≡◌, ℕ, zero, suc, ◌+◌, ◌-◌, ◌<◌, ◌≤◌, Bool, true, false, ◌&&◌, cond, eqb, List, [], ◌∷◌, ◌++◌, length, take, drop, Some, refl, sym, ap, ap₂, subst, ◌∙◌, add-zero, append_assoc, arith}
+use Rattle.std.specs.Prelude.{count_by, filter}
+use Rattle.std.specs.List.{AllByRecursion as Each}
+use Rattle.std.proofs.Math.Seq.{take-length}
+use Rattle.std.proofs.lemmas.Bool.{lt-ltb, ne_eqb}
+use Rattle.std.proofs.lemmas.List.{append-nil}
+use Rattle.std.proofs.lemmas.List.Sums.{sum_by-cons}
+use Rattle.sim_base.specs.declared.config.Config.{Config}
+use Rattle.sim_base.specs.Config.{credit_link}
+use Rattle.sim_base.specs.History.{core_messages}
+use Rattle.sim_base.specs.Machine.{core_run}
+use Rattle.sim_base.specs.Windows.{is_credit, is_credit_on, is_request_for, credit_cap, held, step}
+use Rattle.sim_base.specs.Final.{credits_left}
+use Rattle.sim_base.specs.declared.history.CoreRow.{CoreRow}
+use Rattle.sim_base.specs.declared.message.Message.{Message}
+use Rattle.sim_base.specs.declared.trace.Entry.{Entry}
+use Rattle.sim_base.proofs.Arrived.{NotBefore}
+use Rattle.sim_base.proofs.Ordered.{Each-weaker}
+use Rattle.sim_base.proofs.Same.{step-same}
+use Rattle.statistics.specs.Counts.{one_if}
+use Rattle.sim_base.specs.Counts.{is_reply}
+use Rattle.statistics.specs.Cores.{core_stats, replies_in, is_reply_in}
+use Rattle.statistics.specs.Runs.{credits_of}
+use Rattle.statistics.specs.declared.final_state.Credits.{Credits}
+use Rattle.statistics.proofs.Lists.{length-push_suc}
+use Rattle.statistics.proofs.Messages.{arrived-later, NotBefore-sooner}
+use Rattle.core_window.specs.Fit.{IsDue, IsByArrival, Fit, MayRun, Runs}
+use Rattle.core_window.specs.Inside.{credits_now, StandsAt, IsStanding, IsReceiving, IsMidway, Advances}
+use Rattle.core_window.specs.Stands.{StandsFor, is_credit_from, credits_had}
+use Rattle.core_window.specs.Views.{CoreView}
+use Rattle.core_window.proofs.Stepping.{with_none_arrived}
+
+pub length-core_run : (s : Config) (core : ℕ) (trace : List Entry) (rows : List CoreRow) (mail : List Message) (n : ℕ) → length (core_run s core trace rows mail n) ≡ length rows + n
+unfolding core_run
+length-core_run s core trace rows mail zero = sym (add-zero (length rows))
+length-core_run s core trace rows mail (suc n) =
+    let e = length-push_suc (core_run s core trace rows mail n) (step s core trace (core_run s core trace rows mail n) mail).0 in
+    omega (arith, length-core_run s core trace rows mail n)
+
+pub core_run-add : (s : Config) (core : ℕ) (trace : List Entry) (rows : List CoreRow) (mail : List Message) (m n : ℕ)
+    → core_run s core trace rows mail (m + n) ≡ core_run s core trace (core_run s core trace rows mail m) mail n
+unfolding core_run
+core_run-add s core trace rows mail m zero = ap (core_run s core trace rows mail) (add-zero m)
+core_run-add s core trace rows mail m (suc n) =
+    let e : m + suc n ≡ suc (m + n) = omega arith in
+    ap (core_run s core trace rows mail) e
+    ∙ ap (λ r. r ++ (step s core trace r mail).0 ∷ []) (core_run-add s core trace rows mail m n)
+
+-- messages that come later change nothing
+pub core_run-later : (s : Config) (core : ℕ) (trace : List Entry) (rows : List CoreRow) (mail later : List Message) (n : ℕ) → NotBefore (length rows + n) later
+    → core_run s core trace rows (mail ++ later) n ≡ core_run s core trace rows mail n
+unfolding core_run
+core_run-later s core trace rows mail later zero h = refl
+core_run-later s core trace rows mail later (suc n) h =
+    let before = core_run s core trace rows mail n in
+    let len : length before ≡ length rows + n = length-core_run s core trace rows mail n in
+    ap (λ r. r ++ (step s core trace r (mail ++ later)).0 ∷ []) (core_run-later s core trace rows mail later n (NotBefore-sooner (length rows + n) (length rows + suc n) (omega arith) later h))
+    ∙ ap (λ x. before ++ x.0 ∷ []) (step-same s core trace before (mail ++ later) mail
+    (arrived-later (length before + 1) mail later (NotBefore-sooner (length before + 1) (length rows + suc n) (omega arith) later h)))
+
+-- a core that goes on
+pub record IsUnderway (until : ℕ) (a : CoreView) (before : List Message) (b : CoreView) (after : List Message) : Type 0 where
+  pub since : a.now ≤ b.now
+  pub until_then : b.now ≤ until
+  pub advances : Advances (b.now - a.now) a before b after
+
+pub underway-first : (until : ℕ) (a : CoreView) (sent : List Message) → a.now ≤ until → IsUnderway until a sent a sent
+unfolding core_run
+underway-first until a sent l =
+    let z : a.now - a.now ≡ 0 = omega arith in
+    record {
+      since = omega arith;
+      until_then = l;
+      advances = subst (λ n. Advances n a sent a sent) (sym z) (λ s core trace rows mail h. (h, λ base e. e));
+    }
+
+pub underway-more : (until : ℕ) (a b d : CoreView) (x y z : List Message) → IsUnderway until a x b y → b.now < until → d.now ≡ b.now + 1 → Advances 1 b y d z → IsUnderway until a x d z
+underway-more until a b d x y z u l n adv =
+    record {
+      since = omega (arith, u.since);
+      until_then = omega arith;
+      advances = λ s core trace rows mail h.
+          let one = u.advances s core trace rows mail h in
+          let two = adv s core trace (core_run s core trace rows mail (b.now - a.now)) mail one.0 in
+          let sum : d.now - a.now ≡ (b.now - a.now) + 1 = omega (arith, u.since) in
+          let e : core_run s core trace (core_run s core trace rows mail (b.now - a.now)) mail 1 ≡ core_run s core trace rows mail (d.now - a.now) =
+          sym (core_run-add s core trace rows mail (b.now - a.now) 1) ∙ ap (core_run s core trace rows mail) (sym sum) in (
+            subst (λ r. StandsAt s core trace r mail d) e two.0,
+            λ base f. ap (core_messages s core trace) (sym e) ∙ two.1 base (one.1 base f),
+          );
+    }
+
+pub underway-standing : (until : ℕ) (a b : CoreView) (x y : List Message) → IsUnderway until a x b y → IsStanding a → IsStanding b
+underway-standing until a b x y u h =
+    record { s = h.s; core = h.core; trace = h.trace; rows = core_run h.s h.core h.trace h.rows h.mail (b.now - a.now); mail = h.mail; stands = (u.advances h.s h.core h.trace h.rows h.mail h.stands).0 }
+
+-- all of the mail came before a cycle
+held-all : (s : Config) (core : ℕ) (mail sent : List Message) (channel : ℕ) (write : Bool) (until : ℕ) → Each (λ m. m.arrival < until) mail
+    → held s core mail sent channel write until ≡ credits_had s core mail channel write - count_by (λ m. is_request_for channel write m.load) sent
+unfolding held
+held-all s core mail sent channel write until h =
+    ap (λ n. credit_cap s write + n - count_by (λ (m : Message). is_request_for channel write m.load) sent) (same mail h)
+  where
+    link : ℕ
+    link = credit_link s core channel
+
+    and_true : (b : Bool) → (b && true) ≡ b
+    and_true true = refl
+    and_true false = refl
+
+    same : (ms : List Message) → Each (λ m. m.arrival < until) ms → count_by (is_credit_on link write until) ms ≡ count_by (is_credit_from link write) ms
+    same [] k = refl
+    same (m ∷ ms) k =
+        sum_by-cons (λ (x : Message). one_if (is_credit_on link write until x)) m ms
+        ∙ ap₂ (λ b n. one_if (eqb m.link link && is_credit write m.load && b) + n) (lt-ltb m.arrival until k.0) (same ms k.1)
+        ∙ ap (λ b. one_if b + count_by (is_credit_from link write) ms) (and_true (eqb m.link link && is_credit write m.load))
+        ∙ sym (sum_by-cons (λ (x : Message). one_if (is_credit_from link write x)) m ms)
+
+credits_of-now : (s : Config) (core : ℕ) (trace : List Entry) (rows : List CoreRow) (mail : List Message) (channel : ℕ) → Each (λ m. m.arrival < length rows) mail
+    → credits_of s core trace rows mail channel ≡ credits_now s core trace rows mail channel
+unfolding credits_of credits_left
+credits_of-now s core trace rows mail channel h =
+    let both : ℕ → ℕ → Credits = λ r w. record { read = r; write = w } in
+    ap₂ both (held-all s core mail (core_messages s core trace rows) channel false (length rows) h) (held-all s core mail (core_messages s core trace rows) channel true (length rows) h)
+
+none_now : (n : ℕ) (mail : List Message) → Each (λ m. m.arrival < n) mail → replies_in n mail ≡ []
+unfolding replies_in
+none_now n [] h = refl
+none_now n (m ∷ mail) h =
+    ap (λ b. cond (is_reply m && b) (m ∷ filter (is_reply_in n) mail) (filter (is_reply_in n) mail)) (ne_eqb m.arrival n (λ e. omega (arith, h.0)))
+    ∙ ap (λ b. cond b (m ∷ filter (is_reply_in n) mail) (filter (is_reply_in n) mail)) (and_false (is_reply m))
+    ∙ none_now n mail h.1
+  where
+    and_false : (b : Bool) → (b && false) ≡ false
+    and_false true = refl
+    and_false false = refl
+
+-- at the beginning of a cycle
+pub stands-at : (s : Config) (core : ℕ) (trace : List Entry) (rows : List CoreRow) (mail : List Message) (a : CoreView) → StandsFor s core trace rows mail a → StandsAt s core trace rows mail a
+stands-at s core trace rows mail a h =
+    record {
+      config = h.config;
+      number = h.number;
+      entries = h.entries;
+      now = h.now;
+      waiting = h.waiting;
+      channels = h.channels;
+      credits = λ channel l. h.credits channel l ∙ ap Some (credits_of-now s core trace rows mail channel h.before);
+      stats = h.stats ∙ sym (with_none_arrived (core_stats s core trace rows mail) rows mail (none_now (length rows) mail h.before));
+      past = h.past;
+    }
+
+pub stands-for : (s : Config) (core : ℕ) (trace : List Entry) (rows : List CoreRow) (mail : List Message) (a : CoreView) → StandsAt s core trace rows mail a
+    → Each (λ m. m.arrival < length rows) mail → StandsFor s core trace rows mail a
+stands-for s core trace rows mail a h before =
+    record {
+      config = h.config;
+      number = h.number;
+      entries = h.entries;
+      now = h.now;
+      waiting = h.waiting;
+      channels = h.channels;
+      credits = λ channel l. h.credits channel l ∙ ap Some (sym (credits_of-now s core trace rows mail channel before));
+      stats = h.stats ∙ with_none_arrived (core_stats s core trace rows mail) rows mail (none_now (length rows) mail before);
+      before = before;
+      past = h.past;
+    }
+
+-- what a core that takes its inbox stands for, whatever it stood for
+abbrev pub IsTaking : CoreView → ℕ → ℕ → List Message → ℕ → CoreView → List Message → Type 0
+IsTaking a from until inbox taken b sent =
+    (s : Config) (core : ℕ) (trace : List Entry) (rows : List CoreRow) (mail : List Message)
+    → StandsFor s core trace rows mail a → Fit s core trace rows mail from until inbox
+    → IsMidway s core trace rows mail from until inbox taken b sent
+
+-- a message stands at a place of an inbox
+pub record IsAt (inbox : List Message) (i : ℕ) (m : Message) : Type 0 where
+  pub rest : drop i inbox ≡ m ∷ drop (i + 1) inbox
+  pub more : take (i + 1) inbox ≡ take i inbox ++ m ∷ []
+
+pub is_at : (inbox : List Message) (i : ℕ) (d : Message) → i < length inbox → IsAt inbox i (get_or inbox i d)
+is_at [] i d l = absurd (omega arith)
+is_at (x ∷ xs) zero d l = record { rest = refl; more = refl }
+is_at (x ∷ xs) (suc i) d l =
+    let h : IsAt xs i (get_or xs i d) = is_at xs i d (omega arith) in
+    let n : suc i + 1 ≡ suc (i + 1) = omega arith in
+    record { rest = h.rest ∙ ap (λ k. get_or xs i d ∷ drop k (x ∷ xs)) (sym n); more = ap (λ k. take k (x ∷ xs)) n ∙ ap (λ l. x ∷ l) h.more }
+
+take-drop-all : (inbox : List Message) (i : ℕ) → take i inbox ++ drop i inbox ≡ inbox
+take-drop-all [] zero = refl
+take-drop-all [] (suc i) = refl
+take-drop-all (x ∷ xs) zero = refl
+take-drop-all (x ∷ xs) (suc i) = ap (λ l. x ∷ l) (take-drop-all xs i)
+
+ordered-drop : (inbox : List Message) (i : ℕ) → IsByArrival inbox → IsByArrival (drop i inbox)
+ordered-drop [] zero h = h
+ordered-drop [] (suc i) h = h
+ordered-drop (x ∷ xs) zero h = h
+ordered-drop (x ∷ xs) (suc i) h = ordered-drop xs i h.1
+
+-- no message that is left comes sooner than the next
+pub next_first : (inbox : List Message) (i : ℕ) (m : Message) → IsByArrival inbox → IsAt inbox i m → Each (λ n. m.arrival ≤ n.arrival) (drop i inbox)
+next_first inbox i m h at =
+    subst (Each (λ (n : Message). m.arrival ≤ n.arrival)) (sym at.rest)
+    (let k : IsByArrival (m ∷ drop (i + 1) inbox) = subst IsByArrival at.rest (ordered-drop inbox i h) in (omega arith, k.0))
+
+Each-drop : (P : Message → Type 0) (inbox : List Message) (i : ℕ) → Each P inbox → Each P (drop i inbox)
+Each-drop P [] zero h = h
+Each-drop P [] (suc i) h = h
+Each-drop P (x ∷ xs) zero h = h
+Each-drop P (x ∷ xs) (suc i) h = Each-drop P xs i h.1
+
+Each-at : (P : Message → Type 0) (inbox : List Message) (i : ℕ) (m : Message) → Each P (drop i inbox) → IsAt inbox i m → P m
+Each-at P inbox i m h at = (subst (Each P) at.rest h).0
+
+-- a core goes on up to a cycle before which no message comes
+pub goes_on : (s : Config) (core : ℕ) (trace : List Entry) (rows : List CoreRow) (mail : List Message) (from until : ℕ) (inbox : List Message) (i : ℕ) (b d : CoreView) (x y : List Message) (t : ℕ)
+    → length rows ≡ from → IsMidway s core trace rows mail from until inbox i b x → b.now ≤ t → t ≤ until → Each (λ m. t ≤ m.arrival) (drop i inbox)
+    → Advances (t - b.now) b x d y → IsMidway s core trace rows mail from until inbox i d y
+goes_on s core trace rows mail from until inbox i b d x y t start mid l u others adv =
+    let full = mail ++ inbox in
+    let had = mail ++ take i inbox in
+    let at = core_run s core trace rows full (b.now - from) in
+    let n = t - b.now in
+    let all : had ++ drop i inbox ≡ full = append_assoc mail (take i inbox) (drop i inbox) ∙ ap (λ ms. mail ++ ms) (take-drop-all inbox i) in
+    let long : length at ≡ b.now = sym mid.stands.now in
+    let late : NotBefore (length at + n) (drop i inbox) = Each-weaker (λ (m : Message). t ≤ m.arrival) (λ m. length at + n ≤ m.arrival) (λ m h. omega arith) (drop i inbox) others in
+    let sum : (b.now - from) + n ≡ t - from = omega (arith, mid.since) in
+    let same : core_run s core trace at had n ≡ core_run s core trace rows full (t - from) =
+    sym (core_run-later s core trace at had (drop i inbox) n late) ∙ ap (λ ms. core_run s core trace at ms n) all
+    ∙ sym (core_run-add s core trace rows full (b.now - from) n) ∙ ap (core_run s core trace rows full) sum in
+    let one = adv s core trace at had mid.stands in
+    let stands : StandsAt s core trace (core_run s core trace rows full (t - from)) had d = subst (λ r. StandsAt s core trace r had d) same one.0 in
+    let now : d.now ≡ t = omega (arith, stands.now, length-core_run s core trace rows full (t - from), mid.since) in
+    let messages : core_messages s core trace (core_run s core trace rows full (t - from)) ≡ core_messages s core trace rows ++ y = ap (core_messages s core trace) (sym same) ∙ one.1 (core_messages s core trace rows) mid.messages in
+    record {
+      since = omega (arith, mid.since);
+      stands = subst (λ k. StandsAt s core trace (core_run s core trace rows full (k - from)) had d) (sym now) stands;
+      messages = ap (λ k. core_messages s core trace (core_run s core trace rows full (k - from))) now ∙ messages;
+      others = Each-weaker (λ (m : Message). t ≤ m.arrival) (λ m. d.now ≤ m.arrival) (λ m h. omega arith) (drop i inbox) others;
+      until_then = omega arith;
+    }
+
+pub now_at : (s : Config) (core : ℕ) (trace : List Entry) (rows : List CoreRow) (mail : List Message) (from until : ℕ) (inbox : List Message) (i : ℕ) (b d : CoreView) (x y : List Message) (t : ℕ)
+    → length rows ≡ from → IsMidway s core trace rows mail from until inbox i b x → b.now ≤ t → Advances (t - b.now) b x d y → d.now ≡ t
+now_at s core trace rows mail from until inbox i b d x y t start mid l adv =
+    let at = core_run s core trace rows (mail ++ inbox) (b.now - from) in
+    let one = adv s core trace at (mail ++ take i inbox) mid.stands in
+    omega (arith, one.0.now, mid.stands.now, length-core_run s core trace at (mail ++ take i inbox) (t - b.now))
+
+-- a core takes a message
+pub takes : (s : Config) (core : ℕ) (trace : List Entry) (rows : List CoreRow) (mail : List Message) (from until : ℕ) (inbox : List Message) (i : ℕ) (d e : CoreView) (y : List Message) (m : Message)
+    → IsMidway s core trace rows mail from until inbox i d y → IsAt inbox i m
+    → StandsAt s core trace (core_run s core trace rows (mail ++ inbox) (d.now - from)) ((mail ++ take i inbox) ++ m ∷ []) e
+    → IsMidway s core trace rows mail from until inbox (i + 1) e y
+takes s core trace rows mail from until inbox i d e y m mid at stands =
+    let now : e.now ≡ d.now = stands.now ∙ sym mid.stands.now in
+    let had : (mail ++ take i inbox) ++ m ∷ [] ≡ mail ++ take (i + 1) inbox = append_assoc mail (take i inbox) (m ∷ []) ∙ ap (λ ms. mail ++ ms) (sym at.more) in
+    let P : ℕ → List Message → Type 0 = λ k ms. StandsAt s core trace (core_run s core trace rows (mail ++ inbox) (k - from)) ms e in
+    let st1 : P e.now ((mail ++ take i inbox) ++ m ∷ []) = subst (λ k. P k ((mail ++ take i inbox) ++ m ∷ [])) (sym now) stands in
+    record {
+      since = omega (arith, mid.since);
+      stands = subst (λ ms. P e.now ms) had st1;
+      messages = ap (λ k. core_messages s core trace (core_run s core trace rows (mail ++ inbox) (k - from))) now ∙ mid.messages;
+      others = Each-weaker (λ (n : Message). d.now ≤ n.arrival) (λ n. e.now ≤ n.arrival) (λ n h. omega arith) (drop (i + 1) inbox) (subst (Each (λ (n : Message). d.now ≤ n.arrival)) at.rest mid.others).1;
+      until_then = omega (arith, mid.until_then);
+    }
+
+-- it may take the message
+pub may_take : (s : Config) (core : ℕ) (trace : List Entry) (rows : List CoreRow) (mail : List Message) (from until : ℕ) (inbox : List Message) (i : ℕ) (d : CoreView) (y : List Message) (m : Message)
+    → IsMidway s core trace rows mail from until inbox i d y → IsAt inbox i m → d.now ≡ m.arrival → Fit s core trace rows mail from until inbox
+    → IsDue s core trace (core_run s core trace rows (mail ++ inbox) (d.now - from)) (mail ++ take i inbox) m
+may_take s core trace rows mail from until inbox i d y m mid at now fit =
+    let split : inbox ≡ take i inbox ++ m ∷ drop (i + 1) inbox = sym (take-drop-all inbox i) ∙ ap (λ l. take i inbox ++ l) at.rest in
+    subst (λ k. IsDue s core trace (core_run s core trace rows (mail ++ inbox) (k - from)) (mail ++ take i inbox) m) (sym now) (fit.due (take i inbox) (drop (i + 1) inbox) m split)
+
+pub taking-first : (a : CoreView) (from until : ℕ) (inbox : List Message) → a.now ≡ from → from ≤ until → IsTaking a from until inbox 0 a []
+unfolding core_run
+taking-first a from until inbox at l s core trace rows mail h fit =
+    let z : a.now - from ≡ 0 = omega arith in
+    record {
+      since = omega arith;
+      stands = subst (λ k. StandsAt s core trace (core_run s core trace rows (mail ++ inbox) k) (mail ++ []) a) (sym z)
+          (subst (λ ms. StandsAt s core trace rows ms a) (sym (append-nil mail)) (stands-at s core trace rows mail a h));
+      messages = ap (λ k. core_messages s core trace (core_run s core trace rows (mail ++ inbox) k)) z ∙ sym (append-nil (core_messages s core trace rows));
+      others = Each-weaker (λ (m : Message). from ≤ m.arrival) (λ m. a.now ≤ m.arrival) (λ m k. omega arith) inbox fit.from_then;
+      until_then = omega arith;
+    }
+
+pub taking-standing : (a : CoreView) (from until : ℕ) (inbox : List Message) (i : ℕ) (b : CoreView) (x : List Message) → MayRun a from until inbox → IsTaking a from until inbox i b x → IsStanding b
+taking-standing a from until inbox i b x may h =
+    record {
+      s = may.s;
+      core = may.core;
+      trace = may.trace;
+      rows = core_run may.s may.core may.trace may.rows (may.mail ++ inbox) (b.now - from);
+      mail = may.mail ++ take i inbox;
+      stands = (h may.s may.core may.trace may.rows may.mail may.stands may.fit).stands;
+    }
+
+pub taking-order : (a : CoreView) (from until : ℕ) (inbox : List Message) (i : ℕ) (b : CoreView) (x : List Message) (m : Message) → MayRun a from until inbox → IsTaking a from until inbox i b x → IsAt inbox i m → b.now ≤ m.arrival
+taking-order a from until inbox i b x m may h at =
+    Each-at (λ (n : Message). b.now ≤ n.arrival) inbox i m (h may.s may.core may.trace may.rows may.mail may.stands may.fit).others at
+
+pub taking-within : (a : CoreView) (from until : ℕ) (inbox : List Message) (i : ℕ) (m : Message) → MayRun a from until inbox → IsAt inbox i m → m.arrival < until
+taking-within a from until inbox i m may at = Each-at (λ (n : Message). n.arrival < until) inbox i m (Each-drop (λ (n : Message). n.arrival < until) inbox i may.fit.until_then) at
+
+pub taking-until : (a : CoreView) (from until : ℕ) (inbox : List Message) (i : ℕ) (b : CoreView) (x : List Message) → MayRun a from until inbox → IsTaking a from until inbox i b x → b.now ≤ until
+taking-until a from until inbox i b x may h = (h may.s may.core may.trace may.rows may.mail may.stands may.fit).until_then
+
+-- up to the cycle of the next message
+pub taking-on : (a : CoreView) (from until : ℕ) (inbox : List Message) (i : ℕ) (b d : CoreView) (x y : List Message) (m : Message) → a.now ≡ from → b.now ≤ m.arrival → IsAt inbox i m
+    → IsTaking a from until inbox i b x → Advances (m.arrival - b.now) b x d y → IsTaking a from until inbox i d y
+taking-on a from until inbox i b d x y m start l at h adv s core trace rows mail st fit =
+    goes_on s core trace rows mail from until inbox i b d x y m.arrival (sym st.now ∙ start) (h s core trace rows mail st fit) l
+    (omega (arith, Each-at (λ (n : Message). n.arrival < until) inbox i m (Each-drop (λ (n : Message). n.arrival < until) inbox i fit.until_then) at))
+    (next_first inbox i m fit.in_order at) adv
+
+pub taking-now : (a : CoreView) (from until : ℕ) (inbox : List Message) (i : ℕ) (b d : CoreView) (x y : List Message) (m : Message) → a.now ≡ from → b.now ≤ m.arrival
+    → MayRun a from until inbox → IsTaking a from until inbox i b x → Advances (m.arrival - b.now) b x d y → d.now ≡ m.arrival
+taking-now a from until inbox i b d x y m start l may h adv =
+    now_at may.s may.core may.trace may.rows may.mail from until inbox i b d x y m.arrival (sym may.stands.now ∙ start) (h may.s may.core may.trace may.rows may.mail may.stands may.fit) l adv
+
+pub taking-receives : (a : CoreView) (from until : ℕ) (inbox : List Message) (i : ℕ) (d : CoreView) (y : List Message) (m : Message) → MayRun a from until inbox → IsTaking a from until inbox i d y
+    → IsAt inbox i m → d.now ≡ m.arrival → IsReceiving d m
+taking-receives a from until inbox i d y m may h at now =
+    let mid = h may.s may.core may.trace may.rows may.mail may.stands may.fit in
+    record {
+      s = may.s;
+      core = may.core;
+      trace = may.trace;
+      rows = core_run may.s may.core may.trace may.rows (may.mail ++ inbox) (d.now - from);
+      mail = may.mail ++ take i inbox;
+      stands = mid.stands;
+      now = sym now ∙ mid.stands.now;
+      due = may_take may.s may.core may.trace may.rows may.mail from until inbox i d y m mid at now may.fit;
+    }
+
+pub taking-more : (a : CoreView) (from until : ℕ) (inbox : List Message) (i : ℕ) (d e : CoreView) (y : List Message) (m : Message) → IsTaking a from until inbox i d y
+    → IsAt inbox i m → d.now ≡ m.arrival
+    → ((s : Config) (core : ℕ) (trace : List Entry) (rows : List CoreRow) (mail : List Message) → StandsAt s core trace rows mail d → m.arrival ≡ length rows → IsDue s core trace rows mail m
+    → StandsAt s core trace rows (mail ++ m ∷ []) e)
+    → IsTaking a from until inbox (i + 1) e y
+taking-more a from until inbox i d e y m h at now receives s core trace rows mail st fit =
+    let mid = h s core trace rows mail st fit in
+    takes s core trace rows mail from until inbox i d e y m mid at
+    (receives s core trace _ _ mid.stands (sym now ∙ mid.stands.now) (may_take s core trace rows mail from until inbox i d y m mid at now fit))
+
+Each-both : (P : Message → Type 0) (xs ys : List Message) → Each P xs → Each P ys → Each P (xs ++ ys)
+Each-both P [] ys h k = k
+Each-both P (x ∷ xs) ys h k = (h.0, Each-both P xs ys h.1 k)
+
+drop-all : (inbox : List Message) → drop (length inbox) inbox ≡ []
+drop-all [] = refl
+drop-all (x ∷ xs) = drop-all xs
+
+-- all messages are taken
+pub taking-last : (a : CoreView) (from until : ℕ) (inbox : List Message) (b d : CoreView) (x y : List Message) → a.now ≡ from → b.now ≤ until
+    → IsTaking a from until inbox (length inbox) b x → Advances (until - b.now) b x d y → Runs a from until inbox d y
+taking-last a from until inbox b d x y start l h adv s core trace rows mail st fit =
+    let n = length inbox in
+    let before = h s core trace rows mail st fit in
+    let len : length rows ≡ from = sym st.now ∙ start in
+    let mid : IsMidway s core trace rows mail from until inbox n d y =
+    goes_on s core trace rows mail from until inbox n b d x y until len before l (omega arith) (subst (Each (λ (m : Message). until ≤ m.arrival)) (sym (drop-all inbox)) tt) adv in
+    let now : d.now ≡ until = now_at s core trace rows mail from until inbox n b d x y until len before l adv in
+    let rows' = core_run s core trace rows (mail ++ inbox) (until - from) in
+    let all : mail ++ take n inbox ≡ mail ++ inbox = ap (λ ms. mail ++ ms) (take-length inbox) in
+    let P : ℕ → List Message → Type 0 = λ k ms. StandsAt s core trace (core_run s core trace rows (mail ++ inbox) (k - from)) ms d in
+    let st1 : P until (mail ++ take n inbox) = subst (λ k. P k (mail ++ take n inbox)) now mid.stands in
+    let st2 : StandsAt s core trace rows' (mail ++ inbox) d = subst (λ ms. P until ms) all st1 in
+    let long : length rows' ≡ until = sym st2.now ∙ now in (
+      stands-for s core trace rows' (mail ++ inbox) d st2
+          (Each-both (λ (m : Message). m.arrival < length rows') mail inbox
+          (Each-weaker (λ (m : Message). m.arrival < length rows) (λ m. m.arrival < length rows') (λ m k. omega (arith, before.since)) mail st.before)
+          (Each-weaker (λ (m : Message). m.arrival < until) (λ m. m.arrival < length rows') (λ m k. omega arith) inbox fit.until_then)),
+      ap (λ k. core_messages s core trace (core_run s core trace rows (mail ++ inbox) (k - from))) (sym now) ∙ mid.messages,
+    )

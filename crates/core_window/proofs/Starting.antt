@@ -1,0 +1,80 @@
+-- A core that has done nothing yet.
+use Rattle.std.proofs.Common.{◌≡◌, ℕ, zero, suc, ◌+◌, ◌-◌, ◌^◌, ◌<◌, ◌≤◌, Bool, true, false, cond, eqb, List, [], length, Option, Some, None, refl, sym, ap, ap₂, ◌∙◌, arith}
+use Rattle.std.specs.Prelude.{slice_get, replicate}
+use Rattle.sim_base.specs.declared.config.Config.{Config}
+use Rattle.sim_base.specs.Counts.{reads, writes, replies, read_latency, stops, stopped_by, retire_cycle, finish}
+use Rattle.sim_base.specs.Final.{credits_left}
+use Rattle.sim_base.specs.History.{retired_before, issued_before, core_messages}
+use Rattle.sim_base.specs.Windows.{held}
+use Rattle.sim_base.specs.declared.trace.Entry.{Entry}
+use Rattle.statistics.specs.Cores.{core_stats, core_none}
+use Rattle.statistics.specs.Runs.{credits_of}
+use Rattle.statistics.specs.declared.final_state.Credits.{Credits}
+use Rattle.core_window.specs.Stands.{IsPast, StandsFor}
+use Rattle.core_window.specs.Views.{CoreView}
+use Rattle.core_window.specs.Waiting.{reads_waiting}
+
+length-same : {X : Type 0} (n : ℕ) (x : X) → length (replicate n x) ≡ n
+length-same zero x = refl
+length-same (suc n) x = ap suc (length-same n x)
+
+slice_get-same : {X : Type 0} (n : ℕ) (x : X) (k : ℕ) → k < n → slice_get (replicate n x) k ≡ Some x
+slice_get-same zero x k l = absurd (omega arith)
+slice_get-same (suc n) x zero l = refl
+slice_get-same (suc n) x (suc k) l = slice_get-same n x k (omega arith)
+
+-- the credits that a core holds at first
+abbrev first_credits : Config → Credits
+first_credits s = record { read = s.read_credits; write = s.write_credits }
+
+credits-first : (s : Config) (core : ℕ) (trace : List Entry) (channel : ℕ) → credits_of s core trace [] [] channel ≡ first_credits s
+unfolding credits_of credits_left held core_messages
+credits-first s core trace channel =
+    let both : ℕ → ℕ → Credits = λ r w. record { read = r; write = w } in
+    let r : s.read_credits + 0 - 0 ≡ s.read_credits = omega arith in
+    let w : s.write_credits + 0 - 0 ≡ s.write_credits = omega arith in
+    ap₂ both r w
+
+none-first : (trace : List Entry) → finish trace [] ≡ None
+unfolding finish retire_cycle
+none-first trace = by (eqb (length trace) 0)
+  where
+    by : (b : Bool) → cond {A = Option ℕ} b None None ≡ None
+    by true = refl
+    by false = refl
+
+stats-first : (s : Config) (core : ℕ) (trace : List Entry) → core_stats s core trace [] [] ≡ core_none
+unfolding core_stats issued_before retired_before reads writes replies read_latency stopped_by stops
+stats-first s core trace = rw (none-first trace) refl
+
+past-first : (s : Config) (core : ℕ) (trace : List Entry) → length trace ≤ 2 ^ 62 → IsPast s core trace [] []
+unfolding issued_before retired_before reads_waiting core_messages
+past-first s core trace l =
+    record {
+      fits = l;
+      issued = omega arith;
+      retired = omega arith;
+      window = omega arith;
+      arrived = tt;
+      follows = tt;
+      done = λ entry b read. absurd (omega arith);
+      answered = omega arith;
+      paid = λ channel write. omega arith;
+    }
+
+pub start-stands : (s : Config) (core : ℕ) (trace : List Entry) (v : CoreView) → v.config ≡ s → v.core ≡ core → v.trace ≡ trace → v.now ≡ 0 → v.waiting ≡ []
+    → v.credits ≡ replicate s.channels (first_credits s) → v.stats ≡ core_none → length trace ≤ 2 ^ 62 → StandsFor s core trace [] [] v
+unfolding reads_waiting issued_before
+start-stands s core trace v config number entries now waiting credits stats l =
+    record {
+      config = config;
+      number = number;
+      entries = entries;
+      now = now;
+      waiting = waiting;
+      channels = ap length credits ∙ length-same s.channels (first_credits s);
+      credits = λ channel b. ap (λ (cs : List Credits). slice_get cs channel) credits ∙ slice_get-same s.channels (first_credits s) channel b ∙ ap Some (sym (credits-first s core trace channel));
+      stats = stats ∙ sym (stats-first s core trace);
+      before = tt;
+      past = past-first s core trace l;
+    }

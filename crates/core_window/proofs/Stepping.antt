@@ -1,0 +1,333 @@
+-- A core that stands for some rows stands, after what it does in a cycle, for one row more.
+use Rattle.std.proofs.Common.{get_or, ◌≡◌, ℕ, ◌+◌, ◌-◌, ◌^◌, ◌<◌, ◌≤◌, min, Bool, true, false, cond, not, ◌&&◌, eqb, ltb, leb, List, [], ◌∷◌, ◌++◌, length, take, drop, Option, Some, None, refl, sym, ap, ap₂, subst, ◌∙◌, add-zero, zero-add, append_assoc, arith, ⊎_elim}
+use Rattle.std.specs.Prelude.{slice_get, count_by, filter}
+use Rattle.std.specs.Option.{IfSome, option_to_list}
+use Rattle.std.specs.List.{AllByRecursion as Each, prefix_len, range_with_len}
+use Rattle.std.proofs.lemmas.Bool.{cases_lt, lt-ltb, ne_eqb, eqb-false, false≢true, eqb-true}
+use Rattle.std.proofs.lemmas.List.{length-append}
+use Rattle.std.proofs.lemmas.List.Folds.{length-prefix_len}
+use Rattle.std.proofs.lemmas.List.Sums.{prefix_len_passes, prefix_len-le-length, sum_by-cons}
+use Rattle.std.proofs.lemmas.List.FromFn.{length-range_with_len, get_or-range_with_len}
+use Rattle.sim_base.specs.declared.config.Config.{Config}
+use Rattle.sim_base.specs.Config.{credit_link}
+use Rattle.sim_base.specs.Counts.{is_read, is_write, is_reply, is_reply_before, replies, replied_entry}
+use Rattle.sim_base.specs.History.{retired_before, issued_before, core_messages}
+use Rattle.sim_base.specs.Places.{place_of}
+use Rattle.sim_base.specs.Windows.{is_credit, is_credit_on, is_request_for, credit_cap, held, lacks_credit, is_done, is_done_as, is_replied, done_from, retires, step}
+use Rattle.sim_base.specs.Machine.{core_run}
+use Rattle.sim_base.specs.declared.history.CoreRow.{CoreRow}
+use Rattle.sim_base.specs.declared.message.Message.{Message}
+use Rattle.sim_base.specs.declared.trace.Entry.{Entry}
+use Rattle.sim_base.specs.declared.trace.Entry.TheVariants.{Plain, Read, Write}
+use Rattle.sim_base.specs.declared.trace.Stop.{Stop}
+use Rattle.sim_base.proofs.Ordered.{Each-weaker}
+use Rattle.cpu_trace.specs.declared.entries.MemoryEntry.{MemoryEntry}
+use Rattle.statistics.specs.Counts.{one_if}
+use Rattle.statistics.specs.Cores.{core_stats, core_cycle, core_cycle_with, core_joined, issued_in, replies_in, finish_in, is_reply_in, waited, RepliesFollowReads, CoreFits}
+use Rattle.statistics.specs.declared.cores.CoreStats.{CoreStats}
+use Rattle.statistics.specs.declared.final_state.Credits.{Credits}
+use Rattle.statistics.proofs.CoreBounds.{retires-le, issues-le, core_stats-fit}
+use Rattle.statistics.proofs.CoreSteps.{core_stats-push, issued_before-push, retired_before-push}
+use Rattle.statistics.proofs.CoreStretches.{core_joined-assoc}
+use Rattle.statistics.proofs.Lists.{length-push_suc, take-push, option_or-none}
+use Rattle.core_window.specs.Inside.{credits_now, core_arrived, StandsAt, Advances}
+use Rattle.core_window.specs.Stands.{IsPast, FollowsItsEntry, is_credit_from, credits_had, credits_spent}
+use Rattle.core_window.specs.Turns.{IsIssued, IsTurn, reads_issued, requests_issued, credit_after, cycle_counts, is_read_among, is_write_among}
+use Rattle.core_window.specs.Views.{CoreView}
+use Rattle.core_window.specs.declared.waiting.WaitingRead.{WaitingRead}
+use Rattle.core_window.specs.Waiting.{is_read_in, is_read_at, is_answered, reads_waiting}
+use Rattle.core_window.proofs.Issuing.{plain_others, reads_waiting-push, messages-push, is_spending_entry, is_spending, spent-push, credits-push}
+use Rattle.core_window.proofs.Retiring.{replied-answered}
+use Rattle.core_window.proofs.Segments.{count_none, count_one}
+
+one_counted : (p : Entry → Bool) (e : Entry) → count_by p (option_to_list (Some e)) ≡ one_if (p e)
+one_counted p e = omega arith
+
+reads-issued : (trace : List Entry) (first m : ℕ) (memory : Option MemoryEntry) → IsIssued trace first m memory
+    → count_by is_read (take m (drop first trace)) ≡ one_if (is_read_among memory)
+reads-issued trace first m None h = count_none is_read trace first m (λ k l. ap (λ o. count_by is_read (option_to_list o)) (h (first + k) (omega arith) (omega arith)))
+reads-issued trace first m (Some e) h =
+    count_one is_read trace first e.number m h.is_from h.is_below (λ k l ne. ap (λ o. count_by is_read (option_to_list o)) (plain_others trace first m e h k l ne))
+    ∙ ap (λ o. count_by is_read (option_to_list o)) h.is_at ∙ one_counted is_read e.entry
+
+writes-issued : (trace : List Entry) (first m : ℕ) (memory : Option MemoryEntry) → IsIssued trace first m memory
+    → count_by is_write (take m (drop first trace)) ≡ one_if (is_write_among memory)
+writes-issued trace first m None h = count_none is_write trace first m (λ k l. ap (λ o. count_by is_write (option_to_list o)) (h (first + k) (omega arith) (omega arith)))
+writes-issued trace first m (Some e) h =
+    count_one is_write trace first e.number m h.is_from h.is_below (λ k l ne. ap (λ o. count_by is_write (option_to_list o)) (plain_others trace first m e h k l ne))
+    ∙ ap (λ o. count_by is_write (option_to_list o)) h.is_at ∙ one_counted is_write e.entry
+
+-- a reply of the cycle or of one before it followed its entry
+pub follows-read : (rows : List CoreRow) (row : CoreRow) (mail : List Message) → Each (λ m. m.arrival ≤ length rows) mail → Each (FollowsItsEntry rows) mail → RepliesFollowReads (rows ++ row ∷ []) mail
+follows-read rows row [] a h = tt
+follows-read rows row (m ∷ mail) a h = (by (replied_entry m.load) h.0, follows-read rows row mail a.1 h.1)
+  where
+    by : (o : Option ℕ) → IfSome o (λ entry. entry < issued_before (take m.arrival rows))
+        → IfSome o (λ entry. m.arrival < length (rows ++ row ∷ []) → entry < issued_before (take m.arrival (rows ++ row ∷ [])))
+    by None k = tt
+    by (Some entry) k = λ l. subst (λ n. entry < n) (sym (ap issued_before (take-push rows row m.arrival a.0))) k
+
+follows-entry : (rows : List CoreRow) (row : CoreRow) (mail : List Message) → Each (λ m. m.arrival ≤ length rows) mail → Each (FollowsItsEntry rows) mail → Each (FollowsItsEntry (rows ++ row ∷ [])) mail
+follows-entry rows row [] a h = tt
+follows-entry rows row (m ∷ mail) a h = (by (replied_entry m.load) h.0, follows-entry rows row mail a.1 h.1)
+  where
+    by : (o : Option ℕ) → IfSome o (λ entry. entry < issued_before (take m.arrival rows)) → IfSome o (λ entry. entry < issued_before (take m.arrival (rows ++ row ∷ [])))
+    by None k = tt
+    by (Some entry) k = subst (λ n. entry < n) (sym (ap issued_before (take-push rows row m.arrival a.0))) k
+
+arrived_counts : (rows : List CoreRow) (mail : List Message) (trace : List Entry) (row : CoreRow) (why : Stop) (memory : Option MemoryEntry)
+    → count_by is_read (issued_in trace rows row) ≡ one_if (is_read_among memory)
+    → count_by is_write (issued_in trace rows row) ≡ one_if (is_write_among memory)
+    → core_joined (core_arrived rows mail) (cycle_counts row why memory (retired_before rows) (length trace) (length rows)) ≡ core_cycle_with trace rows row why (replies_in (length rows) mail)
+unfolding core_cycle_with finish_in
+arrived_counts rows mail trace row why memory r w =
+    let n = option_or-none (cond (ltb (retired_before rows) (length trace) && leb (length trace) (retired_before rows + row.retired)) (Some (length rows)) None) in
+    simp (zero-add, add-zero, r, w, n)
+
+-- the statistics with this cycle
+pub stats-push : (s : Config) (core : ℕ) (trace : List Entry) (rows : List CoreRow) (mail : List Message) (row : CoreRow) (why : Stop) (memory : Option MemoryEntry)
+    → IsPast s core trace rows mail → IsTurn s core trace rows mail row why memory
+    → core_joined (core_joined (core_stats s core trace rows mail) (core_arrived rows mail)) (cycle_counts row why memory (retired_before rows) (length trace) (length rows))
+    ≡ core_stats s core trace (rows ++ row ∷ []) mail
+unfolding core_cycle
+stats-push s core trace rows mail row why memory past turn =
+    core_joined-assoc (core_stats s core trace rows mail) (core_arrived rows mail) (cycle_counts row why memory (retired_before rows) (length trace) (length rows))
+    ∙ ap (core_joined (core_stats s core trace rows mail))
+    (arrived_counts rows mail trace row why memory (reads-issued trace (issued_before rows) row.issued memory turn.issues) (writes-issued trace (issued_before rows) row.issued memory turn.issues)
+    ∙ ap (λ w. core_cycle_with trace rows row w (replies_in (length rows) mail)) (sym (ap (λ t. t.1) turn.does)))
+    ∙ sym (core_stats-push s core trace rows row mail (follows-read rows row mail past.arrived past.follows))
+
+-- all of the mail counts
+pub held-now : (s : Config) (core : ℕ) (mail sent : List Message) (channel : ℕ) (write : Bool) (now : ℕ) → Each (λ m. m.arrival ≤ now) mail
+    → held s core mail sent channel write (now + 1) ≡ credits_had s core mail channel write - count_by (λ m. is_request_for channel write m.load) sent
+unfolding held
+held-now s core mail sent channel write now h =
+    ap (λ n. credit_cap s write + n - count_by (λ (m : Message). is_request_for channel write m.load) sent) (same mail h)
+  where
+    link : ℕ
+    link = credit_link s core channel
+
+    and_true : (b : Bool) → (b && true) ≡ b
+    and_true true = refl
+    and_true false = refl
+
+    same : (ms : List Message) → Each (λ m. m.arrival ≤ now) ms → count_by (is_credit_on link write (now + 1)) ms ≡ count_by (is_credit_from link write) ms
+    same [] k = refl
+    same (m ∷ ms) k =
+        sum_by-cons (λ (x : Message). one_if (is_credit_on link write (now + 1) x)) m ms
+        ∙ ap₂ (λ b n. one_if (eqb m.link link && is_credit write m.load && b) + n) (lt-ltb m.arrival (now + 1) (omega (arith, k.0))) (same ms k.1)
+        ∙ ap (λ b. one_if b + count_by (is_credit_from link write) ms) (and_true (eqb m.link link && is_credit write m.load))
+        ∙ sym (sum_by-cons (λ (x : Message). one_if (is_credit_from link write x)) m ms)
+
+-- a memory entry issues only with a credit
+paid-entry : (s : Config) (core : ℕ) (trace : List Entry) (rows : List CoreRow) (mail : List Message) (channel : ℕ) (write : Bool) (entry : Entry)
+    → Each (λ m. m.arrival ≤ length rows) mail → credits_spent s core trace rows channel write ≤ credits_had s core mail channel write
+    → lacks_credit s core mail (core_messages s core trace rows) (length rows) (Some entry) ≡ false
+    → credits_spent s core trace rows channel write + one_if (is_spending_entry s channel write entry) ≤ credits_had s core mail channel write
+unfolding lacks_credit
+paid-entry s core trace rows mail channel write Plain a h l = omega arith
+paid-entry s core trace rows mail channel write (Read address) a h l = by (eqb (place_of s address).channel channel) write refl refl
+  where
+    by : (b w : Bool) → eqb (place_of s address).channel channel ≡ b → write ≡ w
+        → credits_spent s core trace rows channel write + one_if (b && not w) ≤ credits_had s core mail channel write
+    by true true e f = omega arith
+    by false w e f = omega arith
+    by true false e f =
+        let same : (place_of s address).channel ≡ channel = eqb-true _ _ e in
+        let some : held s core mail (core_messages s core trace rows) (place_of s address).channel false (length rows + 1) ≡ 0 → ⊥ = eqb-false _ _ l in
+        let k : held s core mail (core_messages s core trace rows) channel write (length rows + 1) ≡ held s core mail (core_messages s core trace rows) (place_of s address).channel false (length rows + 1) =
+        ap₂ (λ c w. held s core mail (core_messages s core trace rows) c w (length rows + 1)) (sym same) f in
+        let n = held-now s core mail (core_messages s core trace rows) channel write (length rows) a in
+        omega arith
+paid-entry s core trace rows mail channel write (Write address) a h l = by (eqb (place_of s address).channel channel) write refl refl
+  where
+    by : (b w : Bool) → eqb (place_of s address).channel channel ≡ b → write ≡ w
+        → credits_spent s core trace rows channel write + one_if (b && w) ≤ credits_had s core mail channel write
+    by true false e f = omega arith
+    by false w e f = omega arith
+    by true true e f =
+        let same : (place_of s address).channel ≡ channel = eqb-true _ _ e in
+        let some : held s core mail (core_messages s core trace rows) (place_of s address).channel true (length rows + 1) ≡ 0 → ⊥ = eqb-false _ _ l in
+        let k : held s core mail (core_messages s core trace rows) channel write (length rows + 1) ≡ held s core mail (core_messages s core trace rows) (place_of s address).channel true (length rows + 1) =
+        ap₂ (λ c w. held s core mail (core_messages s core trace rows) c w (length rows + 1)) (sym same) f in
+        let n = held-now s core mail (core_messages s core trace rows) channel write (length rows) a in
+        omega arith
+
+-- an entry that retires is done
+retired_done : (s : Config) (trace : List Entry) (rows : List CoreRow) (mail : List Message) → Each (λ m. m.arrival ≤ length rows) mail
+    → (entry : ℕ) → retired_before rows ≤ entry → entry < retired_before rows + retires s trace rows mail → is_read_at trace entry ≡ true → is_answered mail entry ≡ true
+unfolding retires done_from is_done
+retired_done s trace rows mail arrived entry l b read =
+    let first = retired_before rows in
+    let n = min s.width (issued_before rows - first) in
+    let p = is_done trace mail (length rows) in
+    let k = entry - first in
+    let len = length-prefix_len p (range_with_len first n) in
+    let most : prefix_len p (range_with_len first n) ≤ n = omega (arith, prefix_len-le-length p (range_with_len first n), length-range_with_len first n) in
+    let here : first + k ≡ entry = omega arith in
+    let at : get_or (range_with_len first n) k 0 ≡ entry = get_or-range_with_len first n k 0 (omega arith) ∙ here in
+    let passes : p (get_or (range_with_len first n) k 0) ≡ true = prefix_len_passes p (range_with_len first n) k 0 (omega arith) in
+    sym (replied-answered mail (length rows) entry arrived) ∙ by (slice_get trace entry) read (ap p (sym at) ∙ passes)
+  where
+    by : (o : Option Entry) → is_read_in o ≡ true → is_done_as mail (length rows) entry o ≡ true → is_replied mail (length rows) entry ≡ true
+    by (Some (Read a)) r h = h
+    by (Some (Write a)) r h = absurd (false≢true r)
+    by (Some Plain) r h = absurd (false≢true r)
+    by None r h = absurd (false≢true r)
+
+reads_few : (memory : Option MemoryEntry) (now : ℕ) (trace : List Entry) (first m : ℕ) → IsIssued trace first m memory → length (reads_issued memory now) ≤ m
+reads_few None now trace first m h = omega arith
+reads_few (Some e) now trace first m h = by (is_read e.entry)
+  where
+    by : (b : Bool) → length (cond {A = List WaitingRead} b (record { entry = e.number; issued = now } ∷ []) []) ≤ m
+    by true = omega (arith, h.is_from, h.is_below)
+    by false = omega arith
+
+retired-step : (s : Config) (core : ℕ) (trace : List Entry) (rows : List CoreRow) (mail : List Message) (row : CoreRow) (why : Stop)
+    → step s core trace rows mail ≡ (row, why) → retires s trace rows mail ≡ row.retired
+unfolding step
+retired-step s core trace rows mail row why h = ap (λ t. t.0.retired) h
+
+past-push : (s : Config) (core : ℕ) (trace : List Entry) (rows : List CoreRow) (mail : List Message) (row : CoreRow) (why : Stop) (memory : Option MemoryEntry)
+    → IsPast s core trace rows mail → IsTurn s core trace rows mail row why memory → IsPast s core trace (rows ++ row ∷ []) mail
+past-push s core trace rows mail row why memory past turn =
+    let i = issued_before-push rows row in
+    let r = retired_before-push rows row in
+    let row_is : (step s core trace rows mail).0 ≡ row = ap (λ t. t.0) turn.does in
+    let within : issued_before rows + row.issued ≤ length trace = subst (λ (x : CoreRow). issued_before rows + x.issued ≤ length trace) row_is (issues-le s core trace rows mail past.issued) in
+    let most : row.retired ≤ issued_before rows - retired_before rows = subst (λ n. n ≤ issued_before rows - retired_before rows) retired_is (retires-le s trace rows mail) in
+    record {
+      fits = past.fits;
+      issued = omega arith;
+      retired = omega (arith, past.retired);
+      window = omega (arith, turn.window);
+      arrived = Each-weaker (λ (m : Message). m.arrival ≤ length rows) (λ m. m.arrival ≤ length (rows ++ row ∷ [])) (λ m h. omega (arith, length-push_suc rows row)) mail past.arrived;
+      follows = follows-entry rows row mail past.arrived past.follows;
+      done = λ entry b read. ⊎_elim (λ l. past.done entry l read) (λ g. retired_done s trace rows mail past.arrived entry g (omega (arith, retired_is)) read) (cases_lt entry (retired_before rows));
+      answered = omega (arith, past.answered, ap length (reads_waiting-push trace rows row mail memory past.follows turn.issues), length-append (reads_waiting trace rows mail) (reads_issued memory (length rows)), reads_few memory (length rows) trace (issued_before rows) row.issued turn.issues);
+      paid = λ channel write. subst (λ n. n ≤ credits_had s core mail channel write) (sym (spent-push s core trace rows row memory turn.issues channel write)) (paid memory turn.credit channel write);
+    }
+  where
+    retired_is : retires s trace rows mail ≡ row.retired
+    retired_is = retired-step s core trace rows mail row why turn.does
+
+    paid : (o : Option MemoryEntry) → IfSome o (λ e. lacks_credit s core mail (core_messages s core trace rows) (length rows) (Some e.entry) ≡ false) → (channel : ℕ) (write : Bool)
+        → credits_spent s core trace rows channel write + one_if (is_spending s channel write o) ≤ credits_had s core mail channel write
+    paid None h channel write = omega (arith, past.paid channel write)
+    paid (Some e) h channel write = paid-entry s core trace rows mail channel write e.entry past.arrived (past.paid channel write) h
+
+-- no message of the next cycle came yet
+none_arrived : (rows : List CoreRow) (row : CoreRow) (mail : List Message) → Each (λ m. m.arrival ≤ length rows) mail → replies_in (length (rows ++ row ∷ [])) mail ≡ []
+unfolding replies_in
+none_arrived rows row [] h = refl
+none_arrived rows row (m ∷ mail) h =
+    ap (λ b. cond (is_reply m && b) (m ∷ filter (is_reply_in (length (rows ++ row ∷ []))) mail) (filter (is_reply_in (length (rows ++ row ∷ []))) mail))
+    (ne_eqb m.arrival (length (rows ++ row ∷ [])) (λ e. omega (arith, length-push_suc rows row, h.0)))
+    ∙ ap (λ b. cond b (m ∷ filter (is_reply_in (length (rows ++ row ∷ []))) mail) (filter (is_reply_in (length (rows ++ row ∷ []))) mail)) (and_false (is_reply m))
+    ∙ none_arrived rows row mail h.1
+  where
+    and_false : (b : Bool) → (b && false) ≡ false
+    and_false true = refl
+    and_false false = refl
+
+pub with_none_arrived : (a : CoreStats) (rows : List CoreRow) (mail : List Message) → replies_in (length rows) mail ≡ [] → core_joined a (core_arrived rows mail) ≡ a
+unfolding waited
+with_none_arrived a rows mail h = rw h (simp add-zero)
+
+-- what a core does in a cycle, from one state to another
+pub record IsStep (a b : CoreView) (row : CoreRow) (why : Stop) (memory : Option MemoryEntry) : Type 0 where
+  pub config : b.config ≡ a.config
+  pub number : b.core ≡ a.core
+  pub entries : b.trace ≡ a.trace
+  pub now : b.now ≡ a.now + 1
+  pub waiting : b.waiting ≡ a.waiting ++ reads_issued memory a.now
+  pub channels : length b.credits ≡ length a.credits
+  pub credits : (channel : ℕ) (c : Credits) → slice_get a.credits channel ≡ Some c → slice_get b.credits channel ≡ Some (credit_after a.config channel memory c)
+  pub stats : b.stats ≡ core_joined a.stats (cycle_counts row why memory a.stats.retired (length a.trace) a.now)
+
+retired_of : (s : Config) (core : ℕ) (trace : List Entry) (rows : List CoreRow) (mail : List Message) (a : CoreView) → StandsAt s core trace rows mail a → a.stats.retired ≡ retired_before rows
+unfolding core_stats
+retired_of s core trace rows mail a h = ap (λ (x : CoreStats). x.retired) h.stats ∙ add-zero (retired_before rows)
+
+pub step-stands : (s : Config) (core : ℕ) (trace : List Entry) (rows : List CoreRow) (mail : List Message) (a b : CoreView) (row : CoreRow) (why : Stop) (memory : Option MemoryEntry)
+    → StandsAt s core trace rows mail a → IsTurn s core trace rows mail row why memory → IsStep a b row why memory → StandsAt s core trace (rows ++ row ∷ []) mail b
+step-stands s core trace rows mail a b row why memory h turn i =
+    record {
+      config = i.config ∙ h.config;
+      number = i.number ∙ h.number;
+      entries = i.entries ∙ h.entries;
+      now = omega (arith, i.now, h.now, length-push_suc rows row);
+      waiting = i.waiting ∙ ap₂ (λ x n. x ++ reads_issued memory n) h.waiting h.now ∙ sym (reads_waiting-push trace rows row mail memory h.past.follows turn.issues);
+      channels = i.channels ∙ h.channels;
+      credits = λ channel l. i.credits channel _ (h.credits channel l)
+          ∙ ap (λ (x : Config). Some (credit_after x channel memory (credits_now s core trace rows mail channel))) h.config
+          ∙ ap Some (sym (credits-push s core trace rows row mail memory turn.issues channel));
+      stats = i.stats ∙ ap (λ x. core_joined x (cycle_counts row why memory a.stats.retired (length a.trace) a.now)) h.stats
+          ∙ counts
+          ∙ stats-push s core trace rows mail row why memory h.past turn
+          ∙ sym (with_none_arrived (core_stats s core trace (rows ++ row ∷ []) mail) (rows ++ row ∷ []) mail (none_arrived rows row mail h.past.arrived));
+      past = past-push s core trace rows mail row why memory h.past turn;
+    }
+  where
+    counts : core_joined (core_joined (core_stats s core trace rows mail) (core_arrived rows mail)) (cycle_counts row why memory a.stats.retired (length a.trace) a.now)
+        ≡ core_joined (core_joined (core_stats s core trace rows mail) (core_arrived rows mail)) (cycle_counts row why memory (retired_before rows) (length trace) (length rows))
+    counts =
+        let count : ℕ → ℕ → ℕ → CoreStats = λ x y z. core_joined (core_joined (core_stats s core trace rows mail) (core_arrived rows mail)) (cycle_counts row why memory x y z) in
+        ap (λ x. count x (length a.trace) a.now) (retired_of s core trace rows mail a h)
+        ∙ ap (λ (t : List Entry). count (retired_before rows) (length t) a.now) h.entries
+        ∙ ap (λ n. count (retired_before rows) (length trace) n) h.now
+
+-- the statistics with this cycle fit
+pub replies-le : (n : ℕ) (mail : List Message) → length (filter (is_reply_before n) mail) ≤ length (filter is_reply mail)
+replies-le n [] = omega arith
+replies-le n (m ∷ mail) = by (replies-le n mail) (is_reply m) (ltb m.arrival n)
+  where
+    few : List Message
+    few = filter (is_reply_before n) mail
+
+    all : List Message
+    all = filter is_reply mail
+
+    by : length few ≤ length all → (a b : Bool) → length (cond (a && b) (m ∷ few) few) ≤ length (cond a (m ∷ all) all)
+    by h true true = omega arith
+    by h true false = omega arith
+    by h false b = h
+
+pub past-fits : (s : Config) (core : ℕ) (trace : List Entry) (rows : List CoreRow) (mail : List Message) → IsPast s core trace rows mail → length trace ≤ 2 ^ 62 → length rows ≤ 2 ^ 62
+    → CoreFits (core_stats s core trace rows mail)
+unfolding replies
+past-fits s core trace rows mail past l n =
+    core_stats-fit s core trace rows mail n (omega (arith, past.issued)) (omega (arith, past.issued, past.retired))
+    (omega (arith, past.issued, past.answered, replies-le (length rows) mail))
+
+pub step-fits : (s : Config) (core : ℕ) (trace : List Entry) (rows : List CoreRow) (mail : List Message) (a : CoreView) (row : CoreRow) (why : Stop) (memory : Option MemoryEntry)
+    → StandsAt s core trace rows mail a → IsTurn s core trace rows mail row why memory → length a.trace ≤ 2 ^ 62 → a.now < 2 ^ 62
+    → CoreFits (core_joined a.stats (cycle_counts row why memory a.stats.retired (length a.trace) a.now))
+step-fits s core trace rows mail a row why memory h turn l n =
+    let count : ℕ → ℕ → ℕ → CoreStats = λ x y z. core_joined (core_joined (core_stats s core trace rows mail) (core_arrived rows mail)) (cycle_counts row why memory x y z) in
+    let e : core_joined a.stats (cycle_counts row why memory a.stats.retired (length a.trace) a.now) ≡ core_stats s core trace (rows ++ row ∷ []) mail =
+    ap (λ x. core_joined x (cycle_counts row why memory a.stats.retired (length a.trace) a.now)) h.stats
+    ∙ ap (λ x. count x (length a.trace) a.now) (retired_of s core trace rows mail a h)
+    ∙ ap (λ (t : List Entry). count (retired_before rows) (length t) a.now) h.entries
+    ∙ ap (λ n. count (retired_before rows) (length trace) n) h.now
+    ∙ stats-push s core trace rows mail row why memory h.past turn in
+    let same : length a.trace ≡ length trace = ap length h.entries in
+    subst CoreFits (sym e)
+    (past-fits s core trace (rows ++ row ∷ []) mail (past-push s core trace rows mail row why memory h.past turn) (omega arith) (omega (arith, length-push_suc rows row, h.now)))
+
+-- a cycle of a core, and what it sends in it
+pub step-advances : (a b : CoreView) (row : CoreRow) (why : Stop) (memory : Option MemoryEntry) (before after : List Message)
+    → ((s : Config) (core : ℕ) (trace : List Entry) (rows : List CoreRow) (mail : List Message) → StandsAt s core trace rows mail a → IsTurn s core trace rows mail row why memory)
+    → IsStep a b row why memory → after ≡ before ++ requests_issued a.config a.core a.now memory → Advances 1 a before b after
+unfolding core_run
+step-advances a b row why memory before after turn i e s core trace rows mail h =
+    let t : IsTurn s core trace rows mail row why memory = turn s core trace rows mail h in
+    let one : rows ++ (step s core trace rows mail).0 ∷ [] ≡ rows ++ row ∷ [] = ap (λ (x : CoreRow × Stop). rows ++ x.0 ∷ []) t.does in
+    let request : Config → ℕ → ℕ → List Message = λ x c n. requests_issued x c n memory in (
+      subst (λ r. StandsAt s core trace r mail b) (sym one) (step-stands s core trace rows mail a b row why memory h t i),
+      λ base sent. ap (core_messages s core trace) one
+          ∙ messages-push s core trace rows row memory t.issues
+          ∙ ap₂ (λ x y. x ++ y) sent (sym (ap (λ x. request x a.core a.now) h.config ∙ ap (λ c. request s c a.now) h.number ∙ ap (request s core) h.now))
+          ∙ append_assoc base before (requests_issued a.config a.core a.now memory)
+          ∙ ap (λ x. base ++ x) (sym e),
+    )

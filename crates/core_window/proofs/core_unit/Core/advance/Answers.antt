@@ -1,0 +1,22 @@
+-- Each cycle goes on from the last.
+use Rattle.std.proofs.Common.{◌≡◌, ◌-◌, subst, arith}
+use Rattle.core_window.specs.CoreViews.{view_of}
+use Rattle.core_window.specs.Inside.{Advances}
+use Rattle.core_window.proofs.Running.{underway-first, underway-more, underway-standing}
+use Rattle.core_window.proofs.core_unit.Core.advance.Goals as goal
+
+pub cycles-init : goal.cycles-init
+cycles-init c = underway-first c.args.until (view_of c.args.self.now) c.args.sent.now.items c.requires.order
+
+pub step-requires-clause-stands : goal.step-requires-clause-stands
+step-requires-clause-stands c = underway-standing c.args.until _ _ _ _ c.cycles.invariant c.requires.stands
+
+pub cycles-preserved : goal.cycles-preserved
+cycles-preserved c =
+    underway-more c.args.until (view_of c.args.self.now) (view_of c.cycles.self) (view_of c.step.new.self) c.args.sent.now.items c.cycles.sent.items c.step.new.sent.items
+    c.cycles.invariant c.cycles-test.true (c.in_ok-step.ensures {u = tt}).cycle (c.in_ok-step.ensures {u = tt}).advances
+
+pub returns-clause-advances : goal.returns-clause-advances
+returns-clause-advances c =
+    let e : c.cycles.self.cycle - c.args.self.now.cycle ≡ c.args.until - c.args.self.now.cycle = omega (arith, c.cycles.invariant.until_then) in
+    subst (λ n. Advances n (view_of c.args.self.now) c.args.sent.now.items (view_of c.cycles.self) c.cycles.sent.items) e c.cycles.invariant.advances

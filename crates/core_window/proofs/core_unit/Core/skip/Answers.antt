@@ -1,0 +1,32 @@
+-- The cycles that are skipped count as a product.
+use Rattle.std.proofs.Common.{◌≡◌, ◌∙◌, ◌+◌, ◌-◌, ℕ, ◌++◌, ap, ap₂, sym, subst, arith}
+use Rattle.std.specs.Prelude.{replicate}
+use Rattle.statistics.specs.Cores.{core_joined, core_times, CoreFits}
+use Rattle.statistics.specs.declared.cores.CoreStats.{CoreStats}
+use Rattle.core_window.specs.CoreViews.{view_of}
+use Rattle.core_window.specs.Rests.{idle_row, Rests}
+use Rattle.core_window.specs.Stands.{StandsFor}
+use Rattle.core_window.specs.Views.{CoreView}
+use Rattle.core_window.proofs.Resting.{idle_counts, rest-standing, skipped, skip-fits}
+use Rattle.core_window.proofs.core_unit.Core.skip.Goals as goal
+
+pub turn-turn-requires : goal.turn-turn-requires
+turn-turn-requires c = rest-standing (view_of c.args.self.now) c.requires.stands.may
+
+pub joined-self-requires : goal.joined-self-requires
+joined-self-requires c =
+    subst (λ (x : CoreStats). CoreFits (core_joined c.args.self.now.stats x))
+    (sym (c.times.ensures ∙ ap (core_times (c.args.until - c.args.self.now.cycle)) c.cycle_counts-idle.ensures))
+    (skip-fits (view_of c.args.self.now) c.args.until c.turn-turn.result.row c.turn-turn.result.why c.turn-turn.result.memory c.requires.stands c.turn-turn.ensures c.requires.early)
+
+pub returns : goal.returns
+returns c s core trace rows mail h =
+    let a = view_of c.args.self.now in
+    let n = c.args.until - a.now in
+    let why = c.turn-turn.result.why in
+    let with : ℕ → CoreStats → CoreView = λ k st. record a { now = k; stats = st } in
+    let now : a.now + n ≡ c.args.until = omega (arith, c.requires.stands.since) in
+    let counted : core_joined a.stats (core_times n (idle_counts why a.now)) ≡ c.joined-self.result =
+    sym (c.joined-self.ensures ∙ ap (core_joined a.stats) (c.times.ensures ∙ ap (core_times n) c.cycle_counts-idle.ensures)) in
+    subst (λ (v : CoreView). StandsFor s core trace (rows ++ replicate n idle_row) mail v × Rests s core trace rows mail n) (ap₂ with now counted)
+    (skipped a c.args.until c.turn-turn.result.row why c.turn-turn.result.memory c.requires.stands c.turn-turn.ensures s core trace rows mail h)

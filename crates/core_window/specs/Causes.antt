@@ -1,0 +1,29 @@
+-- How many entries retire and issue in a cycle, by what waits and what is ahead.
+--     first_undone issued waiting      the first entry that isn't done
+--     issue_count width window number gone one two lacks      how many issue
+--     cause_at width window len number gone two m      why no more than m do
+use Rattle.std.specs.Prelude.{ℕ, ◌+◌, ◌-◌, ◌==◌, min, Bool, List, [], ◌∷◌, if◌then◌else◌}
+use Rattle.core_window.specs.declared.waiting.WaitingRead.{WaitingRead}
+use Rattle.sim_base.specs.declared.trace.Stop.{Stop}
+use Rattle.sim_base.specs.declared.trace.Stop.TheVariants as stop
+
+-- As many entries issue as the width and the window have room for, up to the second memory entry, and, where there is no
+-- credit for the first, up to the first.
+abbrev pub issue_count : ℕ → ℕ → ℕ → ℕ → ℕ → ℕ → Bool → ℕ
+issue_count width window number gone one two lacks =
+    let most = min (min width (window - (number - gone))) (two - number) in
+    if lacks then min most (one - number) else most
+
+-- why no more than m entries issue
+abbrev pub cause_at : ℕ → ℕ → ℕ → ℕ → ℕ → ℕ → ℕ → Stop
+cause_at width window len number gone two m =
+    if number + m == len then stop.End
+    else (if m == width then stop.Width
+    else (if number + m - gone == window then stop.Window
+    else (if number + m == two then stop.Memory
+    else stop.Credit)))
+
+-- the first entry that isn't done, where so many were issued and these Reads wait
+abbrev pub first_undone : ℕ → List WaitingRead → ℕ
+first_undone issued [] = issued
+first_undone issued (read ∷ others) = read.entry

@@ -1,0 +1,17 @@
+-- What contracts see of a core.
+--     view_of core      all that it keeps
+use Rattle.core_window.specs.Views.{CoreView}
+use Rattle.core_window.specs.declared.core_unit.Core.{Core}
+
+-- all that a core keeps
+abbrev pub view_of : Core → CoreView
+view_of c =
+    record {
+      config = c.config;
+      core = c.id;
+      trace = c.trace;
+      now = c.cycle;
+      waiting = c.waiting.items;
+      credits = c.credits.items;
+      stats = c.stats;
+    }

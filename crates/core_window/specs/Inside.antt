@@ -1,0 +1,103 @@
+-- What a core stands for within a span, where messages of the cycle at which it stands may have come already.
+--     StandsAt s core trace rows mail view      what the core stands for
+--     Advances n a b sent      a core goes n cycles, in which no message comes, and sends these
+use Rattle.std.specs.Prelude.{◌≡◌, ℕ, ◌-◌, ◌<◌, ◌≤◌, false, true, List, ◌++◌, length, take, drop, slice_get, Some, None}
+use Rattle.std.specs.List.{AllByRecursion as Each}
+use Rattle.sim_base.specs.declared.config.Config.{Config}
+use Rattle.sim_base.specs.History.{core_messages}
+use Rattle.sim_base.specs.Machine.{core_run}
+use Rattle.sim_base.specs.declared.history.CoreRow.{CoreRow}
+use Rattle.sim_base.specs.declared.message.Message.{Message}
+use Rattle.sim_base.specs.declared.trace.Entry.{Entry}
+use Rattle.statistics.specs.Cores.{core_stats, core_joined, replies_in, waited}
+use Rattle.statistics.specs.declared.cores.CoreStats.{CoreStats}
+use Rattle.statistics.specs.declared.final_state.Credits.{Credits}
+use Rattle.core_window.specs.Fit.{IsDue}
+use Rattle.core_window.specs.Stands.{IsPast, credits_had, credits_spent}
+use Rattle.core_window.specs.Views.{CoreView}
+use Rattle.core_window.specs.Waiting.{reads_waiting}
+
+-- the credits that a core holds for a channel, after all of this mail
+abbrev pub credits_now : Config → ℕ → List Entry → List CoreRow → List Message → ℕ → Credits
+credits_now s core trace rows mail channel =
+    record {
+      read = credits_had s core mail channel false - credits_spent s core trace rows channel false;
+      write = credits_had s core mail channel true - credits_spent s core trace rows channel true;
+    }
+
+-- the statistics of the replies that came in the cycle after these rows, and of nothing else
+abbrev pub core_arrived : List CoreRow → List Message → CoreStats
+core_arrived rows mail =
+    record {
+      issued = 0;
+      retired = 0;
+      reads = 0;
+      writes = 0;
+      replies = length (replies_in (length rows) mail);
+      read_latency = waited rows (replies_in (length rows) mail);
+      stop_end = 0;
+      stop_width = 0;
+      stop_window = 0;
+      stop_memory = 0;
+      stop_credit = 0;
+      finish = None;
+    }
+
+-- a core did what these rows say, and had these messages in those cycles or in the one after them, where it stands
+pub record StandsAt (s : Config) (core : ℕ) (trace : List Entry) (rows : List CoreRow) (mail : List Message) (view : CoreView) : Type 0 where
+  pub config : view.config ≡ s
+  pub number : view.core ≡ core
+  pub entries : view.trace ≡ trace
+  pub now : view.now ≡ length rows
+  pub waiting : view.waiting ≡ reads_waiting trace rows mail
+  pub channels : length view.credits ≡ s.channels
+  pub credits : (channel : ℕ) → channel < s.channels → slice_get view.credits channel ≡ Some (credits_now s core trace rows mail channel)
+  pub stats : view.stats ≡ core_joined (core_stats s core trace rows mail) (core_arrived rows mail)
+  pub past : IsPast s core trace rows mail
+
+-- there are rows and messages that a core stands for
+pub record IsStanding (view : CoreView) : Type 0 where
+  pub s : Config
+  pub core : ℕ
+  pub trace : List Entry
+  pub rows : List CoreRow
+  pub mail : List Message
+  pub stands : StandsAt s core trace rows mail view
+
+-- In n cycles in which no further message comes, a core comes from one state to another, and what it sent grows as its
+-- messages do.
+abbrev pub Advances : ℕ → CoreView → List Message → CoreView → List Message → Type 0
+Advances n a before b after =
+    (s : Config) (core : ℕ) (trace : List Entry) (rows : List CoreRow) (mail : List Message)
+    → StandsAt s core trace rows mail a
+    → StandsAt s core trace (core_run s core trace rows mail n) mail b
+    × ((base : List Message) → core_messages s core trace rows ≡ base ++ before → core_messages s core trace (core_run s core trace rows mail n) ≡ base ++ after)
+
+-- a core stands at the cycle in which a message comes, and the message may come
+pub record IsReceiving (view : CoreView) (m : Message) : Type 0 where
+  pub s : Config
+  pub core : ℕ
+  pub trace : List Entry
+  pub rows : List CoreRow
+  pub mail : List Message
+  pub stands : StandsAt s core trace rows mail view
+  pub now : m.arrival ≡ length rows
+  pub due : IsDue s core trace rows mail m
+
+-- within a span a core has taken so many messages of its inbox, and sent these; no other comes before the cycle where it stands
+pub record IsMidway (s : Config) (core : ℕ) (trace : List Entry) (rows : List CoreRow) (mail : List Message) (from until : ℕ) (inbox : List Message) (taken : ℕ) (view : CoreView) (sent : List Message) : Type 0 where
+  pub since : from ≤ view.now
+  pub stands : StandsAt s core trace (core_run s core trace rows (mail ++ inbox) (view.now - from)) (mail ++ take taken inbox) view
+  pub messages : core_messages s core trace (core_run s core trace rows (mail ++ inbox) (view.now - from)) ≡ core_messages s core trace rows ++ sent
+  pub others : Each (λ m. view.now ≤ m.arrival) (drop taken inbox)
+  pub until_then : view.now ≤ until
+
+-- one core may do what another may: they differ in the cycle where they stand, and in what they counted but for the entries that
+-- they issued and retired
+pub record IsLike (a v : CoreView) : Type 0 where
+  pub config : v.config ≡ a.config
+  pub entries : v.trace ≡ a.trace
+  pub waiting : v.waiting ≡ a.waiting
+  pub credits : v.credits ≡ a.credits
+  pub issued : v.stats.issued ≡ a.stats.issued
+  pub retired : v.stats.retired ≡ a.stats.retired

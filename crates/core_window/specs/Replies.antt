@@ -1,0 +1,22 @@
+-- A reply that comes.
+--     MayTakeReply view entry      its counts have room
+--     after_reply view read      what a core keeps after the reply to a Read
+use Rattle.std.specs.Prelude.{ℕ, ◌^◌, ◌+◌, ◌-◌, ◌<◌, ◌==◌, not, filter}
+use Rattle.core_window.specs.Views.{CoreView}
+use Rattle.core_window.specs.declared.waiting.WaitingRead.{WaitingRead}
+
+-- one reply more can be counted
+pub record MayTakeReply (view : CoreView) (entry : ℕ) : Type 0 where
+  pub count : view.stats.replies < 2 ^ 63
+  pub sum : view.stats.read_latency < 2 ^ 127
+
+-- what a core keeps after the reply to a Read
+abbrev pub after_reply : CoreView → WaitingRead → CoreView
+after_reply view read =
+    record view {
+      waiting = filter (λ r. not (r.entry == read.entry)) view.waiting;
+      stats = record view.stats {
+        replies = view.stats.replies + 1;
+        read_latency = view.stats.read_latency + (view.now - read.issued);
+      };
+    }

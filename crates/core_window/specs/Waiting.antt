@@ -1,0 +1,35 @@
+-- Reads that wait for their reply.
+--     is_read_at trace entry      the entry of this number is a Read
+--     is_answered mail entry      a reply to it is among these messages
+--     reads_waiting trace rows mail      the Reads that were issued and have no reply, in order, each with its cycle
+use Rattle.std.specs.Prelude.{ℕ, Bool, false, not, ◌&&◌, List, slice_get, Option, Some, None, if◌then◌else◌}
+use Rattle.std.specs.List.{filter_map, list_any}
+use Rattle.sim_base.specs.Counts.{is_read, issue_cycle}
+use Rattle.sim_base.specs.History.{below, issued_before}
+use Rattle.sim_base.specs.Windows.{is_reply_to}
+use Rattle.sim_base.specs.declared.history.CoreRow.{CoreRow}
+use Rattle.sim_base.specs.declared.message.Message.{Message}
+use Rattle.sim_base.specs.declared.trace.Entry.{Entry}
+use Rattle.core_window.specs.declared.waiting.WaitingRead.{WaitingRead}
+
+-- a Read, where there is an entry
+abbrev pub is_read_in : Option Entry → Bool
+is_read_in (Some entry) = is_read entry
+is_read_in None = false
+
+-- the entry of this number is a Read
+abbrev pub is_read_at : List Entry → ℕ → Bool
+is_read_at trace entry = is_read_in (slice_get trace entry)
+
+-- a reply to this entry is among the messages
+unfoldable pub is_answered : List Message → ℕ → Bool
+is_answered mail entry = list_any (λ m. is_reply_to entry m.load) mail
+
+-- an entry that was issued, if it is a Read that has no reply, with the cycle in which it was issued
+unfoldable pub waiting_read : List Entry → List CoreRow → List Message → ℕ → Option WaitingRead
+waiting_read trace rows mail entry =
+    if is_read_at trace entry && not (is_answered mail entry) then Some (record { entry = entry; issued = issue_cycle rows entry }) else None
+
+-- the Reads that were issued and have no reply, in order
+unfoldable pub reads_waiting : List Entry → List CoreRow → List Message → List WaitingRead
+reads_waiting trace rows mail = filter_map (waiting_read trace rows mail) (below (issued_before rows))

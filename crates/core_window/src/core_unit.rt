@@ -1,0 +1,296 @@
+//! A core.
+
+ghost use Rattle.std.specs.Prelude.{[], ◌∷◌, ◌++◌, ◌/◌, ◌%◌, find, if◌then◌else◌, ◌≡◌, ◌==◌, ◌^◌, ◌+◌, ◌-◌, ◌≤◌, ◌<◌, ℕ, Some, List, length, replicate, slice_get, OnOk, OnErr, IfOk};
+ghost use Rattle.sim_base.specs.declared.history.CoreRow.{CoreRow};
+ghost use Rattle.sim_base.specs.declared.message.Message.{Message};
+ghost use Rattle.sim_base.specs.declared.config.Config.{Config};
+ghost use Rattle.sim_base.specs.declared.trace.Entry.{Entry};
+ghost use Rattle.statistics.specs.declared.final_state.Credits.{Credits};
+ghost use Rattle.core_window.specs.Turns.{lacks_by, IsTurn, credits_of_kind, more_credit};
+ghost use Rattle.core_window.specs.CoreViews.{view_of};
+ghost use Rattle.core_window.specs.Fit.{IsDue, MayRun, Runs};
+ghost use Rattle.core_window.specs.Stands.{StandsFor};
+ghost use Rattle.core_window.specs.Inside.{IsStanding, IsReceiving, IsLike, StandsAt, Advances};
+ghost use Rattle.core_window.specs.Views.{CoreView};
+ghost use Rattle.core_window.specs.Rests.{Rests, IsNextAct, MayRest, MaySkip, idle_row};
+ghost use Rattle.core_window.specs.Replies.{MayTakeReply, after_reply};
+ghost use Rattle.core_window.specs.declared.waiting.WaitingRead.{WaitingRead};
+
+use crate::counts::cycle_counts;
+use crate::issue::{entry_issued, issue_of, next_two};
+use crate::issue_effects::{send, spend, wait_for};
+use crate::receive::{add_credit_at, count_reply, issue_cycle_of, remove_read};
+use crate::retire::retire_count;
+use crate::waiting::WaitingRead;
+use address_map::place_of;
+use cpu_trace::entries::MemoryEntry;
+use cpu_trace::trace::Trace;
+use sim_base::config::Config;
+use sim_base::history::CoreRow;
+use sim_base::message::{CoreId, Cycle, LinkId, Load, Message};
+use sim_base::trace::{Entry, Stop};
+use statistics::cores::CoreStats;
+use statistics::final_state::Credits;
+use std::alloc::{AllocError, Global};
+
+/// A core, with all that it knows of what it did.
+#[derive(Drop)]
+pub struct Core {
+    config: Config,
+    id: CoreId,
+    trace: Trace,
+    cycle: Cycle,
+    waiting: Vec<WaitingRead>,
+    credits: Vec<Credits>,
+    stats: CoreStats,
+}
+
+/// What a core does in a cycle, and why it stops; with the memory entry that it issues, if it issues one.
+#[derive(Clone, Copy, PartialEq, Eq, Debug)]
+pub(crate) struct Turn {
+    pub row: CoreRow,
+    pub why: Stop,
+    pub memory: Option<MemoryEntry>,
+}
+
+fn is_without_credit(credits: &[Credits], config: &Config, entry: Entry) -> bool
+    requires { length credits.now ≡ config.now.channels }
+    ensures { (held : ℕ → Credits) → ((channel : ℕ) → channel < config.now.channels → slice_get credits.now channel ≡ Some (held channel))
+        → result ≡ lacks_by config.now held entry }
+{
+    match entry {
+        Entry::Read(address) => credits[place_of(config, address).channel as usize].read == 0,
+        Entry::Write(address) => credits[place_of(config, address).channel as usize].write == 0,
+        Entry::Plain => false,
+    }
+}
+
+/// A core after a span of cycles, and the messages that it sent in them.
+#[derive(Drop)]
+pub struct CoreDone {
+    pub core: Core,
+    pub messages: Vec<Message>,
+}
+
+impl Core {
+    /// What the core does in the next cycle.
+    fn turn(&self) -> Turn
+        requires { IsStanding (view_of self.now) }
+        ensures { (v : CoreView) (s : Config) (core : ℕ) (trace : List Entry) (rows : List CoreRow) (mail : List Message)
+            → IsLike (view_of self.now) v → StandsAt s core trace rows mail v → IsTurn s core trace rows mail result.row result.why result.memory }
+    {
+        let len = self.trace.len();
+        let number = self.stats.issued;
+        let retired = retire_count(self.config.width, &self.waiting, number, self.stats.retired);
+        let gone = self.stats.retired + u64::from(retired);
+        let ahead = next_two(&self.trace, number);
+        let lacks = ahead.one < len
+            && is_without_credit(&self.credits, &self.config, self.trace.entry_at(ahead.one));
+        let issue = issue_of(&self.config, len, number, gone, &ahead, lacks);
+        let memory = entry_issued(&self.trace, number, ahead.one, issue.count);
+        Turn {
+            row: CoreRow {
+                retired,
+                issued: issue.count,
+            },
+            why: issue.why,
+            memory,
+        }
+    }
+
+    /// Goes on by a cycle, in which no further message comes.
+    fn step(&mut self, sent: &mut Vec<Message>) -> Result<(), AllocError>
+        requires stands { IsStanding (view_of self.old) }
+        requires early { self.old.cycle < 2 ^ 62 }
+        ensures cycle { OnOk result (self.new.cycle ≡ self.old.cycle + 1) }
+        ensures advances { OnOk result (Advances 1 (view_of self.old) sent.old.items (view_of self.new) sent.new.items) }
+    {
+        let turn = self.turn();
+        wait_for(&mut self.waiting, turn.memory, self.cycle)?;
+        spend(&mut self.credits, &self.config, turn.memory);
+        send(sent, &self.config, self.id, self.cycle, turn.memory)?;
+        let counts = cycle_counts(
+            turn.row,
+            turn.why,
+            turn.memory,
+            self.stats.retired,
+            self.trace.len(),
+            self.cycle,
+        );
+        self.stats = self.stats.joined(counts);
+        self.cycle += 1;
+        Ok(())
+    }
+
+    /// A reply comes: its Read waits no more.
+    fn take_reply(&mut self, entry: u64)
+        requires { MayTakeReply (view_of self.old) entry }
+        ensures { (read : WaitingRead) → find (λ r. r.entry == entry) self.old.waiting.items ≡ Some read
+            → view_of self.new ≡ after_reply (view_of self.old) read }
+    {
+        if let Some(read) = issue_cycle_of(&self.waiting, entry) {
+            count_reply(&mut self.stats, self.cycle.saturating_sub(read.issued));
+            remove_read(&mut self.waiting, read.entry);
+        }
+    }
+
+    /// A credit comes.
+    fn take_credit_on(&mut self, link: LinkId, write: bool)
+        requires { length self.old.credits.items ≡ self.old.config.channels }
+        ensures rest { view_of self.new ≡ record (view_of self.old) { credits = self.new.credits.items } }
+        ensures len { length self.new.credits.items ≡ length self.old.credits.items }
+        ensures credits { (channel : ℕ) (c : Credits) → slice_get self.old.credits.items channel ≡ Some c
+            → (link / 3 % self.old.config.channels ≡ channel → credits_of_kind write c + 1 < 2 ^ 64)
+            → slice_get self.new.credits.items channel
+            ≡ Some (if link / 3 % self.old.config.channels == channel then more_credit write c else c) }
+    {
+        let channel = link / 3 % u64::from(self.config.channels);
+        add_credit_at(&mut self.credits, channel as usize, write);
+    }
+
+    /// Takes a message of the cycle at which the core stands.
+    fn receive(&mut self, message: Message)
+        requires stands { IsReceiving (view_of self.old) message }
+        requires early { self.old.cycle < 2 ^ 62 }
+        ensures { (s : Config) (core : ℕ) (trace : List Entry) (rows : List CoreRow) (mail : List Message)
+            → StandsAt s core trace rows mail (view_of self.old) → message.arrival ≡ length rows → IsDue s core trace rows mail message
+            → StandsAt s core trace rows (mail ++ message ∷ []) (view_of self.new) }
+    {
+        match message.load {
+            Load::Reply(entry) => self.take_reply(entry),
+            Load::Credit { write, .. } => self.take_credit_on(message.link, write),
+            Load::Request(_) => (),
+        }
+    }
+
+    /// Goes on up to a cycle, while no further message comes.
+    fn advance(&mut self, until: Cycle, sent: &mut Vec<Message>) -> Result<(), AllocError>
+        requires stands { IsStanding (view_of self.old) }
+        requires order { self.old.cycle ≤ until }
+        requires early { until < 2 ^ 62 }
+        ensures cycle { OnOk result (self.new.cycle ≡ until) }
+        ensures advances { OnOk result (Advances (until - self.old.cycle) (view_of self.old) sent.old.items (view_of self.new) sent.new.items) }
+    {
+        'cycles: while self.cycle < until {
+            self.step(sent)?;
+        }
+        Ok(())
+    }
+
+    /// A core that has done nothing yet, with its trace. Only memory can be refused.
+    pub fn start(
+        alloc: Global,
+        config: &Config,
+        id: CoreId,
+        trace: Trace,
+    ) -> Result<Core, AllocError>
+        ensures { IfOk result (λ core. StandsFor config.now id trace [] [] (view_of core)) }
+    {
+        prove!(trace.len() <= 1 << 62);
+        let credits = Credits {
+            read: u64::from(config.read_credits),
+            write: u64::from(config.write_credits),
+        };
+        Ok(Core {
+            config: config.copy(alloc)?,
+            id,
+            trace,
+            cycle: 0,
+            waiting: Vec::with_capacity(alloc, config.window as usize)?,
+            credits: vec![in alloc; credits; usize::from(config.channels)]?,
+            stats: CoreStats::new(),
+        })
+    }
+
+    /// Runs the cycles from `from`, where the core stands, up to and without `until`, below 2^62. The messages that arrive in
+    /// them are given, and those that the core sends in them come back. Only memory can be refused; the core is then gone.
+    pub fn run(
+        self,
+        alloc: Global,
+        inbox: &[Message],
+        from: Cycle,
+        until: Cycle,
+    ) -> Result<CoreDone, AllocError>
+        requires at { self.cycle ≡ from }
+        requires order { from ≤ until }
+        requires early { until < 2 ^ 62 }
+        requires fit { MayRun (view_of self) from until inbox.now }
+        ensures { IfOk result (λ done. Runs (view_of self) from until inbox.now (view_of done.core) done.messages.items) }
+    {
+        let mut core = self;
+        let mut sent = Vec::new(alloc);
+        for message in inbox {
+            core.advance(message.arrival, &mut sent)?;
+            core.receive(*message);
+        }
+        core.advance(until, &mut sent)?;
+        Ok(CoreDone {
+            core,
+            messages: sent,
+        })
+    }
+
+    /// The first cycle from `from`, where the core stands, in which it retires or issues an entry, while no message comes; none,
+    /// where it never does.
+    pub fn next_act(&self, from: Cycle) -> Option<Cycle>
+        requires at { self.now.cycle ≡ from }
+        requires stands { MayRest (view_of self.now) }
+        ensures { (s : Config) (core : ℕ) (trace : List Entry) (rows : List CoreRow) (mail : List Message)
+            → StandsFor s core trace rows mail (view_of self.now) → IsNextAct s core trace rows mail result }
+    {
+        let row = self.turn().row;
+        if row.retired == 0 && row.issued == 0 {
+            None
+        } else {
+            Some(from)
+        }
+    }
+
+    /// Goes on up to a cycle, at most the one in which the core acts next, with no message before it.
+    pub fn skip(&mut self, until: Cycle)
+        requires stands { MaySkip (view_of self.old) until }
+        requires early { until < 2 ^ 62 }
+        ensures { (s : Config) (core : ℕ) (trace : List Entry) (rows : List CoreRow) (mail : List Message)
+            → StandsFor s core trace rows mail (view_of self.old)
+            → StandsFor s core trace (rows ++ replicate (until - self.old.cycle) idle_row) mail (view_of self.new)
+            × Rests s core trace rows mail (until - self.old.cycle) }
+    {
+        let turn = self.turn();
+        let idle = cycle_counts(
+            CoreRow {
+                retired: 0,
+                issued: 0,
+            },
+            turn.why,
+            None,
+            0,
+            0,
+            self.cycle,
+        );
+        self.stats = self.stats.joined(idle.times(until - self.cycle));
+        self.cycle = until;
+    }
+
+    /// The cycle where the core stands: all before it are done.
+    pub fn now(&self) -> Cycle
+        ensures { result ≡ (view_of self.now).now }
+    {
+        let Core { cycle, .. } = self;
+        *cycle
+    }
+
+    /// What statistics count of the cycles before the one where the core stands.
+    pub fn stats(&self) -> CoreStats
+        ensures { result ≡ (view_of self.now).stats }
+    {
+        let Core { stats, .. } = self;
+        *stats
+    }
+
+    /// The credits that the core holds for each channel, by number.
+    pub fn credits(&self) -> &[Credits]
+        ensures { result.now ≡ (view_of self.now).credits }
+    {
+        self.credits.as_slice()
+    }
+}

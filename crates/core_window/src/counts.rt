@@ -1,0 +1,78 @@
+//! What a core counts in a cycle.
+
+ghost use Rattle.std.specs.Prelude.{◌≡◌, ◌+◌, ◌<◌, ◌^◌};
+ghost use Rattle.sim_base.specs.Counts.{is_stop};
+ghost use Rattle.statistics.specs.Counts.{one_if};
+ghost use Rattle.core_window.specs.Turns.{cycle_counts, is_read_among, is_write_among};
+
+use cpu_trace::entries::MemoryEntry;
+use sim_base::history::CoreRow;
+use sim_base::message::Cycle;
+use sim_base::trace::{Entry, Stop};
+use statistics::cores::CoreStats;
+
+fn one_if_stop(cause: Stop, why: Stop) -> u64
+    ensures { result ≡ one_if (is_stop cause why) }
+{
+    match (cause, why) {
+        (Stop::End, Stop::End) => 1,
+        (Stop::Width, Stop::Width) => 1,
+        (Stop::Window, Stop::Window) => 1,
+        (Stop::Memory, Stop::Memory) => 1,
+        (Stop::Credit, Stop::Credit) => 1,
+        _ => 0,
+    }
+}
+
+fn read_count(memory: Option<MemoryEntry>) -> u64
+    ensures { result ≡ one_if (is_read_among memory) }
+{
+    match memory {
+        Some(next) => match next.entry {
+            Entry::Read(_) => 1,
+            Entry::Write(_) | Entry::Plain => 0,
+        },
+        None => 0,
+    }
+}
+
+fn write_count(memory: Option<MemoryEntry>) -> u64
+    ensures { result ≡ one_if (is_write_among memory) }
+{
+    match memory {
+        Some(next) => match next.entry {
+            Entry::Write(_) => 1,
+            Entry::Read(_) | Entry::Plain => 0,
+        },
+        None => 0,
+    }
+}
+
+/// What statistics count in a cycle, but for replies. Before it, so many entries of a trace of this length were retired.
+pub fn cycle_counts(
+    row: CoreRow,
+    why: Stop,
+    memory: Option<MemoryEntry>,
+    before: u64,
+    len: u64,
+    now: Cycle,
+) -> CoreStats
+    requires { before + row.retired < 2 ^ 64 }
+    ensures { result ≡ cycle_counts row why memory before len now }
+{
+    let is_finish = before < len && len <= before + u64::from(row.retired);
+    CoreStats {
+        issued: u64::from(row.issued),
+        retired: u64::from(row.retired),
+        reads: read_count(memory),
+        writes: write_count(memory),
+        replies: 0,
+        read_latency: 0,
+        stop_end: one_if_stop(Stop::End, why),
+        stop_width: one_if_stop(Stop::Width, why),
+        stop_window: one_if_stop(Stop::Window, why),
+        stop_memory: one_if_stop(Stop::Memory, why),
+        stop_credit: one_if_stop(Stop::Credit, why),
+        finish: if is_finish { Some(now) } else { None },
+    }
+}

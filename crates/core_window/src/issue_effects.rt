@@ -1,0 +1,114 @@
+//! What an entry that issues changes.
+
+ghost use Rattle.std.specs.Prelude.{◌≡◌, ℕ, ◌^◌, ◌<◌, ◌++◌, ◌==◌, length, slice_get, Some, OnOk, if◌then◌else◌};
+ghost use Rattle.sim_base.specs.History.{request, request_of};
+ghost use Rattle.core_window.specs.Turns.{reads_issued, requests_issued, credit_after, credit_after_entry, less_credit};
+ghost use Rattle.statistics.specs.declared.final_state.Credits.{Credits};
+
+use crate::receive::take_credit;
+use crate::waiting::WaitingRead;
+use address_map::place_of;
+use cpu_trace::entries::MemoryEntry;
+use sim_base::config::Config;
+use sim_base::message::{CoreId, Cycle, Load, Message, Request};
+use sim_base::trace::Entry;
+use statistics::final_state::Credits;
+use std::alloc::AllocError;
+
+/// A Read that issues waits from now on.
+pub fn wait_for(
+    waiting: &mut Vec<WaitingRead>,
+    memory: Option<MemoryEntry>,
+    now: Cycle,
+) -> Result<(), AllocError>
+    ensures { OnOk result (waiting.new.items ≡ waiting.old.items ++ reads_issued memory now) }
+{
+    if let Some(next) = memory {
+        if let Entry::Read(_) = next.entry {
+            waiting.push(WaitingRead {
+                entry: next.number,
+                issued: now,
+            })?;
+        }
+    }
+    Ok(())
+}
+
+/// A credit of a channel is spent.
+fn spend_at(credits: &mut [Credits], place: u32, write: bool)
+    requires { place < length credits.old }
+    ensures { (channel : ℕ) (c : Credits) → slice_get credits.old channel ≡ Some c
+        → slice_get credits.new channel ≡ Some (if place == channel then less_credit write c else c) }
+{
+    take_credit(&mut credits[place as usize], write);
+}
+
+/// The entry that issues spends a credit.
+pub fn spend(credits: &mut [Credits], config: &Config, memory: Option<MemoryEntry>)
+    requires { length credits.old ≡ config.now.channels }
+    ensures { (channel : ℕ) (c : Credits) → slice_get credits.old channel ≡ Some c
+        → slice_get credits.new channel ≡ Some (credit_after config.now channel memory c) }
+{
+    if let Some(next) = memory {
+        match next.entry {
+            Entry::Read(address) => spend_at(credits, place_of(config, address).channel, false),
+            Entry::Write(address) => spend_at(credits, place_of(config, address).channel, true),
+            Entry::Plain => (),
+        }
+    }
+}
+
+#[tactic(auto, unfolding(sim_base::specs::History::request))]
+fn request_of_address(
+    config: &Config,
+    core: CoreId,
+    now: Cycle,
+    entry: u64,
+    write: bool,
+    address: u64,
+) -> Message
+    requires { now < 2 ^ 62 }
+    ensures { result ≡ request config.now core now entry write address }
+{
+    let place = place_of(config, address);
+    let link = config.request_link(core, place.channel);
+    let arrival = now + u64::from(config.latency(link));
+    Message {
+        link,
+        arrival,
+        load: Load::Request(Request {
+            core,
+            entry,
+            write,
+            address,
+            place,
+            arrival,
+            link,
+        }),
+    }
+}
+
+/// The entry that issues sends its request.
+pub fn send(
+    sent: &mut Vec<Message>,
+    config: &Config,
+    core: CoreId,
+    now: Cycle,
+    memory: Option<MemoryEntry>,
+) -> Result<(), AllocError>
+    requires { now < 2 ^ 62 }
+    ensures { OnOk result (sent.new.items ≡ sent.old.items ++ requests_issued config.now core now memory) }
+{
+    if let Some(next) = memory {
+        match next.entry {
+            Entry::Read(address) => {
+                sent.push(request_of_address(config, core, now, next.number, false, address))?
+            }
+            Entry::Write(address) => {
+                sent.push(request_of_address(config, core, now, next.number, true, address))?
+            }
+            Entry::Plain => (),
+        }
+    }
+    Ok(())
+}

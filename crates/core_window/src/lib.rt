@@ -1,0 +1,12 @@
+//! A core alone, over a span of cycles.
+#![tactic(auto)]
+
+pub mod core_unit;
+mod counts;
+mod issue;
+mod issue_effects;
+mod receive;
+mod retire;
+#[cfg(test)]
+mod tests;
+pub mod waiting;

@@ -1,0 +1,66 @@
+//! What a message changes.
+
+ghost use Rattle.std.specs.Prelude.{◌≡◌, ◌+◌, ◌-◌, ◌<◌, ◌^◌, ◌==◌, not, filter, find, length, slice_get, ℕ, Some, if◌then◌else◌};
+ghost use Rattle.core_window.specs.Turns.{more_credit, less_credit, credits_of_kind};
+ghost use Rattle.core_window.specs.declared.waiting.WaitingRead.{WaitingRead};
+ghost use Rattle.statistics.specs.declared.final_state.Credits.{Credits};
+
+use crate::waiting::WaitingRead;
+use statistics::cores::CoreStats;
+use statistics::final_state::Credits;
+
+/// The cycle in which a Read that waits was issued.
+pub fn issue_cycle_of(waiting: &[WaitingRead], entry: u64) -> Option<WaitingRead>
+    ensures { result ≡ find (λ read. read.entry == entry) waiting.now }
+{
+    waiting.iter().copied().find(|read| read.entry == entry)
+}
+
+/// Takes out a Read that waits.
+pub fn remove_read(waiting: &mut Vec<WaitingRead>, entry: u64)
+    ensures { waiting.new.items ≡ filter (λ read. not (read.entry == entry)) waiting.old.items }
+{
+    waiting.retain(|read| read.entry != entry);
+}
+
+/// One credit more.
+pub fn add_credit(credits: &mut Credits, write: bool)
+    ensures { credits_of_kind write credits.old + 1 < 2 ^ 64 → credits.new ≡ more_credit write credits.old }
+{
+    if write {
+        credits.write = credits.write.saturating_add(1);
+    } else {
+        credits.read = credits.read.saturating_add(1);
+    }
+}
+
+/// One credit less.
+pub fn take_credit(credits: &mut Credits, write: bool)
+    ensures { credits.new ≡ less_credit write credits.old }
+{
+    if write {
+        credits.write = credits.write.saturating_sub(1);
+    } else {
+        credits.read = credits.read.saturating_sub(1);
+    }
+}
+
+/// One credit more for a channel.
+pub fn add_credit_at(credits: &mut [Credits], place: usize, write: bool)
+    requires { place < length credits.old }
+    ensures { (channel : ℕ) (c : Credits) → slice_get credits.old channel ≡ Some c
+        → (place ≡ channel → credits_of_kind write c + 1 < 2 ^ 64)
+        → slice_get credits.new channel ≡ Some (if place == channel then more_credit write c else c) }
+{
+    add_credit(&mut credits[place], write);
+}
+
+/// Counts a reply, and how long it was waited for.
+pub fn count_reply(stats: &mut CoreStats, waited: u64)
+    requires count { stats.old.replies + 1 < 2 ^ 64 }
+    requires sum { stats.old.read_latency + waited < 2 ^ 128 }
+    ensures { stats.new ≡ record stats.old { replies = stats.old.replies + 1; read_latency = stats.old.read_latency + waited } }
+{
+    stats.replies += 1;
+    stats.read_latency += u128::from(waited);
+}

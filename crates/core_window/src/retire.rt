@@ -1,0 +1,24 @@
+//! How many entries retire in a cycle.
+
+ghost use Rattle.std.specs.Prelude.{◌≡◌, ◌-◌, min};
+ghost use Rattle.core_window.specs.Causes.{first_undone};
+
+use crate::waiting::WaitingRead;
+
+/// The first entry that isn't done, where so many were issued and these Reads wait.
+fn first_undone(waiting: &[WaitingRead], issued: u64) -> u64
+    ensures { result ≡ first_undone issued waiting.now }
+{
+    match waiting {
+        [read, ..] => read.entry,
+        [] => issued,
+    }
+}
+
+/// How many entries retire, where so many are retired: up to the first that isn't done, and no more than the width.
+pub fn retire_count(width: u16, waiting: &[WaitingRead], issued: u64, retired: u64) -> u16
+    ensures { result ≡ min width (first_undone issued waiting.now - retired) }
+{
+    let done = first_undone(waiting, issued).saturating_sub(retired);
+    u64::from(width).min(done) as u16
+}
