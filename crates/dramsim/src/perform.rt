@@ -1,12 +1,13 @@
 //! What the program does, over files and streams that are handed in.
 
-ghost use Rattle.std.specs.Prelude.{◌≡◌, ◌≤◌};
+ghost use Rattle.std.specs.Prelude.{◌≡◌, ◌≤◌, IfOk};
 
 use crate::files::FileSet;
 use crate::runs::simulate_plain;
 use crate::words::{Ask, read_words};
 use address_map::place_of;
 use reports::{write_commands, write_final, write_stats};
+use rule_check::{Verdict, check};
 use sim_base::document::read_config;
 use sim_base::fault::Fault;
 use sim_base::message::Cycle;
@@ -16,6 +17,9 @@ use std::io::Write;
 
 /// The status of a program that did what it was asked.
 const DONE: u8 = 0;
+
+/// The status of a check that found a broken rule.
+const BROKEN: u8 = 1;
 
 /// The status of a program that refused.
 pub const REFUSED: u8 = 2;
@@ -109,13 +113,41 @@ fn perform_map<F: FileSet, P: Write>(
     print_text(print, line.as_str())
 }
 
-// What the words ask for.
+// `check CONFIG COMMANDS`
+fn perform_check<F: FileSet, P: Write>(
+    alloc: Global,
+    files: &mut F,
+    print: &mut P,
+    config: &str,
+    commands: &str,
+) -> Result<u8, Fault>
+    ensures { IfOk result (λ status. status ≤ 1) }
+{
+    let text = files.read(alloc, config)?;
+    let table = files.read(alloc, commands)?;
+    let config = read_config(alloc, &text)?;
+    match check(alloc, &config, &table)? {
+        Verdict::Legal => {
+            print_text(print, "legal\n")?;
+            Ok(DONE)
+        }
+        Verdict::Broken { row, rule } => {
+            let line = format!(in alloc; "broken row {row} rule {rule}\n")?;
+            print_text(print, line.as_str())?;
+            Ok(BROKEN)
+        }
+    }
+}
+
+// What the words ask for, and the status.
 fn answer<F: FileSet, P: Write>(
     alloc: Global,
     words: &[&str],
     files: &mut F,
     print: &mut P,
-) -> Result<(), Fault> {
+) -> Result<u8, Fault>
+    ensures { IfOk result (λ status. status ≤ 1) }
+{
     match read_words(alloc, words)? {
         Ask::Run {
             config,
@@ -123,16 +155,18 @@ fn answer<F: FileSet, P: Write>(
             workers,
             out,
             traces,
-        } => perform_run(alloc, files, config, cycles, workers, out, &traces),
-        Ask::Check { .. } => Err(Fault::CommandLine),
-        Ask::Map { config, address } => perform_map(alloc, files, print, config, address),
-        Ask::Help(text) => print_text(print, text.as_str()),
+        } => perform_run(alloc, files, config, cycles, workers, out, &traces)?,
+        Ask::Check { config, commands } => {
+            return perform_check(alloc, files, print, config, commands);
+        }
+        Ask::Map { config, address } => perform_map(alloc, files, print, config, address)?,
+        Ask::Help(text) => print_text(print, text.as_str())?,
     }
+    Ok(DONE)
 }
 
-/// Does what the words ask for, of which the first is the program's name, and gives the status: 0 done, 2 refused. A refusal
-/// is one line on `errors`: `fault N: ...`. `check` is refused as a command line that the program does not know, until it is
-/// built.
+/// Does what the words ask for, of which the first is the program's name, and gives the status: 0 done, 1 a table that breaks
+/// a rule, 2 refused. A refusal is one line on `errors`: `fault N: ...`.
 pub fn perform<F: FileSet, P: Write, E: Write>(
     alloc: Global,
     words: &[&str],
@@ -143,7 +177,7 @@ pub fn perform<F: FileSet, P: Write, E: Write>(
     ensures { result ≤ 2 }
 {
     match answer(alloc, words, files, print) {
-        Ok(()) => DONE,
+        Ok(status) => status,
         Err(fault) => {
             let _ = writeln!(errors, "{fault}");
             REFUSED

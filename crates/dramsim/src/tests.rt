@@ -8,6 +8,7 @@ use std::io;
 use std::io::{ErrorKind, Write};
 use std::test::Fail;
 
+mod checks;
 mod tables;
 
 const PROFILE_S: &str =
