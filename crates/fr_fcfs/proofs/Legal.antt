@@ -1,18 +1,17 @@
 -- What requests and ranks need, and when it is legal.
-use Rattle.std.proofs.Common.{◌≡◌, ℕ, ◌+◌, ◌*◌, ◌<◌, ◌≤◌, ◌↔◌, IsTrue, Bool, true, false, not, cond, ◌&&◌, ◌||◌, eqb, leb, eq-eqb, ne_eqb, List, Option, Some, None, refl, sym, ap, subst, ◌∙◌, inl, inr, arith}
-use Rattle.std.proofs.lemmas.Bool.{cases_Bool, cases_lt, cases_eq, eqb-true, eqb-false, and_parts, and_from, le-leb, lt-leb, leb-true, leb-false, false_from_ne_true, false≢true, cond-true, cond-false}
+use Rattle.std.proofs.Common.{◌≡◌, ℕ, ◌+◌, ◌*◌, ◌<◌, ◌≤◌, Bool, true, false, not, cond, ◌&&◌, eqb, leb, eq-eqb, List, Option, Some, None, refl, sym, ap, ◌∙◌, inl, inr, arith}
+use Rattle.std.proofs.lemmas.Bool.{cases_Bool, eqb-true, eqb-false, and_parts, and_from, leb-true, leb-false, false_from_ne_true, false≢true, cond-true}
 use Rattle.std.specs.List.{list_any}
 use Rattle.std.specs.Option.{is_some}
 use Rattle.sim_base.specs.declared.config.Config.{Config}
 use Rattle.sim_base.specs.declared.command.Command.{Command}
-use Rattle.sim_base.specs.declared.command.Command.TheVariants.{Act, Rd, Wr, Pre, Prea, Ref}
+use Rattle.sim_base.specs.declared.command.Command.TheVariants.{Rd, Wr, Pre}
 use Rattle.sim_base.specs.declared.command.CommandRow.{CommandRow}
 use Rattle.sim_base.specs.declared.message.Request.{Request}
-use Rattle.sim_base.specs.declared.place.Place.{Place}
 use Rattle.sim_base.specs.declared.place.BankId.{BankId}
 use Rattle.sim_base.specs.Places.{bank_in, is_bank}
-use Rattle.sim_base.specs.Rules.{is_legal, is_allowed, finds_its_banks, open_row, is_row, bank_of, has_open_bank}
-use Rattle.sim_base.specs.Scheduling.{source_of, column_command, needed_at, needed, is_column_command, is_withheld, has_hit, is_row_hit, refresh_command}
+use Rattle.sim_base.specs.Rules.{is_legal, is_allowed, finds_its_banks, open_row, is_row, bank_of}
+use Rattle.sim_base.specs.Scheduling.{source_of, column_command, needed_at, needed, is_column_command, is_withheld, has_hit, is_row_hit}
 use Rattle.bank_ready.specs.Stands.{IsAllowedFrom}
 use Rattle.queue.specs.Columns.{bank_number}
 use Rattle.fr_fcfs.specs.Columns.{IsInBanks, IsLegalFrom, is_hit}

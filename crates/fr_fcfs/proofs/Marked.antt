@@ -1,11 +1,10 @@
 -- The items at the places that are marked.
-use Rattle.std.proofs.Common.{◌≡◌, ℕ, zero, suc, ◌+◌, ◌<◌, ◌≤◌, Bool, true, false, not, cond, ◌&&◌, ◌||◌, ltb, List, [], ◌∷◌, length, map, Option, Some, None, refl, sym, ap, ◌∙◌, inl, inr, get_or, arith}
-use Rattle.std.proofs.lemmas.Bool.{cases_Bool, cases_lt, cond-true, cond-false, lt-ltb, le-ltb}
-use Rattle.std.proofs.lemmas.List.Sums.{prefix_len-le-length}
+use Rattle.std.proofs.Common.{◌≡◌, ℕ, zero, suc, ◌+◌, ◌<◌, ◌≤◌, Bool, true, false, not, cond, ◌&&◌, ◌||◌, ltb, List, [], ◌∷◌, length, map, Option, Some, None, refl, sym, ap, ◌∙◌, inl, inr, arith}
+use Rattle.std.proofs.lemmas.Bool.{cases_lt, cond-true, cond-false, lt-ltb, le-ltb}
 use Rattle.std.specs.List.{filter, zip, list_any, position, position_or_len, slice_get}
 use Rattle.std.specs.Option.{is_some, option_and_then}
 use Rattle.std.specs.Simd.Lanes.{zip2}
-use Rattle.lane_scan.specs.Marks.{mark, is_marked, marked_times}
+use Rattle.lane_scan.specs.Marks.{mark, is_marked}
 use Rattle.queue.specs.Columns.{marked_items}
 
 kept_next : {X : Type 0} (a b : Bool) (x : X) (n m : ℕ) (p : X → Bool) (rest kept : List (X × ℕ)) → p x ≡ b → map (λ e. e.0) rest ≡ filter p (map (λ e. e.0) kept)

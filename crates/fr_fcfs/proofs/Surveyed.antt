@@ -1,5 +1,5 @@
 -- The columns of a survey, as its passes leave them.
-use Rattle.std.proofs.Common.{◌≡◌, ℕ, zero, suc, ◌+◌, ◌*◌, ◌<◌, ◌≤◌, Bool, true, false, not, cond, ◌&&◌, ◌||◌, eqb, ltb, List, [], ◌∷◌, length, map, take, get_or, set, Option, Some, None, refl, sym, ap, subst, ◌∙◌, inl, inr, arith}
+use Rattle.std.proofs.Common.{◌≡◌, ℕ, suc, ◌+◌, ◌<◌, ◌≤◌, Bool, true, false, not, cond, ◌&&◌, ◌||◌, eqb, ltb, List, [], ◌∷◌, length, map, take, get_or, set, refl, sym, ap, subst, ◌∙◌, inl, inr, arith}
 use Rattle.std.proofs.lemmas.Bool.{cases_Bool, cases_lt, cases_eq, eq-eqb, ne_eqb, cond-true, cond-false, and_from, and_left, and_right, lt-ltb, le-ltb}
 use Rattle.std.proofs.lemmas.List.{get_or-map, get_or-set_same, get_or-set_other, length-map}
 use Rattle.std.proofs.lemmas.List.Elements.{All-head, All-tail, All-map, All-weaker, All-get_or}
@@ -16,7 +16,7 @@ use Rattle.sim_base.specs.Scheduling.{candidates, favour, is_favoured, first_of_
 use Rattle.lane_scan.specs.Marks.{mark, is_marked, both_marks}
 use Rattle.queue.specs.Columns.{bank_number, bank_column, marked_items}
 use Rattle.queue.specs.View.{QueueView, is_draining}
-use Rattle.fr_fcfs.specs.Columns.{IsInBanks, IsLegalFrom, IsSurvey, is_hit, is_free, candidates_of}
+use Rattle.fr_fcfs.specs.Columns.{IsInBanks, IsLegalFrom, is_hit, is_free, candidates_of}
 use Rattle.fr_fcfs.proofs.Booleans.{and_false, and_true, or_false, or_true}
 use Rattle.fr_fcfs.proofs.Legal.{withheld_is, hit_in}
 use Rattle.fr_fcfs.proofs.Marked.{kept_marks, marked_mark, any_marked}

@@ -1,15 +1,14 @@
 -- The first cycle with a command.
-use Rattle.std.proofs.Common.{◌≡◌, ℕ, zero, suc, ◌+◌, ◌<◌, ◌≤◌, Bool, true, false, cond, ◌&&◌, ◌||◌, ltb, leb, min, max, List, [], ◌∷◌, length, map, get_or, Option, Some, None, refl, sym, ap, subst, ◌∙◌, inl, inr, arith}
-use Rattle.std.proofs.lemmas.Bool.{cases_Bool, cases_lt, le-leb, lt-leb, leb-true, leb-false, cond-true, cond-false, true≢false}
+use Rattle.std.proofs.Common.{◌≡◌, ℕ, zero, suc, ◌+◌, ◌<◌, ◌≤◌, Bool, true, false, cond, ◌||◌, ltb, leb, min, max, List, [], ◌∷◌, length, map, get_or, Option, Some, None, refl, sym, ap, ◌∙◌, inl, inr, arith}
+use Rattle.std.proofs.lemmas.Bool.{cases_Bool, cases_lt, le-leb, lt-leb, cond-true, cond-false, true≢false}
 use Rattle.std.specs.List.{filter, find, fold, zip, list_any, range_with_len}
 use Rattle.std.specs.Option.{is_some, option_map}
 use Rattle.sim_base.specs.declared.config.Config.{Config}
 use Rattle.sim_base.specs.declared.command.Command.{Command}
 use Rattle.sim_base.specs.declared.command.CommandRow.{CommandRow}
 use Rattle.sim_base.specs.declared.message.Request.{Request}
-use Rattle.sim_base.specs.History.{below}
 use Rattle.sim_base.specs.Rules.{is_legal}
-use Rattle.sim_base.specs.Scheduling.{needed, first_ready, due, lowest_due, refresh_command, if_legal, choice_between}
+use Rattle.sim_base.specs.Scheduling.{needed, first_ready, due, refresh_command, if_legal, choice_between}
 use Rattle.lane_scan.specs.Marks.{is_marked, marked_times, least, least_marked}
 use Rattle.queue.specs.Columns.{marked_items}
 use Rattle.refresh.specs.Refreshes.{RefreshCounts, lowest_owed, owed, is_due_at, IsDueFrom}

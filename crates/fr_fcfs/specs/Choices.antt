@@ -2,7 +2,7 @@
 --     StandFor banks refresh queue groups s history      the parts of a channel stand for a configuration and its commands so far
 --     choice_in s history queue now      the command of a cycle
 --     IsFor requests choice      the place of the request that a command serves
-use Rattle.std.specs.Prelude.{◌≡◌, ℕ, false, List, Option, Some, None, slice_get, MatchOption}
+use Rattle.std.specs.Prelude.{◌≡◌, ℕ, false, List, Option, Some, slice_get, MatchOption}
 use Rattle.sim_base.specs.declared.config.Config.{Config}
 use Rattle.sim_base.specs.declared.command.Command.{Command}
 use Rattle.sim_base.specs.declared.command.CommandRow.{CommandRow}

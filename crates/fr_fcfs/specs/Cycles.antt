@@ -1,7 +1,7 @@
 -- The first cycle in which something holds.
 --     IsFirstCycle holds now first      the first cycle from now on in which it does, if there is one
 --     is_due_from due cycle      something that is due from a cycle on, if ever
-use Rattle.std.specs.Prelude.{◌≡◌, ℕ, ◌<◌, ◌≤◌, nat_le, Bool, true, false, Option, Some, None}
+use Rattle.std.specs.Prelude.{◌≡◌, ℕ, ◌<◌, ◌≤◌, Bool, true, false, Option, Some, None}
 
 -- the first cycle from now on in which something holds
 pub record IsFirst (holds : ℕ → Bool) (now first : ℕ) : Type 0 where

@@ -1,5 +1,5 @@
 -- What the rank needs is legal from the cycle on that was found.
-use Rattle.std.proofs.Common.{◌≡◌, ℕ, ◌≤◌, ◌<◌, true, false, Some, None, sym, ap, ◌∙◌, inl, inr, arith}
+use Rattle.std.proofs.Common.{◌≤◌, ◌<◌, Some, None, sym, ap, ◌∙◌, arith}
 use Rattle.std.proofs.lemmas.Bool.{cond-true, cond-false, lt-leb}
 use Rattle.sim_base.specs.Rules.{is_legal}
 use Rattle.sim_base.specs.Scheduling.{if_legal, refresh_command}

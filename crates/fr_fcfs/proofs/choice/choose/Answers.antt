@@ -1,5 +1,5 @@
 -- What a rank needs that is to be refreshed goes first.
-use Rattle.std.proofs.Common.{◌≡◌, ◌<◌, ◌≤◌, Some, None, sym, ap, ◌∙◌, arith}
+use Rattle.std.proofs.Common.{sym, ap, ◌∙◌, arith}
 use Rattle.sim_base.specs.Scheduling.{choice_between}
 use Rattle.fr_fcfs.specs.Columns.{candidates_of}
 use Rattle.fr_fcfs.proofs.Waking.{lowest_below}

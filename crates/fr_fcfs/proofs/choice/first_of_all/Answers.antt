@@ -1,8 +1,6 @@
 -- One rank more, from the highest on.
-use Rattle.std.proofs.Common.{◌≡◌, ℕ, ◌+◌, ◌-◌, ◌<◌, ◌≤◌, ltb, Option, sym, ap, subst, ◌∙◌, arith}
-use Rattle.std.specs.List.{find, range_with_len}
-use Rattle.std.specs.Option.{is_some}
-use Rattle.sim_base.specs.Scheduling.{choice_between, lowest_due, due}
+use Rattle.std.proofs.Common.{◌≡◌, ◌+◌, ◌-◌, sym, subst, arith}
+use Rattle.sim_base.specs.Scheduling.{lowest_due}
 use Rattle.fr_fcfs.specs.Cycles.{IsFirstCycle}
 use Rattle.fr_fcfs.proofs.Waking.{chosen_from, chosen_start, refreshes_more}
 use Rattle.fr_fcfs.proofs.choice.first_of_all.Goals as goal

@@ -1,4 +1,4 @@
-use Rattle.std.proofs.Common.{◌≡◌, ℕ, length, sym, ap, ◌∙◌, arith}
+use Rattle.std.proofs.Common.{sym, ap, ◌∙◌, arith}
 use Rattle.refresh.specs.Refreshes.{is_due_at}
 use Rattle.fr_fcfs.proofs.Chosen.{ready_from_least}
 use Rattle.fr_fcfs.proofs.choice.first_time.Goals as goal

@@ -1,5 +1,5 @@
 -- A bank is open in a rank where one is in some of its groups.
-use Rattle.std.proofs.Common.{◌≡◌, true, false, ◌||◌, sym, ap, ◌∙◌, arith}
+use Rattle.std.proofs.Common.{◌≡◌, ◌||◌, sym, ap, ◌∙◌, arith}
 use Rattle.std.specs.List.{list_any}
 use Rattle.sim_base.specs.History.{below}
 use Rattle.sim_base.specs.Rules.{has_open_bank_in_group, has_open_bank}

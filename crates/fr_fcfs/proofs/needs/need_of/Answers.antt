@@ -1,7 +1,7 @@
 -- The bank is open or closed as the command that is needed wants it.
-use Rattle.std.proofs.Common.{◌≡◌, Some, sym, ap, subst, ◌∙◌}
+use Rattle.std.proofs.Common.{Some, sym, ap, ◌∙◌}
 use Rattle.sim_base.specs.Places.{bank_in}
-use Rattle.sim_base.specs.Rules.{kind_of, bank_of, open_row}
+use Rattle.sim_base.specs.Rules.{kind_of, open_row}
 use Rattle.sim_base.specs.Scheduling.{needed, needed_at, is_column_command}
 use Rattle.fr_fcfs.proofs.Legal.{needed_bank, finds_needed, legal_from, column_needed}
 use Rattle.fr_fcfs.proofs.needs.need_of.Goals as goal

@@ -1,5 +1,5 @@
 -- A rank with an open bank is closed first.
-use Rattle.std.proofs.Common.{◌≡◌, true, false, not, cond, refl, sym, ap, subst, ◌∙◌}
+use Rattle.std.proofs.Common.{not, refl, sym, ap, subst, ◌∙◌}
 use Rattle.std.proofs.lemmas.Bool.{cond-true, cond-false}
 use Rattle.sim_base.specs.declared.command.Command.TheVariants.{Prea, Ref}
 use Rattle.sim_base.specs.Rules.{has_open_bank}

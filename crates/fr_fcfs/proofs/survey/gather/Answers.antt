@@ -1,7 +1,6 @@
 -- The words of one request more.
-use Rattle.std.proofs.Common.{◌≡◌, ℕ, ◌<◌, ◌≤◌, List, length, get_or, sym, ap, subst, ◌∙◌, arith}
+use Rattle.std.proofs.Common.{ap, ◌∙◌, arith}
 use Rattle.std.proofs.lemmas.List.{get_or_default}
-use Rattle.sim_base.specs.declared.message.Request.{Request}
 use Rattle.sim_base.specs.Scheduling.{is_column_command}
 use Rattle.lane_scan.specs.Marks.{mark}
 use Rattle.fr_fcfs.proofs.Surveyed.{gathered_more}

@@ -1,11 +1,11 @@
 -- The favoured requests are those that are marked as writes, or those that are not.
-use Rattle.std.proofs.Common.{◌≡◌, ℕ, true, false, not, cond, ◌&&◌, length, map, sym, ap, ◌∙◌, arith}
+use Rattle.std.proofs.Common.{◌≡◌, ℕ, not, ◌&&◌, length, sym, ap, ◌∙◌}
 use Rattle.std.proofs.lemmas.List.{length-map}
 use Rattle.std.specs.List.{filter}
 use Rattle.sim_base.specs.declared.message.Request.{Request}
 use Rattle.sim_base.specs.Scheduling.{is_favoured, first_of_lines}
 use Rattle.lane_scan.specs.Marks.{mark, is_marked, both_marks, first_only_marks}
-use Rattle.queue.specs.Columns.{marked_items, eligible_column, kind_column}
+use Rattle.queue.specs.Columns.{marked_items, eligible_column}
 use Rattle.queue.proofs.Eligible.{marked_eligible, length-eligible}
 use Rattle.fr_fcfs.proofs.Marked.{kept_marks, marked_mark}
 use Rattle.fr_fcfs.proofs.survey.mark_favoured.Goals as goal

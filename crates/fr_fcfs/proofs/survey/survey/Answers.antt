@@ -1,13 +1,12 @@
 -- The columns of the passes, put together.
-use Rattle.std.proofs.Common.{◌≡◌, ℕ, ◌<◌, ◌≤◌, ◌&&◌, List, false, not, cond, eqb, get_or, length, sym, ap, subst, ◌∙◌, arith}
-use Rattle.std.proofs.lemmas.List.{length-map}
+use Rattle.std.proofs.Common.{◌≡◌, ℕ, ◌<◌, ◌&&◌, List, false, not, cond, eqb, get_or, length, subst, ◌∙◌, arith}
 use Rattle.std.proofs.lemmas.List.Elements.{All-same}
-use Rattle.std.specs.List.{list_any, zip, All}
+use Rattle.std.specs.List.{list_any, zip}
 use Rattle.sim_base.specs.declared.message.Request.{Request}
 use Rattle.sim_base.specs.Scheduling.{needed}
 use Rattle.bank_ready.specs.Stands.{rank_count}
 use Rattle.lane_scan.specs.Marks.{mark, is_marked}
-use Rattle.queue.specs.Columns.{bank_number, bank_column}
+use Rattle.queue.specs.Columns.{bank_column}
 use Rattle.fr_fcfs.specs.Columns.{IsLegalFrom, is_hit, candidates_of}
 use Rattle.fr_fcfs.proofs.Surveyed.{column_is, numbers_below, free_are}
 use Rattle.fr_fcfs.proofs.survey.survey.Goals as goal
