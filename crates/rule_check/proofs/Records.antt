@@ -9,7 +9,7 @@ use Rattle.csv.specs.declared.parser.Action.TheVariants as act
 use Rattle.csv.specs.declared.parser.Terminator.TheVariants as term
 
 -- in this state no record is begun
-abbrev IsBetween : State → Type 0
+abbrev pub IsBetween : State → Type 0
 IsBetween s = ends_at_end s ≡ false
 
 -- a step that ends a record leaves none begun
@@ -69,7 +69,7 @@ next-leaves s fields field (c ∷ rest) p h =
     (λ e. let l = next-leaves s2 (fields_after a fields field) (field_after a c field) rest p e in record { less = omega (arith, l.less); between = l.between })
     h
 
-next-less : (s : State) (xs : List ℕ) (p : Read) → IsBetween s → next_record default_config s [] [] xs ≡ Some p → (length p.2 < length xs) × IsBetween p.1
+pub next-less : (s : State) (xs : List ℕ) (p : Read) → IsBetween s → next_record default_config s [] [] xs ≡ Some p → (length p.2 < length xs) × IsBetween p.1
 unfolding next_record
 next-less s [] p b h = cc (rw b at h)
 next-less s (c ∷ rest) p b h =
