@@ -1,7 +1,7 @@
 -- One record after the other is taken from what a reader has left.
 use Rattle.std.proofs.Common.{Bor, inl, ◌≡◌, ℕ, zero, suc, ◌+◌, ◌<◌, ◌≤◌, ◌∙◌, Bool, true, false, cond, List, [], ◌∷◌, length, Option, Some, None, refl, sym, ap, subst, arith}
-use Rattle.csv.specs.Machine.{Read, next_record, ends_at_end}
-use Rattle.csv.specs.Reading.{Reached, Ready, ReadRecord, default_config, is_bom, records_from, records_next, source_of, strip_bom, took_first}
+use Rattle.csv.specs.Machine.{Read, next_record}
+use Rattle.csv.specs.Reading.{Reached, ReadRecord, default_config, is_bom, records_from, records_next, strip_bom, took_first}
 use Rattle.csv.specs.declared.parser.State.{State}
 use Rattle.csv.specs.declared.parser.State.TheVariants as st
 use Rattle.csv.specs.declared.reader.Reader.{Reader}
@@ -10,18 +10,22 @@ use Rattle.rule_check.specs.Left.{IsReading, Takes, bytes_left, left_of, records
 use Rattle.rule_check.specs.Verdict.{records_of}
 use Rattle.rule_check.proofs.Records.{IsBetween, next-less}
 
+-- what is read after the next record, by two readings that agree on it
+same_next : (f g : State → List ℕ → List (List (List ℕ))) (s : State) (xs : List ℕ)
+    → ((p : Read) → next_record default_config s [] [] xs ≡ Some p → f p.1 p.2 ≡ g p.1 p.2)
+    → (o : Option Read) → next_record default_config s [] [] xs ≡ o → records_next f o ≡ records_next g o
+same_next f g s xs h None e = refl
+same_next f g s xs h (Some p) e = ap (λ (rs : List (List (List ℕ))). p.0 ∷ rs) (h p e)
+
 -- more turns than bytes read no more records
 fuel : (n m : ℕ) (s : State) (xs : List ℕ) → IsBetween s → length xs < n → length xs < m → records_from default_config n s xs ≡ records_from default_config m s xs
 unfolding records_from
 fuel zero m s xs b l k = absurd (omega arith)
 fuel (suc n) zero s xs b l k = absurd (omega arith)
-fuel (suc n) (suc m) s xs b l k = by (next_record default_config s [] [] xs) refl
-  where
-    by : (o : Option Read) → next_record default_config s [] [] xs ≡ o → records_next (records_from default_config n) o ≡ records_next (records_from default_config m) o
-    by None e = refl
-    by (Some p) e =
-        let less = next-less s xs p b e in
-        ap (λ (rs : List (List (List ℕ))). p.0 ∷ rs) (fuel n m p.1 p.2 less.1 (omega (arith, less.0)) (omega (arith, less.0)))
+fuel (suc n) (suc m) s xs b l k =
+    same_next (records_from default_config n) (records_from default_config m) s xs
+    (λ p e. let less = next-less s xs p b e in fuel n m p.1 p.2 less.1 (omega (arith, less.0)) (omega (arith, less.0)))
+    (next_record default_config s [] [] xs) refl
 
 step_from : (n : ℕ) (s : State) (xs : List ℕ) (p : Read) → IsBetween s → length xs < n → next_record default_config s [] [] xs ≡ Some p
     → records_from default_config n s xs ≡ p.0 ∷ records_after p.1 p.2
@@ -45,17 +49,24 @@ pub after_none : (s : State) (xs : List ℕ) → next_record default_config s []
 unfolding records_after
 after_none s xs e = none_from (length xs + 1) s xs e
 
+few_next : (f : State → List ℕ → List (List (List ℕ))) (s : State) (xs : List ℕ) (size : ℕ)
+    → ((p : Read) → next_record default_config s [] [] xs ≡ Some p → length (f p.1 p.2) + 1 ≤ size)
+    → (o : Option Read) → next_record default_config s [] [] xs ≡ o → length (records_next f o) ≤ size
+few_next f s xs size h None e = omega arith
+few_next f s xs size h (Some p) e =
+    let few = h p e in
+    omega (arith, few)
+
 length_from : (n : ℕ) (s : State) (xs : List ℕ) → IsBetween s → length xs < n → length (records_from default_config n s xs) ≤ length xs
 unfolding records_from
 length_from zero s xs b l = absurd (omega arith)
-length_from (suc n) s xs b l = by (next_record default_config s [] [] xs) refl
-  where
-    by : (o : Option Read) → next_record default_config s [] [] xs ≡ o → length (records_next (records_from default_config n) o) ≤ length xs
-    by None e = omega arith
-    by (Some p) e =
-        let less = next-less s xs p b e in
-        let rest = length_from n p.1 p.2 less.1 (omega (arith, less.0)) in
-        omega (arith, less.0, rest)
+length_from (suc n) s xs b l =
+    few_next (records_from default_config n) s xs (length xs)
+    (λ p e.
+    let less = next-less s xs p b e in
+    let rest = length_from n p.1 p.2 less.1 (omega (arith, less.0)) in
+    omega (arith, less.0, rest))
+    (next_record default_config s [] [] xs) refl
 
 -- each record takes a byte and more
 pub length_after : (s : State) (xs : List ℕ) → IsBetween s → length (records_after s xs) ≤ length xs

@@ -2,14 +2,15 @@
 --     records_of table      the records of its text
 --     verdict s records      the verdict on a table with these records
 --     IsCheckFault fault      why a table may be refused
-use Rattle.std.specs.Prelude.{ℕ, ◌+◌, List, [], ◌∷◌, ◌++◌, ⊤, Option, Some, None, Result, Ok, Err, if◌then◌else◌}
+--     IsLegalTable s table      it has the header, no malformed record, and each row keeps every rule
+use Rattle.std.specs.Prelude.{◌≡◌, ℕ, ◌+◌, ◌<◌, ◌≤◌, false, IsTrue, length, take, map, slice_index_or, List, [], ◌∷◌, ◌++◌, ⊤, Option, Some, None, Result, Ok, Err, if◌then◌else◌}
 use Rattle.csv.specs.Reading.{default_config, records, strip_bom}
 use Rattle.sim_base.specs.declared.config.Config.{Config}
 use Rattle.sim_base.specs.declared.command.CommandRow.{CommandRow}
 use Rattle.sim_base.specs.declared.fault.Fault.{Fault}
 use Rattle.sim_base.specs.declared.fault.Fault.TheVariants.{CheckRow, Memory}
 use Rattle.rule_check.specs.Fields.{is_header, row_in}
-use Rattle.rule_check.specs.Broken.{lowest_broken}
+use Rattle.rule_check.specs.Broken.{breaks, lowest_broken}
 use Rattle.rule_check.specs.declared.verdict.Verdict.{Verdict}
 use Rattle.rule_check.specs.declared.verdict.Verdict.TheVariants.{Legal, Broken}
 
@@ -44,3 +45,18 @@ abbrev pub IsCheckFault : Fault → Type 0
 IsCheckFault (CheckRow row) = ⊤
 IsCheckFault Memory = ⊤
 IsCheckFault _ = ⊥
+
+-- each row of a table keeps every rule over the rows before it
+abbrev pub KeepsRules : Config → List CommandRow → Type 0
+KeepsRules s rows =
+    (i number : ℕ) (d : CommandRow) → i < length rows → 1 ≤ number → number ≤ 21 → breaks s (take i rows) (slice_index_or rows i d) number ≡ false
+
+-- the records of a table without fault: the header, and then records that write rows which keep every rule
+pub record IsLegalTable (s : Config) (table : List (List (List ℕ))) : Type 0 where
+  pub header : List (List ℕ)
+  pub others : List (List (List ℕ))
+  pub rows : List CommandRow
+  pub parts : table ≡ header ∷ others
+  pub is_header : IsTrue (is_header s.ranks header)
+  pub well_formed : map (row_in s) others ≡ map Some rows
+  pub keeps_rules : KeepsRules s rows

@@ -1,13 +1,13 @@
 //! The verdict on a whole table.
 
-ghost use Rattle.std.specs.Prelude.{ℕ, List, ◌≡◌, ◌≢◌, ◌<◌, ◌^◌, [], ◌∷◌, length, Ok, Err, None, IfOk, IfErr, IfSome};
+ghost use Rattle.std.specs.Prelude.{ℕ, List, ◌≡◌, ◌≢◌, ◌↔◌, ◌+◌, ◌≤◌, [], ◌∷◌, length, Ok, Err, None, IfOk, IfErr, IfSome};
 ghost use Rattle.csv.specs.Records.{fields_of};
 ghost use Rattle.sim_base.specs.Rules.{rules};
 ghost use Rattle.sim_base.specs.declared.command.CommandRow.{CommandRow};
 ghost use Rattle.rule_check.specs.Judged.{IsKeptRow};
 ghost use Rattle.rule_check.specs.Left.{IsReading, left_of};
 ghost use Rattle.rule_check.specs.Past.{IsPast};
-ghost use Rattle.rule_check.specs.Verdict.{records_of, verdict, verdict_after, IsCheckFault};
+ghost use Rattle.rule_check.specs.Verdict.{records_of, verdict, verdict_after, IsCheckFault, IsLegalTable};
 
 use crate::fields::{is_header, row_in};
 use crate::past::{lowest_broken, note, start};
@@ -46,22 +46,23 @@ fn judge(
     None
 }
 
-// The verdict on the rows after the header.
+// The verdict on the rows after the header. Each turn reads one, and there are enough.
 fn check_rows(
     alloc: Global,
     config: &Config,
+    turns: u64,
     reader: &mut Reader<&[u8]>,
     fields: &mut ByteRecord,
 ) -> Result<Verdict, Fault>
     requires reading { IsReading reader.old }
-    requires few { length (left_of reader.old) < 2 ^ 63 }
+    requires few { length (left_of reader.old) + 2 ≤ turns }
     ensures ok { IfOk result (λ v. verdict_after config.now [] 1 (left_of reader.old) ≡ Ok v) }
     ensures refused { IfErr result (λ e. e ≢ Fault.Memory → verdict_after config.now [] 1 (left_of reader.old) ≡ Err e) }
     ensures fault { IfErr result IsCheckFault }
 {
     let table = rules(&config.timing);
     let mut past = start(alloc, config)?;
-    for number in 1..u64::MAX {
+    for number in 1..turns {
         let Ok(found) = read_next(reader, fields) else {
             return Err(Fault::Memory);
         };
@@ -75,14 +76,8 @@ fn check_rows(
     unreachable!()
 }
 
-/// Tests a table of commands under a configuration: its text is read as comma-separated values, whose first record must be the
-/// header. The first row that is malformed, or that breaks a rule of DDR4 over the rows before it, decides.
-///
-/// A malformed row is `CheckRow` with its number, counted from 1 by records and not by lines; 0 is a missing or wrong header.
-/// A broken rule is no error, but the verdict that names the row and the lowest rule that it breaks. Else only memory is
-/// refused. The time is in proportion to the length of the table, and the memory is that of one row and of what the rules need of
-/// the rows before it.
-pub fn check(alloc: Global, config: &Config, table: &[u8]) -> Result<Verdict, Fault>
+// The verdict on a table, whose records are read one after the other.
+fn check_records(alloc: Global, config: &Config, table: &[u8]) -> Result<Verdict, Fault>
     ensures ok { IfOk result (λ v. verdict config.now (records_of table.now) ≡ Ok v) }
     ensures refused { IfErr result (λ e. e ≢ Fault.Memory → verdict config.now (records_of table.now) ≡ Err e) }
     ensures fault { IfErr result IsCheckFault }
@@ -92,8 +87,29 @@ pub fn check(alloc: Global, config: &Config, table: &[u8]) -> Result<Verdict, Fa
     let Ok(found) = read_next(&mut reader, &mut fields) else {
         return Err(Fault::Memory);
     };
-    if !found || !is_header(config.ranks, &fields) {
+    if !found {
         return Err(Fault::CheckRow(0));
     }
-    check_rows(alloc, config, &mut reader, &mut fields)
+    if !is_header(config.ranks, &fields) {
+        return Err(Fault::CheckRow(0));
+    }
+    let turns = table.len() as u64 + 2;
+    check_rows(alloc, config, turns, &mut reader, &mut fields)
+}
+
+/// Tests a table of commands under a configuration: its text is read as comma-separated values, whose first record must be the
+/// header. The first row that is malformed, or that breaks a rule of DDR4 over the rows before it, decides.
+///
+/// A malformed row is `CheckRow` with its number, counted from 1 by records and not by lines; 0 is a missing or wrong header.
+/// A broken rule is no error, but the verdict that names the row and the lowest rule that it breaks. Else only memory is
+/// refused. The time is in proportion to the length of the table, and the memory is that of one row and of what the rules need of
+/// the rows before it.
+#[tactic(auto, using(crate::proofs::Legals::legal_just_where))]
+pub fn check(alloc: Global, config: &Config, table: &[u8]) -> Result<Verdict, Fault>
+    ensures ok { IfOk result (λ v. verdict config.now (records_of table.now) ≡ Ok v) }
+    ensures refused { IfErr result (λ e. e ≢ Fault.Memory → verdict config.now (records_of table.now) ≡ Err e) }
+    ensures legal { IfOk result (λ v. (v ≡ Verdict.Legal) ↔ IsLegalTable config.now (records_of table.now)) }
+    ensures fault { IfErr result IsCheckFault }
+{
+    check_records(alloc, config, table)
 }

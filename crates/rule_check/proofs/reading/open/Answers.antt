@@ -1,5 +1,4 @@
 -- The settings of the reader are the usual ones, and it stands before the first record.
-use Rattle.std.proofs.Common.{◌≡◌}
 use Rattle.rule_check.proofs.Left.{all_left}
 use Rattle.rule_check.proofs.reading.open.Goals as goal
 

@@ -1,5 +1,4 @@
 -- The next record is taken, or there is none.
-use Rattle.std.proofs.Common.{◌≡◌}
 use Rattle.csv.specs.Records.{fields_of}
 use Rattle.rule_check.proofs.Left.{takes_next}
 use Rattle.rule_check.proofs.reading.read_next.Goals as goal

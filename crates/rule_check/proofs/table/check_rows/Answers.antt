@@ -1,40 +1,62 @@
-use Rattle.std.proofs.Common.{rules, ℕ, List, ◌≡◌, ◌≢◌, ◌<◌, ◌^◌, [], ◌∷◌, length, Ok, Err, None, IfOk, IfErr, IfSome, ◌+◌, ◌-◌, ◌*◌, ◌≤◌, ◌/◌, ◌%◌, Bool, true, false, nat_eq, nat_lt, ◌++◌, slice_index_or, slice_set, bit_and, bit_or, Fits, w8, w32, w64, Bor, MutBor}
+-- The next record decides, or is kept.
+use Rattle.std.proofs.Common.{◌≡◌, ◌++◌, ◌∷◌, [], ◌∙◌, length, refl, ap, arith}
 use Rattle.csv.specs.Records.{fields_of}
-use Rattle.sim_base.specs.declared.command.CommandRow.{CommandRow}
-use Rattle.rule_check.specs.Judged.{IsKeptRow}
-use Rattle.rule_check.specs.Left.{IsReading, left_of}
-use Rattle.rule_check.specs.Past.{IsPast}
-use Rattle.rule_check.specs.Verdict.{records_of, verdict, verdict_after, IsCheckFault}
+use Rattle.rule_check.specs.Left.{left_of}
+use Rattle.rule_check.specs.Verdict.{verdict_after}
+use Rattle.rule_check.proofs.Judging.{answers_ok, answers_err, at_end_of}
 use Rattle.rule_check.proofs.table.check_rows.Goals as goal
 
--- src/table.rt:64:5
 pub loop-number-init : goal.loop-number-init
-loop-number-init c = ?
+loop-number-init c =
+    let few = c.requires.few in
+    (c.requires.reading, [], c.in_ok-past.ensures {u = tt}, omega (arith, few), refl)
 
--- src/table.rt:65:25
 pub read_next-requires : goal.read_next-requires
-read_next-requires c = ?
+read_next-requires c = c.loop-number.invariant.0
 
--- src/table.rt:69:13
 pub returns-then-not-found-clause-ok : goal.returns-then-not-found-clause-ok
-returns-then-not-found-clause-ok c = ?
+returns-then-not-found-clause-ok c =
+    let inv = c.loop-number.invariant in
+    let none = rw c.if-not-found.true at ((c.in-Ok.ensures {u = tt}).takes) in
+    inv.4
+    ∙ ap (verdict_after c.args.config.now inv.1 c.loop-number.number) none
+    ∙ at_end_of c.args.config.now inv.1 c.loop-number.number
 
--- src/table.rt:71:31
 pub judge-requires-clause-stands : goal.judge-requires-clause-stands
-judge-requires-clause-stands c = ?
+judge-requires-clause-stands c = (c.loop-number.invariant.1, c.loop-number.invariant.2)
 
--- src/table.rt:72:13
 pub returns-in-Some-clause-ok : goal.returns-in-Some-clause-ok
-returns-in-Some-clause-ok c = ?
+returns-in-Some-clause-ok c =
+    let inv = c.loop-number.invariant in
+    let took = rw c.if-not-found.false at ((c.in-Ok.ensures {u = tt}).takes) in
+    let decided = (c.in-Some.ensures {u = tt}).decided inv.1 (left_of c.read_next.new.reader) inv.2 in
+    answers_ok c.in-Some.answer (verdict_after c.args.config.now [] 1 (left_of c.args.reader.now))
+    (inv.4 ∙ ap (verdict_after c.args.config.now inv.1 c.loop-number.number) took.1 ∙ decided)
 
--- src/table.rt:72:13
 pub returns-in-Some-clause-refused : goal.returns-in-Some-clause-refused
-returns-in-Some-clause-refused c = ?
+returns-in-Some-clause-refused c =
+    let inv = c.loop-number.invariant in
+    let took = rw c.if-not-found.false at ((c.in-Ok.ensures {u = tt}).takes) in
+    let decided = (c.in-Some.ensures {u = tt}).decided inv.1 (left_of c.read_next.new.reader) inv.2 in
+    answers_err c.in-Some.answer (verdict_after c.args.config.now [] 1 (left_of c.args.reader.now))
+    (inv.4 ∙ ap (verdict_after c.args.config.now inv.1 c.loop-number.number) took.1 ∙ decided)
 
--- src/table.rt:64:5
 pub loop-number-preserved : goal.loop-number-preserved
-loop-number-preserved c = ?
+loop-number-preserved c =
+    let inv = c.loop-number.invariant in
+    let took = rw c.if-not-found.false at ((c.in-Ok.ensures {u = tt}).takes) in
+    let kept = (c.in_default-judge.ensures {u = tt}).kept refl inv.1 inv.2 in
+    let few = inv.3 in
+    let size : length (left_of c.loop-number.reader) ≡ length (fields_of c.read_next.new.row ∷ left_of c.read_next.new.reader) = ap length took.1 in (
+      took.0,
+      inv.1 ++ kept.row ∷ [],
+      kept.kept,
+      omega (arith, few, size),
+      inv.4 ∙ ap (verdict_after c.args.config.now inv.1 c.loop-number.number) took.1 ∙ kept.goes_on (left_of c.read_next.new.reader),
+    )
 
--- src/table.rt:75:5
 pub unreachable-requires : goal.unreachable-requires
-unreachable-requires c = ?
+unreachable-requires c =
+    let few = c.loop-number.invariant.3 in
+    let last = c.loop-number-test.false in
+    omega (arith, few, last)

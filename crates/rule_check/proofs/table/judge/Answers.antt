@@ -1,5 +1,5 @@
 -- A malformed record and a broken rule decide; else the row is kept.
-use Rattle.std.proofs.Common.{◌≡◌, sym}
+use Rattle.std.proofs.Common.{sym}
 use Rattle.csv.specs.Records.{fields_of}
 use Rattle.rule_check.proofs.Judging.{malformed, broken_by, goes_on_after}
 use Rattle.rule_check.proofs.table.judge.Goals as goal
