@@ -1,5 +1,5 @@
 -- The cycle after which a refresh is overdue, by the refreshes before it.
-use Rattle.std.proofs.Common.{◌≡◌, ℕ, ◌+◌, ◌*◌, ◌<◌, ◌≤◌, ◌∙◌, Bool, true, false, cond, min, List, [], ◌∷◌, refl, sym, ap, arith, inl, inr}
+use Rattle.std.proofs.Common.{◌≡◌, ℕ, ◌+◌, ◌*◌, ◌<◌, ◌∙◌, Bool, true, false, cond, min, List, [], ◌∷◌, refl, sym, ap, arith, inl, inr}
 use Rattle.std.specs.Prelude.{fold, nat_lt, count_by}
 use Rattle.std.proofs.lemmas.Bool.{cases_lt, lt-ltb, le-ltb}
 use Rattle.std.proofs.lemmas.List.Sums.{sum_by-cons}
@@ -9,7 +9,7 @@ use Rattle.sim_base.specs.Config.{refresh_slack}
 use Rattle.sim_base.specs.Scheduling.{refreshes}
 use Rattle.rule_check.specs.Numbers.{number_limit}
 use Rattle.rule_check.specs.Broken.{is_overdue}
-use Rattle.rule_check.specs.Kept.{deadline_after, deadline_where, deadline_from, first_deadline}
+use Rattle.rule_check.specs.Kept.{deadline_where, deadline_from, first_deadline}
 
 capped-where : (counts : Bool) (n d e : ℕ) → min d number_limit ≡ min e number_limit
     → min (deadline_where counts n d) number_limit ≡ min (e + cond counts 1 0 * n) number_limit

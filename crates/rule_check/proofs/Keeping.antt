@@ -1,6 +1,6 @@
 -- What is kept of the rows of a channel, as one row more is noted, and what it says of the next.
-use Rattle.std.proofs.Common.{◌≡◌, ℕ, ◌+◌, ◌*◌, ◌/◌, ◌%◌, ◌<◌, ◌≤◌, ◌++◌, ◌∙◌, ◌&&◌, ◌||◌, ◌==◌, Bool, true, false, not, cond, List, [], ◌∷◌, length, get_or, replicate, Option, Some, None, refl, sym, ap, arith, suc, zero}
-use Rattle.std.specs.Prelude.{fold, nat_lt, slice_get, option_and_then, option_map, unwrap_or, is_some, IfSome}
+use Rattle.std.proofs.Common.{◌≡◌, ℕ, ◌+◌, ◌*◌, ◌/◌, ◌%◌, ◌<◌, ◌≤◌, ◌++◌, ◌∙◌, ◌&&◌, ◌||◌, ◌==◌, Bool, true, false, not, cond, List, [], ◌∷◌, length, get_or, Option, Some, None, refl, sym, ap, arith, suc, zero}
+use Rattle.std.specs.Prelude.{fold, nat_lt, slice_get, option_and_then, option_map, unwrap_or, is_some}
 use Rattle.std.specs.List.{list_any, range_with_len}
 use Rattle.std.proofs.lemmas.Option.{slice_get-get_or}
 use Rattle.std.proofs.lemmas.List.Sums.{fold-append}
@@ -16,16 +16,14 @@ use Rattle.sim_base.specs.declared.command.Kind.TheVariants as kind
 use Rattle.sim_base.specs.declared.command.Command.{Command}
 use Rattle.sim_base.specs.declared.command.Command.TheVariants.{Act, Rd, Wr, Pre, Prea, Ref}
 use Rattle.sim_base.specs.declared.command.CommandRow.{CommandRow}
-use Rattle.sim_base.specs.History.{below}
-use Rattle.sim_base.specs.Rules.{rules, is_kind, kind_of, rank_of, bank_of, relation_of, relation_in_rank, covers, row_after, open_row, is_open, has_open_bank, has_open_bank_in_group, is_row, finds_its_banks}
+use Rattle.sim_base.specs.Rules.{rules, is_kind, kind_of, rank_of, bank_of, relation_of, relation_in_rank, covers, row_after, open_row, has_open_bank, has_open_bank_in_group, is_row, finds_its_banks}
 use Rattle.rule_check.specs.Fields.{BankFits, CommandFits, RowFits}
 use Rattle.rule_check.specs.Broken.{is_too_close, breaks_distance, breaks_window, breaks_refresh, is_overdue, breaks_in_channel}
-use Rattle.rule_check.specs.Kept.{lies, any_bank, nothing, latest_of, noted_where, latest_where, window_where, window_from, activates, deadline_where, deadline_from, first_deadline}
+use Rattle.rule_check.specs.Kept.{lies, any_bank, nothing, latest_of, noted_where, latest_where, window_where, window_from, activates, deadline_where, deadline_from}
 use Rattle.rule_check.specs.Kept.{bank_past, bank_after, group_past, group_after, rank_past, rank_after, number_of, bank_numbered, group_number, IsKept}
-use Rattle.rule_check.specs.Kept.{kept, kept_in_bank, kept_in_group, kept_across_groups, kept_in_rank, kept_across_ranks, is_ahead, is_too_soon, kept_breaks_distance, kept_window, kept_breaks_window, kept_overdue, kept_breaks_refresh, kept_row, has_kept_open_in_group, has_kept_open, kept_finds_banks, kept_breaks}
+use Rattle.rule_check.specs.Kept.{kept, kept_in_bank, kept_in_group, kept_across_groups, kept_in_rank, kept_across_ranks, is_ahead, is_too_soon, kept_breaks_distance, kept_breaks_window, kept_overdue, kept_breaks_refresh, kept_row, has_kept_open_in_group, has_kept_open, kept_finds_banks, kept_breaks}
 use Rattle.sim_base.specs.Scheduling.{refreshes}
 use Rattle.rule_check.specs.declared.latest.Latest.{Latest}
-use Rattle.rule_check.specs.declared.window.Window.{Window}
 use Rattle.rule_check.specs.declared.state.Bank.{Bank}
 use Rattle.rule_check.specs.declared.state.Group.{Group}
 use Rattle.rule_check.specs.declared.state.Rank.{Rank}

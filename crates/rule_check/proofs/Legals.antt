@@ -11,7 +11,7 @@ use Rattle.rule_check.specs.Fields.{is_header, row_in}
 use Rattle.rule_check.specs.Broken.{breaks, lowest_broken}
 use Rattle.rule_check.specs.Verdict.{verdict, verdict_after, decided_by_row, decided_by_rule, IsLegalTable}
 use Rattle.rule_check.specs.declared.verdict.Verdict.{Verdict}
-use Rattle.rule_check.specs.declared.verdict.Verdict.TheVariants.{Legal, Broken}
+use Rattle.rule_check.specs.declared.verdict.Verdict.TheVariants.{Legal}
 
 found-parts : (b : Bool) (x : ℕ) (o : Option ℕ) → cond b (Some x) o ≡ None → (b ≡ false) × (o ≡ None)
 found-parts true x o e = cc e

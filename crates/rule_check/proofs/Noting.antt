@@ -1,17 +1,15 @@
 -- What the loops over banks, groups and ranks make of a channel.
-use Rattle.std.proofs.Common.{◌≡◌, ℕ, ◌*◌, ◌/◌, ◌%◌, ◌<◌, ◌∙◌, List, [], length, get_or, replicate, None, sym, ap, arith}
+use Rattle.std.proofs.Common.{◌≡◌, ℕ, ◌*◌, ◌/◌, ◌%◌, ◌<◌, ◌∙◌, List, [], length, get_or, replicate, None, sym, ap}
 use Rattle.std.specs.Prelude.{Vec}
 use Rattle.std.specs.Vec.{with_items}
 use Rattle.std.proofs.lemmas.List.{with_items_is, length-replicate, get_or-replicate}
 use Rattle.sim_base.specs.declared.config.Config.{Config}
-use Rattle.sim_base.specs.declared.command.CommandRow.{CommandRow}
 use Rattle.sim_base.specs.Rules.{open_row}
-use Rattle.rule_check.specs.Kept.{nothing, latest_where, no_window, window_from, first_deadline, deadline_from, bank_past, bank_after, bank_numbered, group_past, group_after, rank_past, rank_after, IsKept}
+use Rattle.rule_check.specs.Kept.{nothing, latest_where, no_window, window_from, first_deadline, deadline_from, bank_past, bank_numbered, group_past, rank_past, IsKept}
 use Rattle.rule_check.specs.declared.state.Bank.{Bank}
 use Rattle.rule_check.specs.declared.state.Group.{Group}
 use Rattle.rule_check.specs.declared.state.Rank.{Rank}
 use Rattle.rule_check.specs.declared.state.Channel.{Channel}
-use Rattle.rule_check.proofs.Keeping.{IsNoted}
 
 -- a list that a loop changed, element by element
 pub items-changed : {X Z : Type 0} (v : Vec X Z) (items lent states : List X) (f : ℕ → X → X) → items ≡ (with_items v states).items → lent ≡ v.items

@@ -1,6 +1,6 @@
 -- What is kept of the rows of a table, as one row more is noted, and what it says of the next.
-use Rattle.std.proofs.Common.{◌≡◌, ◌≢◌, ℕ, ◌+◌, ◌<◌, ◌++◌, ◌∙◌, ◌==◌, List, [], ◌∷◌, length, get_or, set, cond, Option, Some, None, refl, sym, ap, subst, arith, inl, inr, append-nil}
-use Rattle.std.specs.Prelude.{fold, find}
+use Rattle.std.proofs.Common.{◌≡◌, ◌≢◌, ℕ, ◌++◌, ◌∙◌, ◌==◌, List, [], ◌∷◌, length, get_or, set, cond, Some, None, refl, sym, ap, subst, arith, inl, inr, append-nil}
+use Rattle.std.specs.Prelude.{find}
 use Rattle.std.specs.List.{range_with_len}
 use Rattle.std.proofs.lemmas.Bool.{cases_eq, eq-eqb, ne_eqb, cond-true, cond-false}
 use Rattle.std.proofs.lemmas.List.{length-set, get_or-set_same, get_or-set_other}
@@ -8,12 +8,11 @@ use Rattle.std.specs.List.{All}
 use Rattle.std.proofs.lemmas.List.Elements.{filter-append, All-get_or}
 use Rattle.std.proofs.lemmas.List.Sums.{fold-append}
 use Rattle.sim_base.specs.declared.config.Config.{Config}
-use Rattle.sim_base.specs.declared.rule.Rule.{Rule}
 use Rattle.sim_base.specs.declared.command.CommandRow.{CommandRow}
 use Rattle.sim_base.specs.Rules.{rules}
 use Rattle.rule_check.specs.Fields.{RowFits}
-use Rattle.rule_check.specs.Broken.{rows_on, last_row, stands_wrongly, breaks, breaks_in_channel, lowest_broken}
-use Rattle.rule_check.specs.Kept.{IsKept, kept_breaks}
+use Rattle.rule_check.specs.Broken.{rows_on, last_row, stands_wrongly, breaks, lowest_broken}
+use Rattle.rule_check.specs.Kept.{IsKept}
 use Rattle.rule_check.specs.Past.{IsPast, past_breaks}
 use Rattle.rule_check.specs.declared.state.Channel.{Channel}
 use Rattle.rule_check.specs.declared.state.Past.{Past}

@@ -1,7 +1,7 @@
--- The records of a text, read one after the other, are all that there are.
-use Rattle.std.proofs.Common.{◌≡◌, ℕ, zero, suc, ◌+◌, ◌<◌, ◌≤◌, ◌∙◌, ◌==◌, Bool, true, false, cond, List, [], ◌∷◌, ◌++◌, length, Option, Some, None, refl, sym, ap, subst, arith}
+-- A record is read from what is left of a text, and no record is begun after it.
+use Rattle.std.proofs.Common.{◌≡◌, ℕ, ◌<◌, ◌≤◌, ◌∙◌, ◌==◌, Bool, true, false, cond, List, [], ◌∷◌, ◌++◌, length, Option, Some, None, refl, sym, subst, arith}
 use Rattle.csv.specs.Machine.{Read, next_record, step, in_field, start_field, start_record, is_end, ends_at_end, ends_with, after_end, fields_after, field_after}
-use Rattle.csv.specs.Reading.{Reached, AreRecords, default_config, records, records_from, records_next}
+use Rattle.csv.specs.Reading.{default_config}
 use Rattle.csv.specs.declared.parser.State.{State}
 use Rattle.csv.specs.declared.parser.State.TheVariants as st
 use Rattle.csv.specs.declared.parser.Action.{Action}
@@ -9,7 +9,7 @@ use Rattle.csv.specs.declared.parser.Action.TheVariants as act
 use Rattle.csv.specs.declared.parser.Terminator.TheVariants as term
 
 -- in this state no record is begun
-abbrev IsBetween : State → Type 0
+abbrev pub IsBetween : State → Type 0
 IsBetween s = ends_at_end s ≡ false
 
 -- a step that ends a record leaves none begun
@@ -69,7 +69,7 @@ next-leaves s fields field (c ∷ rest) p h =
     (λ e. let l = next-leaves s2 (fields_after a fields field) (field_after a c field) rest p e in record { less = omega (arith, l.less); between = l.between })
     h
 
-next-less : (s : State) (xs : List ℕ) (p : Read) → IsBetween s → next_record default_config s [] [] xs ≡ Some p → (length p.2 < length xs) × IsBetween p.1
+pub next-less : (s : State) (xs : List ℕ) (p : Read) → IsBetween s → next_record default_config s [] [] xs ≡ Some p → (length p.2 < length xs) × IsBetween p.1
 unfolding next_record
 next-less s [] p b h = cc (rw b at h)
 next-less s (c ∷ rest) p b h =
@@ -79,20 +79,3 @@ next-less s (c ∷ rest) p b h =
     (λ e. record { less = omega arith; between = (step-fine s c).holds e })
     (next-leaves s2 (fields_after a [] []) (field_after a c []) rest p) h in
     (omega (arith, l.less), l.between)
-
-all-from : (n : ℕ) (s s2 : State) (xs ys : List ℕ) (rows : List (List (List ℕ))) → IsBetween s → length xs < n → Reached default_config s xs rows s2 ys
-    → next_record default_config s2 [] [] ys ≡ None → records_from default_config n s xs ≡ rows
-unfolding records_from Reached
-all-from zero s s2 xs ys rows b l r e = absurd (omega arith)
-all-from (suc n) s s2 xs ys [] b l r e =
-    let none : next_record default_config s [] [] xs ≡ None = rw (r.0, r.1) e in
-    ap (records_next (records_from default_config n)) none
-all-from (suc n) s s2 xs ys (row ∷ rows) b l r e =
-    let less = next-less s xs r.0 b r.1 in
-    ap (records_next (records_from default_config n)) r.1
-    ∙ ap (λ (rs : List (List (List ℕ))). r.0.0 ∷ rs) (all-from n r.0.1 s2 r.0.2 ys rows less.1 (omega (arith, less.0)) r.3 e)
-    ∙ ap (λ (f : List (List ℕ)). f ∷ rows) (sym r.2)
-
--- what is read to the end of a text is all its records
-pub are-records : (xs : List ℕ) (rows : List (List (List ℕ))) → AreRecords default_config st.StartRecord xs rows → rows ≡ records default_config xs
-are-records xs rows h = sym (all-from (length xs + 1) st.StartRecord h.0 xs h.1 rows refl (omega arith) h.2 h.3)

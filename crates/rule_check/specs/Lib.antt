@@ -4,3 +4,5 @@ pub mod Broken
 pub mod Verdict
 pub mod Kept
 pub mod Past
+pub mod Left
+pub mod Judged

@@ -7,6 +7,7 @@ mod fields;
 mod latest;
 mod numbers;
 mod past;
+mod reading;
 mod rules;
 mod state;
 mod table;

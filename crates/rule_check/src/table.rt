@@ -1,77 +1,100 @@
 //! The verdict on a whole table.
 
-ghost use Rattle.std.specs.Prelude.{ℕ, ◌≡◌, ◌≢◌, ◌↔◌, ◌+◌, ◌<◌, ◌^◌, [], ◌∷◌, length, map, Ok, Err, IfOk, IfErr};
-ghost use Rattle.csv.specs.Reading.{AreRecords, default_config, strip_bom};
+ghost use Rattle.std.specs.Prelude.{ℕ, List, ◌≡◌, ◌≢◌, ◌↔◌, ◌+◌, ◌≤◌, [], ◌∷◌, length, Ok, Err, None, IfOk, IfErr, IfSome};
 ghost use Rattle.csv.specs.Records.{fields_of};
-ghost use Rattle.csv.specs.declared.parser.State.TheVariants as st;
+ghost use Rattle.sim_base.specs.Rules.{rules};
+ghost use Rattle.sim_base.specs.declared.command.CommandRow.{CommandRow};
+ghost use Rattle.rule_check.specs.Judged.{IsKeptRow};
+ghost use Rattle.rule_check.specs.Left.{IsReading, left_of};
+ghost use Rattle.rule_check.specs.Past.{IsPast};
 ghost use Rattle.rule_check.specs.Verdict.{records_of, verdict, verdict_after, IsCheckFault, IsLegalTable};
 
 use crate::fields::{is_header, row_in};
 use crate::past::{lowest_broken, note, start};
+use crate::reading::{open, read_next};
 use crate::rules::rules;
+use crate::state::Past;
 use crate::verdict::Verdict;
-use csv::{ByteRecord, ReaderBuilder};
+use csv::{ByteRecord, Reader};
 use sim_base::config::Config;
 use sim_base::fault::Fault;
+use sim_base::rule::Rule;
 use std::alloc::Global;
 
-// Every record of a text, of any length, its first line included.
-fn read_records(alloc: Global, text: &[u8]) -> Result<Vec<ByteRecord>, Fault>
-    ensures records { IfOk result (λ v. map fields_of v.items ≡ records_of text.now) }
-    ensures fault { IfErr result (λ e. e ≡ Fault.Memory) }
+// What a row decides, if it decides; else it is kept.
+fn judge(
+    config: &Config,
+    table: &[Rule],
+    past: &mut Past,
+    number: u64,
+    fields: &ByteRecord,
+) -> Option<Result<Verdict, Fault>>
+    requires table { table.now ≡ rules config.now.timing }
+    requires stands { (rows : List CommandRow) × IsPast past.old config.now rows }
+    ensures decided { IfSome result (λ answer. (rows : List CommandRow) (others : List (List (List ℕ)))
+        → IsPast past.old config.now rows → verdict_after config.now rows number (fields_of fields.now ∷ others) ≡ answer) }
+    ensures kept { result ≡ None → (rows : List CommandRow) → IsPast past.old config.now rows → IsKeptRow past.new config.now rows number (fields_of fields.now) }
+    ensures fault { IfSome result (λ answer. IfErr answer IsCheckFault) }
 {
-    let reader = ReaderBuilder::new()
-        .has_headers(false)
-        .flexible(true)
-        .from_reader(alloc, text);
-    let mut rows = Vec::new(alloc);
-    for row in reader.into_byte_records() {
-        let Ok(row) = row else {
-            return Err(Fault::Memory);
-        };
-        rows.push(row).map_err(|_| Fault::Memory)?;
+    let Some(row) = row_in(config, fields) else {
+        return Some(Err(Fault::CheckRow(number)));
+    };
+    if let Some(rule) = lowest_broken(past, config, table, row) {
+        return Some(Ok(Verdict::Broken { row: number, rule }));
     }
-    Ok(rows)
+    note(past, config, row);
+    None
 }
 
-// The verdict on the rows after the header.
-fn check_rows(alloc: Global, config: &Config, rows: &[ByteRecord]) -> Result<Verdict, Fault>
-    ensures ok { IfOk result (λ v. verdict_after config.now [] 1 (map fields_of rows.now) ≡ Ok v) }
-    ensures refused { IfErr result (λ e. e ≢ Fault.Memory → verdict_after config.now [] 1 (map fields_of rows.now) ≡ Err e) }
+// The verdict on the rows after the header. Each turn reads one, and there are enough.
+fn check_rows(
+    alloc: Global,
+    config: &Config,
+    turns: u64,
+    reader: &mut Reader<&[u8]>,
+    fields: &mut ByteRecord,
+) -> Result<Verdict, Fault>
+    requires reading { IsReading reader.old }
+    requires few { length (left_of reader.old) + 2 ≤ turns }
+    ensures ok { IfOk result (λ v. verdict_after config.now [] 1 (left_of reader.old) ≡ Ok v) }
+    ensures refused { IfErr result (λ e. e ≢ Fault.Memory → verdict_after config.now [] 1 (left_of reader.old) ≡ Err e) }
     ensures fault { IfErr result IsCheckFault }
 {
     let table = rules(&config.timing);
     let mut past = start(alloc, config)?;
-    for (index, record) in rows.iter().enumerate() {
-        let number = index as u64 + 1;
-        let Some(row) = row_in(config, record) else {
-            return Err(Fault::CheckRow(number));
+    for number in 1..turns {
+        let Ok(found) = read_next(reader, fields) else {
+            return Err(Fault::Memory);
         };
-        if let Some(rule) = lowest_broken(&past, config, &table, row) {
-            return Ok(Verdict::Broken { row: number, rule });
+        if !found {
+            return Ok(Verdict::Legal);
         }
-        note(&mut past, config, row);
+        if let Some(answer) = judge(config, &table, &mut past, number, fields) {
+            return answer;
+        }
     }
-    Ok(Verdict::Legal)
+    unreachable!()
 }
 
-// The verdict on all records.
-#[tactic(auto, unfolding(crate::specs::Verdict::verdict))]
-fn check_records(alloc: Global, config: &Config, records: &[ByteRecord]) -> Result<Verdict, Fault>
-    ensures ok { IfOk result (λ v. verdict config.now (map fields_of records.now) ≡ Ok v) }
-    ensures refused { IfErr result (λ e. e ≢ Fault.Memory → verdict config.now (map fields_of records.now) ≡ Err e) }
+// The verdict on a table, whose records are read one after the other.
+fn check_records(alloc: Global, config: &Config, table: &[u8]) -> Result<Verdict, Fault>
+    ensures ok { IfOk result (λ v. verdict config.now (records_of table.now) ≡ Ok v) }
+    ensures refused { IfErr result (λ e. e ≢ Fault.Memory → verdict config.now (records_of table.now) ≡ Err e) }
     ensures fault { IfErr result IsCheckFault }
 {
-    match records {
-        [] => Err(Fault::CheckRow(0)),
-        [header, rows @ ..] => {
-            if is_header(config.ranks, header) {
-                check_rows(alloc, config, rows)
-            } else {
-                Err(Fault::CheckRow(0))
-            }
-        }
+    let mut reader = open(alloc, table);
+    let mut fields = ByteRecord::new(alloc);
+    let Ok(found) = read_next(&mut reader, &mut fields) else {
+        return Err(Fault::Memory);
+    };
+    if !found {
+        return Err(Fault::CheckRow(0));
     }
+    if !is_header(config.ranks, &fields) {
+        return Err(Fault::CheckRow(0));
+    }
+    let turns = table.len() as u64 + 2;
+    check_rows(alloc, config, turns, &mut reader, &mut fields)
 }
 
 /// Tests a table of commands under a configuration: its text is read as comma-separated values, whose first record must be the
@@ -79,7 +102,8 @@ fn check_records(alloc: Global, config: &Config, records: &[ByteRecord]) -> Resu
 ///
 /// A malformed row is `CheckRow` with its number, counted from 1 by records and not by lines; 0 is a missing or wrong header.
 /// A broken rule is no error, but the verdict that names the row and the lowest rule that it breaks. Else only memory is
-/// refused. The time is in proportion to the length of the table, and its records are held in memory until the end.
+/// refused. The time is in proportion to the length of the table, and the memory is that of one row and of what the rules need of
+/// the rows before it.
 #[tactic(auto, using(crate::proofs::Legals::legal_just_where))]
 pub fn check(alloc: Global, config: &Config, table: &[u8]) -> Result<Verdict, Fault>
     ensures ok { IfOk result (λ v. verdict config.now (records_of table.now) ≡ Ok v) }
@@ -87,6 +111,5 @@ pub fn check(alloc: Global, config: &Config, table: &[u8]) -> Result<Verdict, Fa
     ensures legal { IfOk result (λ v. (v ≡ Verdict.Legal) ↔ IsLegalTable config.now (records_of table.now)) }
     ensures fault { IfErr result IsCheckFault }
 {
-    let records = read_records(alloc, table)?;
-    check_records(alloc, config, &records)
+    check_records(alloc, config, table)
 }

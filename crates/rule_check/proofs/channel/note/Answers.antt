@@ -1,5 +1,5 @@
 -- The row is noted in each bank, group and rank.
-use Rattle.std.proofs.Common.{ℕ, ◌/◌, ◌%◌, refl}
+use Rattle.std.proofs.Common.{◌/◌, ◌%◌, refl}
 use Rattle.rule_check.specs.Kept.{bank_after, bank_numbered, group_after, rank_after}
 use Rattle.rule_check.specs.declared.state.Bank.{Bank}
 use Rattle.rule_check.specs.declared.state.Group.{Group}

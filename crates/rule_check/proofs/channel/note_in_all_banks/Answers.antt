@@ -1,5 +1,5 @@
 -- One bank more.
-use Rattle.std.proofs.Common.{◌≡◌, ◌<◌, ◌∙◌, None, length, get_or, ap, arith}
+use Rattle.std.proofs.Common.{◌<◌, ◌∙◌, None, length, get_or, ap, arith}
 use Rattle.sim_base.specs.declared.place.BankId.{BankId}
 use Rattle.rule_check.specs.declared.state.Bank.{Bank}
 use Rattle.rule_check.specs.Kept.{nothing, bank_after, bank_numbered}

@@ -1,5 +1,5 @@
 -- One group more.
-use Rattle.std.proofs.Common.{◌≡◌, ◌<◌, ◌/◌, ◌%◌, ◌∙◌, length, ap, arith}
+use Rattle.std.proofs.Common.{◌<◌, ◌/◌, ◌%◌, length, arith}
 use Rattle.rule_check.specs.declared.state.Group.{Group}
 use Rattle.rule_check.specs.Kept.{group_after}
 use Rattle.rule_check.proofs.Loops.{one_changed, others_left}

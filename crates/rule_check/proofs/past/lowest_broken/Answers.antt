@@ -1,5 +1,5 @@
 -- What is kept decides each rule.
-use Rattle.std.proofs.Common.{ℕ, List, ◌∙◌, ap}
+use Rattle.std.proofs.Common.{List, ◌∙◌, ap}
 use Rattle.std.specs.Prelude.{find}
 use Rattle.std.specs.List.{range_with_len}
 use Rattle.sim_base.specs.declared.rule.Rule.{Rule}

@@ -1,41 +1,62 @@
 -- The next record decides, or is kept.
-use Rattle.std.proofs.Common.{◌≡◌, ◌<◌, ◌++◌, ◌∷◌, [], ◌∙◌, Option, Some, length, get_or, sym, ap, arith}
-use Rattle.csv.specs.Records.{Row, fields_of}
-use Rattle.sim_base.specs.declared.command.CommandRow.{CommandRow}
-use Rattle.rule_check.specs.Fields.{row_in}
-use Rattle.rule_check.proofs.Verdicts.{at_malformed, at_broken, at_kept, at_end}
+use Rattle.std.proofs.Common.{◌≡◌, ◌++◌, ◌∷◌, [], ◌∙◌, length, refl, ap, arith}
+use Rattle.csv.specs.Records.{fields_of}
+use Rattle.rule_check.specs.Left.{left_of}
+use Rattle.rule_check.specs.Verdict.{verdict_after}
+use Rattle.rule_check.proofs.Judging.{answers_ok, answers_err, at_end_of}
 use Rattle.rule_check.proofs.table.check_rows.Goals as goal
 
-pub returns-in_default-clause-refused : goal.returns-in_default-clause-refused
-returns-in_default-clause-refused c e =
-    let inv = c.loop-index.invariant in
-    let record_at = c.index-rows-index.result in
-    inv.2
-    ∙ at_malformed fields_of c.args.config.now inv.0 c.args.rows.now c.loop-index.index record_at c.loop-index-test.true
-    (ap (λ (r : Row). row_in c.args.config.now (fields_of r)) (sym c.index-rows-index.is) ∙ sym c.in_default.ensures.value)
+pub loop-number-init : goal.loop-number-init
+loop-number-init c =
+    let few = c.requires.few in
+    (c.requires.reading, [], c.in_ok-past.ensures {u = tt}, omega (arith, few), refl)
 
-pub returns-in-Some-lowest_broken-clause-ok : goal.returns-in-Some-lowest_broken-clause-ok
-returns-in-Some-lowest_broken-clause-ok c =
-    let inv = c.loop-index.invariant in
-    let record_at = c.index-rows-index.result in
-    inv.2
-    ∙ at_broken fields_of c.args.config.now inv.0 c.args.rows.now c.loop-index.index record_at c.in-Some.row c.in-Some-lowest_broken.rule c.loop-index-test.true
-    (ap (λ (r : Row). row_in c.args.config.now (fields_of r)) (sym c.index-rows-index.is) ∙ sym c.in-Some.ensures.value)
-    (sym (c.in-Some-lowest_broken.ensures inv.0 inv.1))
+pub read_next-requires : goal.read_next-requires
+read_next-requires c = c.loop-number.invariant.0
 
-pub loop-index-preserved : goal.loop-index-preserved
-loop-index-preserved c =
-    let inv = c.loop-index.invariant in
-    let record_at = c.index-rows-index.result in (
-      inv.0 ++ c.in-Some.row ∷ [],
-      c.note.ensures inv.0 inv.1,
-      inv.2
-          ∙ at_kept fields_of c.args.config.now inv.0 c.args.rows.now c.loop-index.index record_at c.in-Some.row c.loop-index-test.true
-          (ap (λ (r : Row). row_in c.args.config.now (fields_of r)) (sym c.index-rows-index.is) ∙ sym c.in-Some.ensures.value)
-          (sym (c.in_default-lowest_broken.ensures inv.0 inv.1)),
+pub returns-then-not-found-clause-ok : goal.returns-then-not-found-clause-ok
+returns-then-not-found-clause-ok c =
+    let inv = c.loop-number.invariant in
+    let none = rw c.if-not-found.true at ((c.in-Ok.ensures {u = tt}).takes) in
+    inv.4
+    ∙ ap (verdict_after c.args.config.now inv.1 c.loop-number.number) none
+    ∙ at_end_of c.args.config.now inv.1 c.loop-number.number
+
+pub judge-requires-clause-stands : goal.judge-requires-clause-stands
+judge-requires-clause-stands c = (c.loop-number.invariant.1, c.loop-number.invariant.2)
+
+pub returns-in-Some-clause-ok : goal.returns-in-Some-clause-ok
+returns-in-Some-clause-ok c =
+    let inv = c.loop-number.invariant in
+    let took = rw c.if-not-found.false at ((c.in-Ok.ensures {u = tt}).takes) in
+    let decided = (c.in-Some.ensures {u = tt}).decided inv.1 (left_of c.read_next.new.reader) inv.2 in
+    answers_ok c.in-Some.answer (verdict_after c.args.config.now [] 1 (left_of c.args.reader.now))
+    (inv.4 ∙ ap (verdict_after c.args.config.now inv.1 c.loop-number.number) took.1 ∙ decided)
+
+pub returns-in-Some-clause-refused : goal.returns-in-Some-clause-refused
+returns-in-Some-clause-refused c =
+    let inv = c.loop-number.invariant in
+    let took = rw c.if-not-found.false at ((c.in-Ok.ensures {u = tt}).takes) in
+    let decided = (c.in-Some.ensures {u = tt}).decided inv.1 (left_of c.read_next.new.reader) inv.2 in
+    answers_err c.in-Some.answer (verdict_after c.args.config.now [] 1 (left_of c.args.reader.now))
+    (inv.4 ∙ ap (verdict_after c.args.config.now inv.1 c.loop-number.number) took.1 ∙ decided)
+
+pub loop-number-preserved : goal.loop-number-preserved
+loop-number-preserved c =
+    let inv = c.loop-number.invariant in
+    let took = rw c.if-not-found.false at ((c.in-Ok.ensures {u = tt}).takes) in
+    let kept = (c.in_default-judge.ensures {u = tt}).kept refl inv.1 inv.2 in
+    let few = inv.3 in
+    let size : length (left_of c.loop-number.reader) ≡ length (fields_of c.read_next.new.row ∷ left_of c.read_next.new.reader) = ap length took.1 in (
+      took.0,
+      inv.1 ++ kept.row ∷ [],
+      kept.kept,
+      omega (arith, few, size),
+      inv.4 ∙ ap (verdict_after c.args.config.now inv.1 c.loop-number.number) took.1 ∙ kept.goes_on (left_of c.read_next.new.reader),
     )
 
-pub returns-clause-ok : goal.returns-clause-ok
-returns-clause-ok c =
-    let inv = c.loop-index.invariant in
-    inv.2 ∙ at_end fields_of c.args.config.now inv.0 c.args.rows.now c.loop-index.index c.loop-index-test.false
+pub unreachable-requires : goal.unreachable-requires
+unreachable-requires c =
+    let few = c.loop-number.invariant.3 in
+    let last = c.loop-number-test.false in
+    omega (arith, few, last)
