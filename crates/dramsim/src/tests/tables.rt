@@ -456,7 +456,7 @@ fn opened_before(alloc: Global, failure: Failure, path: &'static str) -> Result<
     if ended.status != 2 || ended.errors.as_slice() != b"fault 12: write\n".as_slice() {
         return Err(Fail::from("the run was not refused"));
     }
-    Ok(ended.files.opened)
+    Ok(String::from_str(alloc, ended.files.opened.as_str())?)
 }
 
 #[test]
