@@ -108,7 +108,7 @@ legal-table s (header ∷ others) e =
     let k = legal-kept s [] 1 others h.1 in
     record { header = header; others = others; rows = k.0; parts = refl; is_header = h.0; well_formed = k.1; keeps_rules = k.2 }
 
-table-legal : (s : Config) (table : List (List (List ℕ))) → IsLegalTable s table → verdict s table ≡ Ok Legal
+pub table-legal : (s : Config) (table : List (List (List ℕ))) → IsLegalTable s table → verdict s table ≡ Ok Legal
 unfolding verdict
 table-legal s table h =
     ap (verdict s) h.parts

@@ -1,0 +1,4 @@
+pub mod Plain
+pub mod RowsBack
+pub mod Decimals
+pub mod FieldsBack
