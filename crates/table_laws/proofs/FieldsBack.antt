@@ -1,4 +1,4 @@
--- The row that the fields of a row write.
+-- The fields of a row give that row again.
 use Rattle.std.proofs.Common.{◌≡◌, ℕ, suc, ◌+◌, ◌<◌, ◌≤◌, ◌==◌, Bool, true, false, IsTrue, nat_lt, cond, List, [], ◌∷◌, ◌++◌, length, map, All, Some, refl, ap, arith, inl, inr}
 use Rattle.std.specs.List.{AllByRecursion as Each}
 use Rattle.std.proofs.lemmas.Bool.{cases_Bool, ltb-false}
@@ -50,35 +50,35 @@ rank-by s fields rank false e h at =
     let zero_is : 0 ≡ rank = omega arith in
     rw e (ap (λ (k : ℕ). Some k) zero_is)
 
-record-by : (several : Bool) (cycle channel word rank g b r c co en : List ℕ)
-    → (length (fields_by several cycle channel word rank (g ∷ b ∷ r ∷ c ∷ co ∷ en ∷ [])) == cond several 10 9) ≡ true
-record-by true cycle channel word rank g b r c co en = refl
-record-by false cycle channel word rank g b r c co en = refl
+record-by : (several : Bool) (cycle channel word rank group bank row column core entry : List ℕ)
+    → (length (fields_by several cycle channel word rank (group ∷ bank ∷ row ∷ column ∷ core ∷ entry ∷ [])) == cond several 10 9) ≡ true
+record-by true cycle channel word rank group bank row column core entry = refl
+record-by false cycle channel word rank group bank row column core entry = refl
 
-record-fields : (s : Config) (cycle channel word : List ℕ) (rank : ℕ) (g b r c co en : List ℕ) → rank < s.ranks
-    → IsRecordOf s (fields_by (nat_lt 1 s.ranks) cycle channel word (decimal rank) (g ∷ b ∷ r ∷ c ∷ co ∷ en ∷ [])) rank (g ∷ b ∷ r ∷ c ∷ co ∷ en ∷ [])
+record-fields : (s : Config) (cycle channel word : List ℕ) (rank : ℕ) (group bank row column core entry : List ℕ) → rank < s.ranks
+    → IsRecordOf s (fields_by (nat_lt 1 s.ranks) cycle channel word (decimal rank) (group ∷ bank ∷ row ∷ column ∷ core ∷ entry ∷ [])) rank (group ∷ bank ∷ row ∷ column ∷ core ∷ entry ∷ [])
 unfolding operand
-record-fields s cycle channel word rank g b r c co en h =
+record-fields s cycle channel word rank group bank row column core entry h =
     record {
-      count = record-by (nat_lt 1 s.ranks) cycle channel word (decimal rank) g b r c co en;
-      names = rank-by s (fields_by (nat_lt 1 s.ranks) cycle channel word (decimal rank) (g ∷ b ∷ r ∷ c ∷ co ∷ en ∷ [])) rank (nat_lt 1 s.ranks) refl h
+      count = record-by (nat_lt 1 s.ranks) cycle channel word (decimal rank) group bank row column core entry;
+      names = rank-by s (fields_by (nat_lt 1 s.ranks) cycle channel word (decimal rank) (group ∷ bank ∷ row ∷ column ∷ core ∷ entry ∷ [])) rank (nat_lt 1 s.ranks) refl h
           (λ several. unfold text_at field_at in rw several refl);
-      holds = operand-by (nat_lt 1 s.ranks) cycle channel word (decimal rank) (g ∷ b ∷ r ∷ c ∷ co ∷ en ∷ []);
+      holds = operand-by (nat_lt 1 s.ranks) cycle channel word (decimal rank) (group ∷ bank ∷ row ∷ column ∷ core ∷ entry ∷ []);
     }
 
 -- a bank is read back
-bank-back : (s : Config) (fields : List (List ℕ)) (bank : BankId) (r c co en : List ℕ) → BankIsOf s bank
-    → IsRecordOf s fields bank.rank (decimal bank.group ∷ decimal bank.bank ∷ r ∷ c ∷ co ∷ en ∷ []) → bank_in s fields ≡ Some bank
+bank-back : (s : Config) (fields : List (List ℕ)) (bank : BankId) (row column core entry : List ℕ) → BankIsOf s bank
+    → IsRecordOf s fields bank.rank (decimal bank.group ∷ decimal bank.bank ∷ row ∷ column ∷ core ∷ entry ∷ []) → bank_in s fields ≡ Some bank
 unfolding bank_in text_at field_at
-bank-back s fields bank r c co en h w =
+bank-back s fields bank row column core entry h w =
     let most : s.groups ≤ 4 = s.memory_in_range.groups_in.1 in
     rw (w.names, w.holds 0, w.holds 1, number-back s.groups bank.group h.group (omega (arith, h.group)), number-back 4 bank.bank h.bank (omega (arith, h.bank))) refl
 
 -- so is the entry in whose name a command is issued
-source-back : (s : Config) (fields : List (List ℕ)) (rank : ℕ) (source : Source) (g b r c : List ℕ) → SourceIsOf s source
-    → IsRecordOf s fields rank (g ∷ b ∷ r ∷ c ∷ decimal source.core ∷ decimal source.entry ∷ []) → source_in s fields ≡ Some source
+source-back : (s : Config) (fields : List (List ℕ)) (rank : ℕ) (source : Source) (group bank row column : List ℕ) → SourceIsOf s source
+    → IsRecordOf s fields rank (group ∷ bank ∷ row ∷ column ∷ decimal source.core ∷ decimal source.entry ∷ []) → source_in s fields ≡ Some source
 unfolding source_in text_at field_at
-source-back s fields rank source g b r c h w =
+source-back s fields rank source group bank row column h w =
     let most : s.cores ≤ 256 = s.machine_in_range.cores_in.1 in
     rw (w.holds 4, w.holds 5, number-back s.cores source.core h.core (omega (arith, h.core)), number-back number_limit source.entry h.entry (omega (arith, h.entry))) refl
 

@@ -18,8 +18,8 @@ abbrev pub IsPlain : List ℕ → Type 0
 IsPlain field = list_any (needs_byte default_writer) field ≡ false
 
 -- a digit is no mark, and neither is a letter
-high_byte : (b : ℕ) → 45 ≤ b → needs_byte default_writer b ≡ false
-high_byte b h =
+plain-byte : (b : ℕ) → 45 ≤ b → needs_byte default_writer b ≡ false
+plain-byte b h =
     let comma : (b == 44) ≡ false = ne_eqb b 44 (λ e. omega arith) in
     let quote : (b == 34) ≡ false = ne_eqb b 34 (λ e. omega arith) in
     let return : (b == 13) ≡ false = ne_eqb b 13 (λ e. omega arith) in
@@ -27,7 +27,7 @@ high_byte b h =
     rw (comma, quote, return, feed) refl
 
 plain-cons : (b : ℕ) (rest : List ℕ) → 45 ≤ b → IsPlain rest → IsPlain (b ∷ rest)
-plain-cons b rest h k = rw (high_byte b h) k
+plain-cons b rest h k = rw (plain-byte b h) k
 
 glyph-high : (small upper : Bool) (d : ℕ) → 45 ≤ cond small (48 + d) (cond upper (55 + d) (87 + d))
 glyph-high true upper d = omega arith
@@ -50,11 +50,12 @@ pub decimal-plain : (n : ℕ) → IsPlain (decimal n)
 unfolding digits
 decimal-plain n = digits-plain 64 n [] refl
 
--- fields are plain, also with one for the rank before them
+-- fields stay plain with one for the rank before them
 rank-plain : (several : Bool) (field : List ℕ) (rest : List (List ℕ)) → IsPlain field → Each IsPlain rest → Each IsPlain (cond several (field ∷ []) [] ++ rest)
 rank-plain true field rest h k = (h, k)
 rank-plain false field rest h k = k
 
+-- the word of a command is plain
 word-plain : (k : Kind) → IsPlain (kind_word k)
 word-plain kind.Act = refl
 word-plain kind.Rd = refl
@@ -63,6 +64,7 @@ word-plain kind.Pre = refl
 word-plain kind.Prea = refl
 word-plain kind.Ref = refl
 
+-- so are its operands
 operands-plain : (command : Command) → Each IsPlain (operand_fields command)
 operands-plain (Act bank row source) =
     (decimal-plain bank.group, (decimal-plain bank.bank, (decimal-plain row, (refl, (decimal-plain source.core, (decimal-plain source.entry, tt))))))
@@ -75,27 +77,17 @@ operands-plain (Pre bank source) =
 operands-plain (Prea rank) = (refl, (refl, (refl, (refl, (refl, (refl, tt))))))
 operands-plain (Ref rank) = (refl, (refl, (refl, (refl, (refl, (refl, tt))))))
 
+-- so are those of the header
 pub header-plain : (ranks : ℕ) → Each IsPlain (header ranks)
-header-plain ranks = (
-  refl,
-  (
-    refl,
-    (
-      refl,
-      rank-plain (nat_lt 1 ranks) (codes "rank") (codes "group" ∷ codes "bank" ∷ codes "row" ∷ codes "column" ∷ codes "core" ∷ codes "entry" ∷ []) refl
-          (refl, (refl, (refl, (refl, (refl, (refl, tt)))))),
-    ),
-  ),
-)
+header-plain ranks =
+    let operands : Each IsPlain (codes "group" ∷ codes "bank" ∷ codes "row" ∷ codes "column" ∷ codes "core" ∷ codes "entry" ∷ []) =
+    (refl, (refl, (refl, (refl, (refl, (refl, tt)))))) in
+    let rest = rank-plain (nat_lt 1 ranks) (codes "rank") (codes "group" ∷ codes "bank" ∷ codes "row" ∷ codes "column" ∷ codes "core" ∷ codes "entry" ∷ []) refl operands in
+    (refl, (refl, (refl, rest)))
 
+-- and those of each row
 pub row-plain : (ranks : ℕ) (row : CommandRow) → Each IsPlain (command_fields ranks row)
-row-plain ranks row = (
-  decimal-plain row.cycle,
-  (
-    decimal-plain row.channel,
-    (
-      word-plain (kind_of row.command),
-      rank-plain (nat_lt 1 ranks) (decimal (rank_of row.command)) (operand_fields row.command) (decimal-plain (rank_of row.command)) (operands-plain row.command),
-    ),
-  ),
-)
+row-plain ranks row =
+    let rank = rank_of row.command in
+    let rest = rank-plain (nat_lt 1 ranks) (decimal rank) (operand_fields row.command) (decimal-plain rank) (operands-plain row.command) in
+    (decimal-plain row.cycle, (decimal-plain row.channel, (word-plain (kind_of row.command), rest)))

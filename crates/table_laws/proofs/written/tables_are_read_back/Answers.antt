@@ -1,3 +1,4 @@
+-- The law, as it is proved.
 use Rattle.rule_check.proofs.Legals.{table-legal}
 use Rattle.reports.specs.Commands.{header}
 use Rattle.table_laws.proofs.RowsBack.{unmarked, records-read}
