@@ -1,0 +1,2 @@
+pub mod InRange
+pub mod Unbroken
