@@ -8,9 +8,10 @@ ghost use Rattle.sim_base.specs.Sends.{sends};
 ghost use Rattle.sim_base.specs.Counts.{in_flight};
 ghost use Rattle.plain_steps.specs.Plain.{core_view, channel_view, channel_step_of, is_late};
 ghost use Rattle.statistics.specs.Runs.{outcome_of};
+ghost use Rattle.laws.specs.Credits.{QueuesAreBounded};
 ghost use Rattle.laws.specs.Refreshes.{RefreshesAreInTime};
 ghost use Rattle.laws.specs.Tables.{IsOrdered, IsLegalTable, IsRefreshedTable};
-ghost use Rattle.one_clock.specs.Kept.{SharesDataBus};
+ghost use Rattle.one_clock.specs.Kept.{SharesDataBus, IsRefreshedInTime, QueuesFit};
 ghost use Rattle.one_clock.specs.Steps.{core_step_of};
 ghost use Rattle.one_clock.specs.Held.{HoldsRun};
 
@@ -561,7 +562,8 @@ fn run_machine(
 ///
 /// The commands stand in order, and each keeps the timing rules over those of its channel before it. No cycle of a channel's
 /// data bus belongs to two of them. Where ranks are refreshed, the n-th REF of each stands at cycle `n * nREFI` and the slack,
-/// or earlier, and no command comes while one is overdue.
+/// or earlier, and no command comes while one is overdue. No channel's queue is ever longer than
+/// `cores * (read_credits + write_credits)`.
 pub fn run_plain(
     alloc: Global,
     s: &Config,
@@ -575,7 +577,10 @@ pub fn run_plain(
     ensures legal { IfOk result (λ o. IsLegalTable s.now o.commands) }
     ensures data_bus { IfOk result (λ o. SharesDataBus s.now o.commands) }
     ensures refreshed { IfOk result (λ o. IsRefreshedTable s.now o.commands) }
+    ensures refreshed_in_time { IfOk result (λ o. IsRefreshedInTime s.now o.stats.cycles o.commands) }
     ensures in_time { RefreshesAreInTime s.now traces.now (cycles_run s.now traces.now cycles) }
+    ensures queues { IfOk result (λ o. QueuesFit s.now o.stats.channels) }
+    ensures bounded { QueuesAreBounded s.now traces.now (cycles_run s.now traces.now cycles) }
 {
     run_machine(alloc, s, traces, cycles)
 }

@@ -2,4 +2,6 @@
 //! contract is the law.
 #![tactic(auto)]
 
+pub mod kept;
+pub mod legal;
 pub mod written;

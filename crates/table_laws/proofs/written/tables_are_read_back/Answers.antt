@@ -1,8 +1,7 @@
 -- The law, as it is proved.
-use Rattle.rule_check.proofs.Legals.{table-legal}
-use Rattle.reports.specs.Commands.{header}
 use Rattle.table_laws.proofs.RowsBack.{unmarked, records-read}
 use Rattle.table_laws.proofs.FieldsBack.{header-read, rows-back}
+use Rattle.table_laws.proofs.Verdicts.{rows-legal}
 use Rattle.table_laws.proofs.written.tables_are_read_back.Goals as goal
 
 pub returns-clause-unmarked : goal.returns-clause-unmarked
@@ -18,13 +17,4 @@ pub returns-clause-rows : goal.returns-clause-rows
 returns-clause-rows c = rows-back
 
 pub returns-clause-legal : goal.returns-clause-legal
-returns-clause-legal c s rows inside keeps =
-    table-legal s _ (record {
-      header = header s.ranks;
-      others = _;
-      rows = rows;
-      parts = records-read s.ranks rows;
-      is_header = header-read s.ranks;
-      well_formed = rows-back s rows inside;
-      keeps_rules = keeps;
-    })
+returns-clause-legal c = rows-legal
