@@ -7,3 +7,4 @@ pub mod TakenLemmas
 pub mod WalkFacts
 pub mod TraceLists
 pub mod Inputs
+pub mod Judged

@@ -3,6 +3,7 @@
 --     limits_of cores texts cycles workers      whether there is one trace a core, and so on
 --     input_of config texts cycles workers      the entries of all traces, or the first fault of a run's input
 --     IsRunOf config texts cycles workers outcome      what the one-clock machine that the bytes describe did and left
+--     IsJudgedLegal config outcome      `check` says of the table of its commands that it is legal
 use Rattle.std.specs.Prelude.{◌≡◌, ℕ, ◌+◌, ◌==◌, nat_le, Bool, ◌&&◌, List, [], ◌∷◌, length, Result, Ok, Err, if◌then◌else◌}
 use Rattle.sim_base.specs.declared.config.Config.{Config}
 use Rattle.sim_base.specs.declared.fault.Fault.{Fault}
@@ -14,6 +15,9 @@ use Rattle.sim_base.specs.TraceText.{◌>>=◌, trace_answer}
 use Rattle.sim_base.specs.Machine.{cycles_run}
 use Rattle.statistics.specs.Runs.{outcome_of}
 use Rattle.statistics.specs.Values.{RunOutcome}
+use Rattle.reports.specs.Commands.{commands_text}
+use Rattle.rule_check.specs.Verdict.{records_of, verdict}
+use Rattle.rule_check.specs.declared.verdict.Verdict.TheVariants.{Legal}
 
 -- a fault, where a test is not passed
 abbrev pub unless : Bool → Fault → Result (Unit {0}) Fault
@@ -50,3 +54,10 @@ pub record IsRunOf (config : List ℕ) (texts : List (List ℕ)) (cycles workers
   pub configured : document_of config ≡ Ok (values_of machine)
   pub read : input_of config texts cycles workers ≡ Ok traces
   pub outcome_is : outcome ≡ outcome_of machine traces (cycles_run machine traces cycles)
+
+-- Under the configuration that the document states, the verdict of `check` on the text of the table of commands is that it is
+-- legal.
+pub record IsJudgedLegal (config : List ℕ) (outcome : RunOutcome) : Type 0 where
+  pub machine : Config
+  pub configured : document_of config ≡ Ok (values_of machine)
+  pub judged : verdict machine (records_of (commands_text outcome.ranks outcome.commands)) ≡ Ok Legal

@@ -11,6 +11,8 @@ mod words;
 
 use crate::files::HostFiles;
 use crate::perform::{REFUSED, perform};
+use sim_base::fault::Fault;
+use std::io::ErrorKind;
 use std::process::ExitCode;
 use std::{env, io};
 
@@ -27,9 +29,21 @@ fn perform_words(rt: &HostRuntime) -> io::Result<u8> {
     Ok(perform(rt.alloc(), &words, &mut files, &mut print, &mut errors))
 }
 
+// Why the words of the command line could not be had.
+fn words_fault(error: &io::Error) -> Fault {
+    match error.kind() {
+        ErrorKind::OutOfMemory => Fault::Memory,
+        _ => Fault::CommandLine,
+    }
+}
+
 fn main(rt: HostRuntime) -> ExitCode {
     match perform_words(&rt) {
         Ok(status) => ExitCode::from(status),
-        Err(_) => ExitCode::from(REFUSED),
+        Err(error) => {
+            let fault = words_fault(&error);
+            let _ = eprintln!(rt; "{fault}");
+            ExitCode::from(REFUSED)
+        }
     }
 }

@@ -1,7 +1,7 @@
 //! A run of the simulator, from the bytes of its input.
 
 ghost use Rattle.std.specs.Prelude.{◌≡◌, ◌≢◌, ◌≤◌, ◌==◌, ◌&&◌, nat_le, length, vec_len, map, Ok, Err, IfOk, IfErr};
-ghost use Rattle.dramsim.specs.Runs.{unless, limits_of, traces_of, input_of, IsRunOf};
+ghost use Rattle.dramsim.specs.Runs.{unless, limits_of, traces_of, input_of, IsRunOf, IsJudgedLegal};
 
 use cpu_trace::reader::read_trace;
 use cpu_trace::trace::Trace;
@@ -86,7 +86,8 @@ fn read_traces(alloc: Global, texts: &[Vec<u8>]) -> Result<Vec<Trace>, Fault>
 ///
 /// The input is tested in this order: the configuration, the number of traces, the number of workers (1 to 64, not used yet),
 /// the limit (at most 10^12 cycles), and the traces by core. The first fault is answered. `Fault::Memory` may come at any time,
-/// and the run itself is refused by nothing else.
+/// and the run itself is refused by nothing else. The table of its commands is legal, as `check` reads it under the same
+/// configuration.
 pub fn simulate_plain(
     alloc: Global,
     config: &[u8],
@@ -95,6 +96,7 @@ pub fn simulate_plain(
     workers: u64,
 ) -> Result<Outcome, Fault>
     ensures run { IfOk result (IsRunOf config.now (map (λ t. t.items) texts.now) cycles workers) }
+    ensures legal { IfOk result (IsJudgedLegal config.now) }
     ensures refused { IfErr result (λ e. e ≢ Fault.Memory → input_of config.now (map (λ t. t.items) texts.now) cycles workers ≡ Err e) }
 {
     let config = match read_config(alloc, config) {

@@ -6,6 +6,7 @@ use Rattle.sim_base.specs.Machine.{cycles_run}
 use Rattle.statistics.specs.Runs.{outcome_of}
 use Rattle.dramsim.specs.Runs.{limits_of, traces_of, input_of, IsRunOf}
 use Rattle.dramsim.proofs.TraceLists.{texts_from}
+use Rattle.dramsim.proofs.Judged.{run-judged}
 use Rattle.dramsim.proofs.Inputs.{input_config, input_limits, input_traces, limits_count, limits_cycles}
 use Rattle.dramsim.proofs.runs.simulate_plain.Goals as goal
 
@@ -62,3 +63,11 @@ returns-clause-run c =
           (c.in-Ok-run_plain.ensures {u = tt}).outcome
           ∙ ap (λ ts. outcome_of c.in-Ok.config ts (cycles_run c.in-Ok.config ts c.args.cycles)) c.deref.ensures.value;
     }
+
+pub returns-clause-legal : goal.returns-clause-legal
+returns-clause-legal c =
+    let texts = texts_from c.args.texts.now 0 in
+    run-judged c.args.config.now c.in-Ok.config texts c.in-Ok-read_traces.traces.items c.args.cycles c.in-Ok-run_plain.outcome (c.in-Ok.ensures {u = tt}).ok (c.in-Ok-read_traces.ensures {u = tt}).ok
+    (limits_cycles c.in-Ok.config.cores (length c.args.texts.now) c.args.cycles c.args.workers (sym c.check_limits.ensures ∙ c.in_default.is))
+    ((c.in-Ok-run_plain.ensures {u = tt}).outcome
+    ∙ ap (λ ts. outcome_of c.in-Ok.config ts (cycles_run c.in-Ok.config ts c.args.cycles)) c.deref.ensures.value)
