@@ -25,7 +25,7 @@ no_stop false false false true e h = absurd (true≢false h)
 no_stop false false false false true h = absurd (true≢false h)
 no_stop false false false false false h = (refl, refl)
 
--- what a core issues in a cycle in which it sent these requests before
+-- the j-th entry after those that were issued meets no memory entry of its cycle, and wants for no credit
 abbrev pub GoesOn : Config → ℕ → List Entry → List CoreRow → List Message → ℕ → Type 0
 GoesOn s core trace rows inbox j =
     (meets_memory trace (issued_before rows) j ≡ false)

@@ -30,10 +30,11 @@ use Rattle.laws.proofs.Due.{refreshed, refreshed-by}
 use Rattle.laws.proofs.Timely.{refreshed_in_time}
 
 -- the rows of a cycle, from a channel on
-rows_from : ℕ → ℕ → List (Option Command) → List CommandRow
+unfoldable pub rows_from : ℕ → ℕ → List (Option Command) → List CommandRow
 rows_from cycle i os = filter_map (λ (e : ℕ × Option Command). issued_at e.0 cycle e.1) (enumerate_from i os)
 
-commands-more : (history : List Row) (row : Row) → commands (history ++ row ∷ []) ≡ commands history ++ rows_from (length history) 0 row.commands
+-- one cycle more
+pub commands-more : (history : List Row) (row : Row) → commands (history ++ row ∷ []) ≡ commands history ++ rows_from (length history) 0 row.commands
 unfolding commands rows_from
 commands-more history row =
     let f = λ (e : ℕ × Row). commands_in e.0 e.1 in
@@ -180,7 +181,7 @@ legal-choices s traces n k command before l e f stand =
 pub tables_are_legal : (s : Config) (traces : List (List Entry)) (n : ℕ) → TablesAreLegal s traces n
 tables_are_legal s traces n = each_row (λ before row. is_legal s (rows_on row.channel before) row.cycle row.command ≡ true) s traces (legal-choices s traces) n
 
--- no row comes after a refresh that is overdue
+-- a row does not come while a refresh of its channel is overdue
 abbrev IsRefreshedAfter : Config → List CommandRow → CommandRow → Type 0
 IsRefreshedAfter s before row =
     (rank : ℕ) → rank < s.ranks → 0 < s.timing.n_refi

@@ -305,7 +305,7 @@ module _ (s : Config) (traces : List (List Entry)) (k j m begin start old : ℕ)
       let a = late-start in
       no-refresh t (omega arith) (omega arith) (ap (test_in (refreshes j)) refreshes-now ∙ eq-eqb j j refl)
 
--- so a rank whose turn comes at a cycle is refreshed nRP after it
+-- so a rank whose turn comes at a cycle is refreshed by nRP after it
 refreshed-turn : (s : Config) (traces : List (List Entry)) (k j m begin start old : ℕ) → k < s.channels → j < s.ranks → 0 < s.timing.n_refi
     → ((t : ℕ) → begin ≤ t → t < start + s.timing.n_rp + 1 → t / s.timing.n_refi ≡ m) → ((i t : ℕ) → i < j → start ≤ t → m ≤ refreshed s traces k i t)
     → m ≤ refreshed s traces k j old + 1 → old + s.timing.n_rfc ≤ begin → begin + close_wait s.timing ≤ start + 1

@@ -49,7 +49,7 @@ table_shares_bus s traces n o e = λ channel cycle l.
     (sym (ap (rows_on channel) (commands_are s traces n o e) ∙ rows_on-commands s traces channel l n))
     (data_bus_is_shared s traces n channel cycle l)
 
--- the REFs of the first cycles stand in one of them
+-- each REF of the first cycles stands in one of them
 refreshed-early : (k rank cycle i n : ℕ) (rows : List (Option Command)) → i + n ≤ cycle + 1
     → count_by (λ (x : CommandRow). refreshes rank x.command) (filter_map (λ (e : ℕ × Option Command). issued_at k e.0 e.1) (enumerate_from i (take n rows)))
     ≤ refreshes_until rank cycle (filter_map (λ (e : ℕ × Option Command). issued_at k e.0 e.1) (enumerate_from i rows))

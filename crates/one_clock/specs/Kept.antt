@@ -1,5 +1,6 @@
 -- What a user may rely on in what a run gives.
 --     SharesDataBus s table      in no cycle two commands of a channel have data on its bus
+--     refreshes_until rank cycle table      how many REFs of a rank stand in a cycle or before it
 --     IsRefreshedInTime s cycles table      of each interval of nREFI cycles, a rank's REF comes by the slack after its end
 --     QueuesFit s channels      no queue was ever longer than the cores have credits for
 use Rattle.std.specs.Prelude.{ℕ, ◌+◌, ◌*◌, ◌<◌, ◌≤◌, nat_le, ◌&&◌, List, All, count_by}

@@ -1,12 +1,12 @@
 //! What a cycle of one core and of one channel adds to their statistics.
 
-ghost use Rattle.std.specs.Prelude.{◌≡◌, ◌+◌, ◌*◌, ◌<◌, ◌≤◌, ◌^◌, length, count_by, slice_get, is_some, Some, None, nat_lt, nat_le, ◌&&◌, if◌then◌else◌, IfOk};
+ghost use Rattle.std.specs.Prelude.{◌≡◌, ◌+◌, ◌<◌, ◌≤◌, ◌^◌, length, count_by, slice_get, is_some, Some, None, nat_lt, nat_le, ◌&&◌, if◌then◌else◌, IfOk};
 ghost use Rattle.std.specs.List.{list_any};
-ghost use Rattle.sim_base.specs.Counts.{is_read, is_write, replied_entry, is_reply, issue_cycle, wait_of, is_stop, source_in, is_act_for, is_hit_of, is_hit};
+ghost use Rattle.sim_base.specs.Counts.{replied_entry, issue_cycle, wait_of, is_stop, source_in, is_act_for, is_hit_of, is_hit};
 ghost use Rattle.sim_base.specs.History.{below, retired_before, issued_before};
 ghost use Rattle.sim_base.specs.Scheduling.{lowest_due};
 ghost use Rattle.statistics.specs.Counts.{one_if};
-ghost use Rattle.statistics.specs.Cores.{issued_in, is_reply_in, replies_in, waited, finish_in, core_cycle_with};
+ghost use Rattle.statistics.specs.Cores.{is_reply_in, replies_in, waited, core_cycle_with};
 ghost use Rattle.statistics.specs.Channels.{channel_none, draining_of, issues, moves_hit, channel_cycle_with};
 ghost use Rattle.plain_steps.specs.Plain.{queue_of};
 ghost use Rattle.one_clock.specs.Steps.{is_read_in, is_write_in};

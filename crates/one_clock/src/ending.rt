@@ -1,12 +1,12 @@
 //! The state in which a run ends.
 
-ghost use Rattle.std.specs.Prelude.{◌≡◌, ◌<◌, ◌≤◌, ◌^◌, true, false, length, map, filter_map, IfOk};
-ghost use Rattle.sim_base.specs.History.{below, messages_of_core};
+ghost use Rattle.std.specs.Prelude.{◌≡◌, ◌≤◌, ◌^◌, true, false, map, filter_map, IfOk};
+ghost use Rattle.sim_base.specs.History.{below};
 ghost use Rattle.sim_base.specs.Final.{banks, banks_of_group, banks_of_rank};
 ghost use Rattle.sim_base.specs.Machine.{run};
 ghost use Rattle.sim_base.specs.Scheduling.{due};
 ghost use Rattle.sim_base.specs.Windows.{held};
-ghost use Rattle.statistics.specs.Runs.{opened, row_of_bank, last_of_core, last_of_channel};
+ghost use Rattle.statistics.specs.Runs.{row_of_bank, last_of_core, last_of_channel};
 ghost use Rattle.plain_steps.specs.Plain.{core_view, channel_view};
 
 use crate::state::{ChannelPast, CorePast};

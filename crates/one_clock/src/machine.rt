@@ -2,7 +2,7 @@
 
 ghost use Rattle.std.specs.Prelude.{◌≡◌, ◌+◌, ◌<◌, ◌≤◌, ◌^◌, ◌&&◌, length, map, filter, IfOk, OnOk};
 ghost use Rattle.std.specs.List.{list_all};
-ghost use Rattle.sim_base.specs.History.{below, trace_of, commands};
+ghost use Rattle.sim_base.specs.History.{below, commands};
 ghost use Rattle.sim_base.specs.Machine.{next_core_row, next_row, run, is_retired, has_served, is_delivered, is_over, cycles_run};
 ghost use Rattle.sim_base.specs.Sends.{sends};
 ghost use Rattle.sim_base.specs.Counts.{in_flight};

@@ -1,7 +1,6 @@
 //! What is sent in a cycle.
 
-ghost use Rattle.std.specs.Prelude.{◌≡◌, ◌<◌, ◌≤◌, ◌^◌, length, map, filter, flat_map, IfOk};
-ghost use Rattle.sim_base.specs.Row.{Row};
+ghost use Rattle.std.specs.Prelude.{◌≡◌, ◌<◌, ◌≤◌, ◌^◌, length, map, flat_map, IfOk};
 ghost use Rattle.sim_base.specs.History.{below, reply, credit, messages_of, messages_at, trace_of};
 ghost use Rattle.sim_base.specs.Machine.{next_core_row, next_row, run};
 ghost use Rattle.sim_base.specs.Sends.{core_sends, channel_sends, sends};

@@ -1,6 +1,7 @@
--- What the plain machine keeps of its past: of each core, of each channel, and of the whole.
+-- What the plain machine keeps of the past of each core and of each channel, and what a channel does next.
 --     CoreView, core_view s traces history core      what a core did, sent and was sent
 --     ChannelView, channel_view s traces history channel      what a channel did, and the requests that it is still to serve
+--     channel_step_of s traces history channel      what a channel does in the cycle after a history
 --     queue_of pending until      the requests among these that arrived before a cycle
 --     is_late now m      a message that is still to arrive at a cycle
 use Rattle.std.specs.Prelude.{ℕ, nat_lt, Bool, true, not, List, length, filter, filter_map, Option, Some, None}

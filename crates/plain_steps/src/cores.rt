@@ -1,10 +1,10 @@
 //! What a core does in a cycle.
 
-ghost use Rattle.std.specs.Prelude.{◌≡◌, ◌+◌, ◌*◌, ◌<◌, ◌≤◌, ◌^◌, length, count_by, find, slice_get, option_and_then, ◌++◌, IfOk, OnOk};
+ghost use Rattle.std.specs.Prelude.{◌≡◌, ◌+◌, ◌<◌, ◌≤◌, ◌^◌, length, count_by, find, slice_get, option_and_then, ◌++◌, IfOk, OnOk};
 ghost use Rattle.std.specs.Option.{option_to_list};
 ghost use Rattle.std.specs.List.{list_any};
 ghost use Rattle.sim_base.specs.History.{below, request, request_of, retired_before, issued_before, requests_between, core_messages};
-ghost use Rattle.sim_base.specs.Windows.{is_reply_to, is_replied, is_done_as, is_done, done_from, retires, is_request_for, is_credit, credit_cap, is_credit_on, held, lacks_credit};
+ghost use Rattle.sim_base.specs.Windows.{is_reply_to, is_replied, is_done, done_from, retires, is_request_for, is_credit, credit_cap, is_credit_on, held, lacks_credit};
 ghost use Rattle.sim_base.specs.Windows.{is_memory, is_memory_in, has_memory, meets_memory, stop_after, has_cause, first_stop, step_with, step};
 
 use address_map::place_of;

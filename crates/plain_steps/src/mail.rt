@@ -1,8 +1,7 @@
 //! Messages by age.
 
 ghost use Rattle.std.specs.Prelude.{◌≡◌, ◌≤◌, length, filter, fold, IfOk, OnOk};
-ghost use Rattle.sim_base.specs.History.{is_to, is_before, place_by_age, by_age, insert_by_age};
-ghost use Rattle.sim_base.specs.Counts.{is_in_flight};
+ghost use Rattle.sim_base.specs.History.{is_to, is_before, place_by_age, insert_by_age};
 
 use sim_base::config::Config;
 use sim_base::message::{Message, Unit};

@@ -1,7 +1,7 @@
 //! When a command keeps the timing rules, over the whole past of its channel.
 
 ghost use Rattle.std.specs.Prelude.{◌≡◌, ◌+◌, ◌==◌, ◌&&◌, nat_le, nat_lt};
-ghost use Rattle.sim_base.specs.Rules.{is_kind, kind_of, rank_of, is_bound, gap, relation_of};
+ghost use Rattle.sim_base.specs.Rules.{is_kind, kind_of, rank_of};
 ghost use Rattle.sim_base.specs.Rules.{row_after, open_row, recent_acts, is_past_gap, is_allowed, keeps_distances, is_open, has_open_bank_in_group, has_open_bank, is_row, finds_its_banks, is_legal};
 ghost use Rattle.sim_base.specs.Places.{is_bank};
 

@@ -1,9 +1,9 @@
 //! First-ready first-come-first-served scheduling of one channel.
 
-ghost use Rattle.std.specs.Prelude.{◌≡◌, ◌≤◌, ◌+◌, ◌<◌, ◌^◌, ◌&&◌, not, find, filter, filter_map, count_by, take, length, IfOk};
+ghost use Rattle.std.specs.Prelude.{◌≡◌, ◌+◌, ◌<◌, ◌^◌, find, filter, count_by, take, IfOk};
 ghost use Rattle.sim_base.specs.Places.{is_line, bank_in};
 ghost use Rattle.sim_base.specs.Scheduling.{request_in, is_source, source_of, serves, is_served, drains_with};
-ghost use Rattle.sim_base.specs.Scheduling.{asks_for_line, first_of_lines, is_favoured, favour, candidates, column_command, needed_at, needed, is_column_command, is_row_hit, has_hit, is_withheld, ready_hit, ready_row, first_ready, refreshes, due, lowest_due, refresh_command, if_legal, choice_between};
+ghost use Rattle.sim_base.specs.Scheduling.{asks_for_line, first_of_lines, is_favoured, candidates, column_command, needed_at, needed, is_column_command, is_row_hit, has_hit, is_withheld, ready_hit, ready_row, first_ready, refreshes, due, lowest_due, refresh_command, if_legal, choice_between};
 ghost use Rattle.plain_steps.specs.Plain.{queue_of, is_request_left, is_left};
 
 use crate::rules;

@@ -1,19 +1,16 @@
 -- The commands of a run are of its configuration, in cycles below the limit of numbers.
-use Rattle.std.proofs.Common.{◌≡◌, ℕ, zero, suc, ◌+◌, ◌<◌, ◌≤◌, ◌^◌, eqb, List, [], ◌∷◌, ◌++◌, length, get_or, Option, Some, None, sym, ap, subst, ◌∙◌, arith, zero-add}
-use Rattle.std.specs.Prelude.{filter_map, flat_map, find, All}
+use Rattle.std.proofs.Common.{ℕ, zero, suc, ◌+◌, ◌<◌, ◌≤◌, ◌^◌, eqb, List, [], ◌∷◌, length, get_or, Option, Some, None, sym, subst, arith}
+use Rattle.std.specs.Prelude.{find, All}
 use Rattle.std.specs.Option.{IfSome}
-use Rattle.std.specs.List.{AllByRecursion as Each, enumerate_from, range_with_len}
+use Rattle.std.specs.List.{AllByRecursion as Each, range_with_len}
 use Rattle.std.proofs.lemmas.Bool.{cond_both}
 use Rattle.std.proofs.lemmas.Option.{slice_get_within}
-use Rattle.std.proofs.lemmas.List.{append-nil}
-use Rattle.std.proofs.lemmas.List.Concat.{flat_map-append}
 use Rattle.std.proofs.lemmas.List.Elements.{All-from_recursion, recursion_from_All}
 use Rattle.std.proofs.lemmas.List.FromFn.{length-map-range_with_len}
 use Rattle.sim_base.specs.declared.config.Config.{Config}
 use Rattle.sim_base.specs.PlaceRange.{PlaceInRange}
 use Rattle.sim_base.specs.Places.{bank_in}
-use Rattle.sim_base.specs.Row.{Row}
-use Rattle.sim_base.specs.History.{below, trace_of, issued_at, commands_in, commands, inbox, issued_commands}
+use Rattle.sim_base.specs.History.{below, trace_of, commands, inbox, issued_commands}
 use Rattle.sim_base.specs.Rules.{is_legal, has_open_bank}
 use Rattle.sim_base.specs.Scheduling.{candidates, drains, queue_in, source_of, column_command, needed_at, needed, ready_hit, ready_row, first_ready, lowest_due, refresh_command, if_legal, choice_between, choice}
 use Rattle.sim_base.specs.Machine.{next_command, next_row, run}
@@ -32,7 +29,7 @@ use Rattle.address_map.proofs.Peeled.{place_of-in_range}
 use Rattle.laws.specs.Commands.{rows_of}
 use Rattle.laws.proofs.Chosen.{IfSome-option_map}
 use Rattle.laws.proofs.Legal.{chosen}
-use Rattle.laws.proofs.Lists.{enumerate-append}
+use Rattle.laws.proofs.Tabled.{rows_from, commands-more}
 use Rattle.laws.proofs.Traced.{Queued, queue-queued}
 use Rattle.table_laws.specs.Written.{SourceIsOf, BankIsOf, CommandIsOf, RowIsOf}
 
@@ -117,7 +114,8 @@ chosen-of s traces n k short =
 abbrev AreOf : Config → ℕ → List (Option Command) → Type 0
 AreOf s i os = (j : ℕ) → j < length os → (i + j < s.channels) × IfSome (get_or os j None) (CommandIsOf s)
 
-rows-of : (s : Config) (cycle i : ℕ) (os : List (Option Command)) → cycle < 2 ^ 62 → AreOf s i os → Each (RowIsOf s) (filter_map (λ (e : ℕ × Option Command). issued_at e.0 cycle e.1) (enumerate_from i os))
+rows-of : (s : Config) (cycle i : ℕ) (os : List (Option Command)) → cycle < 2 ^ 62 → AreOf s i os → Each (RowIsOf s) (rows_from cycle i os)
+unfolding rows_from
 rows-of s cycle i [] l at = tt
 rows-of s cycle i (None ∷ os) l at = rows-of s cycle (i + 1) os l (λ j m. let h = at (suc j) (omega arith) in (omega (arith, h.0), h.1))
 rows-of s cycle i (Some c ∷ os) l at =
@@ -133,16 +131,6 @@ next-of s traces n short j l =
     let b : j < s.channels = omega arith in
     (omega arith, subst (λ o. IfSome o (CommandIsOf s)) (sym (channel_row-next s traces (run s traces n) j b)) (chosen-of s traces n j short))
 
--- one cycle more
-commands-more : (history : List Row) (row : Row) → commands (history ++ row ∷ []) ≡ commands history ++ commands_in (length history) row
-unfolding commands
-commands-more history row =
-    let f = λ (e : ℕ × Row). commands_in e.0 e.1 in
-    ap (flat_map f) (enumerate-append 0 history (row ∷ []))
-    ∙ flat_map-append f (enumerate_from 0 history) (enumerate_from (0 + length history) (row ∷ []))
-    ∙ ap (λ i. commands history ++ (commands_in i row ++ [])) (zero-add (length history))
-    ∙ ap (λ x. commands history ++ x) (append-nil (commands_in (length history) row))
-
 commands-of : (s : Config) (traces : List (List Entry)) → Each (λ (t : List Entry). length t ≤ 2 ^ 62) traces → (n : ℕ) → n ≤ 2 ^ 62 → Each (RowIsOf s) (commands (run s traces n))
 unfolding run commands
 commands-of s traces short zero l = tt
@@ -151,7 +139,7 @@ commands-of s traces short (suc n) l =
     let row = next_row s traces history in
     let long = length-run s traces n in
     subst (Each (RowIsOf s)) (sym (commands-more history row))
-    (Each-append (RowIsOf s) (commands history) (commands_in (length history) row) (commands-of s traces short n (omega arith))
+    (Each-append (RowIsOf s) (commands history) (rows_from (length history) 0 row.commands) (commands-of s traces short n (omega arith))
     (rows-of s (length history) 0 row.commands (omega arith) (next-of s traces n short)))
 
 pub commands_are_in_range : (s : Config) (traces : List (List Entry)) (n : ℕ) → n ≤ 2 ^ 62 → All (λ (t : List Entry). length t ≤ 2 ^ 62) traces → All (RowIsOf s) (commands (run s traces n))
