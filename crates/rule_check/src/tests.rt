@@ -41,12 +41,12 @@ fn judged_of_ranks(alloc: Global, more: &str, rows: &str) -> Result<Result<Verdi
 
 // A row that comes a cycle too soon, and in time.
 #[derive(Clone, Copy)]
-struct Case<'x> {
+struct Case {
     rule: u8,
     row: u64,
-    before: &'x str,
-    early: &'x str,
-    exact: &'x str,
+    before: &'static str,
+    early: &'static str,
+    exact: &'static str,
 }
 
 fn is_kept_exactly(alloc: Global, more: &str, case: Case) -> Result<bool, Fail> {
@@ -67,140 +67,144 @@ fn is_kept_exactly_by_ranks(alloc: Global, more: &str, case: Case) -> Result<boo
     Ok(found == Ok(Verdict::Broken { row, rule }) && legal == Ok(Verdict::Legal))
 }
 
+// The rules that bind commands of a bank, and the order of rows.
+const OF_A_BANK: [Case; 8] = [
+    Case {
+        rule: 1,
+        row: 2,
+        before: "2,0,ACT,0,0,0,,0,0\n",
+        early: "2,0,PREA,,,,,,\n",
+        exact: "10,0,PREA,,,,,,\n",
+    },
+    Case {
+        rule: 2,
+        row: 1,
+        before: "",
+        early: "5,0,RD,0,0,0,0,0,0\n",
+        exact: "5,0,PRE,0,0,,,0,0\n",
+    },
+    Case {
+        rule: 3,
+        row: 2,
+        before: "2,0,ACT,0,0,0,,0,0\n",
+        early: "4,0,RD,0,0,0,0,0,0\n",
+        exact: "5,0,RD,0,0,0,0,0,0\n",
+    },
+    Case {
+        rule: 4,
+        row: 2,
+        before: "2,0,ACT,0,0,0,,0,0\n",
+        early: "9,0,PRE,0,0,,,0,0\n",
+        exact: "10,0,PRE,0,0,,,0,0\n",
+    },
+    Case {
+        rule: 5,
+        row: 3,
+        before: "2,0,ACT,0,0,0,,0,0\n10,0,PRE,0,0,,,0,0\n",
+        early: "12,0,ACT,0,0,1,,0,0\n",
+        exact: "13,0,ACT,0,0,1,,0,0\n",
+    },
+    Case {
+        rule: 6,
+        row: 3,
+        before: "2,0,ACT,0,0,0,,0,0\n11,0,PRE,0,0,,,0,0\n",
+        early: "13,0,ACT,0,0,1,,0,0\n",
+        exact: "14,0,ACT,0,0,1,,0,0\n",
+    },
+    Case {
+        rule: 7,
+        row: 3,
+        before: "2,0,ACT,0,0,0,,0,0\n9,0,RD,0,0,0,0,0,0\n",
+        early: "10,0,PRE,0,0,,,0,0\n",
+        exact: "11,0,PRE,0,0,,,0,0\n",
+    },
+    Case {
+        rule: 8,
+        row: 3,
+        before: "2,0,ACT,0,0,0,,0,0\n5,0,WR,0,0,0,0,0,0\n",
+        early: "15,0,PRE,0,0,,,0,0\n",
+        exact: "16,0,PRE,0,0,,,0,0\n",
+    },
+];
+
 #[test]
 fn each_rule_of_a_bank(rt: HostRuntime) -> Result<(), Fail> {
-    let cases = [
-        Case {
-            rule: 1,
-            row: 2,
-            before: "2,0,ACT,0,0,0,,0,0\n",
-            early: "2,0,PREA,,,,,,\n",
-            exact: "10,0,PREA,,,,,,\n",
-        },
-        Case {
-            rule: 2,
-            row: 1,
-            before: "",
-            early: "5,0,RD,0,0,0,0,0,0\n",
-            exact: "5,0,PRE,0,0,,,0,0\n",
-        },
-        Case {
-            rule: 3,
-            row: 2,
-            before: "2,0,ACT,0,0,0,,0,0\n",
-            early: "4,0,RD,0,0,0,0,0,0\n",
-            exact: "5,0,RD,0,0,0,0,0,0\n",
-        },
-        Case {
-            rule: 4,
-            row: 2,
-            before: "2,0,ACT,0,0,0,,0,0\n",
-            early: "9,0,PRE,0,0,,,0,0\n",
-            exact: "10,0,PRE,0,0,,,0,0\n",
-        },
-        Case {
-            rule: 5,
-            row: 3,
-            before: "2,0,ACT,0,0,0,,0,0\n10,0,PRE,0,0,,,0,0\n",
-            early: "12,0,ACT,0,0,1,,0,0\n",
-            exact: "13,0,ACT,0,0,1,,0,0\n",
-        },
-        Case {
-            rule: 6,
-            row: 3,
-            before: "2,0,ACT,0,0,0,,0,0\n11,0,PRE,0,0,,,0,0\n",
-            early: "13,0,ACT,0,0,1,,0,0\n",
-            exact: "14,0,ACT,0,0,1,,0,0\n",
-        },
-        Case {
-            rule: 7,
-            row: 3,
-            before: "2,0,ACT,0,0,0,,0,0\n9,0,RD,0,0,0,0,0,0\n",
-            early: "10,0,PRE,0,0,,,0,0\n",
-            exact: "11,0,PRE,0,0,,,0,0\n",
-        },
-        Case {
-            rule: 8,
-            row: 3,
-            before: "2,0,ACT,0,0,0,,0,0\n5,0,WR,0,0,0,0,0,0\n",
-            early: "15,0,PRE,0,0,,,0,0\n",
-            exact: "16,0,PRE,0,0,,,0,0\n",
-        },
-    ];
-    for case in cases {
+    for case in OF_A_BANK {
         assert!(rt; is_kept_exactly(rt.alloc(), NO_REFRESH, case)?);
     }
     Ok(())
 }
 
+// The rules that bind commands of a rank, by their groups.
+const OF_GROUPS: [Case; 9] = [
+    Case {
+        rule: 9,
+        row: 2,
+        before: "2,0,ACT,0,0,0,,0,0\n",
+        early: "4,0,ACT,0,1,0,,0,0\n",
+        exact: "5,0,ACT,0,1,0,,0,0\n",
+    },
+    Case {
+        rule: 10,
+        row: 2,
+        before: "2,0,ACT,0,0,0,,0,0\n",
+        early: "3,0,ACT,1,0,0,,0,0\n",
+        exact: "4,0,ACT,1,0,0,,0,0\n",
+    },
+    Case {
+        rule: 11,
+        row: 3,
+        before: "2,0,ACT,0,0,0,,0,0\n5,0,RD,0,0,0,0,0,0\n",
+        early: "9,0,RD,0,0,0,1,0,0\n",
+        exact: "10,0,RD,0,0,0,1,0,0\n",
+    },
+    Case {
+        rule: 12,
+        row: 4,
+        before: "2,0,ACT,0,0,0,,0,0\n4,0,ACT,1,0,0,,0,0\n7,0,RD,0,0,0,0,0,0\n",
+        early: "10,0,RD,1,0,0,0,0,0\n",
+        exact: "11,0,RD,1,0,0,0,0,0\n",
+    },
+    Case {
+        rule: 13,
+        row: 3,
+        before: "2,0,ACT,0,0,0,,0,0\n5,0,WR,0,0,0,0,0,0\n",
+        early: "13,0,RD,0,0,0,0,0,0\n",
+        exact: "14,0,RD,0,0,0,0,0,0\n",
+    },
+    Case {
+        rule: 14,
+        row: 4,
+        before: "2,0,ACT,0,0,0,,0,0\n4,0,ACT,1,0,0,,0,0\n5,0,WR,0,0,0,0,0,0\n",
+        early: "12,0,RD,1,0,0,0,0,0\n",
+        exact: "13,0,RD,1,0,0,0,0,0\n",
+    },
+    Case {
+        rule: 15,
+        row: 3,
+        before: "2,0,ACT,0,0,0,,0,0\n5,0,RD,0,0,0,0,0,0\n",
+        early: "11,0,WR,0,0,0,0,0,0\n",
+        exact: "12,0,WR,0,0,0,0,0,0\n",
+    },
+    Case {
+        rule: 16,
+        row: 5,
+        before: "2,0,ACT,0,0,0,,0,0\n4,0,ACT,1,0,0,,0,0\n6,0,ACT,0,1,0,,0,0\n8,0,ACT,1,1,0,,0,0\n",
+        early: "13,0,ACT,0,2,0,,0,0\n",
+        exact: "14,0,ACT,0,2,0,,0,0\n",
+    },
+    Case {
+        rule: 17,
+        row: 2,
+        before: "2,0,REF,,,,,,\n",
+        early: "21,0,ACT,0,0,0,,0,0\n",
+        exact: "22,0,ACT,0,0,0,,0,0\n",
+    },
+];
+
 #[test]
 fn each_rule_of_groups(rt: HostRuntime) -> Result<(), Fail> {
-    let cases = [
-        Case {
-            rule: 9,
-            row: 2,
-            before: "2,0,ACT,0,0,0,,0,0\n",
-            early: "4,0,ACT,0,1,0,,0,0\n",
-            exact: "5,0,ACT,0,1,0,,0,0\n",
-        },
-        Case {
-            rule: 10,
-            row: 2,
-            before: "2,0,ACT,0,0,0,,0,0\n",
-            early: "3,0,ACT,1,0,0,,0,0\n",
-            exact: "4,0,ACT,1,0,0,,0,0\n",
-        },
-        Case {
-            rule: 11,
-            row: 3,
-            before: "2,0,ACT,0,0,0,,0,0\n5,0,RD,0,0,0,0,0,0\n",
-            early: "9,0,RD,0,0,0,1,0,0\n",
-            exact: "10,0,RD,0,0,0,1,0,0\n",
-        },
-        Case {
-            rule: 12,
-            row: 4,
-            before: "2,0,ACT,0,0,0,,0,0\n4,0,ACT,1,0,0,,0,0\n7,0,RD,0,0,0,0,0,0\n",
-            early: "10,0,RD,1,0,0,0,0,0\n",
-            exact: "11,0,RD,1,0,0,0,0,0\n",
-        },
-        Case {
-            rule: 13,
-            row: 3,
-            before: "2,0,ACT,0,0,0,,0,0\n5,0,WR,0,0,0,0,0,0\n",
-            early: "13,0,RD,0,0,0,0,0,0\n",
-            exact: "14,0,RD,0,0,0,0,0,0\n",
-        },
-        Case {
-            rule: 14,
-            row: 4,
-            before: "2,0,ACT,0,0,0,,0,0\n4,0,ACT,1,0,0,,0,0\n5,0,WR,0,0,0,0,0,0\n",
-            early: "12,0,RD,1,0,0,0,0,0\n",
-            exact: "13,0,RD,1,0,0,0,0,0\n",
-        },
-        Case {
-            rule: 15,
-            row: 3,
-            before: "2,0,ACT,0,0,0,,0,0\n5,0,RD,0,0,0,0,0,0\n",
-            early: "11,0,WR,0,0,0,0,0,0\n",
-            exact: "12,0,WR,0,0,0,0,0,0\n",
-        },
-        Case {
-            rule: 16,
-            row: 5,
-            before: "2,0,ACT,0,0,0,,0,0\n4,0,ACT,1,0,0,,0,0\n6,0,ACT,0,1,0,,0,0\n8,0,ACT,1,1,0,,0,0\n",
-            early: "13,0,ACT,0,2,0,,0,0\n",
-            exact: "14,0,ACT,0,2,0,,0,0\n",
-        },
-        Case {
-            rule: 17,
-            row: 2,
-            before: "2,0,REF,,,,,,\n",
-            early: "21,0,ACT,0,0,0,,0,0\n",
-            exact: "22,0,ACT,0,0,0,,0,0\n",
-        },
-    ];
-    for case in cases {
+    for case in OF_GROUPS {
         assert!(rt; is_kept_exactly(rt.alloc(), NO_REFRESH, case)?);
     }
     let refresh = Case {
@@ -214,32 +218,34 @@ fn each_rule_of_groups(rt: HostRuntime) -> Result<(), Fail> {
     Ok(())
 }
 
+// The rules that bind commands of two ranks.
+const OF_RANKS: [Case; 3] = [
+    Case {
+        rule: 19,
+        row: 4,
+        before: "2,0,ACT,0,0,0,0,,0,0\n3,0,ACT,1,0,0,0,,0,0\n6,0,RD,0,0,0,0,0,0,0\n",
+        early: "11,0,RD,1,0,0,0,0,0,0\n",
+        exact: "12,0,RD,1,0,0,0,0,0,0\n",
+    },
+    Case {
+        rule: 20,
+        row: 4,
+        before: "2,0,ACT,0,0,0,0,,0,0\n3,0,ACT,1,0,0,0,,0,0\n6,0,RD,0,0,0,0,0,0,0\n",
+        early: "12,0,WR,1,0,0,0,0,0,0\n",
+        exact: "13,0,WR,1,0,0,0,0,0,0\n",
+    },
+    Case {
+        rule: 21,
+        row: 4,
+        before: "2,0,ACT,0,0,0,0,,0,0\n3,0,ACT,1,0,0,0,,0,0\n5,0,WR,0,0,0,0,0,0,0\n",
+        early: "9,0,RD,1,0,0,0,0,0,0\n",
+        exact: "10,0,RD,1,0,0,0,0,0,0\n",
+    },
+];
+
 #[test]
 fn each_rule_of_ranks(rt: HostRuntime) -> Result<(), Fail> {
-    let cases = [
-        Case {
-            rule: 19,
-            row: 4,
-            before: "2,0,ACT,0,0,0,0,,0,0\n3,0,ACT,1,0,0,0,,0,0\n6,0,RD,0,0,0,0,0,0,0\n",
-            early: "11,0,RD,1,0,0,0,0,0,0\n",
-            exact: "12,0,RD,1,0,0,0,0,0,0\n",
-        },
-        Case {
-            rule: 20,
-            row: 4,
-            before: "2,0,ACT,0,0,0,0,,0,0\n3,0,ACT,1,0,0,0,,0,0\n6,0,RD,0,0,0,0,0,0,0\n",
-            early: "12,0,WR,1,0,0,0,0,0,0\n",
-            exact: "13,0,WR,1,0,0,0,0,0,0\n",
-        },
-        Case {
-            rule: 21,
-            row: 4,
-            before: "2,0,ACT,0,0,0,0,,0,0\n3,0,ACT,1,0,0,0,,0,0\n5,0,WR,0,0,0,0,0,0,0\n",
-            early: "9,0,RD,1,0,0,0,0,0,0\n",
-            exact: "10,0,RD,1,0,0,0,0,0,0\n",
-        },
-    ];
-    for case in cases {
+    for case in OF_RANKS {
         assert!(rt; is_kept_exactly_by_ranks(rt.alloc(), TWO_RANKS, case)?);
     }
     let other = Case {

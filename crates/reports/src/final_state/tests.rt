@@ -168,6 +168,49 @@ queued_read,0,0,0,0,0,2,0
     Ok(())
 }
 
+// A write of the last line of all.
+const WRITE: Request = Request {
+    core: 1,
+    entry: 9,
+    write: true,
+    address: 18446744073709551615,
+    place: Place {
+        channel: 1,
+        rank: 1,
+        group: 1,
+        bank: 3,
+        row: 65535,
+        column: 127,
+    },
+    arrival: 40,
+    link: 9,
+};
+
+// Credits of both kinds, and a request.
+const IN_FLIGHT: [Message; 3] = [
+    Message {
+        link: 5,
+        arrival: 50,
+        load: Load::Credit {
+            write: false,
+            entry: 3,
+        },
+    },
+    Message {
+        link: 9,
+        arrival: 50,
+        load: Load::Request(WRITE),
+    },
+    Message {
+        link: 8,
+        arrival: 51,
+        load: Load::Credit {
+            write: true,
+            entry: 4,
+        },
+    },
+];
+
 // Two cores, two channels of two ranks, and messages of all kinds. Core c and channel k have the links from 3(2c + k) on.
 fn large(alloc: Global) -> Result<FinalState, Fail> {
     let some = Credits { read: 3, write: 4 };
@@ -185,52 +228,13 @@ fn large(alloc: Global) -> Result<FinalState, Fail> {
             row: 65535,
         },
     ];
-    let write = Request {
-        core: 1,
-        entry: 9,
-        write: true,
-        address: 18446744073709551615,
-        place: Place {
-            channel: 1,
-            rank: 1,
-            group: 1,
-            bank: 3,
-            row: 65535,
-            column: 127,
-        },
-        arrival: 40,
-        link: 9,
-    };
     let mut channels = Vec::new(alloc);
     channels.push(channel(alloc, &[0, 1], &opened, &[])?)?;
-    channels.push(channel(alloc, &[2, 0], &[], &[READ, write])?)?;
-    let in_flight = [
-        Message {
-            link: 5,
-            arrival: 50,
-            load: Load::Credit {
-                write: false,
-                entry: 3,
-            },
-        },
-        Message {
-            link: 9,
-            arrival: 50,
-            load: Load::Request(write),
-        },
-        Message {
-            link: 8,
-            arrival: 51,
-            load: Load::Credit {
-                write: true,
-                entry: 4,
-            },
-        },
-    ];
+    channels.push(channel(alloc, &[2, 0], &[], &[READ, WRITE])?)?;
     Ok(FinalState {
         cores,
         channels,
-        in_flight: in_flight.to_vec(alloc)?,
+        in_flight: IN_FLIGHT.to_vec(alloc)?,
     })
 }
 
