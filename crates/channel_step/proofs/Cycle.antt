@@ -98,7 +98,8 @@ pub has_due-next : (s : Config) (channel : ℕ) (rows : List (Option Command)) �
 unfolding has_refresh_due
 has_due-next s channel rows = ap (λ x. is_some (lowest_due s (issued_commands channel x) (length rows))) (take-length rows)
 
-cycle-with : (s : Config) (channel : ℕ) (rows : List (Option Command)) (mail : List Message) (o : Option Command)
+-- what the next cycle counts
+pub cycle-with : (s : Config) (channel : ℕ) (rows : List (Option Command)) (mail : List Message) (o : Option Command)
     → channel_cycle s channel rows mail o
     ≡ channel_cycle_with s (issued_commands channel rows) (length (waiting (issued_commands channel rows) mail (length rows + 1)))
     (is_some (lowest_due s (issued_commands channel rows) (length rows))) (drains s channel rows mail (length rows)) o

@@ -1,5 +1,5 @@
 -- What a command that a channel issues leaves.
-use Rattle.std.proofs.Common.{◌≡◌, ℕ, zero, suc, ◌+◌, ◌<◌, ◌≤◌, ◌^◌, Bool, true, false, cond, List, [], ◌∷◌, ◌++◌, length, get_or, map, Option, Some, None, refl, sym, ap, ap₂, subst, ◌∙◌, arith}
+use Rattle.std.proofs.Common.{◌≡◌, ℕ, zero, suc, ◌+◌, ◌<◌, ◌≤◌, ◌^◌, Bool, true, false, cond, List, [], ◌∷◌, ◌++◌, length, get_or, map, Option, Some, None, refl, sym, ap, ap₂, subst, ◌∙◌, add-one, arith}
 use Rattle.std.specs.Prelude.{count_by, option_map, is_some, not, remove, slice_get, filter, filter_map, max}
 use Rattle.std.specs.Option.{IfSome, ForSome}
 use Rattle.std.specs.Prelude.{MatchOption}
@@ -176,7 +176,7 @@ stands-after : (c : Channel) (s : Config) (channel : ℕ) (rows : List (Option C
     → BanksStandFor banks s (issued_commands channel rows ++ issued_now channel (length rows) o)
     → RefreshesStandFor refresh s (issued_commands channel rows ++ issued_now channel (length rows) o)
     → stats ≡ channel_joined c.stats (channel_cycle_with s (issued_commands channel rows) (length c.waiting.queue.requests) (is_some (lowest_due s (issued_commands channel rows) (length rows))) c.waiting.queue.settled o)
-    → StandsFor (record c { waiting = w; banks = banks; refresh = refresh; stats = stats }) s channel (rows ++ o ∷ []) mail
+    → StandsFor (record c { cycle = c.cycle + 1; waiting = w; banks = banks; refresh = refresh; stats = stats }) s channel (rows ++ o ∷ []) mail
 unfolding channel_cycle_with
 stands-after c s channel rows mail o w banks refresh stats h e x b r t =
     let history = issued_commands channel rows in
@@ -203,6 +203,7 @@ stands-after c s channel rows mail o w banks refresh stats h e x b r t =
         within = omega (arith, after-le o queue);
         longest = omega arith;
       };
+      cycle_is = ap (λ k. k + 1) h.cycle_is ∙ add-one (length rows) ∙ sym (length-push_suc rows o);
       recalls = subst R (sym x) (subst Q (sym t) got);
       banks_stand = subst (BanksStandFor banks s) (sym (issued_commands-push channel rows o)) b;
       refreshes_stand = subst (RefreshesStandFor refresh s) (sym (issued_commands-push channel rows o)) r;
@@ -215,7 +216,7 @@ pub issued-stands : (c : Channel) (s : Config) (channel : ℕ) (rows : List (Opt
     → BanksStandFor banks s (issued_commands channel rows ++ row_of channel now chosen.command ∷ [])
     → RefreshesStandFor refresh s (issued_commands channel rows ++ row_of channel now chosen.command ∷ [])
     → stats ≡ counted c s (issued_commands channel rows) (length rows) (Some chosen.command) (moves_unmarked c.waiting chosen.slot)
-    → StandsFor (record c { waiting = w; banks = banks; refresh = refresh; stats = stats }) s channel (rows ++ Some chosen.command ∷ []) mail
+    → StandsFor (record c { cycle = c.cycle + 1; waiting = w; banks = banks; refresh = refresh; stats = stats }) s channel (rows ++ Some chosen.command ∷ []) mail
 issued-stands c s channel rows mail now chosen w banks refresh stats h at e f x b r t =
     let history = issued_commands channel rows in
     let left = leaves c.waiting history channel (length rows) chosen (joined-differ _ _ _ _ s channel rows mail h.joined) h.joined.marks_are f in
@@ -228,7 +229,7 @@ issued-stands c s channel rows mail now chosen w banks refresh stats h at e f x 
 pub none-stands : (c : Channel) (s : Config) (channel : ℕ) (rows : List (Option Command)) (mail : List Message) (stats : ChannelStats)
     → IsInCycle c s channel rows mail → None ≡ choice s channel rows mail
     → stats ≡ counted c s (issued_commands channel rows) (length rows) None false
-    → StandsFor (record c { stats = stats }) s channel (rows ++ None ∷ []) mail
+    → StandsFor (record c { cycle = c.cycle + 1; stats = stats }) s channel (rows ++ None ∷ []) mail
 none-stands c s channel rows mail stats h e t =
     let history = issued_commands channel rows in
     let none : history ≡ history ++ [] = sym (append-nil history) in

@@ -12,3 +12,5 @@ pub mod Issuing
 pub mod Stepping
 pub mod Running
 pub mod Starting
+pub mod Dues
+pub mod Skipping

@@ -57,7 +57,8 @@ at-stand c s channel rows mail queue h e =
       high_is = sym h.made_for.high_is ∙ ap (λ (q : QueueView). q.high) (sym e);
     }
 
-at-drains : (c : Channel) (s : Config) (channel : ℕ) (rows : List (Option Command)) (mail : List Message) → StandsFor c s channel rows mail
+-- whether the channel would drain its writes in the next cycle
+pub at-drains : (c : Channel) (s : Config) (channel : ℕ) (rows : List (Option Command)) (mail : List Message) → StandsFor c s channel rows mail
     → is_draining c.waiting.queue ≡ drains s channel rows mail (length rows)
 at-drains c s channel rows mail h =
     let r = h.recalls in
@@ -94,11 +95,11 @@ pub at-first : (c : Channel) (s : Config) (channel : ℕ) (rows : List (Option C
 at-first c s channel rows mail from queue o h at e f =
     first-agree _ _ from (λ cycle l. ap is_some (at-choice c s channel rows mail from cycle queue h at l e)) o f
 
-pub start-stands : (c : Channel) (s : Config) (number : ℕ) → c.config ≡ s → c.number ≡ number → c.waiting ≡ no_requests (queue_room s) s.write_high s.write_low
+pub start-stands : (c : Channel) (s : Config) (number : ℕ) → c.config ≡ s → c.number ≡ number → c.cycle ≡ 0 → c.waiting ≡ no_requests (queue_room s) s.write_high s.write_low
     → BanksStandFor c.banks s [] → RefreshesStandFor c.refresh s [] → c.stats ≡ record channel_none { draining = draining_of s 0 } → c.scratch ≡ queue_room s
     → StandsFor c s number [] []
 unfolding issued_commands
-start-stands c s number config is waiting banks refresh stats scratch =
+start-stands c s number config is cycle waiting banks refresh stats scratch =
     let R : Queued → ChannelStats → Type 0 = λ w t. Recalls w.queue.requests w.queue.settled w.marks t s number [] [] in
     let base : R (no_requests (queue_room s) s.write_high s.write_low) (record channel_none { draining = draining_of s 0 }) = recalls-none s number in
     let none : length c.waiting.queue.requests ≡ 0 = ap (λ (w : Queued). length w.queue.requests) waiting in
@@ -114,6 +115,7 @@ start-stands c s number config is waiting banks refresh stats scratch =
         within = omega arith;
         longest = omega arith;
       };
+      cycle_is = cycle;
       recalls = subst (λ w. R w c.stats) (sym waiting) (subst (R (no_requests (queue_room s) s.write_high s.write_low)) (sym stats) base);
       banks_stand = banks;
       refreshes_stand = refresh;

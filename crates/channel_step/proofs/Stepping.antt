@@ -87,6 +87,7 @@ arrived-stands c s channel rows mail inbox now until w h at l f e =
         within = omega arith;
         longest = h.made_for.longest;
       };
+      cycle_is = h.cycle_is;
       joined = record {
         requests = j.requests;
         arrived = j.arrived;

@@ -1,18 +1,19 @@
 //! A channel that is run alone over a span of cycles.
 
-ghost use Rattle.std.specs.Prelude.{◌≡◌, ℕ, ◌+◌, ◌-◌, ◌<◌, ◌≤◌, ◌^◌, ◌==◌, take_while, ◌++◌, List, [], ◌∷◌, length, Option, Some, None, option_map, replicate, is_some, IfSome, IfOk};
+ghost use Rattle.std.specs.Prelude.{◌≡◌, ℕ, ◌+◌, ◌-◌, ◌<◌, ◌≤◌, ◌^◌, ◌==◌, take_while, ◌++◌, List, [], ◌∷◌, length, Option, Some, None, option_map, replicate, is_some, nat_le, IfSome, IfOk};
 ghost use Rattle.sim_base.specs.History.{issued_commands};
 ghost use Rattle.sim_base.specs.Scheduling.{choice, waiting};
 ghost use Rattle.sim_base.specs.declared.config.Config.{Config};
 ghost use Rattle.sim_base.specs.declared.command.Command.{Command};
 ghost use Rattle.sim_base.specs.declared.message.Message.{Message};
+ghost use Rattle.refresh.specs.Refreshes.{lowest_owed};
 ghost use Rattle.fr_fcfs.specs.Choices.{IsFor};
 ghost use Rattle.fr_fcfs.specs.Cycles.{IsFirstCycle};
-ghost use Rattle.statistics.specs.Channels.{channel_stats, channel_joined, ChannelFits};
+ghost use Rattle.statistics.specs.Channels.{channel_stats, channel_joined, channel_times, ChannelFits};
 ghost use Rattle.channel_step.specs.Counted.{cycle_with_hit};
-ghost use Rattle.channel_step.specs.Channels.{StandsFor, IsInCycle, IsInSomeCycle, IsChosen, seen_of};
-ghost use Rattle.channel_step.specs.Fit.{IsFit};
-ghost use Rattle.channel_step.specs.Runs.{IsStep, CanStep, CanRun, IsDone, StandsAt};
+ghost use Rattle.channel_step.specs.Channels.{StandsFor, IsInCycle, IsInSomeCycle, IsChosen, seen_of, idle_cycle, passed};
+ghost use Rattle.channel_step.specs.Fit.{IsFit, IsIdle};
+ghost use Rattle.channel_step.specs.Runs.{IsStep, CanStep, CanRun, CanSkip, IsDone, StandsAt};
 
 use crate::counting::{Seen, cycle_stats, drained};
 use crate::done::ChannelDone;
@@ -34,6 +35,8 @@ use std::alloc::{AllocError, Global};
 pub struct Channel {
     config: Config,
     number: ChannelId,
+    /// The cycle that it stands at: so many are over.
+    cycle: Cycle,
     waiting: Waiting,
     banks: Banks,
     refresh: Refresh,
@@ -53,6 +56,7 @@ impl Channel {
         Ok(Channel {
             config: config.copy(alloc)?,
             number,
+            cycle: 0,
             waiting: Waiting::with_room(alloc, room, config.write_high, config.write_low)?,
             banks: Banks::new(alloc, config)?,
             refresh: Refresh::new(config.timing.n_refi, config.ranks),
@@ -125,14 +129,63 @@ impl Channel {
         }
     }
 
-    /// Counts a cycle.
+    /// Counts a cycle, which is then over.
     fn count(&mut self, seen: Seen, command: Option<Command>, hit: bool)
-        requires { ChannelFits (channel_joined self.old.stats (cycle_with_hit self.old.config seen.queued seen.refreshing seen.draining command hit)) }
-        ensures { self.new ≡ record self.old { stats = channel_joined self.old.stats (cycle_with_hit self.old.config seen.queued seen.refreshing seen.draining command hit) } }
+        requires cycle { self.old.cycle < 2 ^ 62 }
+        requires fits { ChannelFits (channel_joined self.old.stats (cycle_with_hit self.old.config seen.queued seen.refreshing seen.draining command hit)) }
+        ensures { self.new ≡ record self.old { cycle = self.old.cycle + 1; stats = channel_joined self.old.stats (cycle_with_hit self.old.config seen.queued seen.refreshing seen.draining command hit) } }
     {
         let cycle = cycle_stats(&self.config, seen, command, hit);
         let counted = &mut self.stats;
         *counted = counted.joined(cycle);
+        self.cycle += 1;
+    }
+
+    /// Counts the cycles before `until`, in each of which is seen what is seen in the next one, and nothing is issued. They are
+    /// then over.
+    fn pass(&mut self, until: Cycle)
+        requires until { self.old.cycle ≤ until }
+        requires each { ChannelFits (channel_times (until - self.old.cycle) (idle_cycle self.old self.old.cycle)) }
+        requires fits { ChannelFits (passed self.old until) }
+        ensures { self.new ≡ record self.old { cycle = until; stats = passed self.old until } }
+    {
+        let seen = self.seen(self.cycle);
+        let each = cycle_stats(&self.config, seen, None, false);
+        let cycles = until - self.cycle;
+        let counted = &mut self.stats;
+        *counted = counted.joined(each.times(cycles));
+        self.cycle = until;
+    }
+
+    /// The first cycle before `until` from which on a refresh is due, if none is issued; `until`, where there is none.
+    #[tactic(auto, using(crate::proofs::Dues::due_from_next, crate::proofs::Dues::never_due))]
+    fn due_from(&self, until: Cycle) -> Cycle
+        requires { self.now.cycle ≤ until }
+        ensures from_now { self.now.cycle ≤ result }
+        ensures within { result ≤ until }
+        ensures due { (cycle : ℕ) → self.now.cycle ≤ cycle → cycle < until → is_some (lowest_owed self.now.refresh cycle) ≡ nat_le result cycle }
+    {
+        match self.refresh.next_due(self.cycle) {
+            Some(due) => due.min(until),
+            None => until,
+        }
+    }
+
+    /// Moves on to the cycle `until`, where nothing arrives and nothing is issued before that. A channel that stands there
+    /// already is left as it is.
+    pub fn skip(&mut self, until: Cycle)
+        requires idle { CanSkip self.old until }
+        requires until { until ≤ 2 ^ 62 }
+        ensures { (s : Config) (channel : ℕ) (rows : List (Option Command)) (mail : List Message)
+            → StandsFor self.old s channel rows mail → IsIdle s channel rows mail (until - length rows)
+            → StandsFor self.new s channel (rows ++ replicate (until - length rows) None) mail }
+    {
+        if self.cycle < until {
+            self.waiting.settle();
+            let due = self.due_from(until);
+            self.pass(due);
+            self.pass(until);
+        }
     }
 
     /// Does what was chosen for a cycle, and counts the cycle.
