@@ -54,7 +54,8 @@ arrived-first now (m ∷ ms) = by (eqb m.arrival now) refl (arrived-first now ms
         subst (λ k. Each (λ (n : Message). n.arrival ≡ now) (take k (m ∷ ms))) (sym (next (due_count ms now))) (same, rest)
     by false e rest = tt
 
-no_sooner : (m n : Message) → is_before m n ≡ true → m.arrival ≤ n.arrival
+-- the younger of two messages does not arrive sooner
+pub no_sooner : (m n : Message) → is_before m n ≡ true → m.arrival ≤ n.arrival
 no_sooner m n h = grind (arith, nat_tests)
 
 arrive-later : (now : ℕ) (inbox : List Message) → ComeByAge inbox → Each (λ (m : Message). now ≤ m.arrival) inbox

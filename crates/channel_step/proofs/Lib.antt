@@ -14,3 +14,4 @@ pub mod Running
 pub mod Starting
 pub mod Dues
 pub mod Skipping
+pub mod Going

@@ -13,7 +13,7 @@ ghost use Rattle.statistics.specs.Channels.{channel_stats, channel_joined, chann
 ghost use Rattle.channel_step.specs.Counted.{cycle_with_hit};
 ghost use Rattle.channel_step.specs.Channels.{StandsFor, IsInCycle, IsInSomeCycle, IsChosen, seen_of, idle_cycle, passed};
 ghost use Rattle.channel_step.specs.Fit.{IsFit, IsIdle};
-ghost use Rattle.channel_step.specs.Runs.{IsStep, CanStep, CanRun, CanSkip, IsDone, StandsAt};
+ghost use Rattle.channel_step.specs.Runs.{IsStep, CanStep, CanRun, CanSkip, HasSkipped, IsDone, StandsAt, first_arrival, sooner_of};
 
 use crate::counting::{Seen, cycle_stats, drained};
 use crate::done::ChannelDone;
@@ -235,7 +235,8 @@ impl Channel {
     ) -> Result<(usize, Option<Command>), AllocError>
         requires can_step { CanStep self.old inbox.now now }
         requires now { now < 2 ^ 62 }
-        ensures { (s : Config) (channel : ℕ) (rows : List (Option Command)) (mail : List Message) (until : ℕ)
+        ensures some { IfOk result (λ done. done.0 ≤ length inbox.now) }
+        ensures stepped { (s : Config) (channel : ℕ) (rows : List (Option Command)) (mail : List Message) (until : ℕ)
             → StandsFor self.old s channel rows mail → length rows ≡ now → now < until → IsFit s channel rows mail inbox.now now until
             → IfOk result (λ done. IsStep self.new s channel rows mail inbox.now now until done.0 done.1) }
     {
@@ -244,8 +245,30 @@ impl Channel {
         Ok((due, self.issue(now)))
     }
 
+    /// Moves on from a cycle, where the channel stands, to the first one before `until` in which one of these messages arrives or
+    /// a command is issued, and to `until` where there is none. Tells which.
+    fn go_on(&mut self, inbox: &[Message], now: Cycle, until: Cycle) -> Cycle
+        requires can_run { CanRun self.old inbox.now now until }
+        requires span { now ≤ until }
+        requires until { until ≤ 2 ^ 62 }
+        ensures from_now { now ≤ result }
+        ensures within { result ≤ until }
+        ensures skipped { (s : Config) (channel : ℕ) (rows : List (Option Command)) (mail : List Message)
+            → StandsFor self.old s channel rows mail → length rows ≡ now → IsFit s channel rows mail inbox.now now until
+            → HasSkipped self.new s channel rows mail inbox.now result until }
+    {
+        let arrival = next_arrival(inbox, until);
+        if arrival <= now {
+            return now;
+        }
+        let next = sooner(self.next_act(now), arrival);
+        self.skip(next);
+        next
+    }
+
     /// Runs the channel over the cycles from `from` on and before `until`, in which these messages arrive, by arrival and then
-    /// by link. The channel that comes back stands at `until`. On an error, which is want of memory alone, it is gone.
+    /// by link. The channel that comes back stands at `until`. On an error, which is want of memory alone, it is gone. It goes from
+    /// one cycle in which something arrives or is issued to the next, and skips those between.
     pub fn run(
         mut self,
         alloc: Global,
@@ -263,7 +286,8 @@ impl Channel {
         let mut commands = Vec::new(alloc);
         let mut messages = Vec::new(alloc);
         let mut arrived = 0;
-        for now in from..until {
+        let mut now = from;
+        while now < until {
             let (due, command) = self.step(&inbox[arrived..], now)?;
             arrived += due;
             tell(
@@ -274,6 +298,7 @@ impl Channel {
                 &mut commands,
                 &mut messages,
             )?;
+            now = self.go_on(&inbox[arrived..], now + 1, until);
         }
         Ok(ChannelDone {
             channel: self,
@@ -288,4 +313,24 @@ fn due_count(inbox: &[Message], now: Cycle) -> usize
     ensures { result ≡ length (take_while (λ m. m.arrival == now) inbox.now) }
 {
     inbox.iter().take_while(|m| m.arrival == now).count()
+}
+
+/// When the first of these messages arrives; `until`, where there is none.
+fn next_arrival(inbox: &[Message], until: Cycle) -> Cycle
+    ensures { result ≡ first_arrival inbox.now until }
+{
+    match inbox.first() {
+        Some(message) => message.arrival,
+        None => until,
+    }
+}
+
+/// The first of two cycles, of which one may not be.
+fn sooner(first: Option<Cycle>, other: Cycle) -> Cycle
+    ensures { result ≡ sooner_of first other }
+{
+    match first {
+        Some(first) => first.min(other),
+        None => other,
+    }
 }
