@@ -1,16 +1,18 @@
 -- What a `Channel` stands for.
 --     IsMadeFor c s channel      the channel with a number, of a machine with a configuration
 --     StandsFor c s channel rows mail      all that it keeps is what these rows, and the messages that arrived in them, make of it
+--     HasRank c rank, HasBank c bank      a channel of a machine with this rank, or with this bank
 --     IsInCycle c s channel rows mail      the same in the cycle after these rows, when what arrives in it has joined the queue
 --     seen_of c now      what is seen of a channel in a cycle
 --     idle_cycle c now      the statistics of a cycle in which a channel issues nothing
 --     passed c until      its statistics after such cycles
-use Rattle.std.specs.Prelude.{◌≡◌, ℕ, ◌-◌, ◌≤◌, false, List, length, is_some, Option, Some, None}
+use Rattle.std.specs.Prelude.{◌≡◌, ℕ, ◌-◌, ◌<◌, ◌≤◌, false, List, length, is_some, Option, Some, None}
 use Rattle.sim_base.specs.declared.config.Config.{Config}
 use Rattle.sim_base.specs.History.{issued_commands}
 use Rattle.sim_base.specs.Scheduling.{choice}
 use Rattle.sim_base.specs.declared.command.Command.{Command}
 use Rattle.sim_base.specs.declared.message.Message.{Message}
+use Rattle.sim_base.specs.declared.place.BankId.{BankId}
 use Rattle.bank_ready.specs.Stands.{StandsFor as BanksStandFor}
 use Rattle.refresh.specs.Refreshes.{lowest_owed, StandsFor as RefreshesStandFor}
 use Rattle.queue.specs.View.{is_draining}
@@ -41,6 +43,26 @@ pub record StandsFor (c : Channel) (s : Config) (channel : ℕ) (rows : List (Op
   pub recalls : Recalls c.waiting.queue.requests c.waiting.queue.settled c.waiting.marks c.stats s channel rows mail
   pub banks_stand : BanksStandFor c.banks s (issued_commands channel rows)
   pub refreshes_stand : RefreshesStandFor c.refresh s (issued_commands channel rows)
+
+-- a channel stands for a past of a machine with this rank
+pub record HasRank (c : Channel) (rank : ℕ) : Type 0 where
+  pub s : Config
+  pub channel : ℕ
+  pub rows : List (Option Command)
+  pub mail : List Message
+  pub stands : StandsFor c s channel rows mail
+  pub rank_in : rank < s.ranks
+
+-- a channel stands for a past of a machine with this bank
+pub record HasBank (c : Channel) (bank : BankId) : Type 0 where
+  pub s : Config
+  pub channel : ℕ
+  pub rows : List (Option Command)
+  pub mail : List Message
+  pub stands : StandsFor c s channel rows mail
+  pub rank_in : bank.rank < s.ranks
+  pub group_in : bank.group < s.groups
+  pub bank_in : bank.bank < 4
 
 -- The same in the cycle after these rows, when what arrives in it has joined the queue.
 pub record IsInCycle (c : Channel) (s : Config) (channel : ℕ) (rows : List (Option Command)) (mail : List Message) : Type 0 where

@@ -2,7 +2,8 @@
 
 ghost use Rattle.std.specs.Prelude.{◌≡◌, ℕ, ◌+◌, ◌-◌, ◌<◌, ◌≤◌, ◌^◌, ◌==◌, take_while, ◌++◌, List, [], ◌∷◌, length, Option, Some, None, option_map, replicate, is_some, nat_le, IfSome, IfOk};
 ghost use Rattle.sim_base.specs.History.{issued_commands};
-ghost use Rattle.sim_base.specs.Scheduling.{choice, waiting};
+ghost use Rattle.sim_base.specs.Rules.{open_row};
+ghost use Rattle.sim_base.specs.Scheduling.{choice, due, waiting};
 ghost use Rattle.sim_base.specs.declared.config.Config.{Config};
 ghost use Rattle.sim_base.specs.declared.command.Command.{Command};
 ghost use Rattle.sim_base.specs.declared.message.Message.{Message};
@@ -11,7 +12,7 @@ ghost use Rattle.fr_fcfs.specs.Choices.{IsFor};
 ghost use Rattle.fr_fcfs.specs.Cycles.{IsFirstCycle};
 ghost use Rattle.statistics.specs.Channels.{channel_stats, channel_joined, channel_times, ChannelFits};
 ghost use Rattle.channel_step.specs.Counted.{cycle_with_hit};
-ghost use Rattle.channel_step.specs.Channels.{StandsFor, IsInCycle, IsInSomeCycle, IsChosen, seen_of, idle_cycle, passed};
+ghost use Rattle.channel_step.specs.Channels.{StandsFor, HasRank, HasBank, IsInCycle, IsInSomeCycle, IsChosen, seen_of, idle_cycle, passed};
 ghost use Rattle.channel_step.specs.Fit.{IsFit, IsIdle};
 ghost use Rattle.channel_step.specs.Runs.{IsStep, CanStep, CanRun, CanSkip, HasSkipped, IsDone, StandsAt, first_arrival, sooner_of};
 
@@ -27,6 +28,7 @@ use refresh::Refresh;
 use sim_base::command::Command;
 use sim_base::config::Config;
 use sim_base::message::{ChannelId, Cycle, Message, Request};
+use sim_base::place::BankId;
 use statistics::channels::ChannelStats;
 use std::alloc::{AllocError, Global};
 
@@ -79,6 +81,32 @@ impl Channel {
             → StandsFor self.now s channel rows mail → result.now ≡ waiting (issued_commands channel rows) mail (length rows) }
     {
         self.waiting.queue().requests()
+    }
+
+    /// The cycle where the channel stands: how many cycles are over.
+    pub fn now(&self) -> Cycle
+        ensures { (s : Config) (channel : ℕ) (rows : List (Option Command)) (mail : List Message)
+            → StandsFor self.now s channel rows mail → result ≡ length rows }
+    {
+        self.cycle
+    }
+
+    /// How many refreshes of a rank are due at the cycle where the channel stands.
+    pub fn due(&self, rank: u32) -> u64
+        requires { HasRank self.now rank }
+        ensures { (s : Config) (channel : ℕ) (rows : List (Option Command)) (mail : List Message)
+            → StandsFor self.now s channel rows mail → result ≡ due s rank (issued_commands channel rows) (length rows) }
+    {
+        self.refresh.due(self.cycle, rank)
+    }
+
+    /// The row that is open in a bank at the cycle where the channel stands.
+    pub fn open_row(&self, bank: BankId) -> Option<u32>
+        requires { HasBank self.now bank }
+        ensures { (s : Config) (channel : ℕ) (rows : List (Option Command)) (mail : List Message)
+            → StandsFor self.now s channel rows mail → result ≡ open_row bank (issued_commands channel rows) }
+    {
+        self.banks.open_row(bank)
     }
 
     /// The first cycle from `from` on, where the channel stands, in which it issues a command, if nothing arrives; None where
