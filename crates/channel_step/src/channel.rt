@@ -157,6 +157,17 @@ impl Channel {
         }
     }
 
+    /// Adds what the cycles before `until` count, which are then over.
+    fn add(&mut self, counted: ChannelStats, until: Cycle)
+        requires { ChannelFits (channel_joined self.old.stats counted) }
+        ensures { self.new ≡ record self.old { cycle = until; stats = channel_joined self.old.stats counted } }
+    {
+        let stats = &mut self.stats;
+        *stats = stats.joined(counted);
+        let cycle = &mut self.cycle;
+        *cycle = until;
+    }
+
     /// Counts a cycle, which is then over.
     fn count(&mut self, seen: Seen, command: Option<Command>, hit: bool)
         requires cycle { self.old.cycle < 2 ^ 62 }
@@ -164,9 +175,7 @@ impl Channel {
         ensures { self.new ≡ record self.old { cycle = self.old.cycle + 1; stats = channel_joined self.old.stats (cycle_with_hit self.old.config seen.queued seen.refreshing seen.draining command hit) } }
     {
         let cycle = cycle_stats(&self.config, seen, command, hit);
-        let counted = &mut self.stats;
-        *counted = counted.joined(cycle);
-        self.cycle += 1;
+        self.add(cycle, self.cycle + 1);
     }
 
     /// Counts the cycles before `until`, in each of which is seen what is seen in the next one, and nothing is issued. They are
@@ -180,9 +189,7 @@ impl Channel {
         let seen = self.seen(self.cycle);
         let each = cycle_stats(&self.config, seen, None, false);
         let cycles = until - self.cycle;
-        let counted = &mut self.stats;
-        *counted = counted.joined(each.times(cycles));
-        self.cycle = until;
+        self.add(each.times(cycles), until);
     }
 
     /// The first cycle before `until` from which on a refresh is due, if none is issued; `until`, where there is none.
