@@ -1,27 +1,26 @@
 -- A channel that goes on to the next cycle in which something happens.
-use Rattle.std.proofs.Common.{◌≡◌, ℕ, zero, suc, ◌+◌, ◌-◌, ◌<◌, ◌≤◌, Bool, true, false, List, [], ◌∷◌, ◌++◌, length, Option, Some, None, refl, sym, ap, ap₂, subst, ◌∙◌, min, arith}
+use Rattle.std.proofs.Common.{◌≡◌, ℕ, ◌+◌, ◌-◌, ◌<◌, ◌≤◌, Bool, true, false, List, [], ◌∷◌, ◌++◌, length, Option, Some, None, refl, sym, ap, ap₂, subst, ◌∙◌, arith}
 use Rattle.std.specs.Prelude.{replicate, is_some}
 use Rattle.std.specs.List.{AllByRecursion as Each}
 use Rattle.std.proofs.lemmas.List.{append-nil}
-use Rattle.sim_base.proofs.Arrived.{NotBefore}
 use Rattle.sim_base.proofs.Ordered.{Each-weaker}
 use Rattle.sim_base.specs.declared.config.Config.{Config}
 use Rattle.sim_base.specs.Counts.{queue_length}
-use Rattle.sim_base.specs.History.{issued_commands, is_before}
+use Rattle.sim_base.specs.History.{is_before}
 use Rattle.sim_base.specs.Machine.{channel_run}
 use Rattle.sim_base.specs.Scheduling.{choice}
 use Rattle.sim_base.specs.declared.command.Command.{Command}
 use Rattle.sim_base.specs.declared.message.Message.{Message}
 use Rattle.statistics.proofs.ChannelMail.{AgreeUpTo-later}
-use Rattle.fr_fcfs.specs.Cycles.{IsFirst, IsFirstCycle}
+use Rattle.fr_fcfs.specs.Cycles.{IsFirstCycle}
 use Rattle.channel_step.specs.Past.{requests_of, CarriesRequest}
-use Rattle.channel_step.specs.Fit.{queue_room, IsUnnamed, ComeByAge, IsFit, IsIdle}
+use Rattle.channel_step.specs.Fit.{IsUnnamed, ComeByAge, IsFit, IsIdle}
 use Rattle.channel_step.specs.Channels.{StandsFor}
-use Rattle.channel_step.specs.Runs.{first_arrival, sooner_of, HasSkipped, CanRun, CanSkip}
+use Rattle.channel_step.specs.Runs.{first_arrival, sooner_of, HasSkipped, CanSkip}
 use Rattle.channel_step.specs.declared.channel.Channel.{Channel}
 use Rattle.channel_step.proofs.Requests.{carries-stamped}
 use Rattle.channel_step.proofs.Spans.{channel_run-more, channel_run-same}
-use Rattle.channel_step.proofs.Stretches.{idle-issued, idle-run, length-idle}
+use Rattle.channel_step.proofs.Stretches.{idle-issued, idle-run}
 use Rattle.channel_step.proofs.Fits.{no_sooner}
 
 -- no message arrives before the first

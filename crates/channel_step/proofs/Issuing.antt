@@ -1,6 +1,6 @@
 -- What a command that a channel issues leaves.
 use Rattle.std.proofs.Common.{◌≡◌, ℕ, zero, suc, ◌+◌, ◌<◌, ◌≤◌, ◌^◌, Bool, true, false, cond, List, [], ◌∷◌, ◌++◌, length, get_or, map, Option, Some, None, refl, sym, ap, ap₂, subst, ◌∙◌, add-one, arith}
-use Rattle.std.specs.Prelude.{count_by, option_map, is_some, not, remove, slice_get, filter, filter_map, max}
+use Rattle.std.specs.Prelude.{is_some, not, remove, slice_get, filter, filter_map, max}
 use Rattle.std.specs.Option.{IfSome, ForSome}
 use Rattle.std.specs.Prelude.{MatchOption}
 use Rattle.std.specs.List.{All, AllByRecursion as Each, cons_option, enumerate_from}
@@ -12,7 +12,7 @@ use Rattle.sim_base.specs.declared.config.Config.{Config}
 use Rattle.sim_base.specs.Counts.{queued_max, is_hit}
 use Rattle.sim_base.specs.History.{issued_at, issued_commands}
 use Rattle.sim_base.specs.Rules.{rank_of}
-use Rattle.sim_base.specs.Scheduling.{choice, choice_between, candidates, lowest_due, due, is_column_command, column_command}
+use Rattle.sim_base.specs.Scheduling.{choice, lowest_due, due, is_column_command}
 use Rattle.sim_base.specs.declared.command.Command.{Command}
 use Rattle.sim_base.specs.declared.command.Command.TheVariants.{Act, Rd, Wr, Pre, Prea, Ref}
 use Rattle.sim_base.specs.declared.command.CommandRow.{CommandRow}
@@ -29,14 +29,13 @@ use Rattle.statistics.proofs.ChannelSteps.{issued_now, issued_commands-push}
 use Rattle.statistics.proofs.Lists.{length-push_suc}
 use Rattle.fr_fcfs.specs.Choices.{Serves, IsFor}
 use Rattle.fr_fcfs.specs.declared.choice.Choice.{Choice}
-use Rattle.queue.specs.View.{QueueView}
 use Rattle.channel_step.specs.Past.{Differ, is_named}
 use Rattle.channel_step.specs.Fit.{queue_room}
-use Rattle.channel_step.specs.Stands.{marks_of, Recalls, HasJoined}
-use Rattle.channel_step.specs.Queued.{Queued, marked_at, without, after_command, after, moves_unmarked}
+use Rattle.channel_step.specs.Stands.{marks_of, Recalls}
+use Rattle.channel_step.specs.Queued.{Queued, marked_at, after, moves_unmarked}
 use Rattle.channel_step.specs.Counted.{cycle_with_hit}
 use Rattle.channel_step.specs.Owed.{RefIsOwed}
-use Rattle.channel_step.specs.Channels.{IsMadeFor, StandsFor, IsInCycle, IsInSomeCycle, seen_of}
+use Rattle.channel_step.specs.Channels.{StandsFor, IsInCycle, seen_of}
 use Rattle.channel_step.specs.declared.counting.Seen.{Seen}
 use Rattle.channel_step.proofs.Deciding.{settled-drains}
 use Rattle.channel_step.specs.declared.channel.Channel.{Channel}

@@ -1,6 +1,6 @@
 -- A channel before its first cycle, and a channel between two cycles.
-use Rattle.std.proofs.Common.{◌≡◌, ℕ, zero, suc, ◌+◌, ◌-◌, ◌<◌, ◌≤◌, Bool, true, false, List, [], ◌∷◌, ◌++◌, length, Option, Some, None, refl, sym, ap, ap₂, subst, ◌∙◌, arith}
-use Rattle.std.specs.Prelude.{count_by, is_some, replicate}
+use Rattle.std.proofs.Common.{◌≡◌, ℕ, ◌+◌, ◌-◌, ◌≤◌, Bool, false, List, [], ◌++◌, length, Option, Some, None, refl, sym, ap, ap₂, subst, ◌∙◌, arith}
+use Rattle.std.specs.Prelude.{is_some, replicate}
 use Rattle.std.specs.List.{All, AllByRecursion as Each}
 use Rattle.sim_base.specs.declared.config.Config.{Config}
 use Rattle.sim_base.specs.Counts.{issued_of_kind, hits, queue_lengths, queued, queued_max, idle, refreshing, draining}
@@ -8,7 +8,6 @@ use Rattle.sim_base.specs.History.{issued_commands}
 use Rattle.sim_base.specs.Scheduling.{waiting, drains_with, drains_before, drains, candidates, choice_between, choice, lowest_due}
 use Rattle.sim_base.specs.declared.command.Command.{Command}
 use Rattle.sim_base.specs.declared.message.Message.{Message}
-use Rattle.sim_base.specs.declared.message.Request.{Request}
 use Rattle.bank_ready.specs.Stands.{rank_count, StandsFor as BanksStandFor}
 use Rattle.refresh.specs.Refreshes.{StandsFor as RefreshesStandFor}
 use Rattle.statistics.specs.declared.channels.ChannelStats.{ChannelStats}
@@ -19,7 +18,7 @@ use Rattle.queue.specs.View.{QueueView, is_draining, drains_by}
 use Rattle.queue.specs.Columns.{write_count}
 use Rattle.fr_fcfs.specs.Columns.{IsInBanks}
 use Rattle.fr_fcfs.specs.Choices.{StandFor, choice_in}
-use Rattle.fr_fcfs.specs.Cycles.{IsFirst, IsFirstCycle}
+use Rattle.fr_fcfs.specs.Cycles.{IsFirstCycle}
 use Rattle.channel_step.specs.Past.{requests_of}
 use Rattle.channel_step.specs.Stands.{Recalls}
 use Rattle.channel_step.specs.Channels.{StandsFor}

@@ -1,12 +1,12 @@
 -- No message is sent to the channel, so its queue stays empty.
-use Rattle.std.proofs.Common.{◌≡◌, ℕ, ◌+◌, ◌≤◌, ◌∙◌, List, [], Option, refl, sym, ap, subst, arith}
+use Rattle.std.proofs.Common.{◌≡◌, ℕ, ◌+◌, ◌≤◌, ◌∙◌, List, [], Option, refl, sym, subst, arith}
 use Rattle.sim_base.specs.declared.config.Config.{Config}
 use Rattle.sim_base.specs.declared.command.Command.{Command}
 use Rattle.sim_base.specs.declared.message.Message.{Message}
 use Rattle.sim_base.specs.Counts.{queue_length}
 use Rattle.sim_base.specs.Machine.{channel_run}
 use Rattle.sim_base.specs.Scheduling.{queue_in, waiting}
-use Rattle.channel_step.specs.Fit.{queue_room, IsFit}
+use Rattle.channel_step.specs.Fit.{IsFit}
 use Rattle.channel_step.specs.Channels.{StandsFor, HasRank, HasBank}
 use Rattle.channel_step.specs.declared.tests.TheConstants.{BANK}
 use Rattle.channel_step.specs.declared.channel.Channel.{Channel}

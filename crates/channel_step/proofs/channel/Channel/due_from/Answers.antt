@@ -1,4 +1,4 @@
-use Rattle.std.proofs.Common.{◌≡◌, ap, sym, ◌∙◌}
+use Rattle.std.proofs.Common.{ap, sym, ◌∙◌}
 use Rattle.std.specs.Prelude.{nat_le}
 use Rattle.channel_step.proofs.Dues.{due_from_next}
 use Rattle.channel_step.proofs.channel.Channel.due_from.Goals as goal

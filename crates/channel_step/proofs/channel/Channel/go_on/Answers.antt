@@ -1,8 +1,4 @@
-use Rattle.std.proofs.Common.{◌≡◌, ℕ, List, Option, length, sym, ap, subst, ◌∙◌}
-use Rattle.sim_base.specs.declared.config.Config.{Config}
-use Rattle.sim_base.specs.declared.command.Command.{Command}
-use Rattle.sim_base.specs.declared.message.Message.{Message}
-use Rattle.channel_step.specs.Fit.{IsFit}
+use Rattle.std.proofs.Common.{sym, ap, subst, ◌∙◌}
 use Rattle.channel_step.specs.Channels.{StandsFor}
 use Rattle.channel_step.specs.Runs.{CanSkip, sooner_of}
 use Rattle.channel_step.specs.declared.channel.Channel.{Channel}

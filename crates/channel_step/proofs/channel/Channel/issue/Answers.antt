@@ -1,6 +1,5 @@
-use Rattle.std.proofs.Common.{◌≡◌, ◌<◌, ◌^◌, ◌∷◌, [], ◌++◌, length, Some, None, ap, sym, subst, ◌∙◌, arith, refl, false}
+use Rattle.std.proofs.Common.{◌<◌, ◌^◌, ◌∷◌, [], ◌++◌, length, None, ap, sym, subst, ◌∙◌, arith, refl, false}
 use Rattle.std.specs.Prelude.{option_map}
-use Rattle.sim_base.specs.History.{issued_commands}
 use Rattle.statistics.specs.Channels.{ChannelFits}
 use Rattle.fr_fcfs.specs.declared.choice.Choice.{Choice}
 use Rattle.channel_step.specs.Channels.{StandsFor}

@@ -1,10 +1,7 @@
-use Rattle.std.proofs.Common.{◌≡◌, ℕ, ◌+◌, ◌-◌, ◌<◌, ◌≤◌, ◌++◌, List, [], Option, length, take, drop, arith, rules, ap, sym, subst, ◌∙◌}
-use Rattle.sim_base.specs.declared.config.Config.{Config}
-use Rattle.sim_base.specs.declared.command.Command.{Command}
-use Rattle.sim_base.specs.declared.message.Message.{Message}
+use Rattle.std.proofs.Common.{◌≡◌, ◌+◌, ◌-◌, ◌++◌, [], take, arith, rules, sym, subst}
 use Rattle.sim_base.specs.Machine.{channel_run}
 use Rattle.channel_step.specs.Runs.{HasRun}
-use Rattle.channel_step.proofs.Running.{rest_of, run-length, run-fit, run-begins, run-can_step, run-cycle, run-ends, run-stepped, run-some, run-can_go_on, run-gone_on}
+use Rattle.channel_step.proofs.Running.{run-length, run-fit, run-begins, run-can_step, run-cycle, run-ends, run-stepped, run-can_go_on, run-gone_on}
 use Rattle.channel_step.proofs.channel.Channel.run.Goals as goal
 
 pub loop-now-init : goal.loop-now-init

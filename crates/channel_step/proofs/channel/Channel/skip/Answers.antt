@@ -1,4 +1,4 @@
-use Rattle.std.proofs.Common.{◌≡◌, ◌-◌, ◌++◌, length, None, sym, subst}
+use Rattle.std.proofs.Common.{◌-◌, ◌++◌, length, None, sym, subst}
 use Rattle.std.specs.Prelude.{replicate}
 use Rattle.statistics.specs.Channels.{ChannelFits}
 use Rattle.channel_step.specs.Channels.{StandsFor, passed}

@@ -1,5 +1,4 @@
-use Rattle.std.proofs.Common.{◌≡◌, ◌++◌, ◌∙◌, take, arith}
-use Rattle.channel_step.specs.Channels.{IsInSomeCycle}
+use Rattle.std.proofs.Common.{◌++◌, ◌∙◌, take, arith}
 use Rattle.channel_step.proofs.Stepping.{due_count-is, due_count-le, admit-room, arrived-in_cycle, step-is}
 use Rattle.channel_step.proofs.channel.Channel.step.Goals as goal
 
