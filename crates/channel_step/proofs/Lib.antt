@@ -15,3 +15,4 @@ pub mod Starting
 pub mod Dues
 pub mod Skipping
 pub mod Going
+pub mod Alone
