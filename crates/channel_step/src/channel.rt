@@ -10,9 +10,9 @@ ghost use Rattle.sim_base.specs.declared.message.Message.{Message};
 ghost use Rattle.refresh.specs.Refreshes.{lowest_owed};
 ghost use Rattle.fr_fcfs.specs.Choices.{IsFor};
 ghost use Rattle.fr_fcfs.specs.Cycles.{IsFirstCycle};
-ghost use Rattle.statistics.specs.Channels.{channel_stats, channel_joined, channel_times, ChannelFits};
+ghost use Rattle.statistics.specs.Channels.{channel_stats, channel_joined, ChannelFits};
 ghost use Rattle.channel_step.specs.Counted.{cycle_with_hit};
-ghost use Rattle.channel_step.specs.Channels.{StandsFor, HasRank, HasBank, IsInCycle, IsInSomeCycle, IsChosen, seen_of, idle_cycle, passed};
+ghost use Rattle.channel_step.specs.Channels.{StandsFor, HasRank, HasBank, IsInCycle, IsInSomeCycle, IsChosen, seen_of, passed};
 ghost use Rattle.channel_step.specs.Fit.{IsFit, IsIdle};
 ghost use Rattle.channel_step.specs.Runs.{IsStep, CanStep, CanRun, CanSkip, HasSkipped, IsDone, StandsAt, first_arrival, sooner_of};
 
@@ -182,7 +182,6 @@ impl Channel {
     /// then over.
     fn pass(&mut self, until: Cycle)
         requires until { self.old.cycle ≤ until }
-        requires each { ChannelFits (channel_times (until - self.old.cycle) (idle_cycle self.old self.old.cycle)) }
         requires fits { ChannelFits (passed self.old until) }
         ensures { self.new ≡ record self.old { cycle = until; stats = passed self.old until } }
     {
@@ -206,6 +205,14 @@ impl Channel {
         }
     }
 
+    /// Settles whether the channel drains its writes in the next cycle, where nothing arrives in it.
+    fn settle(&mut self)
+        ensures { (s : Config) (channel : ℕ) (rows : List (Option Command)) (mail : List Message)
+            → StandsFor self.old s channel rows mail → IsInCycle self.new s channel rows mail }
+    {
+        self.waiting.settle();
+    }
+
     /// Moves on to the cycle `until`, where nothing arrives and nothing is issued before that. A channel that stands there
     /// already is left as it is.
     pub fn skip(&mut self, until: Cycle)
@@ -216,7 +223,7 @@ impl Channel {
             → StandsFor self.new s channel (rows ++ replicate (until - length rows) None) mail }
     {
         if self.cycle < until {
-            self.waiting.settle();
+            self.settle();
             let due = self.due_from(until);
             self.pass(due);
             self.pass(until);
