@@ -14,12 +14,13 @@ ghost use Rattle.core_window.specs.Inside.{IsStanding, IsReceiving, IsLike, Stan
 ghost use Rattle.core_window.specs.Views.{CoreView};
 ghost use Rattle.core_window.specs.Rests.{Rests, IsNextAct, MayRest, MaySkip, idle_row};
 ghost use Rattle.core_window.specs.Replies.{MayTakeReply, after_reply};
+ghost use Rattle.core_window.specs.Waiting.{is_waiting};
 ghost use Rattle.core_window.specs.declared.waiting.WaitingRead.{WaitingRead};
 
 use crate::counts::cycle_counts;
 use crate::issue::{entry_issued, issue_of, next_two};
 use crate::issue_effects::{send, spend, wait_for};
-use crate::receive::{add_credit_at, count_reply, issue_cycle_of, remove_read};
+use crate::receive::{add_credit_at, count_reply, is_waiting, issue_cycle_of, remove_read};
 use crate::retire::retire_count;
 use crate::waiting::WaitingRead;
 use address_map::place_of;
@@ -285,6 +286,13 @@ impl Core {
     {
         let Core { stats, .. } = self;
         *stats
+    }
+
+    /// Whether the Read with this number was issued and has no reply yet.
+    pub fn is_awaited(&self, entry: u64) -> bool
+        ensures { result ≡ is_waiting (view_of self.now).waiting entry }
+    {
+        is_waiting(&self.waiting, entry)
     }
 
     /// The credits that the core holds for each channel, by number.
