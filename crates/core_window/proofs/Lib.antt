@@ -8,6 +8,7 @@ pub mod Turning
 pub mod Receiving
 pub mod Running
 pub mod Stretching
+pub mod Flowing
 pub mod Starting
 pub mod Fitting
 pub mod Resting

@@ -19,6 +19,7 @@ ghost use Rattle.core_window.specs.Waiting.{is_waiting};
 ghost use Rattle.core_window.specs.declared.waiting.WaitingRead.{WaitingRead};
 
 use crate::counts::cycle_counts;
+use crate::flow::{Flow, WindowNumbers, flow_of};
 use crate::issue::{entry_issued, issue_of, next_two};
 use crate::issue_effects::{send, spend, wait_for};
 use crate::receive::{add_credit_at, count_reply, is_waiting, issue_cycle_of, remove_read};
@@ -178,8 +179,27 @@ impl Core {
         }
     }
 
+    /// The cycles, at most so many, in which the core issues its width of Plain entries and does the same in each.
+    fn flow(&self, most: u64) -> Flow
+        requires { IsStanding (view_of self.now) }
+        ensures steady { IsSteady (view_of self.now) result.cycles (record { retired = result.retired; issued = self.now.config.width }) Stop.Width }
+        ensures most { result.cycles ≤ most }
+    {
+        let issued = self.stats.issued;
+        let ahead = next_two(&self.trace, issued);
+        let last = self.trace.len().saturating_sub(1);
+        let numbers = WindowNumbers {
+            width: self.config.width,
+            window: self.config.window,
+            issued,
+            retired: self.stats.retired,
+            plain: ahead.one.min(last).saturating_sub(issued),
+        };
+        flow_of(&numbers, &self.waiting, most)
+    }
+
     /// Goes on by a cycle, or up to a cycle, if the core does nothing until a message comes.
-    fn go_on(&mut self, until: Cycle, sent: &mut Vec<Message>) -> Result<(), AllocError>
+    fn rest_or_step(&mut self, until: Cycle, sent: &mut Vec<Message>) -> Result<(), AllocError>
         requires stands { IsStanding (view_of self.old) }
         requires order { self.old.cycle < until }
         requires early { until < 2 ^ 62 }
@@ -191,6 +211,26 @@ impl Core {
             Ok(())
         } else {
             self.step(turn, sent)
+        }
+    }
+
+    /// Goes on by a cycle, or by several, at most up to a cycle, in which the core does the same.
+    fn go_on(&mut self, until: Cycle, sent: &mut Vec<Message>) -> Result<(), AllocError>
+        requires stands { IsStanding (view_of self.old) }
+        requires order { self.old.cycle < until }
+        requires early { until < 2 ^ 62 }
+        ensures { OnOk result (GoesOn until (view_of self.old) sent.old.items (view_of self.new) sent.new.items) }
+    {
+        let flow = self.flow(until - self.cycle);
+        if flow.cycles == 0 {
+            self.rest_or_step(until, sent)
+        } else {
+            let row = CoreRow {
+                retired: flow.retired,
+                issued: self.config.width,
+            };
+            self.pass(row, Stop::Width, flow.cycles);
+            Ok(())
         }
     }
 
