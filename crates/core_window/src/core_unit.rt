@@ -18,7 +18,7 @@ ghost use Rattle.core_window.specs.Replies.{MayTakeReply, after_reply};
 ghost use Rattle.core_window.specs.Waiting.{is_waiting};
 ghost use Rattle.core_window.specs.declared.waiting.WaitingRead.{WaitingRead};
 
-use crate::counts::cycle_counts;
+use crate::counts::{count_cycle, count_cycles, cycle_counts};
 use crate::flow::{Flow, WindowNumbers, flow_of};
 use crate::issue::{Ahead, entry_issued, issue_of, next_two};
 use crate::issue_effects::{send, spend, wait_for};
@@ -128,15 +128,15 @@ impl Core {
         wait_for(&mut self.waiting, turn.memory, self.cycle)?;
         spend(&mut self.credits, &self.config, turn.memory);
         send(sent, &self.config, self.id, self.cycle, turn.memory)?;
-        let counts = cycle_counts(
+        let len = self.trace.len();
+        count_cycle(
+            &mut self.stats,
             turn.row,
             turn.why,
             turn.memory,
-            self.stats.retired,
-            self.trace.len(),
+            len,
             self.cycle,
         );
-        self.stats = self.stats.joined(counts);
         self.cycle += 1;
         Ok(())
     }
@@ -150,8 +150,7 @@ impl Core {
         ensures { view_of self.new ≡ steady_view (view_of self.old) row why cycles }
     {
         prove!(self.trace.len() <= 1 << 62);
-        let each = cycle_counts(row, why, None, 0, 0, 0);
-        self.stats = self.stats.joined(each.times(cycles));
+        count_cycles(&mut self.stats, row, why, cycles);
         self.cycle += cycles;
     }
 
