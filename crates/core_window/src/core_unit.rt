@@ -1,6 +1,6 @@
 //! A core.
 
-ghost use Rattle.std.specs.Prelude.{[], ◌∷◌, ◌++◌, ◌/◌, ◌%◌, find, if◌then◌else◌, ◌≡◌, ◌==◌, ◌^◌, ◌+◌, ◌-◌, ◌≤◌, ◌<◌, ℕ, Some, List, length, replicate, slice_get, OnOk, OnErr, IfOk};
+ghost use Rattle.std.specs.Prelude.{[], ◌∷◌, ◌++◌, ◌/◌, ◌%◌, find, if◌then◌else◌, ◌≡◌, ◌==◌, ◌^◌, ◌+◌, ◌-◌, ◌*◌, ◌≤◌, ◌<◌, ℕ, Some, List, length, replicate, slice_get, OnOk, OnErr, IfOk};
 ghost use Rattle.sim_base.specs.declared.history.CoreRow.{CoreRow};
 ghost use Rattle.sim_base.specs.declared.message.Message.{Message};
 ghost use Rattle.sim_base.specs.declared.config.Config.{Config};
@@ -10,7 +10,7 @@ ghost use Rattle.core_window.specs.Turns.{lacks_by, IsSeen, credits_of_kind, mor
 ghost use Rattle.core_window.specs.CoreViews.{view_of};
 ghost use Rattle.core_window.specs.Fit.{IsDue, MayRun, Runs};
 ghost use Rattle.core_window.specs.Stands.{StandsFor};
-ghost use Rattle.core_window.specs.Inside.{IsStanding, IsReceiving, StandsAt, Advances, GoesOn, Does};
+ghost use Rattle.core_window.specs.Inside.{IsStanding, IsReceiving, StandsAt, Advances, GoesOn, GoesQuietly, Does};
 ghost use Rattle.core_window.specs.Views.{CoreView};
 ghost use Rattle.core_window.specs.Rests.{Rests, IsNextAct, MayRest, MaySkip, idle_row};
 ghost use Rattle.core_window.specs.Steady.{steady_view, IsSteady};
@@ -200,6 +200,7 @@ impl Core {
         requires stands { IsStanding (view_of self.now) }
         requires seen { IsSeen self.now.trace self.now.stats.issued ahead.now.one ahead.now.two ahead.now.entry }
         ensures steady { IsSteady (view_of self.now) result.cycles (record { retired = result.retired; issued = self.now.config.width }) Stop.Width }
+        ensures within { self.now.stats.issued + result.cycles * self.now.config.width ≤ ahead.now.one }
         ensures most { result.cycles ≤ most }
     {
         let issued = self.stats.issued;
@@ -236,7 +237,28 @@ impl Core {
         }
     }
 
-    /// Goes on by a cycle, or by several, at most up to a cycle, in which the core does the same.
+    /// Goes on by the cycles, at most up to a cycle, in which the core issues its width of Plain entries and does the same in
+    /// each, if there are any.
+    fn flow_on(&mut self, ahead: &Ahead, until: Cycle)
+        requires stands { IsStanding (view_of self.old) }
+        requires seen { IsSeen self.old.trace self.old.stats.issued ahead.now.one ahead.now.two ahead.now.entry }
+        requires order { self.old.cycle < until }
+        requires early { until < 2 ^ 62 }
+        ensures goes { GoesQuietly until (view_of self.old) (view_of self.new) }
+        ensures seen { IsSeen self.new.trace self.new.stats.issued ahead.now.one ahead.now.two ahead.now.entry }
+    {
+        let flow = self.flow(ahead, until - self.cycle);
+        if flow.cycles == 0 {
+            return;
+        }
+        let row = CoreRow {
+            retired: flow.retired,
+            issued: self.config.width,
+        };
+        self.pass(row, Stop::Width, flow.cycles);
+    }
+
+    /// Goes on by some cycles, at most up to a cycle.
     fn go_on(&mut self, until: Cycle, sent: &mut Vec<Message>) -> Result<(), AllocError>
         requires stands { IsStanding (view_of self.old) }
         requires order { self.old.cycle < until }
@@ -244,15 +266,10 @@ impl Core {
         ensures { OnOk result (GoesOn until (view_of self.old) sent.old.items (view_of self.new) sent.new.items) }
     {
         let ahead = self.ahead();
-        let flow = self.flow(&ahead, until - self.cycle);
-        if flow.cycles == 0 {
+        self.flow_on(&ahead, until);
+        if self.cycle < until {
             self.rest_or_step(&ahead, until, sent)
         } else {
-            let row = CoreRow {
-                retired: flow.retired,
-                issued: self.config.width,
-            };
-            self.pass(row, Stop::Width, flow.cycles);
             Ok(())
         }
     }
