@@ -18,6 +18,7 @@ ghost use Rattle.core_window.specs.Replies.{MayTakeReply, after_reply};
 ghost use Rattle.core_window.specs.Waiting.{is_waiting};
 ghost use Rattle.core_window.specs.declared.waiting.WaitingRead.{WaitingRead};
 
+use crate::channel::channel_of;
 use crate::counts::{count_cycle, count_cycles, cycle_counts};
 use crate::flow::{Flow, WindowNumbers, flow_of};
 use crate::issue::{Ahead, entry_issued, issue_of, next_two};
@@ -25,7 +26,6 @@ use crate::issue_effects::{send, spend, wait_for};
 use crate::receive::{add_credit_at, count_reply, is_waiting, issue_cycle_of, remove_read};
 use crate::retire::retire_count;
 use crate::waiting::WaitingRead;
-use address_map::place_of;
 use cpu_trace::entries::MemoryEntry;
 use cpu_trace::trace::Trace;
 use sim_base::config::Config;
@@ -62,8 +62,8 @@ fn is_without_credit(credits: &[Credits], config: &Config, entry: Entry) -> bool
         → result ≡ lacks_by config.now held entry }
 {
     match entry {
-        Entry::Read(address) => credits[place_of(config, address).channel as usize].read == 0,
-        Entry::Write(address) => credits[place_of(config, address).channel as usize].write == 0,
+        Entry::Read(address) => credits[channel_of(config, address) as usize].read == 0,
+        Entry::Write(address) => credits[channel_of(config, address) as usize].write == 0,
         Entry::Plain => false,
     }
 }
