@@ -2,7 +2,8 @@
 --     is_read_at trace entry      the entry of this number is a Read
 --     is_answered mail entry      a reply to it is among these messages
 --     reads_waiting trace rows mail      the Reads that were issued and have no reply, in order, each with its cycle
-use Rattle.std.specs.Prelude.{ℕ, Bool, false, not, ◌&&◌, List, slice_get, Option, Some, None, if◌then◌else◌}
+--     is_waiting waiting entry      the Read with this number is among those that wait
+use Rattle.std.specs.Prelude.{ℕ, Bool, false, not, ◌&&◌, List, ◌==◌, slice_get, Option, Some, None, if◌then◌else◌}
 use Rattle.std.specs.List.{filter_map, list_any}
 use Rattle.sim_base.specs.Counts.{is_read, issue_cycle}
 use Rattle.sim_base.specs.History.{below, issued_before}
@@ -33,3 +34,7 @@ waiting_read trace rows mail entry =
 -- the Reads that were issued and have no reply, in order
 unfoldable pub reads_waiting : List Entry → List CoreRow → List Message → List WaitingRead
 reads_waiting trace rows mail = filter_map (waiting_read trace rows mail) (below (issued_before rows))
+
+-- the Read with this number is among those that wait
+abbrev pub is_waiting : List WaitingRead → ℕ → Bool
+is_waiting waiting entry = list_any (λ read. read.entry == entry) waiting

@@ -1,28 +1,31 @@
 //! A core.
 
-ghost use Rattle.std.specs.Prelude.{[], ◌∷◌, ◌++◌, ◌/◌, ◌%◌, find, if◌then◌else◌, ◌≡◌, ◌==◌, ◌^◌, ◌+◌, ◌-◌, ◌≤◌, ◌<◌, ℕ, Some, List, length, replicate, slice_get, OnOk, OnErr, IfOk};
+ghost use Rattle.std.specs.Prelude.{[], ◌∷◌, ◌++◌, ◌/◌, ◌%◌, find, if◌then◌else◌, ◌≡◌, ◌==◌, ◌^◌, ◌+◌, ◌-◌, ◌*◌, ◌≤◌, ◌<◌, ℕ, Some, List, length, replicate, slice_get, OnOk, OnErr, IfOk};
 ghost use Rattle.sim_base.specs.declared.history.CoreRow.{CoreRow};
 ghost use Rattle.sim_base.specs.declared.message.Message.{Message};
 ghost use Rattle.sim_base.specs.declared.config.Config.{Config};
 ghost use Rattle.sim_base.specs.declared.trace.Entry.{Entry};
 ghost use Rattle.statistics.specs.declared.final_state.Credits.{Credits};
-ghost use Rattle.core_window.specs.Turns.{lacks_by, IsTurn, credits_of_kind, more_credit};
+ghost use Rattle.core_window.specs.Turns.{lacks_by, IsSeen, credits_of_kind, more_credit};
 ghost use Rattle.core_window.specs.CoreViews.{view_of};
 ghost use Rattle.core_window.specs.Fit.{IsDue, MayRun, Runs};
 ghost use Rattle.core_window.specs.Stands.{StandsFor};
-ghost use Rattle.core_window.specs.Inside.{IsStanding, IsReceiving, IsLike, StandsAt, Advances};
+ghost use Rattle.core_window.specs.Inside.{IsStanding, IsReceiving, StandsAt, Advances, GoesOn, GoesQuietly, Does};
 ghost use Rattle.core_window.specs.Views.{CoreView};
 ghost use Rattle.core_window.specs.Rests.{Rests, IsNextAct, MayRest, MaySkip, idle_row};
+ghost use Rattle.core_window.specs.Steady.{steady_view, IsSteady};
 ghost use Rattle.core_window.specs.Replies.{MayTakeReply, after_reply};
+ghost use Rattle.core_window.specs.Waiting.{is_waiting};
 ghost use Rattle.core_window.specs.declared.waiting.WaitingRead.{WaitingRead};
 
-use crate::counts::cycle_counts;
-use crate::issue::{entry_issued, issue_of, next_two};
+use crate::channel::channel_of;
+use crate::counts::{count_cycle, count_cycles, cycle_counts};
+use crate::flow::{Flow, WindowNumbers, flow_of};
+use crate::issue::{Ahead, entry_issued, issue_of, next_two};
 use crate::issue_effects::{send, spend, wait_for};
-use crate::receive::{add_credit_at, count_reply, issue_cycle_of, remove_read};
+use crate::receive::{add_credit_at, count_reply, is_waiting, issue_cycle_of, remove_read};
 use crate::retire::retire_count;
 use crate::waiting::WaitingRead;
-use address_map::place_of;
 use cpu_trace::entries::MemoryEntry;
 use cpu_trace::trace::Trace;
 use sim_base::config::Config;
@@ -59,8 +62,8 @@ fn is_without_credit(credits: &[Credits], config: &Config, entry: Entry) -> bool
         → result ≡ lacks_by config.now held entry }
 {
     match entry {
-        Entry::Read(address) => credits[place_of(config, address).channel as usize].read == 0,
-        Entry::Write(address) => credits[place_of(config, address).channel as usize].write == 0,
+        Entry::Read(address) => credits[channel_of(config, address) as usize].read == 0,
+        Entry::Write(address) => credits[channel_of(config, address) as usize].write == 0,
         Entry::Plain => false,
     }
 }
@@ -73,21 +76,29 @@ pub struct CoreDone {
 }
 
 impl Core {
-    /// What the core does in the next cycle.
-    fn turn(&self) -> Turn
+    /// The next two memory entries of its trace.
+    fn ahead(&self) -> Ahead
         requires { IsStanding (view_of self.now) }
-        ensures { (v : CoreView) (s : Config) (core : ℕ) (trace : List Entry) (rows : List CoreRow) (mail : List Message)
-            → IsLike (view_of self.now) v → StandsAt s core trace rows mail v → IsTurn s core trace rows mail result.row result.why result.memory }
+        ensures { IsSeen self.now.trace self.now.stats.issued result.one result.two result.entry }
+    {
+        let before = self.stats.reads.saturating_add(self.stats.writes);
+        next_two(&self.trace, self.stats.issued, before)
+    }
+
+    /// What the core does in the next cycle, where these memory entries are the next two.
+    fn turn_with(&self, ahead: &Ahead) -> Turn
+        requires stands { IsStanding (view_of self.now) }
+        requires seen { IsSeen self.now.trace self.now.stats.issued ahead.now.one ahead.now.two ahead.now.entry }
+        ensures { Does (view_of self.now) result.row result.why result.memory }
     {
         let len = self.trace.len();
         let number = self.stats.issued;
         let retired = retire_count(self.config.width, &self.waiting, number, self.stats.retired);
         let gone = self.stats.retired + u64::from(retired);
-        let ahead = next_two(&self.trace, number);
-        let lacks = ahead.one < len
-            && is_without_credit(&self.credits, &self.config, self.trace.entry_at(ahead.one));
-        let issue = issue_of(&self.config, len, number, gone, &ahead, lacks);
-        let memory = entry_issued(&self.trace, number, ahead.one, issue.count);
+        let near = (number + u64::from(self.config.width)).min(len);
+        let lacks = ahead.one < near && is_without_credit(&self.credits, &self.config, ahead.entry);
+        let issue = issue_of(&self.config, len, number, gone, ahead, lacks);
+        let memory = entry_issued(number, ahead, issue.count);
         Turn {
             row: CoreRow {
                 retired,
@@ -98,28 +109,49 @@ impl Core {
         }
     }
 
-    /// Goes on by a cycle, in which no further message comes.
-    fn step(&mut self, sent: &mut Vec<Message>) -> Result<(), AllocError>
+    /// What the core does in the next cycle.
+    fn turn(&self) -> Turn
+        requires { IsStanding (view_of self.now) }
+        ensures { Does (view_of self.now) result.row result.why result.memory }
+    {
+        self.turn_with(&self.ahead())
+    }
+
+    /// Goes on by a cycle, in which no further message comes, and does this.
+    fn step(&mut self, turn: Turn, sent: &mut Vec<Message>) -> Result<(), AllocError>
         requires stands { IsStanding (view_of self.old) }
+        requires turn { Does (view_of self.old) turn.row turn.why turn.memory }
         requires early { self.old.cycle < 2 ^ 62 }
         ensures cycle { OnOk result (self.new.cycle ≡ self.old.cycle + 1) }
         ensures advances { OnOk result (Advances 1 (view_of self.old) sent.old.items (view_of self.new) sent.new.items) }
     {
-        let turn = self.turn();
         wait_for(&mut self.waiting, turn.memory, self.cycle)?;
         spend(&mut self.credits, &self.config, turn.memory);
         send(sent, &self.config, self.id, self.cycle, turn.memory)?;
-        let counts = cycle_counts(
+        let len = self.trace.len();
+        count_cycle(
+            &mut self.stats,
             turn.row,
             turn.why,
             turn.memory,
-            self.stats.retired,
-            self.trace.len(),
+            len,
             self.cycle,
         );
-        self.stats = self.stats.joined(counts);
         self.cycle += 1;
         Ok(())
+    }
+
+    /// Goes on by some cycles, in each of which the core does the same.
+    fn pass(&mut self, row: CoreRow, why: Stop, cycles: u64)
+        requires stands { IsStanding (view_of self.old) }
+        requires steady { IsSteady (view_of self.old) cycles row why }
+        requires some { 0 < cycles }
+        requires early { self.old.cycle + cycles < 2 ^ 62 }
+        ensures { view_of self.new ≡ steady_view (view_of self.old) row why cycles }
+    {
+        prove!(self.trace.len() <= 1 << 62);
+        count_cycles(&mut self.stats, row, why, cycles);
+        self.cycle += cycles;
     }
 
     /// A reply comes: its Read waits no more.
@@ -163,6 +195,85 @@ impl Core {
         }
     }
 
+    /// The cycles, at most so many, in which the core issues its width of Plain entries and does the same in each.
+    fn flow(&self, ahead: &Ahead, most: u64) -> Flow
+        requires stands { IsStanding (view_of self.now) }
+        requires seen { IsSeen self.now.trace self.now.stats.issued ahead.now.one ahead.now.two ahead.now.entry }
+        ensures steady { IsSteady (view_of self.now) result.cycles (record { retired = result.retired; issued = self.now.config.width }) Stop.Width }
+        ensures within { self.now.stats.issued + result.cycles * self.now.config.width ≤ ahead.now.one }
+        ensures most { result.cycles ≤ most }
+    {
+        let issued = self.stats.issued;
+        let last = self.trace.len().saturating_sub(1);
+        let numbers = WindowNumbers {
+            width: self.config.width,
+            window: self.config.window,
+            issued,
+            retired: self.stats.retired,
+            plain: ahead.one.min(last).saturating_sub(issued),
+        };
+        flow_of(&numbers, &self.waiting, most)
+    }
+
+    /// Goes on by a cycle, or up to a cycle, if the core does nothing until a message comes.
+    fn rest_or_step(
+        &mut self,
+        ahead: &Ahead,
+        until: Cycle,
+        sent: &mut Vec<Message>,
+    ) -> Result<(), AllocError>
+        requires stands { IsStanding (view_of self.old) }
+        requires seen { IsSeen self.old.trace self.old.stats.issued ahead.now.one ahead.now.two ahead.now.entry }
+        requires order { self.old.cycle < until }
+        requires early { until < 2 ^ 62 }
+        ensures { OnOk result (GoesOn until (view_of self.old) sent.old.items (view_of self.new) sent.new.items) }
+    {
+        let turn = self.turn_with(ahead);
+        if turn.row.retired == 0 && turn.row.issued == 0 {
+            self.pass(turn.row, turn.why, until - self.cycle);
+            Ok(())
+        } else {
+            self.step(turn, sent)
+        }
+    }
+
+    /// Goes on by the cycles, at most up to a cycle, in which the core issues its width of Plain entries and does the same in
+    /// each, if there are any.
+    fn flow_on(&mut self, ahead: &Ahead, until: Cycle)
+        requires stands { IsStanding (view_of self.old) }
+        requires seen { IsSeen self.old.trace self.old.stats.issued ahead.now.one ahead.now.two ahead.now.entry }
+        requires order { self.old.cycle < until }
+        requires early { until < 2 ^ 62 }
+        ensures goes { GoesQuietly until (view_of self.old) (view_of self.new) }
+        ensures seen { IsSeen self.new.trace self.new.stats.issued ahead.now.one ahead.now.two ahead.now.entry }
+    {
+        let flow = self.flow(ahead, until - self.cycle);
+        if flow.cycles == 0 {
+            return;
+        }
+        let row = CoreRow {
+            retired: flow.retired,
+            issued: self.config.width,
+        };
+        self.pass(row, Stop::Width, flow.cycles);
+    }
+
+    /// Goes on by some cycles, at most up to a cycle.
+    fn go_on(&mut self, until: Cycle, sent: &mut Vec<Message>) -> Result<(), AllocError>
+        requires stands { IsStanding (view_of self.old) }
+        requires order { self.old.cycle < until }
+        requires early { until < 2 ^ 62 }
+        ensures { OnOk result (GoesOn until (view_of self.old) sent.old.items (view_of self.new) sent.new.items) }
+    {
+        let ahead = self.ahead();
+        self.flow_on(&ahead, until);
+        if self.cycle < until {
+            self.rest_or_step(&ahead, until, sent)
+        } else {
+            Ok(())
+        }
+    }
+
     /// Goes on up to a cycle, while no further message comes.
     fn advance(&mut self, until: Cycle, sent: &mut Vec<Message>) -> Result<(), AllocError>
         requires stands { IsStanding (view_of self.old) }
@@ -172,7 +283,7 @@ impl Core {
         ensures advances { OnOk result (Advances (until - self.old.cycle) (view_of self.old) sent.old.items (view_of self.new) sent.new.items) }
     {
         'cycles: while self.cycle < until {
-            self.step(sent)?;
+            self.go_on(until, sent)?;
         }
         Ok(())
     }
@@ -285,6 +396,13 @@ impl Core {
     {
         let Core { stats, .. } = self;
         *stats
+    }
+
+    /// Whether the Read with this number was issued and has no reply yet.
+    pub fn is_awaited(&self, entry: u64) -> bool
+        ensures { result ≡ is_waiting (view_of self.now).waiting entry }
+    {
+        is_waiting(&self.waiting, entry)
     }
 
     /// The credits that the core holds for each channel, by number.

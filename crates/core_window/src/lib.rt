@@ -1,8 +1,10 @@
 //! A core alone, over a span of cycles.
 #![tactic(auto)]
 
+mod channel;
 pub mod core_unit;
 mod counts;
+mod flow;
 mod issue;
 mod issue_effects;
 mod receive;

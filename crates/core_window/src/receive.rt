@@ -2,6 +2,7 @@
 
 ghost use Rattle.std.specs.Prelude.{◌≡◌, ◌+◌, ◌-◌, ◌<◌, ◌^◌, ◌==◌, not, filter, find, length, slice_get, ℕ, Some, if◌then◌else◌};
 ghost use Rattle.core_window.specs.Turns.{more_credit, less_credit, credits_of_kind};
+ghost use Rattle.core_window.specs.Waiting.{is_waiting};
 ghost use Rattle.core_window.specs.declared.waiting.WaitingRead.{WaitingRead};
 ghost use Rattle.statistics.specs.declared.final_state.Credits.{Credits};
 
@@ -14,6 +15,13 @@ pub fn issue_cycle_of(waiting: &[WaitingRead], entry: u64) -> Option<WaitingRead
     ensures { result ≡ find (λ read. read.entry == entry) waiting.now }
 {
     waiting.iter().copied().find(|read| read.entry == entry)
+}
+
+/// Whether the Read with this number waits.
+pub fn is_waiting(waiting: &[WaitingRead], entry: u64) -> bool
+    ensures { result ≡ is_waiting waiting.now entry }
+{
+    waiting.iter().any(|read| read.entry == entry)
 }
 
 /// Takes out a Read that waits.

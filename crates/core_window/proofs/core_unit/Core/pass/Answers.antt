@@ -1,0 +1,10 @@
+-- The cycles count as a product.
+use Rattle.std.proofs.Common.{arith}
+use Rattle.core_window.specs.CoreViews.{view_of}
+use Rattle.core_window.proofs.Stretching.{steady-fits}
+use Rattle.core_window.proofs.core_unit.Core.pass.Goals as goal
+
+pub count_cycles-requires : goal.count_cycles-requires
+count_cycles-requires c =
+    steady-fits (view_of c.args.self.now) c.args.cycles c.args.row c.args.why c.requires.stands c.requires.steady c.requires.some
+    (omega (arith, c.len.ensures.value, c.len.ensures.limit)) c.requires.early
