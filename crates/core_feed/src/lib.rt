@@ -1,0 +1,7 @@
+//! A core together with a test, made as the program runs, that messages may arrive at it. A tool of tests and benchmarks.
+#![tactic(auto)]
+
+pub mod fed;
+mod messages;
+#[cfg(test)]
+mod tests;
