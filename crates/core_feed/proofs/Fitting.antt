@@ -1,6 +1,6 @@
 -- Messages that are expected are fit for the core's past.
-use Rattle.std.proofs.Common.{◌⊎◌, inl, inr, ◌≡◌, ℕ, zero, suc, ◌+◌, ◌-◌, ◌/◌, ◌%◌, ◌<◌, ◌≤◌, Bool, true, false, cond, not, ◌&&◌, ◌||◌, eqb, leb, ltb, List, [], ◌∷◌, ◌++◌, length, take, Option, Some, None, refl, sym, ap, ap₂, subst, ◌∙◌, arith, ⊎_elim}
-use Rattle.std.specs.Prelude.{count_by, slice_get, is_some}
+use Rattle.std.proofs.Common.{◌⊎◌, inl, inr, ◌≡◌, ℕ, zero, suc, ◌+◌, ◌-◌, ◌/◌, ◌%◌, ◌<◌, ◌≤◌, Bool, true, false, cond, not, ◌&&◌, ◌||◌, eqb, leb, List, [], ◌∷◌, ◌++◌, length, take, Option, Some, None, refl, sym, ap, ap₂, subst, ◌∙◌, arith, ⊎_elim}
+use Rattle.std.specs.Prelude.{count_by, is_some}
 use Rattle.std.specs.Option.{IfSome}
 use Rattle.std.specs.List.{AllByRecursion as Each, list_any, list_all, enumerate_from, filter_map, range_with_len, cons_option}
 use Rattle.std.proofs.Math.Seq.{take-append_seam}
@@ -22,7 +22,6 @@ use Rattle.sim_base.specs.declared.trace.Entry.{Entry}
 use Rattle.sim_base.proofs.Added.{core_messages-push}
 use Rattle.sim_base.proofs.Grows.{issued_before-push}
 use Rattle.statistics.specs.Counts.{one_if}
-use Rattle.statistics.specs.declared.final_state.Credits.{Credits}
 use Rattle.core_window.specs.Fit.{IsAwaited, IsOwed, IsDueLoad, IsByArrival, Fit}
 use Rattle.core_window.specs.Inside.{credits_now}
 use Rattle.core_window.specs.Stands.{StandsFor, credits_had, credits_spent, is_credit_from}
@@ -31,7 +30,7 @@ use Rattle.core_window.specs.Views.{CoreView}
 use Rattle.core_window.specs.Waiting.{is_read_at, is_answered, is_waiting, waiting_read, reads_waiting}
 use Rattle.core_window.specs.declared.waiting.WaitingRead.{WaitingRead}
 use Rattle.core_window.proofs.Running.{stands-at}
-use Rattle.core_feed.specs.Expected.{has_reply, credits_at, is_reply_expected, is_credit_expected, is_load_expected, is_in_time, is_expected, are_expected, may_go}
+use Rattle.core_feed.specs.Expected.{has_reply, credits_at, is_reply_expected, is_credit_expected, is_load_expected, is_expected, are_expected, may_go}
 use Rattle.core_feed.specs.Past.{rows_by, IsFed}
 
 -- both tests pass
@@ -71,9 +70,9 @@ each_split P (m ∷ ms) h = (h [] ms m refl, each_split P ms (λ before after n 
 ordered_split : (inbox : List Message) → ((before after : List Message) (n : Message) → inbox ≡ before ++ n ∷ after → list_all (λ e. leb e.arrival n.arrival) before ≡ true) → IsByArrival inbox
 ordered_split [] h = tt
 ordered_split (m ∷ ms) h = (
-    each_split (λ n. m.arrival ≤ n.arrival) ms (λ before after n e. leb-true _ _ (both _ _ (h (m ∷ before) after n (ap (λ l. m ∷ l) e))).0),
-    ordered_split ms (λ before after n e. (both _ _ (h (m ∷ before) after n (ap (λ l. m ∷ l) e))).1),
-  )
+  each_split (λ n. m.arrival ≤ n.arrival) ms (λ before after n e. leb-true _ _ (both _ _ (h (m ∷ before) after n (ap (λ l. m ∷ l) e))).0),
+  ordered_split ms (λ before after n e. (both _ _ (h (m ∷ before) after n (ap (λ l. m ∷ l) e))).1),
+)
 
 -- a core that goes on has issued no less
 issued-le : (s : Config) (core : ℕ) (trace : List Entry) (rows : List CoreRow) (mail : List Message) (n : ℕ) → issued_before rows ≤ issued_before (core_run s core trace rows mail n)

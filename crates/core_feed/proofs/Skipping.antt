@@ -1,5 +1,5 @@
 -- A core that is fed skips.
-use Rattle.std.proofs.Common.{Bool, true, leb, ◌⊎◌, ◌≡◌, ℕ, zero, suc, ◌+◌, ◌-◌, ◌^◌, ◌<◌, ◌≤◌, List, [], ◌∷◌, ◌++◌, length, Option, Some, None, refl, sym, ap, ap₂, subst, ◌∙◌, arith, append_assoc, ⊎_elim}
+use Rattle.std.proofs.Common.{Bool, true, leb, ◌≡◌, ℕ, zero, suc, ◌+◌, ◌-◌, ◌^◌, ◌<◌, ◌≤◌, List, [], ◌∷◌, ◌++◌, length, Some, None, refl, sym, ap, ap₂, subst, ◌∙◌, arith, append_assoc, ⊎_elim}
 use Rattle.std.specs.Prelude.{replicate, IsTrue, ◌↔◌}
 use Rattle.std.proofs.lemmas.Bool.{cases_lt, leb-true, le-leb}
 use Rattle.sim_base.specs.declared.config.Config.{Config}
@@ -8,11 +8,11 @@ use Rattle.sim_base.specs.Windows.{step}
 use Rattle.sim_base.specs.declared.history.CoreRow.{CoreRow}
 use Rattle.sim_base.specs.declared.message.Message.{Message}
 use Rattle.sim_base.specs.declared.trace.Entry.{Entry}
-use Rattle.core_window.specs.Rests.{idle_row, Rests, IsNextAct, MayRest, MaySkip}
+use Rattle.core_window.specs.Rests.{idle_row, Rests, IsNextAct, MaySkip}
 use Rattle.core_window.specs.Stands.{StandsFor}
 use Rattle.core_window.specs.Views.{CoreView}
 use Rattle.core_window.proofs.Running.{core_run-add, length-core_run}
-use Rattle.core_feed.specs.Fed.{Feed, rows_of, RestsUntil, MaySkipTo}
+use Rattle.core_feed.specs.Fed.{Feed, rows_of, MaySkipTo}
 use Rattle.core_feed.specs.Past.{rows_by, IsFed}
 
 replicate-push : (n : ℕ) (x : CoreRow) (rows : List CoreRow) → rows ++ replicate (suc n) x ≡ (rows ++ replicate n x) ++ x ∷ []
@@ -87,7 +87,7 @@ pub record Skipped (s : Config) (core : ℕ) (mail : List Message) (until : ℕ)
 
 pub skip-fed : (s : Config) (core : ℕ) (mail : List Message) (until : ℕ) (a b : CoreView) → IsFed s core mail a → a.now ≤ until
     → ((s : Config) (core : ℕ) (trace : List Entry) (rows : List CoreRow) (mail : List Message) → StandsFor s core trace rows mail a
-      → StandsFor s core trace (rows ++ replicate (until - a.now) idle_row) mail b × Rests s core trace rows mail (until - a.now))
+    → StandsFor s core trace (rows ++ replicate (until - a.now) idle_row) mail b × Rests s core trace rows mail (until - a.now))
     → Skipped s core mail until a b
 skip-fed s core mail until a b h l skips =
     let r = skips s core a.trace (rows_by s core a.trace mail a.now) mail h in
@@ -125,12 +125,12 @@ skip-to_act f act until b next e l u =
         since = l;
         early = u;
         rests = subst (λ n. Rests f.config f.core f.trace (rows_of f) f.mail (until - n)) long
-        (rests-by f.config f.core f.trace (rows_of f) f.mail act until next (omega arith) (leb-true _ _ (sym e ∙ t)));
+            (rests-by f.config f.core f.trace (rows_of f) f.mail act until next (omega arith) (leb-true _ _ (sym e ∙ t)));
       },
       λ may. ⊎_elim
-      (λ less. absurd (acts-before f.config f.core f.trace (rows_of f) f.mail act until next less (subst (λ n. Rests f.config f.core f.trace (rows_of f) f.mail (until - n)) (sym long) may.rests)))
-      (λ most. e ∙ le-leb until act most)
-      (cases_lt act until),
+          (λ less. absurd (acts-before f.config f.core f.trace (rows_of f) f.mail act until next less (subst (λ n. Rests f.config f.core f.trace (rows_of f) f.mail (until - n)) (sym long) may.rests)))
+          (λ most. e ∙ le-leb until act most)
+          (cases_lt act until),
     )
 
 -- where there is none, up to any cycle

@@ -2,7 +2,7 @@
 --     feed_of core      what was fed to it
 --     rows_of feed      what it did
 --     after feed inbox until      what was fed to it after a span of cycles
-use Rattle.std.specs.Prelude.{◌≡◌, ℕ, ◌-◌, ◌^◌, ◌<◌, ◌≤◌, List, ◌++◌}
+use Rattle.std.specs.Prelude.{ℕ, ◌-◌, ◌^◌, ◌<◌, ◌≤◌, List, ◌++◌}
 use Rattle.sim_base.specs.declared.config.Config.{Config}
 use Rattle.sim_base.specs.History.{core_messages}
 use Rattle.sim_base.specs.declared.history.CoreRow.{CoreRow}
@@ -11,7 +11,6 @@ use Rattle.sim_base.specs.declared.trace.Entry.{Entry}
 use Rattle.core_window.specs.CoreViews.{view_of}
 use Rattle.core_window.specs.Rests.{Rests}
 use Rattle.core_feed.specs.Past.{rows_by}
-use Rattle.core_feed.specs.Expected.{may_go}
 use Rattle.core_feed.specs.declared.fed.FedCore.{FedCore}
 
 -- a core of this configuration, number and trace, and the messages that came to it before a cycle

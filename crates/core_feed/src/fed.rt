@@ -115,10 +115,11 @@ impl FedCore {
     fn are_expected(&self, until: Cycle, inbox: &[Message]) -> bool
         ensures { result ≡ are_expected self.now.config self.now.id (view_of self.now.core) until inbox.now }
     {
-        inbox
-            .iter()
-            .enumerate()
-            .all(|(place, message)| self.is_expected(until, before(inbox, place), *message))
+        inbox.iter().enumerate().all(|(place, message)| self.is_expected(
+            until,
+            before(inbox, place),
+            *message,
+        ))
     }
 
     /// Whether the core may go on to a cycle, with these messages on the way.

@@ -11,10 +11,10 @@ returns-then-until c =
     let until = c.args.until in
     let range : ((view_of c.args.self.now.core).now ≤ until) × (until < 2 ^ 62) =
     elim c.if-now-until.branch [
-      then-now-until w ↦ (omega arith, ltb-true _ _ (sym w.value-is ∙ c.if-until.true))
-    | else-now-until w ↦ (let k : c.now.result ≤ until = leb-true _ _ (sym w.value-is ∙ c.if-until.true) in absurd (omega arith))
+      | then-now-until w ↦ (omega arith, ltb-true _ _ (sym w.value-is ∙ c.if-until.true))
+      | else-now-until w ↦ (let k : c.now.result ≤ until = leb-true _ _ (sym w.value-is ∙ c.if-until.true) in absurd (omega arith))
     ] in
     elim c.match-next_act.branch [
-      in-Some w ↦ skip-to_act (feed_of c.args.self.now) w.in-Some.act until c.match-next_act.rests (w.in-Some.ensures {u = tt}) w.rests-is range.0 range.1
-    | in-None w ↦ skip-freely (feed_of c.args.self.now) until c.match-next_act.rests (w.in-None.ensures {u = tt}) w.rests-is range.0 range.1
+      | in-Some w ↦ skip-to_act (feed_of c.args.self.now) w.in-Some.act until c.match-next_act.rests (w.in-Some.ensures {u = tt}) w.rests-is range.0 range.1
+      | in-None w ↦ skip-freely (feed_of c.args.self.now) until c.match-next_act.rests (w.in-None.ensures {u = tt}) w.rests-is range.0 range.1
     ]

@@ -1,7 +1,6 @@
-use Rattle.std.proofs.Common.{◌≡◌, ◌++◌, sym, ap, ◌∙◌, List}
-use Rattle.sim_base.specs.declared.message.Message.{Message}
+use Rattle.std.proofs.Common.{ap, ◌∙◌}
 use Rattle.core_window.specs.CoreViews.{view_of}
-use Rattle.core_feed.specs.Fed.{Feed, feed_of, sent_by, after}
+use Rattle.core_feed.specs.Fed.{sent_by}
 use Rattle.core_feed.proofs.Fitting.{may_go-fit}
 use Rattle.core_feed.proofs.Feeding.{may_run, goes_on, fed_after}
 use Rattle.core_feed.proofs.fed.FedCore.run.Goals as goal

@@ -1,7 +1,7 @@
 use Rattle.std.proofs.Common.{refl}
 use Rattle.core_window.specs.CoreViews.{view_of}
 use Rattle.core_feed.specs.Fed.{feed_of}
-use Rattle.core_feed.proofs.Skipping.{may_skip, skip-fed, fed_skipped}
+use Rattle.core_feed.proofs.Skipping.{may_skip, skip-fed}
 use Rattle.core_feed.proofs.fed.FedCore.skip.Goals as goal
 
 pub skip-requires-clause-stands : goal.skip-requires-clause-stands
