@@ -1,4 +1,6 @@
-//! A core that is fed with messages.
+//! A core that is fed with messages. They are tested as they come, by what the core knows when the span begins: a reply is of a
+//! Read that waits then, and a credit one that the core does not hold then. That is enough for them to be fit, and more than is
+//! needed: end a span before the reply to what it sends arrives.
 
 ghost use Rattle.std.specs.Prelude.{◌≡◌, ◌↔◌, ◌++◌, [], false, IfOk, IfErr, IsErr, IsTrue, Err};
 ghost use Rattle.sim_base.specs.declared.message.Message.{Message};
@@ -46,7 +48,7 @@ pub struct FedCoreDone {
 impl FedCore {
     ghost use Rattle.core_feed.specs.Fed.{feed_of, rows_of, sent_by, after, RestsUntil, MaySkipTo};
 
-    /// A core that has done nothing yet, with its trace. The number is below the number of cores. Only memory can be refused.
+    /// A core that has done nothing yet, with its trace. Its number should be below the number of cores. Only memory can be refused.
     pub fn start(
         alloc: Global,
         config: &Config,
@@ -220,14 +222,14 @@ impl FedCore {
     pub fn now(&self) -> Cycle
         ensures { result ≡ (feed_of self.now).now }
     {
-        self.core.now()
+        self.core().now()
     }
 
     /// What statistics count of the cycles before the one where the core stands.
     pub fn stats(&self) -> CoreStats
         ensures { let f = feed_of self.now in result ≡ core_stats f.config f.core f.trace (rows_of f) f.mail }
     {
-        self.core.stats()
+        self.core().stats()
     }
 
     /// The core itself.

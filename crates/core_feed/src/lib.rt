@@ -5,3 +5,5 @@ pub mod fed;
 mod messages;
 #[cfg(test)]
 mod tests;
+
+pub use fed::{FedCore, FedCoreDone, FeedFault};
