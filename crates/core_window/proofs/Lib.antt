@@ -7,6 +7,8 @@ pub mod Stepping
 pub mod Turning
 pub mod Receiving
 pub mod Running
+pub mod Stretching
+pub mod Flowing
 pub mod Starting
 pub mod Fitting
 pub mod Resting

@@ -1,9 +1,8 @@
 -- A core that does nothing in a cycle does nothing in those after it, while no message comes.
-use Rattle.std.proofs.Common.{◌≡◌, ℕ, zero, suc, ◌+◌, ◌-◌, ◌*◌, ◌^◌, ◌<◌, Bool, true, false, cond, ◌&&◌, ltb, leb, eqb, List, [], ◌∷◌, ◌++◌, length, Option, Some, None, refl, sym, ap, ap₂, subst, ◌∙◌, add-zero, append_assoc, arith, ⊎_elim}
+use Rattle.std.proofs.Common.{◌≡◌, ℕ, zero, suc, ◌+◌, ◌-◌, ◌^◌, ◌<◌, List, [], ◌∷◌, ◌++◌, length, Option, None, refl, sym, ap, ap₂, subst, ◌∙◌, inl, append_assoc, arith, ⊎_elim}
 use Rattle.std.specs.Prelude.{replicate}
-use Rattle.std.specs.Option.{option_or}
 use Rattle.std.proofs.lemmas.List.{append-nil}
-use Rattle.std.proofs.lemmas.Bool.{cases_lt, le-ltb, lt-leb}
+use Rattle.std.proofs.lemmas.Bool.{cases_lt}
 use Rattle.sim_base.specs.declared.config.Config.{Config}
 use Rattle.sim_base.specs.History.{issued_before}
 use Rattle.sim_base.specs.Machine.{core_run}
@@ -12,19 +11,17 @@ use Rattle.sim_base.specs.declared.history.CoreRow.{CoreRow}
 use Rattle.sim_base.specs.declared.message.Message.{Message}
 use Rattle.sim_base.specs.declared.trace.Entry.{Entry}
 use Rattle.sim_base.specs.declared.trace.Stop.{Stop}
-use Rattle.sim_base.specs.declared.trace.Stop.TheVariants as stop
-use Rattle.sim_base.specs.Counts.{is_stop}
-use Rattle.statistics.specs.Counts.{one_if}
 use Rattle.cpu_trace.specs.declared.entries.MemoryEntry.{MemoryEntry}
 use Rattle.statistics.specs.Cores.{core_joined, core_times, CoreFits}
 use Rattle.statistics.specs.declared.cores.CoreStats.{CoreStats}
-use Rattle.core_window.specs.Inside.{StandsAt, IsStanding, IsLike}
+use Rattle.core_window.specs.Inside.{StandsAt, IsStanding, IsLike, Does}
 use Rattle.core_window.specs.Rests.{idle_row, Rests, IsFirstAct, IsAtRest, MayRest, MaySkip}
+use Rattle.core_window.proofs.Stretching.{steady-none, steady-more, none_issues, idle-like}
 use Rattle.core_window.proofs.Turning.{like-self}
 use Rattle.sim_base.proofs.Ordered.{Each-weaker}
 use Rattle.std.specs.List.{AllByRecursion as Each}
 use Rattle.core_window.specs.Stands.{StandsFor}
-use Rattle.core_window.specs.Turns.{IsIssued, IsTurn, cycle_counts}
+use Rattle.core_window.specs.Turns.{IsTurn, cycle_counts}
 use Rattle.core_window.specs.Views.{CoreView}
 use Rattle.core_window.proofs.Stepping.{step-stands, past-fits}
 use Rattle.core_window.proofs.Running.{stands-at, stands-for, length-core_run}
@@ -36,51 +33,6 @@ idle_counts why now = cycle_counts idle_row why None 0 0 now
 -- a core after n such cycles
 abbrev pub idle_view : CoreView → Stop → ℕ → CoreView
 idle_view a why n = record a { now = a.now + n; stats = core_joined a.stats (core_times n (idle_counts why a.now)) }
-
-no_finish : (before len now : ℕ) → cond {A = Option ℕ} (ltb before len && leb len (before + 0)) (Some now) None ≡ None
-no_finish before len now =
-    ⊎_elim
-    (λ l. ap (λ b. cond (ltb before len && b) (Some now) None) (lt-leb len (before + 0) (omega arith)) ∙ ap (λ b. cond b (Some now) None) (and_false (ltb before len)))
-    (λ g. ap (λ b. cond (b && leb len (before + 0)) (Some now) None) (le-ltb before len g))
-    (cases_lt before len)
-  where
-    and_false : (b : Bool) → (b && false) ≡ false
-    and_false true = refl
-    and_false false = refl
-
-both_none : (b : Bool) → cond {A = Option ℕ} b None None ≡ None
-both_none true = refl
-both_none false = refl
-
-times_more : (a n x : ℕ) → a + n * x + x ≡ a + suc n * x
-times_more a n x = let e : suc n * x ≡ n * x + x = grind arith in omega arith
-
--- one cycle more
-idle-more : (a : CoreStats) (why : Stop) (n now before len later : ℕ)
-    → core_joined (core_joined a (core_times n (idle_counts why now))) (cycle_counts idle_row why None before len later) ≡ core_joined a (core_times (suc n) (idle_counts why now))
-idle-more a why n now before len later =
-    let f1 = no_finish before len later in
-    let f2 = both_none (eqb n 0) in
-    let f3 = both_none (eqb (suc n) 0) in
-    let e0 = times_more a.issued n 0 in
-    let e1 = times_more a.retired n 0 in
-    let e2 = times_more a.reads n 0 in
-    let e3 = times_more a.writes n 0 in
-    let e4 = times_more a.replies n 0 in
-    let e5 = times_more a.read_latency n 0 in
-    let e6 = times_more a.stop_end n (one_if (is_stop stop.End why)) in
-    let e7 = times_more a.stop_width n (one_if (is_stop stop.Width why)) in
-    let e8 = times_more a.stop_window n (one_if (is_stop stop.Window why)) in
-    let e9 = times_more a.stop_memory n (one_if (is_stop stop.Memory why)) in
-    let e10 = times_more a.stop_credit n (one_if (is_stop stop.Credit why)) in
-    let e11 : option_or (cond (ltb before len && leb len (before + 0)) (Some later) None) (option_or (cond (eqb n 0) None None) a.finish) ≡ option_or (cond {A = Option ℕ} (eqb (suc n) 0) None None) a.finish =
-    ap₂ (λ x y. option_or x (option_or y a.finish)) f1 f2 ∙ ap (λ x. option_or x a.finish) (sym f3) in
-    cc
-
--- no memory entry is among none
-none_issues : (trace : List Entry) (first : ℕ) (memory : Option MemoryEntry) → IsIssued trace first 0 memory → memory ≡ None
-none_issues trace first None h = refl
-none_issues trace first (Some e) h = absurd (omega (arith, h.is_from, h.is_below))
 
 replicate-more : (n : ℕ) (x : CoreRow) (rows : List CoreRow) → (rows ++ replicate n x) ++ x ∷ [] ≡ rows ++ replicate (suc n) x
 replicate-more n x rows = append_assoc rows (replicate n x) (x ∷ []) ∙ ap (λ l. rows ++ l) (same n)
@@ -95,19 +47,11 @@ TurnsIdle a why memory =
     (v : CoreView) (s : Config) (core : ℕ) (trace : List Entry) (rows : List CoreRow) (mail : List Message)
     → IsLike a v → StandsAt s core trace rows mail v → IsTurn s core trace rows mail idle_row why memory
 
-idle-like : (a : CoreView) (why : Stop) (n : ℕ) → IsLike a (idle_view a why n)
-idle-like a why n = record { config = refl; entries = refl; waiting = refl; credits = refl; issued = omega arith; retired = omega arith }
-
-none_counted : (x : CoreStats) (w : Stop) (now : ℕ) → core_joined x (core_times 0 (idle_counts w now)) ≡ x
-none_counted x w now = let z : (k : ℕ) → 0 * k ≡ 0 = λ k. omega arith in simp (z, add-zero)
-
 -- in no cycle
 idle-none : (s : Config) (core : ℕ) (trace : List Entry) (rows : List CoreRow) (mail : List Message) (a : CoreView) (why : Stop) → StandsAt s core trace rows mail a
     → StandsAt s core trace (rows ++ []) mail (idle_view a why 0)
 idle-none s core trace rows mail a why h =
-    let with : ℕ → CoreStats → CoreView = λ n st. record a { now = n; stats = st } in
-    let same : a ≡ idle_view a why 0 = ap₂ with (sym (add-zero a.now)) (sym (none_counted a.stats why a.now)) in
-    subst (λ (v : CoreView). StandsAt s core trace (rows ++ []) mail v) same (subst (λ r. StandsAt s core trace r mail a) (sym (append-nil rows)) h)
+    subst (λ (v : CoreView). StandsAt s core trace (rows ++ []) mail v) (steady-none a idle_row why) (subst (λ r. StandsAt s core trace r mail a) (sym (append-nil rows)) h)
 
 idle-stands : (s : Config) (core : ℕ) (trace : List Entry) (rows : List CoreRow) (mail : List Message) (a : CoreView) (why : Stop) (memory : Option MemoryEntry)
     → TurnsIdle a why memory → StandsAt s core trace rows mail a → (n : ℕ) → StandsAt s core trace (rows ++ replicate n idle_row) mail (idle_view a why n) × Rests s core trace rows mail n
@@ -133,17 +77,11 @@ idle-stands s core trace rows mail a why memory turn h (suc n) = by (idle-stands
           waiting = sym (append-nil a.waiting);
           channels = refl;
           credits = λ channel c e. e;
-          stats = sym (idle-more a.stats why n a.now v.stats.retired (length a.trace) v.now);
+          stats = sym (steady-more a.stats idle_row why n v.stats.retired (length a.trace) v.now (inl refl));
         }) in (
           subst (λ r. StandsAt s core trace r mail (idle_view a why (suc n))) (replicate-more n idle_row rows) stands,
           ap (λ r. r ++ (step s core trace r mail).0 ∷ []) d.1 ∙ ap (λ (x : CoreRow × Stop). before ++ x.0 ∷ []) t.does ∙ replicate-more n idle_row rows,
         )
-
--- what a core does in a cycle, whatever else it counted
-abbrev pub Turns : CoreView → CoreRow → Stop → Option MemoryEntry → Type 0
-Turns a row why memory =
-    (v : CoreView) (s : Config) (core : ℕ) (trace : List Entry) (rows : List CoreRow) (mail : List Message)
-    → IsLike a v → StandsAt s core trace rows mail v → IsTurn s core trace rows mail row why memory
 
 pub rest-standing : (a : CoreView) → MayRest a → IsStanding a
 rest-standing a may = record { s = may.s; core = may.core; trace = may.trace; rows = may.rows; mail = may.mail; stands = stands-at may.s may.core may.trace may.rows may.mail a may.stands }
@@ -152,20 +90,20 @@ pub row_is_idle : (row : CoreRow) → row.retired ≡ 0 → row.issued ≡ 0 →
 row_is_idle row e f = let both : ℕ → ℕ → CoreRow = λ r i. record { retired = r; issued = i } in ap₂ both e f
 
 does_row : (s : Config) (core : ℕ) (trace : List Entry) (rows : List CoreRow) (mail : List Message) (a : CoreView) (row : CoreRow) (why : Stop) (memory : Option MemoryEntry)
-    → Turns a row why memory → StandsFor s core trace rows mail a → (step s core trace rows mail).0 ≡ row
+    → Does a row why memory → StandsFor s core trace rows mail a → (step s core trace rows mail).0 ≡ row
 does_row s core trace rows mail a row why memory turn h =
     ap (λ (x : CoreRow × Stop). x.0) (turn a s core trace rows mail (like-self a) (stands-at s core trace rows mail a h)).does
 
 pub at_rest : (s : Config) (core : ℕ) (trace : List Entry) (rows : List CoreRow) (mail : List Message) (a : CoreView) (row : CoreRow) (why : Stop) (memory : Option MemoryEntry)
-    → row ≡ idle_row → Turns a row why memory → StandsFor s core trace rows mail a → IsAtRest s core trace rows mail
+    → row ≡ idle_row → Does a row why memory → StandsFor s core trace rows mail a → IsAtRest s core trace rows mail
 at_rest s core trace rows mail a row why memory e turn h =
     record {
       now = does_row s core trace rows mail a row why memory turn h ∙ e;
-      rests = λ n. (idle-stands s core trace rows mail a why memory (subst (λ r. Turns a r why memory) e turn) (stands-at s core trace rows mail a h) n).1;
+      rests = λ n. (idle-stands s core trace rows mail a why memory (subst (λ r. Does a r why memory) e turn) (stands-at s core trace rows mail a h) n).1;
     }
 
 pub first_act : (s : Config) (core : ℕ) (trace : List Entry) (rows : List CoreRow) (mail : List Message) (a : CoreView) (row : CoreRow) (why : Stop) (memory : Option MemoryEntry) (from : ℕ)
-    → a.now ≡ from → (row ≡ idle_row → ⊥) → Turns a row why memory → StandsFor s core trace rows mail a → IsFirstAct s core trace rows mail from
+    → a.now ≡ from → (row ≡ idle_row → ⊥) → Does a row why memory → StandsFor s core trace rows mail a → IsFirstAct s core trace rows mail from
 unfolding core_run
 first_act s core trace rows mail a row why memory from at acts turn h =
     let z : from - length rows ≡ 0 = omega (arith, h.now) in
@@ -188,7 +126,7 @@ rested s core trace rows mail v n before d =
     )
 
 -- a core that skips
-pub skipped : (a : CoreView) (until : ℕ) (row : CoreRow) (why : Stop) (memory : Option MemoryEntry) → MaySkip a until → Turns a row why memory
+pub skipped : (a : CoreView) (until : ℕ) (row : CoreRow) (why : Stop) (memory : Option MemoryEntry) → MaySkip a until → Does a row why memory
     → (s : Config) (core : ℕ) (trace : List Entry) (rows : List CoreRow) (mail : List Message) → StandsFor s core trace rows mail a
     → StandsFor s core trace (rows ++ replicate (until - a.now) idle_row) mail (idle_view a why (until - a.now)) × Rests s core trace rows mail (until - a.now)
 unfolding core_run
@@ -197,14 +135,14 @@ skipped a until row why memory may turn s core trace rows mail h =
     (λ less. let m = may.may in
     let e : row ≡ idle_row = sym (does_row m.s m.core m.trace m.rows m.mail a row why memory turn m.stands) ∙ may.rests less in
     rested s core trace rows mail (idle_view a why (until - a.now)) (until - a.now) h.before
-    (idle-stands s core trace rows mail a why memory (subst (λ r. Turns a r why memory) e turn) (stands-at s core trace rows mail a h) (until - a.now)))
+    (idle-stands s core trace rows mail a why memory (subst (λ r. Does a r why memory) e turn) (stands-at s core trace rows mail a h) (until - a.now)))
     (λ most. let z : until - a.now ≡ 0 = omega arith in
     subst (λ n. StandsFor s core trace (rows ++ replicate n idle_row) mail (idle_view a why n) × Rests s core trace rows mail n) (sym z)
     (rested s core trace rows mail (idle_view a why 0) 0 h.before (idle-none s core trace rows mail a why (stands-at s core trace rows mail a h), sym (append-nil rows))))
     (cases_lt a.now until)
 
 -- its counts fit
-pub skip-fits : (a : CoreView) (until : ℕ) (row : CoreRow) (why : Stop) (memory : Option MemoryEntry) → MaySkip a until → Turns a row why memory → until < 2 ^ 62
+pub skip-fits : (a : CoreView) (until : ℕ) (row : CoreRow) (why : Stop) (memory : Option MemoryEntry) → MaySkip a until → Does a row why memory → until < 2 ^ 62
     → CoreFits (core_joined a.stats (core_times (until - a.now) (idle_counts why a.now)))
 skip-fits a until row why memory may turn early =
     let m = may.may in

@@ -26,7 +26,7 @@ use Rattle.statistics.specs.declared.final_state.Credits.{Credits}
 use Rattle.statistics.proofs.Lists.{length-push_suc}
 use Rattle.statistics.proofs.Messages.{arrived-later, NotBefore-sooner}
 use Rattle.core_window.specs.Fit.{IsDue, IsByArrival, Fit, MayRun, Runs}
-use Rattle.core_window.specs.Inside.{credits_now, StandsAt, IsStanding, IsReceiving, IsMidway, Advances}
+use Rattle.core_window.specs.Inside.{credits_now, StandsAt, IsStanding, IsReceiving, IsMidway, Advances, GoesOn}
 use Rattle.core_window.specs.Stands.{StandsFor, is_credit_from, credits_had}
 use Rattle.core_window.specs.Views.{CoreView}
 use Rattle.core_window.proofs.Stepping.{with_none_arrived}
@@ -75,20 +75,23 @@ underway-first until a sent l =
       advances = subst (λ n. Advances n a sent a sent) (sym z) (λ s core trace rows mail h. (h, λ base e. e));
     }
 
-pub underway-more : (until : ℕ) (a b d : CoreView) (x y z : List Message) → IsUnderway until a x b y → b.now < until → d.now ≡ b.now + 1 → Advances 1 b y d z → IsUnderway until a x d z
-underway-more until a b d x y z u l n adv =
+-- one stretch after another
+pub advances-add : (m n : ℕ) (a b d : CoreView) (x y z : List Message) → Advances m a x b y → Advances n b y d z → Advances (m + n) a x d z
+advances-add m n a b d x y z one two s core trace rows mail h =
+    let first = one s core trace rows mail h in
+    let second = two s core trace (core_run s core trace rows mail m) mail first.0 in
+    let e : core_run s core trace (core_run s core trace rows mail m) mail n ≡ core_run s core trace rows mail (m + n) = sym (core_run-add s core trace rows mail m n) in (
+      subst (λ r. StandsAt s core trace r mail d) e second.0,
+      λ base f. ap (core_messages s core trace) (sym e) ∙ second.1 base (first.1 base f),
+    )
+
+pub underway-more : (until : ℕ) (a b d : CoreView) (x y z : List Message) → IsUnderway until a x b y → GoesOn until b y d z → IsUnderway until a x d z
+underway-more until a b d x y z u g =
+    let sum : (b.now - a.now) + (d.now - b.now) ≡ d.now - a.now = omega (arith, u.since, g.later) in
     record {
-      since = omega (arith, u.since);
-      until_then = omega arith;
-      advances = λ s core trace rows mail h.
-          let one = u.advances s core trace rows mail h in
-          let two = adv s core trace (core_run s core trace rows mail (b.now - a.now)) mail one.0 in
-          let sum : d.now - a.now ≡ (b.now - a.now) + 1 = omega (arith, u.since) in
-          let e : core_run s core trace (core_run s core trace rows mail (b.now - a.now)) mail 1 ≡ core_run s core trace rows mail (d.now - a.now) =
-          sym (core_run-add s core trace rows mail (b.now - a.now) 1) ∙ ap (core_run s core trace rows mail) (sym sum) in (
-            subst (λ r. StandsAt s core trace r mail d) e two.0,
-            λ base f. ap (core_messages s core trace) (sym e) ∙ two.1 base (one.1 base f),
-          );
+      since = omega (arith, u.since, g.later);
+      until_then = g.until_then;
+      advances = subst (λ n. Advances n a x d z) sum (advances-add (b.now - a.now) (d.now - b.now) a b d x y z u.advances g.advances);
     }
 
 pub underway-standing : (until : ℕ) (a b : CoreView) (x y : List Message) → IsUnderway until a x b y → IsStanding a → IsStanding b

@@ -50,6 +50,7 @@ retired_of s core trace rows mail a h = ap (λ (x : CoreStats). x.retired) h.sta
 pub record IsSound (a : CoreView) : Type 0 where
   pub issued : a.stats.issued ≤ length a.trace
   pub retired : a.stats.retired ≤ a.stats.issued
+  pub window : a.stats.issued ≤ a.stats.retired + a.config.window
   pub channels : length a.credits ≡ a.config.channels
 
 pub sound : (a : CoreView) → IsStanding a → IsSound a
@@ -58,7 +59,7 @@ sound a h =
     let i = issued_of h.s h.core h.trace h.rows h.mail a s in
     let r = retired_of h.s h.core h.trace h.rows h.mail a s in
     let t : length a.trace ≡ length h.trace = ap length s.entries in
-    record { issued = omega (arith, s.past.issued); retired = omega (arith, s.past.retired); channels = s.channels ∙ ap (λ (x : Config). x.channels) (sym s.config) }
+    record { issued = omega (arith, s.past.issued); retired = omega (arith, s.past.retired); window = subst (λ (x : Config). a.stats.issued ≤ a.stats.retired + x.window) (sym s.config) (omega (arith, s.past.window)); channels = s.channels ∙ ap (λ (x : Config). x.channels) (sym s.config) }
 
 -- an entry that waits was issued, and no entry that retired waits
 undone_within : (s : Config) (core : ℕ) (trace : List Entry) (rows : List CoreRow) (mail : List Message) → IsPast s core trace rows mail
@@ -72,7 +73,7 @@ lacks-false lacks true true e t n = absurd (n e)
 lacks-false lacks true false e t n = refl
 lacks-false lacks false x e t n = absurd (false≢true t)
 
-turn-from : (s : Config) (core : ℕ) (trace : List Entry) (rows : List CoreRow) (mail : List Message) (r one two : ℕ) (lacks : Bool) (m : ℕ) (why : Stop) (memory : Option MemoryEntry)
+pub turn-from : (s : Config) (core : ℕ) (trace : List Entry) (rows : List CoreRow) (mail : List Message) (r one two : ℕ) (lacks : Bool) (m : ℕ) (why : Stop) (memory : Option MemoryEntry)
     → IsPast s core trace rows mail
     → Found s core trace mail (core_messages s core trace rows) (length rows) (issued_before rows) (retired_before rows) (reads_waiting trace rows mail) r one two lacks m why memory
     → IsTurn s core trace rows mail (record { retired = r; issued = m }) why memory

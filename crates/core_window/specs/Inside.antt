@@ -1,7 +1,9 @@
 -- What a core stands for within a span, where messages of the cycle at which it stands may have come already.
 --     StandsAt s core trace rows mail view      what the core stands for
 --     Advances n a b sent      a core goes n cycles, in which no message comes, and sends these
-use Rattle.std.specs.Prelude.{◌≡◌, ℕ, ◌-◌, ◌<◌, ◌≤◌, false, true, List, ◌++◌, length, take, drop, slice_get, Some, None}
+--     GoesOn until a b sent      a core goes some cycles, at most up to a cycle
+--     Does view row why memory      what a core does in the next cycle
+use Rattle.std.specs.Prelude.{◌≡◌, ℕ, ◌-◌, ◌<◌, ◌≤◌, false, true, List, ◌++◌, length, take, drop, slice_get, Option, Some, None}
 use Rattle.std.specs.List.{AllByRecursion as Each}
 use Rattle.sim_base.specs.declared.config.Config.{Config}
 use Rattle.sim_base.specs.History.{core_messages}
@@ -9,11 +11,14 @@ use Rattle.sim_base.specs.Machine.{core_run}
 use Rattle.sim_base.specs.declared.history.CoreRow.{CoreRow}
 use Rattle.sim_base.specs.declared.message.Message.{Message}
 use Rattle.sim_base.specs.declared.trace.Entry.{Entry}
+use Rattle.sim_base.specs.declared.trace.Stop.{Stop}
+use Rattle.cpu_trace.specs.declared.entries.MemoryEntry.{MemoryEntry}
 use Rattle.statistics.specs.Cores.{core_stats, core_joined, replies_in, waited}
 use Rattle.statistics.specs.declared.cores.CoreStats.{CoreStats}
 use Rattle.statistics.specs.declared.final_state.Credits.{Credits}
 use Rattle.core_window.specs.Fit.{IsDue}
 use Rattle.core_window.specs.Stands.{IsPast, credits_had, credits_spent}
+use Rattle.core_window.specs.Turns.{IsTurn}
 use Rattle.core_window.specs.Views.{CoreView}
 use Rattle.core_window.specs.Waiting.{reads_waiting}
 
@@ -73,6 +78,12 @@ Advances n a before b after =
     → StandsAt s core trace (core_run s core trace rows mail n) mail b
     × ((base : List Message) → core_messages s core trace rows ≡ base ++ before → core_messages s core trace (core_run s core trace rows mail n) ≡ base ++ after)
 
+-- a core goes on by some cycles, at most up to a cycle, while no further message comes
+pub record GoesOn (until : ℕ) (a : CoreView) (before : List Message) (b : CoreView) (after : List Message) : Type 0 where
+  pub later : a.now < b.now
+  pub until_then : b.now ≤ until
+  pub advances : Advances (b.now - a.now) a before b after
+
 -- a core stands at the cycle in which a message comes, and the message may come
 pub record IsReceiving (view : CoreView) (m : Message) : Type 0 where
   pub s : Config
@@ -101,3 +112,9 @@ pub record IsLike (a v : CoreView) : Type 0 where
   pub credits : v.credits ≡ a.credits
   pub issued : v.stats.issued ≡ a.stats.issued
   pub retired : v.stats.retired ≡ a.stats.retired
+
+-- what a core does in the next cycle, if no further message comes: all that is like it does the same
+abbrev pub Does : CoreView → CoreRow → Stop → Option MemoryEntry → Type 0
+Does a row why memory =
+    (v : CoreView) (s : Config) (core : ℕ) (trace : List Entry) (rows : List CoreRow) (mail : List Message)
+    → IsLike a v → StandsAt s core trace rows mail v → IsTurn s core trace rows mail row why memory

@@ -8,3 +8,4 @@ pub mod Causes
 pub mod CoreViews
 pub mod Replies
 pub mod Rests
+pub mod Steady

@@ -6,18 +6,20 @@ ghost use Rattle.sim_base.specs.declared.message.Message.{Message};
 ghost use Rattle.sim_base.specs.declared.config.Config.{Config};
 ghost use Rattle.sim_base.specs.declared.trace.Entry.{Entry};
 ghost use Rattle.statistics.specs.declared.final_state.Credits.{Credits};
-ghost use Rattle.core_window.specs.Turns.{lacks_by, IsTurn, credits_of_kind, more_credit};
+ghost use Rattle.core_window.specs.Turns.{lacks_by, credits_of_kind, more_credit};
 ghost use Rattle.core_window.specs.CoreViews.{view_of};
 ghost use Rattle.core_window.specs.Fit.{IsDue, MayRun, Runs};
 ghost use Rattle.core_window.specs.Stands.{StandsFor};
-ghost use Rattle.core_window.specs.Inside.{IsStanding, IsReceiving, IsLike, StandsAt, Advances};
+ghost use Rattle.core_window.specs.Inside.{IsStanding, IsReceiving, StandsAt, Advances, GoesOn, Does};
 ghost use Rattle.core_window.specs.Views.{CoreView};
 ghost use Rattle.core_window.specs.Rests.{Rests, IsNextAct, MayRest, MaySkip, idle_row};
+ghost use Rattle.core_window.specs.Steady.{steady_view, IsSteady};
 ghost use Rattle.core_window.specs.Replies.{MayTakeReply, after_reply};
 ghost use Rattle.core_window.specs.Waiting.{is_waiting};
 ghost use Rattle.core_window.specs.declared.waiting.WaitingRead.{WaitingRead};
 
 use crate::counts::cycle_counts;
+use crate::flow::{Flow, WindowNumbers, flow_of};
 use crate::issue::{entry_issued, issue_of, next_two};
 use crate::issue_effects::{send, spend, wait_for};
 use crate::receive::{add_credit_at, count_reply, is_waiting, issue_cycle_of, remove_read};
@@ -77,8 +79,7 @@ impl Core {
     /// What the core does in the next cycle.
     fn turn(&self) -> Turn
         requires { IsStanding (view_of self.now) }
-        ensures { (v : CoreView) (s : Config) (core : ℕ) (trace : List Entry) (rows : List CoreRow) (mail : List Message)
-            → IsLike (view_of self.now) v → StandsAt s core trace rows mail v → IsTurn s core trace rows mail result.row result.why result.memory }
+        ensures { Does (view_of self.now) result.row result.why result.memory }
     {
         let len = self.trace.len();
         let number = self.stats.issued;
@@ -99,14 +100,14 @@ impl Core {
         }
     }
 
-    /// Goes on by a cycle, in which no further message comes.
-    fn step(&mut self, sent: &mut Vec<Message>) -> Result<(), AllocError>
+    /// Goes on by a cycle, in which no further message comes, and does this.
+    fn step(&mut self, turn: Turn, sent: &mut Vec<Message>) -> Result<(), AllocError>
         requires stands { IsStanding (view_of self.old) }
+        requires turn { Does (view_of self.old) turn.row turn.why turn.memory }
         requires early { self.old.cycle < 2 ^ 62 }
         ensures cycle { OnOk result (self.new.cycle ≡ self.old.cycle + 1) }
         ensures advances { OnOk result (Advances 1 (view_of self.old) sent.old.items (view_of self.new) sent.new.items) }
     {
-        let turn = self.turn();
         wait_for(&mut self.waiting, turn.memory, self.cycle)?;
         spend(&mut self.credits, &self.config, turn.memory);
         send(sent, &self.config, self.id, self.cycle, turn.memory)?;
@@ -121,6 +122,20 @@ impl Core {
         self.stats = self.stats.joined(counts);
         self.cycle += 1;
         Ok(())
+    }
+
+    /// Goes on by some cycles, in each of which the core does the same.
+    fn pass(&mut self, row: CoreRow, why: Stop, cycles: u64)
+        requires stands { IsStanding (view_of self.old) }
+        requires steady { IsSteady (view_of self.old) cycles row why }
+        requires some { 0 < cycles }
+        requires early { self.old.cycle + cycles < 2 ^ 62 }
+        ensures { view_of self.new ≡ steady_view (view_of self.old) row why cycles }
+    {
+        prove!(self.trace.len() <= 1 << 62);
+        let each = cycle_counts(row, why, None, 0, 0, 0);
+        self.stats = self.stats.joined(each.times(cycles));
+        self.cycle += cycles;
     }
 
     /// A reply comes: its Read waits no more.
@@ -164,6 +179,61 @@ impl Core {
         }
     }
 
+    /// The cycles, at most so many, in which the core issues its width of Plain entries and does the same in each.
+    fn flow(&self, most: u64) -> Flow
+        requires { IsStanding (view_of self.now) }
+        ensures steady { IsSteady (view_of self.now) result.cycles (record { retired = result.retired; issued = self.now.config.width }) Stop.Width }
+        ensures most { result.cycles ≤ most }
+    {
+        let issued = self.stats.issued;
+        let ahead = next_two(&self.trace, issued);
+        let last = self.trace.len().saturating_sub(1);
+        let numbers = WindowNumbers {
+            width: self.config.width,
+            window: self.config.window,
+            issued,
+            retired: self.stats.retired,
+            plain: ahead.one.min(last).saturating_sub(issued),
+        };
+        flow_of(&numbers, &self.waiting, most)
+    }
+
+    /// Goes on by a cycle, or up to a cycle, if the core does nothing until a message comes.
+    fn rest_or_step(&mut self, until: Cycle, sent: &mut Vec<Message>) -> Result<(), AllocError>
+        requires stands { IsStanding (view_of self.old) }
+        requires order { self.old.cycle < until }
+        requires early { until < 2 ^ 62 }
+        ensures { OnOk result (GoesOn until (view_of self.old) sent.old.items (view_of self.new) sent.new.items) }
+    {
+        let turn = self.turn();
+        if turn.row.retired == 0 && turn.row.issued == 0 {
+            self.pass(turn.row, turn.why, until - self.cycle);
+            Ok(())
+        } else {
+            self.step(turn, sent)
+        }
+    }
+
+    /// Goes on by a cycle, or by several, at most up to a cycle, in which the core does the same.
+    fn go_on(&mut self, until: Cycle, sent: &mut Vec<Message>) -> Result<(), AllocError>
+        requires stands { IsStanding (view_of self.old) }
+        requires order { self.old.cycle < until }
+        requires early { until < 2 ^ 62 }
+        ensures { OnOk result (GoesOn until (view_of self.old) sent.old.items (view_of self.new) sent.new.items) }
+    {
+        let flow = self.flow(until - self.cycle);
+        if flow.cycles == 0 {
+            self.rest_or_step(until, sent)
+        } else {
+            let row = CoreRow {
+                retired: flow.retired,
+                issued: self.config.width,
+            };
+            self.pass(row, Stop::Width, flow.cycles);
+            Ok(())
+        }
+    }
+
     /// Goes on up to a cycle, while no further message comes.
     fn advance(&mut self, until: Cycle, sent: &mut Vec<Message>) -> Result<(), AllocError>
         requires stands { IsStanding (view_of self.old) }
@@ -173,7 +243,7 @@ impl Core {
         ensures advances { OnOk result (Advances (until - self.old.cycle) (view_of self.old) sent.old.items (view_of self.new) sent.new.items) }
     {
         'cycles: while self.cycle < until {
-            self.step(sent)?;
+            self.go_on(until, sent)?;
         }
         Ok(())
     }

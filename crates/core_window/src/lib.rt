@@ -3,6 +3,7 @@
 
 pub mod core_unit;
 mod counts;
+mod flow;
 mod issue;
 mod issue_effects;
 mod receive;

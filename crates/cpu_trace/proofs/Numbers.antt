@@ -1,6 +1,6 @@
 -- Where a memory entry stands among all entries.
 use Rattle.std.proofs.Common.{Option, Bor, ◌≡◌, ℕ, zero, suc, ◌+◌, ◌-◌, ◌<◌, ◌≤◌, true, false, ltb, List, [], ◌∷◌, ◌++◌, length, get_or, drop, replicate, Some, None, refl, sym, ap, ◌∙◌, arith}
-use Rattle.std.proofs.lemmas.Bool.{ltb-true, ltb-false, lt-ltb}
+use Rattle.std.proofs.lemmas.Bool.{ltb-true, ltb-false, lt-ltb, le-ltb}
 use Rattle.std.proofs.lemmas.List.{append-nil, length-replicate, drop-replicate, drop-append-le, drop-drop, drop_at, drop_more}
 use Rattle.std.proofs.lemmas.Option.{same_Some, slice_get_within, slice_get_past, slice_get-get_or, get_or_from_slice_get}
 use Rattle.std.specs.List.{slice_get, HoldsAt}
@@ -158,3 +158,11 @@ option_copied-get xs k (Some x) h = ap Some (h.1 x.now) ∙ sym (slice_get-get_o
 pub next_memory-get : (memory : List MemoryEntry) (len i k : ℕ) (o : Option (Bor MemoryEntry)) → IsAscending 0 memory len → k ≤ length memory → IsPlaceOf i memory k → MatchOption o (length memory ≤ k) (λ m. (k < length memory) × HoldsAt (λ y. m.now ≡ y) memory k) → IfSome o (λ m. IsNextMemory (entries_after 0 memory len) i m.now) × IfNone o (IsPlainBetween (entries_after 0 memory len) i (length (entries_after 0 memory len)))
 next_memory-get memory len i k None h within p got = next_memory-at memory len i k None h within p (option_copied-get memory k None got)
 next_memory-get memory len i k (Some m) h within p got = next_memory-at memory len i k (Some m.now) h within p (option_copied-get memory k (Some m) got)
+
+-- a memory entry that is not below a number, behind one that is
+pub place-behind : (memory : List MemoryEntry) (len from k : ℕ) (m : MemoryEntry) → IsAscending 0 memory len → k < length memory → HoldsAt (λ y. m ≡ y) memory k → from ≤ m.number
+    → ((d : MemoryEntry) → 0 < k → (get_or memory (k - 1) d).number < from) → IsPlaceOf from memory k
+place-behind memory len from k m h within here above behind = (
+  λ j d before l. let up = number-mono 0 memory len h j (k - 1) d (omega arith) (omega arith) in let b = behind d (omega arith) in lt-ltb _ from (omega arith),
+  λ j d after l. let up = number-mono 0 memory len h k j d after l in let e : m.number ≡ (get_or memory k d).number = ap (λ (x : MemoryEntry). x.number) (here d) in le-ltb _ from (omega arith),
+)

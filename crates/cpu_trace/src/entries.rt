@@ -115,6 +115,37 @@ impl Entries {
         })
     }
 
+    /// Where the first Read or Write entry from a number on is kept: at this place, or wherever it is found.
+    fn next_stored_near(&self, from: u64, place: usize) -> Option<&Stored>
+        ensures found { IfSome result (λ stored. IsNextMemory self.now from stored.now) }
+        ensures none { IfNone result (IsPlainBetween self.now from (length self.now)) }
+    {
+        let is_behind = if place == 0 {
+            true
+        } else {
+            match self.memory.get(place - 1) {
+                Some(stored) => stored.number() < from,
+                None => false,
+            }
+        };
+        match self.memory.get(place) {
+            Some(stored) if is_behind && from <= stored.number() => Some(stored),
+            _ => self.next_stored(from),
+        }
+    }
+
+    /// The first Read or Write entry from a number on, looked for where so many of them stand before it.
+    pub(crate) fn next_memory_near(&self, from: u64, before: u64) -> Option<MemoryEntry>
+        ensures found { IfSome result (IsNextMemory self.now from) }
+        ensures none { IfNone result (IsPlainBetween self.now from (length self.now)) }
+    {
+        let stored = self.next_stored_near(from, before as usize)?;
+        Some(MemoryEntry {
+            number: stored.number(),
+            entry: stored.entry(),
+        })
+    }
+
     /// The entry of a number.
     pub(crate) fn entry_at(&self, number: u64) -> Entry
         requires { number < length self.now }

@@ -74,6 +74,15 @@ impl Trace {
         self.entries.next_memory(from)
     }
 
+    /// The same as `next_memory`. It is found at once where as many Read and Write entries stand before it as the caller
+    /// says; with another number it is looked for among all.
+    pub fn next_memory_near(&self, from: u64, before: u64) -> Option<MemoryEntry>
+        ensures found { IfSome result (IsNextMemory self.now from) }
+        ensures none { IfNone result (IsPlainBetween self.now from (length self.now)) }
+    {
+        self.entries.next_memory_near(from, before)
+    }
+
     /// An equal trace, which shares the entries.
     pub fn copy(&self) -> Result<Trace, AllocError>
         ensures { IfOk result (λ trace. trace ≡ self.now) }

@@ -8,13 +8,13 @@ use Rattle.core_window.proofs.core_unit.Core.advance.Goals as goal
 pub cycles-init : goal.cycles-init
 cycles-init c = underway-first c.args.until (view_of c.args.self.now) c.args.sent.now.items c.requires.order
 
-pub step-requires-clause-stands : goal.step-requires-clause-stands
-step-requires-clause-stands c = underway-standing c.args.until _ _ _ _ c.cycles.invariant c.requires.stands
+pub go_on-requires-clause-stands : goal.go_on-requires-clause-stands
+go_on-requires-clause-stands c = underway-standing c.args.until _ _ _ _ c.cycles.invariant c.requires.stands
 
 pub cycles-preserved : goal.cycles-preserved
 cycles-preserved c =
-    underway-more c.args.until (view_of c.args.self.now) (view_of c.cycles.self) (view_of c.step.new.self) c.args.sent.now.items c.cycles.sent.items c.step.new.sent.items
-    c.cycles.invariant c.cycles-test.true (c.in_ok-step.ensures {u = tt}).cycle (c.in_ok-step.ensures {u = tt}).advances
+    underway-more c.args.until (view_of c.args.self.now) (view_of c.cycles.self) (view_of c.go_on.new.self) c.args.sent.now.items c.cycles.sent.items c.go_on.new.sent.items
+    c.cycles.invariant (c.in_ok-go_on.ensures {u = tt})
 
 pub returns-clause-advances : goal.returns-clause-advances
 returns-clause-advances c =

@@ -12,17 +12,17 @@ use Rattle.core_window.proofs.Stepping.{step-fits, step-advances}
 use Rattle.core_window.proofs.Turning.{like-self}
 use Rattle.core_window.proofs.core_unit.Core.step.Goals as goal
 
-fits : (c : goal.After-len) → CoreFits (core_joined c.args.self.now.stats (cycle_counts c.turn-turn.result.row c.turn-turn.result.why c.turn-turn.result.memory c.args.self.now.stats.retired (length c.args.self.now.trace) c.args.self.now.cycle))
+fits : (c : goal.After-len) → CoreFits (core_joined c.args.self.now.stats (cycle_counts c.args.turn.row c.args.turn.why c.args.turn.memory c.args.self.now.stats.retired (length c.args.self.now.trace) c.args.self.now.cycle))
 fits c =
     let h = c.requires.stands in
-    step-fits h.s h.core h.trace h.rows h.mail (view_of c.args.self.now) c.turn-turn.result.row c.turn-turn.result.why c.turn-turn.result.memory h.stands
-    (c.turn-turn.ensures (view_of c.args.self.now) h.s h.core h.trace h.rows h.mail (like-self (view_of c.args.self.now)) h.stands) (omega (arith, c.len.ensures.value, c.len.ensures.limit)) c.requires.early
+    step-fits h.s h.core h.trace h.rows h.mail (view_of c.args.self.now) c.args.turn.row c.args.turn.why c.args.turn.memory h.stands
+    (c.requires.turn (view_of c.args.self.now) h.s h.core h.trace h.rows h.mail (like-self (view_of c.args.self.now)) h.stands) (omega (arith, c.len.ensures.value, c.len.ensures.limit)) c.requires.early
 
-fits_then : (c : goal.After-joined-arg-1) → CoreFits (core_joined c.args.self.now.stats (cycle_counts c.turn-turn.result.row c.turn-turn.result.why c.turn-turn.result.memory c.args.self.now.stats.retired (length c.args.self.now.trace) c.args.self.now.cycle))
+fits_then : (c : goal.After-joined-arg-1) → CoreFits (core_joined c.args.self.now.stats (cycle_counts c.args.turn.row c.args.turn.why c.args.turn.memory c.args.self.now.stats.retired (length c.args.self.now.trace) c.args.self.now.cycle))
 fits_then c =
     let h = c.requires.stands in
-    step-fits h.s h.core h.trace h.rows h.mail (view_of c.args.self.now) c.turn-turn.result.row c.turn-turn.result.why c.turn-turn.result.memory h.stands
-    (c.turn-turn.ensures (view_of c.args.self.now) h.s h.core h.trace h.rows h.mail (like-self (view_of c.args.self.now)) h.stands) (omega (arith, c.len.ensures.value, c.len.ensures.limit)) c.requires.early
+    step-fits h.s h.core h.trace h.rows h.mail (view_of c.args.self.now) c.args.turn.row c.args.turn.why c.args.turn.memory h.stands
+    (c.requires.turn (view_of c.args.self.now) h.s h.core h.trace h.rows h.mail (like-self (view_of c.args.self.now)) h.stands) (omega (arith, c.len.ensures.value, c.len.ensures.limit)) c.requires.early
 
 pub cycle_counts-counts-requires : goal.cycle_counts-counts-requires
 cycle_counts-counts-requires c = (fits c).retired
@@ -31,15 +31,15 @@ pub joined-self-requires : goal.joined-self-requires
 joined-self-requires c =
     subst (λ (x : CoreStats). CoreFits (core_joined c.args.self.now.stats x))
     (sym (c.cycle_counts-counts.ensures
-    ∙ ap (λ n. cycle_counts c.turn-turn.result.row c.turn-turn.result.why c.turn-turn.result.memory c.args.self.now.stats.retired n c.args.self.now.cycle) c.len.ensures.value))
+    ∙ ap (λ n. cycle_counts c.args.turn.row c.args.turn.why c.args.turn.memory c.args.self.now.stats.retired n c.args.self.now.cycle) c.len.ensures.value))
     (fits_then c)
 
 pub returns-clause-advances : goal.returns-clause-advances
 returns-clause-advances c s core trace rows mail h =
     let kept : (with_items c.args.self.now.credits c.spend.new.credits).items ≡ c.spend.new.credits =
     with_items_is c.args.self.now.credits c.spend.new.credits (c.spend.auto.credits ∙ c.deref_mut.ensures.len) in
-    step-advances (view_of c.args.self.now) _ c.turn-turn.result.row c.turn-turn.result.why c.turn-turn.result.memory c.args.sent.now.items c.send.new.sent.items
-    (λ s core trace rows mail h. c.turn-turn.ensures (view_of c.args.self.now) s core trace rows mail (like-self (view_of c.args.self.now)) h)
+    step-advances (view_of c.args.self.now) _ c.args.turn.row c.args.turn.why c.args.turn.memory c.args.sent.now.items c.send.new.sent.items
+    (λ s core trace rows mail h. c.requires.turn (view_of c.args.self.now) s core trace rows mail (like-self (view_of c.args.self.now)) h)
     (record {
       config = refl;
       number = refl;
@@ -52,6 +52,6 @@ returns-clause-advances c s core trace rows mail h =
       stats = c.joined-self.ensures
           ∙ ap (core_joined c.args.self.now.stats)
           (c.cycle_counts-counts.ensures
-          ∙ ap (λ n. cycle_counts c.turn-turn.result.row c.turn-turn.result.why c.turn-turn.result.memory c.args.self.now.stats.retired n c.args.self.now.cycle) c.len.ensures.value);
+          ∙ ap (λ n. cycle_counts c.args.turn.row c.args.turn.why c.args.turn.memory c.args.self.now.stats.retired n c.args.self.now.cycle) c.len.ensures.value);
     })
     (c.in_ok-send.ensures {u = tt}) s core trace rows mail h

@@ -1,0 +1,205 @@
+-- Cycles in which a core does the same count as a product.
+use Rattle.std.proofs.Common.{◌≡◌, ℕ, zero, suc, ◌+◌, ◌-◌, ◌*◌, ◌^◌, ◌<◌, ◌≤◌, ◌⊎◌, Bool, true, false, cond, ◌&&◌, ltb, leb, eqb, List, [], length, Option, Some, None, refl, sym, ap, ap₂, subst, ◌∙◌, add-zero, inl, inr, arith, ⊎_elim}
+use Rattle.std.specs.Option.{option_or}
+use Rattle.std.specs.Prelude.{Result, Ok, Err}
+use Rattle.std.specs.Prelude.{OnOk}
+use Rattle.std.proofs.lemmas.List.{append-nil}
+use Rattle.std.proofs.lemmas.Bool.{cases_lt, le-ltb, lt-leb}
+use Rattle.sim_base.specs.History.{issued_before}
+use Rattle.sim_base.specs.Machine.{core_run}
+use Rattle.sim_base.specs.Counts.{is_stop}
+use Rattle.sim_base.specs.declared.history.CoreRow.{CoreRow}
+use Rattle.sim_base.specs.declared.message.Message.{Message}
+use Rattle.sim_base.specs.declared.trace.Entry.{Entry}
+use Rattle.sim_base.specs.declared.trace.Stop.{Stop}
+use Rattle.sim_base.specs.declared.trace.Stop.TheVariants as stop
+use Rattle.cpu_trace.specs.declared.entries.MemoryEntry.{MemoryEntry}
+use Rattle.statistics.specs.Counts.{one_if}
+use Rattle.statistics.specs.Cores.{core_joined, core_times, CoreFits}
+use Rattle.statistics.specs.declared.cores.CoreStats.{CoreStats}
+use Rattle.core_window.specs.Inside.{StandsAt, IsStanding, IsLike, Advances, GoesOn, Does}
+use Rattle.core_window.specs.Rests.{idle_row}
+use Rattle.core_window.specs.Steady.{steady_counts, steady_view, IsSteady}
+use Rattle.core_window.specs.Turns.{IsTurn, IsIssued, cycle_counts}
+use Rattle.core_window.specs.Views.{CoreView}
+use Rattle.core_window.proofs.Running.{advances-add}
+use Rattle.core_window.proofs.Stepping.{IsStep, step-advances, step-fits}
+
+times_more : (a n x : ℕ) → a + n * x + x ≡ a + suc n * x
+times_more a n x = let e : suc n * x ≡ n * x + x = grind arith in omega arith
+
+both_none : (b : Bool) → cond {A = Option ℕ} b None None ≡ None
+both_none true = refl
+both_none false = refl
+
+-- the last entry does not retire in a cycle
+no_finish : (before r len now : ℕ) → (r ≡ 0) ⊎ (before + r < len) → cond {A = Option ℕ} (ltb before len && leb len (before + r)) (Some now) None ≡ None
+no_finish before r len now (inl e) =
+    ⊎_elim
+    (λ l. ap (λ b. cond (ltb before len && b) (Some now) None) (lt-leb len (before + r) (omega arith)) ∙ ap (λ b. cond b (Some now) None) (and_false (ltb before len)))
+    (λ g. ap (λ b. cond (b && leb len (before + r)) (Some now) None) (le-ltb before len g))
+    (cases_lt before len)
+  where
+    and_false : (b : Bool) → (b && false) ≡ false
+    and_false true = refl
+    and_false false = refl
+no_finish before r len now (inr h) =
+    ap (λ b. cond (ltb before len && b) (Some now) None) (lt-leb len (before + r) h) ∙ ap (λ b. cond b (Some now) None) (and_false (ltb before len))
+  where
+    and_false : (b : Bool) → (b && false) ≡ false
+    and_false true = refl
+    and_false false = refl
+
+-- one cycle more
+pub steady-more : (a : CoreStats) (row : CoreRow) (why : Stop) (n before len later : ℕ) → (row.retired ≡ 0) ⊎ (before + row.retired < len)
+    → core_joined (core_joined a (core_times n (steady_counts row why))) (cycle_counts row why None before len later) ≡ core_joined a (core_times (suc n) (steady_counts row why))
+steady-more a row why n before len later h =
+    let f1 = no_finish before row.retired len later h in
+    let f2 = both_none (eqb n 0) in
+    let f3 = both_none (eqb (suc n) 0) in
+    let e0 = times_more a.issued n row.issued in
+    let e1 = times_more a.retired n row.retired in
+    let e2 = times_more a.reads n 0 in
+    let e3 = times_more a.writes n 0 in
+    let e4 = times_more a.replies n 0 in
+    let e5 = times_more a.read_latency n 0 in
+    let e6 = times_more a.stop_end n (one_if (is_stop stop.End why)) in
+    let e7 = times_more a.stop_width n (one_if (is_stop stop.Width why)) in
+    let e8 = times_more a.stop_window n (one_if (is_stop stop.Window why)) in
+    let e9 = times_more a.stop_memory n (one_if (is_stop stop.Memory why)) in
+    let e10 = times_more a.stop_credit n (one_if (is_stop stop.Credit why)) in
+    let e11 : option_or (cond (ltb before len && leb len (before + row.retired)) (Some later) None) (option_or (cond (eqb n 0) None None) a.finish) ≡ option_or (cond {A = Option ℕ} (eqb (suc n) 0) None None) a.finish =
+    ap₂ (λ x y. option_or x (option_or y a.finish)) f1 f2 ∙ ap (λ x. option_or x a.finish) (sym f3) in
+    cc
+
+none_counted : (x : CoreStats) (row : CoreRow) (why : Stop) → core_joined x (core_times 0 (steady_counts row why)) ≡ x
+none_counted x row why = let z : (k : ℕ) → 0 * k ≡ 0 = λ k. omega arith in simp (z, add-zero)
+
+pub steady-none : (a : CoreView) (row : CoreRow) (why : Stop) → a ≡ steady_view a row why 0
+steady-none a row why =
+    let with : ℕ → CoreStats → CoreView = λ n st. record a { now = n; stats = st } in
+    ap₂ with (sym (add-zero a.now)) (sym (none_counted a.stats row why))
+
+times_suc : (n x : ℕ) → suc n * x ≡ n * x + x
+times_suc n x = grind arith
+
+-- a shorter stretch
+steady-fewer : (a : CoreView) (n : ℕ) (row : CoreRow) (why : Stop) → IsSteady a (suc n) row why → IsSteady a n row why
+steady-fewer a n row why h =
+    record {
+      turns = λ k l. h.turns k (omega arith);
+      unfinished =
+          let e = times_suc n row.retired in
+          ⊎_elim (λ z. inl (omega arith)) (λ l. inr (omega arith)) h.unfinished;
+    }
+
+-- in the last cycle of a stretch the last entry of the trace does not retire
+last-unfinished : (a : CoreView) (n : ℕ) (row : CoreRow) (why : Stop) → IsSteady a (suc n) row why
+    → (row.retired ≡ 0) ⊎ (a.stats.retired + n * row.retired + row.retired < length a.trace)
+last-unfinished a n row why h =
+    let e = times_suc n row.retired in
+    ⊎_elim (λ z. inl (omega arith)) (λ l. inr (omega arith)) h.unfinished
+
+steady-step : (a : CoreView) (n : ℕ) (row : CoreRow) (why : Stop) → IsSteady a (suc n) row why → IsStep (steady_view a row why n) (steady_view a row why (suc n)) row why None
+steady-step a n row why h =
+    record {
+      config = refl;
+      number = refl;
+      entries = refl;
+      now = omega arith;
+      waiting = sym (append-nil a.waiting);
+      channels = refl;
+      credits = λ channel c e. e;
+      stats = sym (steady-more a.stats row why n (a.stats.retired + n * row.retired) (length a.trace) (a.now + n) (last-unfinished a n row why h));
+    }
+
+pub steady-advances : (a : CoreView) (n : ℕ) (row : CoreRow) (why : Stop) (sent : List Message) → IsSteady a n row why → Advances n a sent (steady_view a row why n) sent
+unfolding core_run
+steady-advances a zero row why sent h = subst (λ (v : CoreView). Advances 0 a sent v sent) (steady-none a row why) (λ s core trace rows mail k. (k, λ base e. e))
+steady-advances a (suc n) row why sent h =
+    let v = steady_view a row why n in
+    let one : Advances 1 v sent (steady_view a row why (suc n)) sent =
+    step-advances v (steady_view a row why (suc n)) row why None sent sent (h.turns n (omega arith)) (steady-step a n row why h) (sym (append-nil sent)) in
+    let sum : n + 1 ≡ suc n = omega arith in
+    subst (λ k. Advances k a sent (steady_view a row why (suc n)) sent) sum
+    (advances-add n 1 a v (steady_view a row why (suc n)) sent sent sent (steady-advances a n row why sent (steady-fewer a n row why h)) one)
+
+-- its counts fit
+pub steady-fits : (a : CoreView) (n : ℕ) (row : CoreRow) (why : Stop) → IsStanding a → IsSteady a n row why → 0 < n → length a.trace ≤ 2 ^ 62 → a.now + n < 2 ^ 62
+    → CoreFits (core_joined a.stats (core_times n (steady_counts row why)))
+steady-fits a zero row why i h l len early = absurd (omega arith)
+steady-fits a (suc n) row why i h l len early =
+    let v = steady_view a row why n in
+    let rows = core_run i.s i.core i.trace i.rows i.mail n in
+    let st : StandsAt i.s i.core i.trace rows i.mail v = (steady-advances a n row why [] (steady-fewer a n row why h) i.s i.core i.trace i.rows i.mail i.stands).0 in
+    subst CoreFits (steady-more a.stats row why n (a.stats.retired + n * row.retired) (length a.trace) (a.now + n) (last-unfinished a n row why h))
+    (step-fits i.s i.core i.trace rows i.mail v row why None st (h.turns n (omega arith) i.s i.core i.trace rows i.mail st) len (omega arith))
+
+-- the counts of the cycles alone fit
+pub times-fits : (a b : CoreStats) → CoreFits (core_joined a b) → CoreFits b
+times-fits a b h =
+    record {
+      issued = omega (arith, h.issued);
+      retired = omega (arith, h.retired);
+      reads = omega (arith, h.reads);
+      writes = omega (arith, h.writes);
+      replies = omega (arith, h.replies);
+      read_latency = omega (arith, h.read_latency);
+      stop_end = omega (arith, h.stop_end);
+      stop_width = omega (arith, h.stop_width);
+      stop_window = omega (arith, h.stop_window);
+      stop_memory = omega (arith, h.stop_memory);
+      stop_credit = omega (arith, h.stop_credit);
+    }
+
+pub idle-like : (a : CoreView) (why : Stop) (n : ℕ) → IsLike a (steady_view a idle_row why n)
+idle-like a why n = record { config = refl; entries = refl; waiting = refl; credits = refl; issued = omega arith; retired = omega arith }
+
+-- no memory entry is among none
+pub none_issues : (trace : List Entry) (first : ℕ) (memory : Option MemoryEntry) → IsIssued trace first 0 memory → memory ≡ None
+none_issues trace first None h = refl
+none_issues trace first (Some e) h = absurd (omega (arith, h.is_from, h.is_below))
+
+idle-steady : (a : CoreView) (why : Stop) (memory : Option MemoryEntry) (n : ℕ) → Does a idle_row why memory → IsSteady a n idle_row why
+idle-steady a why memory n does =
+    record {
+      turns = λ k l s core trace rows mail h.
+          let t : IsTurn s core trace rows mail idle_row why memory = does (steady_view a idle_row why k) s core trace rows mail (idle-like a why k) h in
+          subst (IsTurn s core trace rows mail idle_row why) (none_issues trace (issued_before rows) memory t.issues) t;
+      unfinished = inl (omega arith);
+    }
+
+-- a core that does nothing in a cycle does nothing in those after it
+pub rest-steady : (a : CoreView) (row : CoreRow) (why : Stop) (memory : Option MemoryEntry) (n : ℕ) → row.retired ≡ 0 → row.issued ≡ 0 → Does a row why memory → IsSteady a n row why
+rest-steady a row why memory n e f does =
+    let both : ℕ → ℕ → CoreRow = λ r i. record { retired = r; issued = i } in
+    let idle : row ≡ idle_row = ap₂ both e f in
+    subst (λ r. IsSteady a n r why) (sym idle) (idle-steady a why memory n (subst (λ r. Does a r why memory) idle does))
+
+-- a core that goes on by a stretch
+pub steady-goes : (a b : CoreView) (n until : ℕ) (row : CoreRow) (why : Stop) (sent : List Message) → IsSteady a n row why → b ≡ steady_view a row why n → 0 < n → a.now + n ≤ until
+    → GoesOn until a sent b sent
+steady-goes a b n until row why sent h e l u =
+    let e2 : steady_view a row why n ≡ b = sym e in
+    let gone : n ≡ a.now + n - a.now = omega arith in
+    subst (λ v. GoesOn until a sent v sent) e2
+    (record {
+      later = omega arith;
+      until_then = u;
+      advances = subst (λ k. Advances k a sent (steady_view a row why n) sent) gone (steady-advances a n row why sent h);
+    })
+
+-- a core that goes on by a cycle
+pub cycle-goes : (a b : CoreView) (until : ℕ) (before after : List Message) → a.now < until → b.now ≡ a.now + 1 → Advances 1 a before b after → GoesOn until a before b after
+cycle-goes a b until before after l e h =
+    let gone : 1 ≡ b.now - a.now = omega arith in
+    record { later = omega arith; until_then = omega arith; advances = subst (λ k. Advances k a before b after) gone h }
+
+pub counted-fits : (a : CoreView) (n : ℕ) (row : CoreRow) (why : Stop) (each : CoreStats) → each ≡ steady_counts row why → IsStanding a → IsSteady a n row why → 0 < n
+    → length a.trace ≤ 2 ^ 62 → a.now + n < 2 ^ 62 → CoreFits (core_joined a.stats (core_times n each))
+counted-fits a n row why each e i h l len early =
+    subst (λ x. CoreFits (core_joined a.stats (core_times n x))) (sym e) (steady-fits a n row why i h l len early)
+
+pub ok-both : {T E : Type 0} (r : Result T E) (P Q R : Type 0) → (P → Q → R) → OnOk r P → OnOk r Q → OnOk r R
+ok-both (Ok x) P Q R f p q = f p q
+ok-both (Err e) P Q R f p q = p

@@ -1,0 +1,21 @@
+-- A rest counts as a product, and any other cycle goes alone.
+use Rattle.std.proofs.Common.{arith}
+use Rattle.core_window.specs.CoreViews.{view_of}
+use Rattle.core_window.proofs.Stretching.{rest-steady, steady-goes, cycle-goes, ok-both}
+use Rattle.core_window.proofs.core_unit.Core.rest_or_step.Goals as goal
+
+pub pass-requires-clause-steady : goal.pass-requires-clause-steady
+pass-requires-clause-steady c =
+    rest-steady (view_of c.args.self.now) c.turn-turn.result.row c.turn-turn.result.why c.turn-turn.result.memory _ c.if-turn-eq0.true c.if-turn-eq0-2.true c.turn-turn.ensures
+
+pub returns-then-turn-eq0-2 : goal.returns-then-turn-eq0-2
+returns-then-turn-eq0-2 c =
+    steady-goes (view_of c.args.self.now) (view_of c.pass.new.self) _ c.args.until c.turn-turn.result.row c.turn-turn.result.why c.args.sent.now.items
+    (rest-steady (view_of c.args.self.now) c.turn-turn.result.row c.turn-turn.result.why c.turn-turn.result.memory _ c.if-turn-eq0.true c.if-turn-eq0-2.true c.turn-turn.ensures)
+    c.pass.ensures (omega arith) (omega arith)
+
+pub returns-else-turn-eq0 : goal.returns-else-turn-eq0
+returns-else-turn-eq0 c =
+    ok-both c.step.result _ _ _
+    (λ e h. cycle-goes (view_of c.args.self.now) (view_of c.step.new.self) c.args.until c.args.sent.now.items c.step.new.sent.items c.requires.order e h)
+    c.step.ensures.cycle c.step.ensures.advances
