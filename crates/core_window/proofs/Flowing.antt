@@ -1,5 +1,5 @@
 -- A run of Plain entries goes through the window of a core by its width.
-use Rattle.std.proofs.Common.{◌≡◌, ℕ, zero, suc, ◌+◌, ◌-◌, ◌*◌, ◌<◌, ◌≤◌, ◌⊎◌, min, Bool, true, false, ◌&&◌, cond, eqb, ltb, List, [], ◌∷◌, length, None, refl, sym, ap, ap₂, subst, ◌∙◌, inl, inr, arith, ⊎_elim}
+use Rattle.std.proofs.Common.{◌≡◌, ℕ, zero, suc, ◌+◌, ◌-◌, ◌*◌, ◌<◌, ◌≤◌, ◌⊎◌, min, Bool, true, false, ◌&&◌, eqb, ltb, List, [], ◌∷◌, length, None, refl, sym, subst, inl, inr, arith, ⊎_elim}
 use Rattle.std.specs.Prelude.{slice_get}
 use Rattle.std.proofs.Math.Nat.{mul-le-mul_right, mul-le-mul_left}
 use Rattle.std.proofs.lemmas.Bool.{cases_lt, ne_eqb, eq-eqb}
@@ -15,7 +15,7 @@ use Rattle.core_window.specs.Causes.{first_undone, issue_count, cause_at}
 use Rattle.core_window.specs.Inside.{StandsAt}
 use Rattle.core_window.specs.Stands.{IsPast}
 use Rattle.core_window.specs.Steady.{steady_view, IsSteady, IsFlow}
-use Rattle.core_window.specs.Turns.{IsAhead, IsLast, MayIssue, IsTurn}
+use Rattle.core_window.specs.Turns.{IsAhead, IsLast, IsTurn}
 use Rattle.core_window.specs.Views.{CoreView}
 use Rattle.core_window.specs.Waiting.{reads_waiting}
 use Rattle.core_window.specs.declared.waiting.WaitingRead.{WaitingRead}

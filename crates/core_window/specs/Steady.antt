@@ -3,17 +3,20 @@
 --     steady_view view row why n      a core after n of them
 --     IsSteady view n row why      a core does the same in n cycles in which no message comes
 --     IsFlow width window issued retired waiting r n      in n cycles a window takes in as many entries as it can and gives out r
-use Rattle.std.specs.Prelude.{◌≡◌, ℕ, ◌+◌, ◌-◌, ◌*◌, ◌<◌, ◌≤◌, min, List, length, None, ◌⊎◌}
+use Rattle.std.specs.Prelude.{◌≡◌, ℕ, ◌+◌, ◌-◌, ◌*◌, ◌<◌, ◌≤◌, min, List, length, Option, None, ◌⊎◌}
 use Rattle.sim_base.specs.declared.config.Config.{Config}
 use Rattle.sim_base.specs.declared.history.CoreRow.{CoreRow}
 use Rattle.sim_base.specs.declared.message.Message.{Message}
 use Rattle.sim_base.specs.declared.trace.Entry.{Entry}
 use Rattle.sim_base.specs.declared.trace.Stop.{Stop}
+use Rattle.sim_base.specs.declared.trace.Stop.TheVariants as stop
+use Rattle.cpu_trace.specs.declared.entries.MemoryEntry.{MemoryEntry}
+use Rattle.statistics.specs.Counts.{one_if}
 use Rattle.statistics.specs.Cores.{core_joined, core_times}
 use Rattle.statistics.specs.declared.cores.CoreStats.{CoreStats}
 use Rattle.core_window.specs.Causes.{first_undone}
 use Rattle.core_window.specs.Inside.{StandsAt}
-use Rattle.core_window.specs.Turns.{IsTurn, cycle_counts}
+use Rattle.core_window.specs.Turns.{IsTurn, cycle_counts, is_read_among, is_write_among}
 use Rattle.core_window.specs.Views.{CoreView}
 use Rattle.core_window.specs.declared.waiting.WaitingRead.{WaitingRead}
 
@@ -25,6 +28,18 @@ steady_counts row why = cycle_counts row why None 0 0 0
 -- a core after n such cycles: it only counts
 abbrev pub steady_view : CoreView → CoreRow → Stop → ℕ → CoreView
 steady_view a row why n = record a { now = a.now + n; stats = core_joined a.stats (core_times n (steady_counts row why)) }
+
+-- with so many cycles more in which a core stops for this cause
+abbrev pub with_stop : CoreStats → Stop → ℕ → CoreStats
+with_stop a stop.End n = record a { stop_end = a.stop_end + n }
+with_stop a stop.Width n = record a { stop_width = a.stop_width + n }
+with_stop a stop.Window n = record a { stop_window = a.stop_window + n }
+with_stop a stop.Memory n = record a { stop_memory = a.stop_memory + n }
+with_stop a stop.Credit n = record a { stop_credit = a.stop_credit + n }
+
+-- with the memory entry that issues, if one does
+abbrev pub with_memory : CoreStats → Option MemoryEntry → CoreStats
+with_memory a memory = record a { reads = a.reads + one_if (is_read_among memory); writes = a.writes + one_if (is_write_among memory) }
 
 -- In each of n cycles a core does the same and stops for the same cause, while no message comes: no memory entry issues in
 -- them, and the last entry of the trace does not retire in them.

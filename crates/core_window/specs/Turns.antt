@@ -1,5 +1,6 @@
 -- What a core does in a cycle.
 --     IsAhead trace from one two      where the next two memory entries stand
+--     IsSeen trace from one two entry      the same, and which entry the first is
 --     IsIssued trace first m memory      the one memory entry that is among some that issue, if one is
 --     more_credit write c, less_credit write c      one credit more, and one less
 --     cycle_counts ..      what statistics count in a cycle, but for replies
@@ -35,6 +36,11 @@ pub record IsAhead (trace : List Entry) (from one two : ℕ) : Type 0 where
   pub first : IsNextOrEnd trace from one
   pub second : one < length trace → IsNextOrEnd trace (one + 1) two
   pub none : length trace ≤ one → two ≡ length trace
+
+-- the next two memory entries from a number on, and which entry the first of them is
+pub record IsSeen (trace : List Entry) (from one two : ℕ) (entry : Entry) : Type 0 where
+  pub ahead : IsAhead trace from one two
+  pub is_at : one < length trace → slice_get trace one ≡ Some entry
 
 -- the memory entry among those that issue
 pub record IsAmong (trace : List Entry) (first m : ℕ) (e : MemoryEntry) : Type 0 where

@@ -6,7 +6,7 @@ ghost use Rattle.sim_base.specs.declared.message.Message.{Message};
 ghost use Rattle.sim_base.specs.declared.config.Config.{Config};
 ghost use Rattle.sim_base.specs.declared.trace.Entry.{Entry};
 ghost use Rattle.statistics.specs.declared.final_state.Credits.{Credits};
-ghost use Rattle.core_window.specs.Turns.{lacks_by, credits_of_kind, more_credit};
+ghost use Rattle.core_window.specs.Turns.{lacks_by, IsSeen, credits_of_kind, more_credit};
 ghost use Rattle.core_window.specs.CoreViews.{view_of};
 ghost use Rattle.core_window.specs.Fit.{IsDue, MayRun, Runs};
 ghost use Rattle.core_window.specs.Stands.{StandsFor};
@@ -18,9 +18,9 @@ ghost use Rattle.core_window.specs.Replies.{MayTakeReply, after_reply};
 ghost use Rattle.core_window.specs.Waiting.{is_waiting};
 ghost use Rattle.core_window.specs.declared.waiting.WaitingRead.{WaitingRead};
 
-use crate::counts::cycle_counts;
+use crate::counts::{count_cycle, count_cycles, cycle_counts};
 use crate::flow::{Flow, WindowNumbers, flow_of};
-use crate::issue::{entry_issued, issue_of, next_two};
+use crate::issue::{Ahead, entry_issued, issue_of, next_two};
 use crate::issue_effects::{send, spend, wait_for};
 use crate::receive::{add_credit_at, count_reply, is_waiting, issue_cycle_of, remove_read};
 use crate::retire::retire_count;
@@ -76,20 +76,29 @@ pub struct CoreDone {
 }
 
 impl Core {
-    /// What the core does in the next cycle.
-    fn turn(&self) -> Turn
+    /// The next two memory entries of its trace.
+    fn ahead(&self) -> Ahead
         requires { IsStanding (view_of self.now) }
+        ensures { IsSeen self.now.trace self.now.stats.issued result.one result.two result.entry }
+    {
+        let before = self.stats.reads.saturating_add(self.stats.writes);
+        next_two(&self.trace, self.stats.issued, before)
+    }
+
+    /// What the core does in the next cycle, where these memory entries are the next two.
+    fn turn_with(&self, ahead: &Ahead) -> Turn
+        requires stands { IsStanding (view_of self.now) }
+        requires seen { IsSeen self.now.trace self.now.stats.issued ahead.now.one ahead.now.two ahead.now.entry }
         ensures { Does (view_of self.now) result.row result.why result.memory }
     {
         let len = self.trace.len();
         let number = self.stats.issued;
         let retired = retire_count(self.config.width, &self.waiting, number, self.stats.retired);
         let gone = self.stats.retired + u64::from(retired);
-        let ahead = next_two(&self.trace, number);
-        let lacks = ahead.one < len
-            && is_without_credit(&self.credits, &self.config, self.trace.entry_at(ahead.one));
-        let issue = issue_of(&self.config, len, number, gone, &ahead, lacks);
-        let memory = entry_issued(&self.trace, number, ahead.one, issue.count);
+        let near = (number + u64::from(self.config.width)).min(len);
+        let lacks = ahead.one < near && is_without_credit(&self.credits, &self.config, ahead.entry);
+        let issue = issue_of(&self.config, len, number, gone, ahead, lacks);
+        let memory = entry_issued(number, ahead, issue.count);
         Turn {
             row: CoreRow {
                 retired,
@@ -98,6 +107,14 @@ impl Core {
             why: issue.why,
             memory,
         }
+    }
+
+    /// What the core does in the next cycle.
+    fn turn(&self) -> Turn
+        requires { IsStanding (view_of self.now) }
+        ensures { Does (view_of self.now) result.row result.why result.memory }
+    {
+        self.turn_with(&self.ahead())
     }
 
     /// Goes on by a cycle, in which no further message comes, and does this.
@@ -111,15 +128,15 @@ impl Core {
         wait_for(&mut self.waiting, turn.memory, self.cycle)?;
         spend(&mut self.credits, &self.config, turn.memory);
         send(sent, &self.config, self.id, self.cycle, turn.memory)?;
-        let counts = cycle_counts(
+        let len = self.trace.len();
+        count_cycle(
+            &mut self.stats,
             turn.row,
             turn.why,
             turn.memory,
-            self.stats.retired,
-            self.trace.len(),
+            len,
             self.cycle,
         );
-        self.stats = self.stats.joined(counts);
         self.cycle += 1;
         Ok(())
     }
@@ -133,8 +150,7 @@ impl Core {
         ensures { view_of self.new ≡ steady_view (view_of self.old) row why cycles }
     {
         prove!(self.trace.len() <= 1 << 62);
-        let each = cycle_counts(row, why, None, 0, 0, 0);
-        self.stats = self.stats.joined(each.times(cycles));
+        count_cycles(&mut self.stats, row, why, cycles);
         self.cycle += cycles;
     }
 
@@ -180,13 +196,13 @@ impl Core {
     }
 
     /// The cycles, at most so many, in which the core issues its width of Plain entries and does the same in each.
-    fn flow(&self, most: u64) -> Flow
-        requires { IsStanding (view_of self.now) }
+    fn flow(&self, ahead: &Ahead, most: u64) -> Flow
+        requires stands { IsStanding (view_of self.now) }
+        requires seen { IsSeen self.now.trace self.now.stats.issued ahead.now.one ahead.now.two ahead.now.entry }
         ensures steady { IsSteady (view_of self.now) result.cycles (record { retired = result.retired; issued = self.now.config.width }) Stop.Width }
         ensures most { result.cycles ≤ most }
     {
         let issued = self.stats.issued;
-        let ahead = next_two(&self.trace, issued);
         let last = self.trace.len().saturating_sub(1);
         let numbers = WindowNumbers {
             width: self.config.width,
@@ -199,13 +215,19 @@ impl Core {
     }
 
     /// Goes on by a cycle, or up to a cycle, if the core does nothing until a message comes.
-    fn rest_or_step(&mut self, until: Cycle, sent: &mut Vec<Message>) -> Result<(), AllocError>
+    fn rest_or_step(
+        &mut self,
+        ahead: &Ahead,
+        until: Cycle,
+        sent: &mut Vec<Message>,
+    ) -> Result<(), AllocError>
         requires stands { IsStanding (view_of self.old) }
+        requires seen { IsSeen self.old.trace self.old.stats.issued ahead.now.one ahead.now.two ahead.now.entry }
         requires order { self.old.cycle < until }
         requires early { until < 2 ^ 62 }
         ensures { OnOk result (GoesOn until (view_of self.old) sent.old.items (view_of self.new) sent.new.items) }
     {
-        let turn = self.turn();
+        let turn = self.turn_with(ahead);
         if turn.row.retired == 0 && turn.row.issued == 0 {
             self.pass(turn.row, turn.why, until - self.cycle);
             Ok(())
@@ -221,9 +243,10 @@ impl Core {
         requires early { until < 2 ^ 62 }
         ensures { OnOk result (GoesOn until (view_of self.old) sent.old.items (view_of self.new) sent.new.items) }
     {
-        let flow = self.flow(until - self.cycle);
+        let ahead = self.ahead();
+        let flow = self.flow(&ahead, until - self.cycle);
         if flow.cycles == 0 {
-            self.rest_or_step(until, sent)
+            self.rest_or_step(&ahead, until, sent)
         } else {
             let row = CoreRow {
                 retired: flow.retired,

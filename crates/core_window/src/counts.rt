@@ -3,6 +3,8 @@
 ghost use Rattle.std.specs.Prelude.{◌≡◌, ◌+◌, ◌<◌, ◌^◌};
 ghost use Rattle.sim_base.specs.Counts.{is_stop};
 ghost use Rattle.statistics.specs.Counts.{one_if};
+ghost use Rattle.statistics.specs.Cores.{core_joined, core_times, CoreFits};
+ghost use Rattle.core_window.specs.Steady.{steady_counts, with_stop, with_memory};
 ghost use Rattle.core_window.specs.Turns.{cycle_counts, is_read_among, is_write_among};
 
 use cpu_trace::entries::MemoryEntry;
@@ -75,4 +77,65 @@ pub fn cycle_counts(
         stop_credit: one_if_stop(Stop::Credit, why),
         finish: if is_finish { Some(now) } else { None },
     }
+}
+
+/// So many cycles more in which a core stops for this cause.
+fn count_stop(stats: &mut CoreStats, why: Stop, cycles: u64)
+    requires { CoreFits (with_stop stats.old why cycles) }
+    ensures { stats.new ≡ with_stop stats.old why cycles }
+{
+    match why {
+        Stop::End => stats.stop_end += cycles,
+        Stop::Width => stats.stop_width += cycles,
+        Stop::Window => stats.stop_window += cycles,
+        Stop::Memory => stats.stop_memory += cycles,
+        Stop::Credit => stats.stop_credit += cycles,
+    }
+}
+
+/// The memory entry that issues, if one does.
+fn count_memory(stats: &mut CoreStats, memory: Option<MemoryEntry>)
+    requires { CoreFits (with_memory stats.old memory) }
+    ensures { stats.new ≡ with_memory stats.old memory }
+{
+    match memory {
+        Some(next) => match next.entry {
+            Entry::Read(_) => stats.reads += 1,
+            Entry::Write(_) => stats.writes += 1,
+            Entry::Plain => (),
+        },
+        None => (),
+    }
+}
+
+/// Counts cycles in which a core does the same.
+pub fn count_cycles(stats: &mut CoreStats, row: CoreRow, why: Stop, cycles: u64)
+    requires { CoreFits (core_joined stats.old (core_times cycles (steady_counts row why))) }
+    ensures { stats.new ≡ core_joined stats.old (core_times cycles (steady_counts row why)) }
+{
+    stats.issued += cycles * u64::from(row.issued);
+    stats.retired += cycles * u64::from(row.retired);
+    count_stop(stats, why, cycles);
+}
+
+/// Counts a cycle, but for its replies. The trace of the core has this length.
+pub fn count_cycle(
+    stats: &mut CoreStats,
+    row: CoreRow,
+    why: Stop,
+    memory: Option<MemoryEntry>,
+    len: u64,
+    now: Cycle,
+)
+    requires { CoreFits (core_joined stats.old (cycle_counts row why memory stats.old.retired len now)) }
+    ensures { stats.new ≡ core_joined stats.old (cycle_counts row why memory stats.old.retired len now) }
+{
+    let retired = stats.retired + u64::from(row.retired);
+    if stats.retired < len && len <= retired {
+        stats.finish = Some(now);
+    }
+    stats.issued += u64::from(row.issued);
+    stats.retired = retired;
+    count_memory(stats, memory);
+    count_stop(stats, why, 1);
 }

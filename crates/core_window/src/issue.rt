@@ -2,47 +2,54 @@
 
 ghost use Rattle.std.specs.Prelude.{◌≡◌, ℕ, ◌+◌, ◌-◌, ◌^◌, ◌≤◌, ◌<◌, List, length};
 ghost use Rattle.std.specs.Option.{IfSome};
-ghost use Rattle.sim_base.specs.declared.message.Message.{Message};
 ghost use Rattle.sim_base.specs.declared.trace.Entry.{Entry};
-ghost use Rattle.core_window.specs.Turns.{IsNextOrEnd, IsAhead, MayIssue, IsLast, IsIssued};
+ghost use Rattle.core_window.specs.Turns.{IsNextOrEnd, IsSeen, IsIssued};
 ghost use Rattle.core_window.specs.Causes.{issue_count, cause_at};
 
 use cpu_trace::entries::MemoryEntry;
 use cpu_trace::trace::Trace;
 use sim_base::config::Config;
-use sim_base::trace::Stop;
+use sim_base::trace::{Entry, Stop};
 
-/// The number of the next Read or Write from a number on, or the length of the trace, where there is none.
-fn next_or_end(trace: &Trace, from: u64) -> u64
+/// The number of the next Read or Write from a number on, before which so many stand, or the length of the trace, where there
+/// is none.
+fn next_or_end(trace: &Trace, from: u64, before: u64) -> u64
     requires { from ≤ length trace.now }
     ensures { IsNextOrEnd trace.now from result }
 {
-    match trace.next_memory(from) {
+    match trace.next_memory_near(from, before) {
         Some(next) => next.number,
         None => trace.len(),
     }
 }
 
-/// The numbers of the next two memory entries, or the length of the trace.
+/// The numbers of the next two memory entries, or the length of the trace, and the first of these entries.
 #[derive(Clone, Copy, PartialEq, Eq, Debug)]
 pub struct Ahead {
     pub one: u64,
+    pub entry: Entry,
     pub two: u64,
 }
 
-/// The next two memory entries from a number on.
-pub fn next_two(trace: &Trace, from: u64) -> Ahead
+/// The next two memory entries from a number on, before which so many stand.
+#[tactic(auto, using(std::proofs::lemmas::Option::slice_get_within))]
+pub fn next_two(trace: &Trace, from: u64, before: u64) -> Ahead
     requires { from ≤ length trace.now }
-    ensures { IsAhead trace.now from result.one result.two }
+    ensures { IsSeen trace.now from result.one result.two result.entry }
 {
-    let one = next_or_end(trace, from);
     let len = trace.len();
-    let two = if one < len {
-        next_or_end(trace, one + 1)
-    } else {
-        len
-    };
-    Ahead { one, two }
+    match trace.next_memory_near(from, before) {
+        Some(next) => Ahead {
+            one: next.number,
+            entry: next.entry,
+            two: next_or_end(trace, next.number + 1, before.saturating_add(1)),
+        },
+        None => Ahead {
+            one: len,
+            entry: Entry::Plain,
+            two: len,
+        },
+    }
 }
 
 /// How many entries issue, and why no more.
@@ -88,7 +95,7 @@ fn count_of(width: u16, window: u32, number: u64, gone: u64, ahead: &Ahead, lack
 }
 
 /// How many entries issue from a number on, where so many were retired, and why no more: the memory entries ahead are known,
-/// and whether the core lacks a credit for the first of them.
+/// and whether the core lacks a credit for the first of them, if this is near enough to issue.
 pub fn issue_of(
     config: &Config,
     len: u64,
@@ -98,9 +105,7 @@ pub fn issue_of(
     lacks: bool,
 ) -> Issue
     requires { number ≤ 2 ^ 62 }
-    ensures last { (core : ℕ) (trace : List Entry) (inbox sent : List Message) (now : ℕ) → length trace ≡ len
-        → MayIssue config.now core trace inbox sent now number gone ahead.now.one ahead.now.two lacks
-        → IsLast config.now core trace inbox sent now number gone ahead.now.one ahead.now.two lacks result.count result.why }
+    ensures why { result.why ≡ cause_at config.now.width config.now.window len number gone ahead.now.two result.count }
     ensures count { result.count ≡ issue_count config.now.width config.now.window number gone ahead.now.one ahead.now.two lacks }
 {
     let count = count_of(config.width, config.window, number, gone, ahead, lacks);
@@ -117,17 +122,17 @@ pub fn issue_of(
 }
 
 /// The first of the memory entries ahead, if it is one of those that issue.
-pub fn entry_issued(trace: &Trace, number: u64, one: u64, count: u16) -> Option<MemoryEntry>
-    requires one { IsNextOrEnd trace.now number one }
-    requires within { number + count ≤ length trace.now }
-    requires fits { length trace.now ≤ 2 ^ 62 }
-    ensures issued { (two : ℕ) → IsAhead trace.now number one two → number + count ≤ two → IsIssued trace.now number count result }
-    ensures at { IfSome result (λ e. e.number ≡ one) }
+#[tactic(auto, using(crate::proofs::Turning::issued_seen, crate::proofs::Turning::none_seen))]
+pub fn entry_issued(number: u64, ahead: &Ahead, count: u16) -> Option<MemoryEntry>
+    requires { number ≤ 2 ^ 62 }
+    ensures issued { (trace : List Entry) → IsSeen trace number ahead.now.one ahead.now.two ahead.now.entry → number + count ≤ ahead.now.two
+        → number ≤ length trace → IsIssued trace number count result }
+    ensures at { IfSome result (λ e. e.number ≡ ahead.now.one) }
 {
-    if one < number + u64::from(count) {
+    if ahead.one < number + u64::from(count) {
         Some(MemoryEntry {
-            number: one,
-            entry: trace.entry_at(one),
+            number: ahead.one,
+            entry: ahead.entry,
         })
     } else {
         None

@@ -1,21 +1,18 @@
 -- The numbers of a core say how many cycles are alike.
-use Rattle.std.proofs.Common.{sym, ap, ap₂, ◌∙◌, ◌-◌, ℕ, min, arith}
+use Rattle.std.proofs.Common.{arith}
 use Rattle.core_window.specs.CoreViews.{view_of}
 use Rattle.core_window.proofs.Flowing.{flow-here}
 use Rattle.core_window.proofs.Turning.{sound}
 use Rattle.core_window.proofs.core_unit.Core.flow.Goals as goal
 
-pub next_two-ahead-requires : goal.next_two-ahead-requires
-next_two-ahead-requires c = (sound (view_of c.args.self.now) c.requires).issued
-
 pub flow_of-requires-clause-order : goal.flow_of-requires-clause-order
-flow_of-requires-clause-order c = (sound (view_of c.args.self.now) c.requires).retired
+flow_of-requires-clause-order c = (sound (view_of c.args.self.now) c.requires.stands).retired
 
 pub flow_of-requires-clause-room : goal.flow_of-requires-clause-room
-flow_of-requires-clause-room c = (sound (view_of c.args.self.now) c.requires).window
+flow_of-requires-clause-room c = (sound (view_of c.args.self.now) c.requires.stands).window
 
 pub returns-clause-steady : goal.returns-clause-steady
 returns-clause-steady c =
-    flow-here (view_of c.args.self.now) c.next_two-ahead.result.one c.next_two-ahead.result.two c.flow_of.result.retired c.flow_of.result.cycles c.saturating_sub.result _
-    c.next_two-ahead.ensures (sound (view_of c.args.self.now) c.requires).retired (omega (arith, c.args.self.now.config.core_in_range.width_in)) c.flow_of.ensures.plain
+    flow-here (view_of c.args.self.now) c.args.ahead.now.one c.args.ahead.now.two c.flow_of.result.retired c.flow_of.result.cycles c.saturating_sub.result _
+    c.requires.seen.ahead (sound (view_of c.args.self.now) c.requires.stands).retired (omega (arith, c.args.self.now.config.core_in_range.width_in)) c.flow_of.ensures.plain
     (omega (arith, c.len.ensures.value)) c.deref.ensures.value c.flow_of.ensures.flow

@@ -4,7 +4,6 @@ use Rattle.std.specs.Prelude.{slice_get}
 use Rattle.std.specs.Vec.{with_items}
 use Rattle.std.proofs.lemmas.List.{with_items_is}
 use Rattle.statistics.specs.Cores.{core_joined, CoreFits}
-use Rattle.statistics.specs.declared.cores.CoreStats.{CoreStats}
 use Rattle.statistics.specs.declared.final_state.Credits.{Credits}
 use Rattle.core_window.specs.CoreViews.{view_of}
 use Rattle.core_window.specs.Turns.{cycle_counts}
@@ -12,27 +11,13 @@ use Rattle.core_window.proofs.Stepping.{step-fits, step-advances}
 use Rattle.core_window.proofs.Turning.{like-self}
 use Rattle.core_window.proofs.core_unit.Core.step.Goals as goal
 
-fits : (c : goal.After-len) → CoreFits (core_joined c.args.self.now.stats (cycle_counts c.args.turn.row c.args.turn.why c.args.turn.memory c.args.self.now.stats.retired (length c.args.self.now.trace) c.args.self.now.cycle))
-fits c =
+pub count_cycle-requires : goal.count_cycle-requires
+count_cycle-requires c =
     let h = c.requires.stands in
-    step-fits h.s h.core h.trace h.rows h.mail (view_of c.args.self.now) c.args.turn.row c.args.turn.why c.args.turn.memory h.stands
-    (c.requires.turn (view_of c.args.self.now) h.s h.core h.trace h.rows h.mail (like-self (view_of c.args.self.now)) h.stands) (omega (arith, c.len.ensures.value, c.len.ensures.limit)) c.requires.early
-
-fits_then : (c : goal.After-joined-arg-1) → CoreFits (core_joined c.args.self.now.stats (cycle_counts c.args.turn.row c.args.turn.why c.args.turn.memory c.args.self.now.stats.retired (length c.args.self.now.trace) c.args.self.now.cycle))
-fits_then c =
-    let h = c.requires.stands in
-    step-fits h.s h.core h.trace h.rows h.mail (view_of c.args.self.now) c.args.turn.row c.args.turn.why c.args.turn.memory h.stands
-    (c.requires.turn (view_of c.args.self.now) h.s h.core h.trace h.rows h.mail (like-self (view_of c.args.self.now)) h.stands) (omega (arith, c.len.ensures.value, c.len.ensures.limit)) c.requires.early
-
-pub cycle_counts-counts-requires : goal.cycle_counts-counts-requires
-cycle_counts-counts-requires c = (fits c).retired
-
-pub joined-self-requires : goal.joined-self-requires
-joined-self-requires c =
-    subst (λ (x : CoreStats). CoreFits (core_joined c.args.self.now.stats x))
-    (sym (c.cycle_counts-counts.ensures
-    ∙ ap (λ n. cycle_counts c.args.turn.row c.args.turn.why c.args.turn.memory c.args.self.now.stats.retired n c.args.self.now.cycle) c.len.ensures.value))
-    (fits_then c)
+    let a = view_of c.args.self.now in
+    subst (λ n. CoreFits (core_joined a.stats (cycle_counts c.args.turn.row c.args.turn.why c.args.turn.memory a.stats.retired n a.now))) (sym c.len-len.ensures.value)
+    (step-fits h.s h.core h.trace h.rows h.mail a c.args.turn.row c.args.turn.why c.args.turn.memory h.stands
+    (c.requires.turn a h.s h.core h.trace h.rows h.mail (like-self a) h.stands) (omega (arith, c.len-len.ensures.value, c.len-len.ensures.limit)) c.requires.early)
 
 pub returns-clause-advances : goal.returns-clause-advances
 returns-clause-advances c s core trace rows mail h =
@@ -49,9 +34,7 @@ returns-clause-advances c s core trace rows mail h =
       channels = ap length kept ∙ c.spend.auto.credits ∙ ap length c.deref_mut.ensures.value;
       credits = λ channel x e. ap (λ (cs : List Credits). slice_get cs channel) kept
           ∙ c.spend.ensures channel x (ap (λ (cs : List Credits). slice_get cs channel) c.deref_mut.ensures.value ∙ e);
-      stats = c.joined-self.ensures
-          ∙ ap (core_joined c.args.self.now.stats)
-          (c.cycle_counts-counts.ensures
-          ∙ ap (λ n. cycle_counts c.args.turn.row c.args.turn.why c.args.turn.memory c.args.self.now.stats.retired n c.args.self.now.cycle) c.len.ensures.value);
+      stats = c.count_cycle.ensures
+          ∙ ap (λ n. core_joined c.args.self.now.stats (cycle_counts c.args.turn.row c.args.turn.why c.args.turn.memory c.args.self.now.stats.retired n c.args.self.now.cycle)) c.len-len.ensures.value;
     })
     (c.in_ok-send.ensures {u = tt}) s core trace rows mail h

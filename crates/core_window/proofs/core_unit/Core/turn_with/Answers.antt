@@ -1,0 +1,64 @@
+-- What the parts say of the fields of a core is what it finds out.
+use Rattle.std.proofs.Common.{Bool, false, ◌≡◌, ◌&&◌, List, length, refl, sym, ap, ap₂, ◌∙◌, min, ltb, ◌-◌, ◌+◌, ◌<◌, ◌≤◌, subst, arith}
+use Rattle.std.specs.Prelude.{slice_get}
+use Rattle.std.proofs.lemmas.Bool.{lt-ltb, le-ltb}
+use Rattle.sim_base.specs.History.{core_messages}
+use Rattle.sim_base.specs.Windows.{lacks_credit}
+use Rattle.core_window.specs.Causes.{first_undone, issue_count, cause_at}
+use Rattle.core_window.specs.CoreViews.{view_of}
+use Rattle.core_window.specs.Turns.{IsLast}
+use Rattle.core_window.specs.declared.waiting.WaitingRead.{WaitingRead}
+use Rattle.statistics.specs.declared.final_state.Credits.{Credits}
+use Rattle.core_window.proofs.Stopping.{is_last}
+use Rattle.core_window.proofs.Turning.{IsSound, sound, turn-is, lacks_here, lazy-count, issues_within}
+use Rattle.core_window.proofs.core_unit.Core.turn_with.Goals as goal
+use Rattle.core_window.proofs.core_unit.Core.turn_with.Goals.{then-ahead-near, else-ahead-near}
+
+pub overflow_add-gone : goal.overflow_add-gone
+overflow_add-gone c = let h : IsSound (view_of c.args.self.now) = sound _ c.requires.stands in omega arith
+
+pub returns : goal.returns
+returns c v s core trace rows mail i h =
+    let a = view_of c.args.self.now in
+    let one = c.args.ahead.now.one in
+    let two = c.args.ahead.now.two in
+    let r = c.retire_count-retired.result in
+    let gone = a.stats.retired + r in
+    let full : Bool = ltb one (length a.trace) && lacks_credit a.config core mail (core_messages s core trace rows) (length rows) (slice_get a.trace one) in
+    let lack = λ (b : Bool). b && lacks_credit a.config core mail (core_messages s core trace rows) (length rows) (slice_get a.trace one) in
+    let lacks = c.if-ahead-near.lacks in
+    let seen = c.requires.seen in
+    let near : one < min (a.stats.issued + a.config.width) (length a.trace) → lacks ≡ full = λ l. elim c.if-ahead-near.branch [
+      | then-ahead-near w ↦
+          let inside : one < length a.trace = omega arith in
+          w.lacks-is
+          ∙ lacks_here s core trace rows mail a v c.args.ahead.now.entry w.is_without_credit-lacks.result i h
+          (λ held says. w.is_without_credit-lacks.ensures held (λ channel b. ap (λ (cs : List Credits). slice_get cs channel) w.deref-then-ahead-near.ensures.value ∙ says channel b))
+          ∙ ap (lacks_credit a.config core mail (core_messages s core trace rows) (length rows)) (sym (seen.is_at inside))
+          ∙ ap lack (sym (lt-ltb one (length a.trace) inside))
+      | else-ahead-near w ↦ absurd (omega (arith, w.if-ahead-near.false, c.min-near.ensures, c.from-2.ensures, c.len-len.ensures.value))
+    ] in
+    let far : min (a.stats.issued + a.config.width) (length a.trace) ≤ one → lacks ≡ false = λ g. elim c.if-ahead-near.branch [
+      | then-ahead-near w ↦ absurd (omega (arith, w.if-ahead-near.true, c.min-near.ensures, c.from-2.ensures, c.len-len.ensures.value))
+      | else-ahead-near w ↦ w.lacks-is ∙ le-ltb one c.min-near.result w.if-ahead-near.false
+    ] in
+    let count : c.issue_of-issue.result.count ≡ issue_count a.config.width a.config.window a.stats.issued gone one two full =
+    c.issue_of-issue.ensures.count ∙ ap (λ n. issue_count a.config.width a.config.window a.stats.issued (a.stats.retired + n) one two lacks) c.from.ensures
+    ∙ lazy-count a.trace a.config.width a.config.window a.stats.issued gone one two lacks full seen.ahead near far in
+    let cause : cause_at a.config.width a.config.window (length a.trace) a.stats.issued gone two c.issue_of-issue.result.count ≡ c.issue_of-issue.result.why =
+    sym (c.issue_of-issue.ensures.why
+    ∙ ap₂ (λ n k. cause_at a.config.width a.config.window n a.stats.issued (a.stats.retired + k) two c.issue_of-issue.result.count) c.len-len.ensures.value c.from.ensures) in
+    turn-is s core trace rows mail (view_of c.args.self.now) v r one two full
+    c.issue_of-issue.result.count c.issue_of-issue.result.why c.entry_issued-memory.result i h
+    (record {
+      retired = c.retire_count-retired.ensures ∙ ap (λ (ws : List WaitingRead). min a.config.width (first_undone a.stats.issued ws - a.stats.retired)) c.deref.ensures.value;
+      ahead = seen.ahead;
+      credit = refl;
+      last = λ may. subst
+          (λ why. IsLast a.config core a.trace mail (core_messages s core trace rows) (length rows) a.stats.issued gone one two full c.issue_of-issue.result.count why) cause
+          (is_last a.config core a.trace mail (core_messages s core trace rows) (length rows) a.stats.issued gone one two full may c.issue_of-issue.result.count count);
+      issues = c.entry_issued-memory.ensures.issued a.trace seen
+          (issues_within a.trace a.config.width a.config.window a.stats.issued gone one two c.issue_of-issue.result.count full seen.ahead (sound _ c.requires.stands).issued count)
+          (sound _ c.requires.stands).issued;
+      at = c.entry_issued-memory.ensures.at;
+    })
