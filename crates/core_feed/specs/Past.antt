@@ -2,7 +2,6 @@
 --     rows_by s core trace mail now      what a core did before a cycle, where it had this mail
 --     IsFed s core mail view      a core stands for that
 use Rattle.std.specs.Prelude.{ℕ, List, []}
-use Rattle.std.proofs.Props.{props}
 use Rattle.sim_base.specs.declared.config.Config.{Config}
 use Rattle.sim_base.specs.Machine.{core_run}
 use Rattle.sim_base.specs.declared.history.CoreRow.{CoreRow}
@@ -18,6 +17,3 @@ rows_by s core trace mail now = core_run s core trace [] mail now
 -- a core of this configuration and number did that, with its own trace and up to the cycle where it stands
 abbrev pub IsFed : Config → ℕ → List Message → CoreView → Type 0
 IsFed s core mail view = StandsFor s core view.trace (rows_by s core view.trace mail view.now) mail view
-
-pub IsFed-prop : (s : Config) (core : ℕ) (mail : List Message) (view : CoreView) → IsProp (IsFed s core mail view)
-IsFed-prop s core mail view = hlevel props

@@ -4,7 +4,8 @@
 
 ghost use Rattle.std.specs.Prelude.{◌≡◌, ◌↔◌, ◌++◌, [], false, IfOk, IfErr, IsErr, IsTrue, Err};
 ghost use Rattle.sim_base.specs.declared.message.Message.{Message};
-ghost use Rattle.core_feed.specs.Past.{IsFed, IsFed-prop};
+ghost use Rattle.core_feed.specs.Past.{IsFed};
+ghost use Rattle.std.proofs.Props.{props};
 ghost use Rattle.core_feed.specs.Expected.{is_reply_expected, is_credit_expected, is_load_expected, is_in_time, is_expected, are_expected, may_go};
 ghost use Rattle.core_window.specs.CoreViews.{view_of};
 ghost use Rattle.core_window.specs.Fit.{Fit, Runs};
@@ -26,7 +27,7 @@ pub struct FedCore {
     id: CoreId,
     core: Core,
     mail: Vec<Message>,
-    pub ghost fed: { IsFed config id mail.items (view_of core) } by { IsFed-prop config id mail.items (view_of core) },
+    pub ghost fed: { IsFed config id mail.items (view_of core) } by { Prim.hlevel props },
 }
 
 /// Why a core was not fed.
