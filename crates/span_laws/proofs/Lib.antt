@@ -1,0 +1,4 @@
+pub mod Lists
+pub mod Arrivals
+pub mod Requests
+pub mod ChannelSpans
