@@ -2,3 +2,5 @@ pub mod Lists
 pub mod Arrivals
 pub mod Requests
 pub mod ChannelSpans
+pub mod Dues
+pub mod CoreSpans

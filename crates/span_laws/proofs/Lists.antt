@@ -15,7 +15,7 @@ use Rattle.laws.specs.Links.{arrives_on}
 use Rattle.channel_step.specs.Fit.{ComeByAge}
 use Rattle.span_laws.specs.Mail.{arriving}
 
-no_sooner : (m y : Message) → is_before y m ≡ false → m.arrival ≤ y.arrival
+pub no_sooner : (m y : Message) → is_before y m ≡ false → m.arrival ≤ y.arrival
 no_sooner m y h = grind (arith, nat_tests)
 
 -- where all arrive at the start of a span or later, those that arrive in it are those that arrive by its end
@@ -47,6 +47,14 @@ arriving-within from until P ms h =
     (λ m k. let both = and_parts (leb from m.arrival) (ltb m.arrival until) k.0 in (leb-true from m.arrival both.0, ltb-true m.arrival until both.1, k.1))
     (filter p ms) (Each-filter_passes P p ms h)
 
+-- what arrived before a cycle
+pub before-within : (cycle : ℕ) (ms : List Message) → Each (λ (m : Message). m.arrival < cycle) (arrived ms cycle)
+before-within cycle [] = tt
+before-within cycle (m ∷ ms) =
+    cond_both (ltb m.arrival cycle) (m ∷ arrived ms cycle) (arrived ms cycle) (Each (λ (y : Message). y.arrival < cycle))
+    (λ e. (ltb-true m.arrival cycle e, before-within cycle ms)) (λ e. before-within cycle ms)
+
+-- a part of what is in order
 pub Sorted-filter : (p : Message → Bool) (ms : List Message) → Sorted ms → Sorted (filter p ms)
 Sorted-filter p [] h = tt
 Sorted-filter p (m ∷ ms) h =

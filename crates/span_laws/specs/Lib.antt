@@ -1,2 +1,3 @@
 pub mod Mail
 pub mod Channels
+pub mod Cores

@@ -3,4 +3,5 @@
 #![tactic(auto)]
 
 pub mod channels;
+pub mod cores;
 pub mod mail;
