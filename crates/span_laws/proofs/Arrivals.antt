@@ -1,26 +1,24 @@
 -- What arrives at a unit of a run, span by span.
-use Rattle.std.proofs.Common.{◌≡◌, ℕ, ◌+◌, ◌-◌, ◌<◌, ◌≤◌, Bool, ltb, leb, ◌&&◌, List, [], ◌++◌, refl, sym, ap, subst, ◌∙◌, arith}
+use Rattle.std.proofs.Common.{◌≡◌, ℕ, ◌+◌, ◌-◌, ◌<◌, ◌≤◌, Bool, ltb, leb, ◌&&◌, List, [], sym, ap, subst, ◌∙◌, arith}
 use Rattle.std.specs.Prelude.{filter, count_by}
-use Rattle.std.specs.List.{AllByRecursion as Each}
 use Rattle.std.proofs.lemmas.Bool.{and_parts, and_right, le-ltb}
 use Rattle.sim_base.specs.declared.config.Config.{Config}
 use Rattle.sim_base.specs.Row.{Row}
-use Rattle.sim_base.specs.History.{messages, is_to, by_age, inbox}
-use Rattle.sim_base.specs.Locality.{TravelsFor}
+use Rattle.sim_base.specs.History.{messages, is_to, inbox}
 use Rattle.sim_base.specs.Machine.{run}
 use Rattle.sim_base.specs.declared.message.Message.{Message}
 use Rattle.sim_base.specs.declared.message.Unit.{Unit as MachineUnit}
 use Rattle.sim_base.specs.declared.trace.Entry.{Entry}
-use Rattle.sim_base.proofs.Arrived.{arrived, by_age-puts}
-use Rattle.sim_base.proofs.Each.{Each-filter}
-use Rattle.sim_base.proofs.Ordered.{Sorted, Sorted-puts}
+use Rattle.sim_base.proofs.Arrived.{arrived, arrived-none, by_age-puts}
+use Rattle.sim_base.proofs.Each.{Each-all, Each-filter}
+use Rattle.sim_base.proofs.Ordered.{Sorted, Sorted-puts, filter-by_age}
 use Rattle.sim_base.proofs.Same.{Stamped, AgreeUpTo}
 use Rattle.sim_base.proofs.Spans.{inbox-run, inbox-stamped, has_channels}
 use Rattle.statistics.proofs.Messages.{filter-arrived, arrived-arrived}
 use Rattle.statistics.proofs.RunSteps.{travels}
 use Rattle.laws.proofs.Counting.{count-weaker}
 use Rattle.laws.proofs.Spent.{count-inbox}
-use Rattle.span_laws.specs.Mail.{arriving, mail_before, mail_in, MailIsSettled, MailIsKnown, SpansJoin}
+use Rattle.span_laws.specs.Mail.{arriving, mail_before, MailIsSettled, MailIsKnown, SpansJoin, MailIsSent}
 use Rattle.span_laws.proofs.Lists.{arriving-more}
 
 pub inbox-sorted : (s : Config) (traces : List (List Entry)) (history : List Row) (unit : MachineUnit) → Sorted (inbox s traces history unit)
@@ -68,3 +66,15 @@ arrived-agree s traces now until unit l =
       other = inbox-stamped s traces (run s traces now) unit;
       same = λ u h. arrived-arrived u until (omega arith) all ∙ arrived-then s traces now until unit u (omega arith) h;
     }
+
+pub mail-sent : (s : Config) (traces : List (List Entry)) (from until : ℕ) → MailIsSent s traces from until
+unfolding inbox
+mail-sent s traces from until unit n =
+    filter-by_age (λ (m : Message). leb from m.arrival && ltb m.arrival until) (filter (is_to s unit) (messages s traces (run s traces n)))
+
+-- nothing arrives before the first cycle
+pub mail-none : (s : Config) (traces : List (List Entry)) (unit : MachineUnit) → mail_before s traces 0 unit 0 ≡ []
+mail-none s traces unit = none (inbox s traces (run s traces 0) unit)
+  where
+    none : (ms : List Message) → arrived ms 0 ≡ []
+    none ms = arrived-none 0 ms (Each-all (λ (m : Message). 0 ≤ m.arrival) (λ m. omega arith) ms)

@@ -1,26 +1,22 @@
 -- A channel of a run does alone what it does in the run, and the requests that come to it are fit.
-use Rattle.std.proofs.Common.{◌≡◌, ℕ, zero, suc, ◌+◌, ◌-◌, ◌*◌, ◌<◌, ◌≤◌, Bool, ltb, leb, ◌&&◌, List, [], ◌∷◌, ◌++◌, length, Option, refl, sym, ap, ap₂, subst, ◌∙◌, add-zero, add-suc, arith}
-use Rattle.std.specs.Prelude.{filter, count_by}
-use Rattle.std.specs.List.{AllByRecursion as Each}
+use Rattle.std.proofs.Common.{◌≡◌, ℕ, zero, suc, ◌+◌, ◌-◌, ◌<◌, ◌≤◌, ltb, leb, ◌&&◌, List, [], ◌∷◌, ◌++◌, length, sym, ap, ap₂, subst, ◌∙◌, add-zero, add-suc, arith}
 use Rattle.sim_base.specs.declared.config.Config.{Config}
 use Rattle.sim_base.specs.Counts.{queue_length}
 use Rattle.sim_base.specs.History.{inbox}
 use Rattle.sim_base.specs.Machine.{run, channel_run}
 use Rattle.sim_base.specs.Scheduling.{choice, queue_in}
-use Rattle.sim_base.specs.declared.command.Command.{Command}
 use Rattle.sim_base.specs.declared.message.Message.{Message}
 use Rattle.sim_base.specs.declared.message.Unit.TheVariants.{Channel}
 use Rattle.sim_base.specs.declared.trace.Entry.{Entry}
-use Rattle.sim_base.proofs.Each.{Each-filter}
 use Rattle.sim_base.proofs.Ordered.{Each-weaker}
 use Rattle.sim_base.proofs.Same.{AgreeUpTo, choice-same, queue-same}
 use Rattle.laws.specs.Commands.{rows_of}
 use Rattle.laws.specs.Links.{arrives_on}
 use Rattle.laws.proofs.Bounded.{queues_are_bounded}
-use Rattle.laws.proofs.Legal.{chosen, rows_of-more, length-rows_of}
+use Rattle.laws.proofs.Legal.{rows_of-more, length-rows_of}
 use Rattle.laws.proofs.Travel.{links_carry_one_a_cycle}
 use Rattle.channel_step.specs.Past.{CarriesRequest}
-use Rattle.channel_step.specs.Fit.{queue_room, IsFit, ComeByAge}
+use Rattle.channel_step.specs.Fit.{queue_room, ComeByAge}
 use Rattle.span_laws.specs.Channels.{RequestsFitSpans, ChannelsRunAlone}
 use Rattle.span_laws.specs.Mail.{mail_before, mail_in}
 use Rattle.span_laws.proofs.Arrivals.{inbox-sorted, count-mine, arrived-agree, spans-join}

@@ -1,6 +1,5 @@
 -- A core of a run does alone what it does in the run, and the messages that come to it are fit.
-use Rattle.std.proofs.Common.{◌≡◌, ℕ, zero, suc, ◌+◌, ◌-◌, ◌<◌, ◌≤◌, Bool, false, ltb, leb, ◌&&◌, List, [], ◌∷◌, ◌++◌, length, refl, sym, ap, subst, ◌∙◌, add-zero, add-suc, append_assoc, arith}
-use Rattle.std.specs.Prelude.{All, filter}
+use Rattle.std.proofs.Common.{◌≡◌, ℕ, zero, suc, ◌+◌, ◌-◌, ◌<◌, ◌≤◌, false, ltb, leb, ◌&&◌, List, [], ◌∷◌, ◌++◌, length, sym, ap, subst, ◌∙◌, add-zero, add-suc, append_assoc, arith}
 use Rattle.std.specs.List.{AllByRecursion as Each}
 use Rattle.std.proofs.lemmas.List.Elements.{recursion_from_All}
 use Rattle.sim_base.specs.declared.config.Config.{Config}
@@ -21,8 +20,7 @@ use Rattle.laws.specs.Messages.{FitsCore}
 use Rattle.laws.specs.Requests.{AnswersRead}
 use Rattle.laws.proofs.Answered.{replies_answer_reads}
 use Rattle.laws.proofs.Fitting.{answers_fit}
-use Rattle.laws.proofs.Receivers.{Each-filter_passes}
-use Rattle.core_window.specs.Fit.{IsDue, IsByArrival, Fit}
+use Rattle.core_window.specs.Fit.{IsDue, IsByArrival}
 use Rattle.span_laws.specs.Cores.{core_rows_of, MessagesFitSpans, CoresRunAlone}
 use Rattle.span_laws.specs.Mail.{mail_before, mail_in}
 use Rattle.span_laws.proofs.Arrivals.{inbox-sorted, arrived-agree, spans-join}

@@ -1,40 +1,38 @@
 -- What arrives at a core of a run in a cycle of a span: a reply to a Read that waits for it, or a credit that the core spent.
-use Rattle.std.proofs.Common.{◌≡◌, ℕ, zero, suc, ◌+◌, ◌<◌, ◌≤◌, ◌⊎◌, inl, inr, Bool, true, false, cond, not, eqb, ltb, leb, ◌&&◌, ◌||◌, List, [], ◌∷◌, ◌++◌, length, take, refl, sym, ap, ap₂, subst, ◌∙◌, arith, append_assoc}
+use Rattle.std.proofs.Common.{◌≡◌, ℕ, zero, suc, ◌+◌, ◌<◌, ◌≤◌, ◌⊎◌, inl, inr, Bool, true, false, cond, not, eqb, ltb, ◌||◌, List, [], ◌∷◌, ◌++◌, take, refl, sym, ap, ap₂, subst, ◌∙◌, arith}
 use Rattle.std.specs.Prelude.{filter, count_by, map}
 use Rattle.std.specs.List.{AllByRecursion as Each, list_any}
-use Rattle.std.proofs.lemmas.Bool.{cond_both, cases_lt, and_parts, and_from, eq-eqb, lt-ltb}
+use Rattle.std.proofs.lemmas.Bool.{cases_lt, and_from, eq-eqb, lt-ltb}
 use Rattle.std.proofs.lemmas.List.{take-map, take_all, take-append-le}
 use Rattle.std.proofs.lemmas.List.Elements.{filter-append}
 use Rattle.sim_base.specs.declared.config.Config.{Config}
 use Rattle.sim_base.specs.Config.{credit_link}
-use Rattle.sim_base.specs.Row.{Row, core_row}
-use Rattle.sim_base.specs.History.{trace_of, core_rows, is_to, messages, inbox, issued_before, is_before}
+use Rattle.sim_base.specs.Row.{core_row}
+use Rattle.sim_base.specs.History.{trace_of, core_rows, messages, inbox, issued_before}
 use Rattle.sim_base.specs.Machine.{run, next_row}
-use Rattle.sim_base.specs.Windows.{is_reply_to, is_credit, credit_cap}
-use Rattle.sim_base.specs.declared.history.CoreRow.{CoreRow}
+use Rattle.sim_base.specs.Windows.{is_reply_to, is_credit}
 use Rattle.sim_base.specs.declared.message.Load.{Load}
 use Rattle.sim_base.specs.declared.message.Load.TheVariants as load
 use Rattle.sim_base.specs.declared.message.Message.{Message}
 use Rattle.sim_base.specs.declared.message.Unit.TheVariants.{Core}
 use Rattle.sim_base.specs.declared.trace.Entry.{Entry}
-use Rattle.sim_base.proofs.Arrived.{arrived, arrived-none}
-use Rattle.sim_base.proofs.Each.{Each-append, Each-filter}
-use Rattle.sim_base.proofs.Ordered.{Each-weaker, Sorted}
+use Rattle.sim_base.proofs.Arrived.{arrived}
+use Rattle.sim_base.proofs.Ordered.{Each-weaker}
 use Rattle.sim_base.proofs.Spans.{length-run}
 use Rattle.laws.specs.Credits.{requests_sent}
 use Rattle.laws.specs.Messages.{FitsCore}
-use Rattle.laws.specs.Requests.{IsRead, AnswersReadAs}
+use Rattle.laws.specs.Requests.{AnswersReadAs}
 use Rattle.laws.proofs.Answered.{reads_are_answered_once}
 use Rattle.laws.proofs.Conserved.{served, conserved, credits-served}
 use Rattle.laws.proofs.Counting.{count-cons, count-append}
 use Rattle.channel_step.proofs.Requests.{filter-each}
-use Rattle.core_window.specs.Fit.{IsAwaited, IsOwed, IsDueLoad, IsDue, IsByArrival}
-use Rattle.core_window.specs.Stands.{is_credit_from, credits_had, credits_spent}
-use Rattle.core_window.specs.Waiting.{is_read_in, is_read_at, is_answered}
+use Rattle.core_window.specs.Fit.{IsDueLoad, IsDue}
+use Rattle.core_window.specs.Stands.{is_credit_from}
+use Rattle.core_window.specs.Waiting.{is_read_in, is_answered}
 use Rattle.span_laws.specs.Cores.{core_rows_of}
-use Rattle.span_laws.specs.Mail.{mail_before, mail_in}
-use Rattle.span_laws.proofs.Arrivals.{count-mine, arrived-agree, arrived-then, spans-join}
-use Rattle.span_laws.proofs.Lists.{no_sooner, each-none, count-kept}
+use Rattle.span_laws.specs.Mail.{mail_before}
+use Rattle.span_laws.proofs.Arrivals.{count-mine, arrived-agree}
+use Rattle.span_laws.proofs.Lists.{each-none, count-kept}
 
 -- the first cycles of a run
 take-run : (s : Config) (traces : List (List Entry)) (n t : ℕ) → t ≤ n → take t (run s traces n) ≡ run s traces t

@@ -4,3 +4,5 @@ pub mod Requests
 pub mod ChannelSpans
 pub mod Dues
 pub mod CoreSpans
+pub mod ChannelsOn
+pub mod CoresOn

@@ -1,6 +1,6 @@
 -- The requests of a run that come to a channel: each is of another entry, and no command names one before it arrives.
-use Rattle.std.proofs.Common.{◌≡◌, ℕ, zero, suc, ◌+◌, ◌<◌, ◌≤◌, Bool, true, false, cond, eqb, ltb, ◌&&◌, List, [], ◌∷◌, ◌++◌, get_or, take, Option, Some, None, refl, sym, ap, subst, ◌∙◌, arith}
-use Rattle.std.specs.Prelude.{All, Contains, filter, filter_map, count_by, not, IsSomeAnd}
+use Rattle.std.proofs.Common.{◌≡◌, ℕ, zero, suc, ◌+◌, ◌<◌, ◌≤◌, Bool, true, false, eqb, ltb, ◌&&◌, List, [], ◌∷◌, ◌++◌, get_or, take, Option, Some, None, refl, sym, ap, subst, ◌∙◌, arith}
+use Rattle.std.specs.Prelude.{Contains, count_by, IsSomeAnd}
 use Rattle.std.specs.Option.{IfSome}
 use Rattle.std.specs.List.{AllByRecursion as Each, cons_option}
 use Rattle.std.proofs.lemmas.Bool.Decides.{nat_tests}
@@ -10,7 +10,7 @@ use Rattle.sim_base.specs.Row.{Row}
 use Rattle.sim_base.specs.Counts.{source_in}
 use Rattle.sim_base.specs.History.{inbox, issued_commands, channel_rows}
 use Rattle.sim_base.specs.Machine.{run}
-use Rattle.sim_base.specs.Scheduling.{request_in, is_source, source_of, is_served, is_waiting, waiting, queue_in}
+use Rattle.sim_base.specs.Scheduling.{request_in, is_source, source_of, is_waiting, waiting, queue_in}
 use Rattle.sim_base.specs.declared.command.Command.{Command}
 use Rattle.sim_base.specs.declared.command.CommandRow.{CommandRow}
 use Rattle.sim_base.specs.declared.command.Source.{Source}
@@ -29,13 +29,13 @@ use Rattle.statistics.proofs.Messages.{arrived-arrived}
 use Rattle.laws.specs.Commands.{rows_of, history_of}
 use Rattle.laws.specs.Messages.{is_request_of, IsRequestTo}
 use Rattle.laws.proofs.Fitting.{requests_fit, requests_are_sent_once}
-use Rattle.laws.proofs.Legal.{chosen, rows_of-at, Each-history_of}
+use Rattle.laws.proofs.Legal.{rows_of-at, Each-history_of}
 use Rattle.laws.proofs.Named.{commands_name_the_queue}
 use Rattle.channel_step.specs.Past.{requests_of, IsRequestIn, CarriesRequest, IsOther, Differ}
 use Rattle.channel_step.specs.Fit.{is_of, is_named_by, IsUnnamed}
 use Rattle.channel_step.proofs.Requests.{requests-append}
 use Rattle.span_laws.specs.Mail.{mail_before, mail_in}
-use Rattle.span_laws.proofs.Arrivals.{count-mine, arrived-agree, spans-join, mail-settled}
+use Rattle.span_laws.proofs.Arrivals.{count-mine, spans-join, mail-settled}
 use Rattle.span_laws.proofs.Lists.{each-none, count-tail, count-others, count-kept}
 
 carried : (s : Config) (traces : List (List Entry)) (history : List Row) (channel : ℕ) (m : Message) (o : Option Request)

@@ -6,9 +6,10 @@
 --     MailIsSettled s traces from until      what arrives before a cycle does not depend on what is done from that cycle on
 --     MailIsKnown s traces from until      nor on what is done in a span before it that is no longer than each message travels
 --     SpansJoin s traces from until      what arrived before a span, and what arrives in it, is what arrived by its end
+--     MailIsSent s traces from until      what arrives in a span is those of all messages that do, by age
 use Rattle.std.specs.Prelude.{◌≡◌, ℕ, ◌-◌, ◌≤◌, nat_lt, nat_le, ◌&&◌, List, ◌++◌, filter}
 use Rattle.sim_base.specs.declared.config.Config.{Config}
-use Rattle.sim_base.specs.History.{inbox}
+use Rattle.sim_base.specs.History.{is_to, messages, by_age, inbox}
 use Rattle.sim_base.specs.Locality.{TravelsFor}
 use Rattle.sim_base.specs.Machine.{run}
 use Rattle.sim_base.specs.declared.message.Message.{Message}
@@ -45,3 +46,8 @@ abbrev pub SpansJoin : Config → List (List Entry) → ℕ → ℕ → Type 0
 SpansJoin s traces from until =
     (unit : MachineUnit) → from ≤ until
     → mail_before s traces until unit from ++ mail_in s traces until unit from until ≡ mail_before s traces until unit until
+
+-- what arrives in a span is, by age, those of the messages sent so far that go to the unit and arrive in the span
+abbrev pub MailIsSent : Config → List (List Entry) → ℕ → ℕ → Type 0
+MailIsSent s traces from until =
+    (unit : MachineUnit) (n : ℕ) → mail_in s traces n unit from until ≡ by_age (arriving from until (filter (is_to s unit) (messages s traces (run s traces n))))
