@@ -313,7 +313,7 @@ command-credits s core k cycle write l (Some (Prea rank)) = omega arith
 command-credits s core k cycle write l (Some (Ref rank)) = omega arith
 
 -- each credit that was sent is for a request that was served
-credits-served : (s : Config) (traces : List (List Entry)) (core k : ℕ) (write : Bool) → k < s.channels → (n : ℕ)
+pub credits-served : (s : Config) (traces : List (List Entry)) (core k : ℕ) (write : Bool) → k < s.channels → (n : ℕ)
     → count_by (is_credit_from s core k write) (messages s traces (run s traces n)) ≤ served s traces n core k write
 unfolding run channel_sends
 credits-served s traces core k write l zero =

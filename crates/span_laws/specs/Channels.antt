@@ -1,0 +1,78 @@
+-- The channels of a run, each run alone, span by span.
+--     RequestsFitSpans s traces from until      the requests that come to a channel in a span are fit for it
+--     ChannelsRunAlone s traces from until      from them the channel alone does what it does in the run
+--     IsChannelAt s traces channel now c      a channel stands for what it did in the first cycles of a run
+--     HasGone s traces channel from until done      what comes back from it is its part of the run
+--     ChannelsStart, ChannelsMayRun, ChannelsGoOn      a channel stands for that before the first cycle, and from span to span
+--     ChannelsEndAlike s traces now      its statistics and its state are those of the run
+use Rattle.std.specs.Prelude.{◌≡◌, ℕ, ◌-◌, ◌<◌, ◌≤◌, List, [], ◌++◌, length, Option}
+use Rattle.sim_base.specs.declared.config.Config.{Config}
+use Rattle.sim_base.specs.History.{messages_of_channel}
+use Rattle.sim_base.specs.Machine.{run, channel_run}
+use Rattle.sim_base.specs.declared.command.Command.{Command}
+use Rattle.sim_base.specs.declared.message.Message.{Message}
+use Rattle.sim_base.specs.declared.message.Unit.TheVariants as unit
+use Rattle.sim_base.specs.declared.trace.Entry.{Entry}
+use Rattle.statistics.specs.Channels.{channel_stats}
+use Rattle.statistics.specs.Runs.{stats_of_channel, channel_last, last_of_channel}
+use Rattle.laws.specs.Commands.{rows_of, history_of}
+use Rattle.channel_step.specs.Channels.{StandsFor}
+use Rattle.channel_step.specs.Fit.{IsFit}
+use Rattle.channel_step.specs.Runs.{IsDone, CanRun}
+use Rattle.channel_step.specs.declared.channel.Channel.{Channel}
+use Rattle.channel_step.specs.declared.done.ChannelDone.{ChannelDone}
+use Rattle.span_laws.specs.Mail.{mail_before, mail_in}
+
+-- the requests of a run that come to a channel in a span are fit for it, after what the channel did and what arrived before
+abbrev pub RequestsFitSpans : Config → List (List Entry) → ℕ → ℕ → Type 0
+RequestsFitSpans s traces from until =
+    (channel : ℕ) → channel < s.channels → from ≤ until
+    → IsFit s channel (rows_of s traces from channel) (mail_before s traces until (unit.Channel channel) from) (mail_in s traces until (unit.Channel channel) from until) from until
+
+-- from them the channel alone does in the span what it does in the run
+abbrev pub ChannelsRunAlone : Config → List (List Entry) → ℕ → ℕ → Type 0
+ChannelsRunAlone s traces from until =
+    (channel : ℕ) → channel < s.channels → from ≤ until
+    → channel_run s channel (rows_of s traces from channel) (mail_before s traces until (unit.Channel channel) from ++ mail_in s traces until (unit.Channel channel) from until) (until - from)
+    ≡ rows_of s traces until channel
+
+-- a channel stands for what the one with this number did in the cycles of a run before one, and for what arrived at it in them
+abbrev pub IsChannelAt : Config → List (List Entry) → ℕ → ℕ → Channel → Type 0
+IsChannelAt s traces channel now c = StandsFor c s channel (rows_of s traces now channel) (mail_before s traces now (unit.Channel channel) now)
+
+-- what a channel gives for a span: whatever past it stands for, if these messages are fit for the span after it
+abbrev pub Gives : Channel → List Message → ℕ → ℕ → ChannelDone → Type 0
+Gives c inbox from until done =
+    (s : Config) (channel : ℕ) (rows : List (Option Command)) (mail : List Message)
+    → StandsFor c s channel rows mail → length rows ≡ from → IsFit s channel rows mail inbox from until → IsDone done s channel rows mail inbox from until
+
+-- What comes back from a channel is what the one with this number did in a span of a run: it stands at the end of the span, and
+-- its commands and messages are those of the run beyond those before the span.
+pub record HasGone (s : Config) (traces : List (List Entry)) (channel from until : ℕ) (done : ChannelDone) : Type 0 where
+  pub stands : IsChannelAt s traces channel until done.channel
+  pub commands_are : history_of s traces until channel ≡ history_of s traces from channel ++ done.commands.items
+  pub messages_are : messages_of_channel s (run s traces until) channel ≡ messages_of_channel s (run s traces from) channel ++ done.messages.items
+
+-- before the first cycle a channel that has done nothing stands for its part of the run
+abbrev pub ChannelsStart : Config → List (List Entry) → Type 0
+ChannelsStart s traces = (channel : ℕ) (c : Channel) → StandsFor c s channel [] [] → IsChannelAt s traces channel 0 c
+
+-- a channel that stands for its part of a run may be run over a span with what arrives at it there
+abbrev pub ChannelsMayRun : Config → List (List Entry) → ℕ → ℕ → Type 0
+ChannelsMayRun s traces from until =
+    (channel : ℕ) (c : Channel) → channel < s.channels → from ≤ until → IsChannelAt s traces channel from c
+    → CanRun c (mail_in s traces until (unit.Channel channel) from until) from until
+
+-- what comes back then is its part of the longer run
+abbrev pub ChannelsGoOn : Config → List (List Entry) → ℕ → ℕ → Type 0
+ChannelsGoOn s traces from until =
+    (channel : ℕ) (c : Channel) (done : ChannelDone) → channel < s.channels → from ≤ until → IsChannelAt s traces channel from c
+    → Gives c (mail_in s traces until (unit.Channel channel) from until) from until done
+    → HasGone s traces channel from until done
+
+-- the statistics and the state of what it stands for are those of the run
+abbrev pub ChannelsEndAlike : Config → List (List Entry) → ℕ → Type 0
+ChannelsEndAlike s traces now =
+    (channel : ℕ)
+    → (channel_stats s channel (rows_of s traces now channel) (mail_before s traces now (unit.Channel channel) now) ≡ stats_of_channel s traces (run s traces now) channel)
+    × (channel_last s channel (rows_of s traces now channel) (mail_before s traces now (unit.Channel channel) now) ≡ last_of_channel s traces (run s traces now) channel)
