@@ -1,0 +1,4 @@
+pub mod Rows
+pub mod Comes
+pub mod Keeping
+pub mod Feeding

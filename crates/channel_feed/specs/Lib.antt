@@ -1,0 +1,4 @@
+pub mod Rows
+pub mod Fits
+pub mod Kept
+pub mod Fed
