@@ -4,5 +4,5 @@
 pub mod fault;
 pub mod fed;
 mod fit;
-//cfg
-//mod tests;
+#[cfg(test)]
+mod tests;
