@@ -23,7 +23,7 @@ pub struct Busy {
 }
 
 /// The nanoseconds since the start, at most 2^64 - 1.
-pub fn since(rt: &impl Clock, start: Instant) -> Result<u64> {
+fn since(rt: &impl Clock, start: Instant) -> Result<u64> {
     Ok(u64::try_from(start.elapsed(rt)?.as_nanos()).unwrap_or(u64::MAX))
 }
 

@@ -1,15 +1,18 @@
-//! Runs a channel whose queue is kept full, with room for 32 requests and for 1,024, and prints what it did. Where the argument
-//! is `time`, for some 20,000 commands each, and how long a command took.
+//! Runs a channel whose queue is kept full, with room for 32 requests and for 1,024, for some 2,000 commands each, and prints what
+//! it did. Where the argument is `time`, for some 20,000 commands each, and how long a command took; where it is `short` or
+//! `long`, so for one of the two alone.
 #![tactic(auto)]
 
 mod busy;
 mod machine;
 mod traffic;
 
-use crate::busy::{Busy, run_busy};
+use crate::busy::run_busy;
 use crate::machine::Machine;
 use anyhow::Result;
+use std::alloc::Global;
 use std::env;
+use std::rt::Clock;
 
 /// Commands of a short run.
 const FEW: u64 = 2_000;
@@ -29,31 +32,46 @@ const LONG_QUEUE: Machine = Machine {
     credits: 8,
 };
 
-fn print_busy(rt: &impl Print, machine: Machine, busy: &Busy) -> Result<()> {
-    let commands = busy.commands;
+/// Runs a machine for so many commands, and prints what it did.
+fn show_busy(
+    rt: &(impl Print + Clock),
+    alloc: Global,
+    machine: Machine,
+    commands: u64,
+) -> Result<()> {
+    let busy = run_busy(rt, alloc, machine, commands)?;
     println!(rt;
-        "room for {}: {commands} commands in {} cycles, {} ACT, {} RD, {} WR, {} row hits",
+        "room for {}: {} commands in {} cycles, {} ACT, {} RD, {} WR, {} row hits",
         machine.room(),
+        busy.commands,
         busy.cycles,
         busy.stats.act,
         busy.stats.rd,
         busy.stats.wr,
         busy.stats.hits
     )?;
+    if commands == MANY {
+        println!(rt; "{} ns a command", busy.nanoseconds / busy.commands.max(1))?;
+    }
     Ok(())
 }
 
 fn main(rt: HostRuntime) -> Result<()> {
+    let alloc = rt.alloc();
     let mut words = env::args(&rt)?;
     let _program = words.next();
-    let is_timed = words.next().is_some_and(|word| word.as_str() == "time");
-    let commands = if is_timed { MANY } else { FEW };
-    for machine in [SHORT_QUEUE, LONG_QUEUE] {
-        let busy = run_busy(&rt, rt.alloc(), machine, commands)?;
-        print_busy(&rt, machine, &busy)?;
-        if is_timed {
-            println!(rt; "{} ns a command", busy.nanoseconds / busy.commands.max(1))?;
-        }
+    let word = words.next();
+    let (is_short, is_long, commands) = match word.as_ref().map(|word| word.as_str()) {
+        Some("short") => (true, false, MANY),
+        Some("long") => (false, true, MANY),
+        Some(_) => (true, true, MANY),
+        None => (true, true, FEW),
+    };
+    if is_short {
+        show_busy(&rt, alloc, SHORT_QUEUE, commands)?;
+    }
+    if is_long {
+        show_busy(&rt, alloc, LONG_QUEUE, commands)?;
     }
     Ok(())
 }
