@@ -4,6 +4,7 @@
 --     has_room fed inbox, fits fed inbox until      there is room for messages; they and a span fit it
 --     IsAskedMore old new inbox      what messages ask for is asked for
 --     MayRun fed inbox until      messages are fit for a span, and asked for
+--     MaySkipTo fed until      it may move on to a cycle
 --     IsOfPast fed s channel rows mail      it is that channel, with that past
 --     IsFedDone s channel from rows mail inbox until done      what comes back from a run
 use Rattle.std.specs.Prelude.{◌≡◌, ℕ, ◌+◌, ◌-◌, ◌≤◌, ◌^◌, nat_le, Bool, ◌&&◌, List, ◌++◌, length, Option}
@@ -15,7 +16,7 @@ use Rattle.sim_base.specs.declared.config.Config.{Config}
 use Rattle.sim_base.specs.declared.command.Command.{Command}
 use Rattle.sim_base.specs.declared.message.Message.{Message}
 use Rattle.sim_base.specs.declared.message.Request.{Request}
-use Rattle.channel_step.specs.Fit.{queue_room, IsFit}
+use Rattle.channel_step.specs.Fit.{queue_room, IsFit, IsIdle}
 use Rattle.channel_step.specs.Past.{requests_of}
 use Rattle.channel_step.specs.Runs.{IsDone}
 use Rattle.channel_feed.specs.Fits.{may_come_all, firsts_after_all}
@@ -63,6 +64,13 @@ pub record MayRun (fed : FedChannel) (inbox : List Message) (until : ℕ) : Type
   pub asked : Each (IsAsked fed.firsts.items) (requests_of inbox)
   pub from_now : fed.cycle ≤ until
   pub in_time : until ≤ 2 ^ 62
+
+-- It may move on to a cycle without a look at those before it: it stands there or before it, and issues nothing until then, if
+-- nothing arrives.
+pub record MaySkipTo (fed : FedChannel) (until : ℕ) : Type 0 where
+  pub from_now : fed.cycle ≤ until
+  pub in_time : until ≤ 2 ^ 62
+  pub idle : IsIdle fed.config fed.number (rows_fed fed) (mail_fed fed) (until - fed.cycle)
 
 -- it is the channel with this number, of a machine with this configuration, with this past
 pub record IsOfPast (fed : FedChannel) (s : Config) (channel : ℕ) (rows : List (Option Command)) (mail : List Message) : Type 0 where

@@ -2,6 +2,7 @@
 
 ghost use Rattle.std.specs.Prelude.{◌≡◌};
 ghost use Rattle.channel_step.specs.Fit.{queue_room};
+ghost use Rattle.channel_feed.specs.Skips.{may_skip};
 ghost use Rattle.channel_feed.specs.Kept.{IsKept, IsKept-prop};
 
 use crate::fault::FeedFault;
@@ -40,12 +41,12 @@ pub struct FedChannelDone {
 }
 
 impl FedChannel {
-    ghost use Rattle.std.specs.Prelude.{◌≡◌, ◌+◌, ◌-◌, ◌<◌, ◌≤◌, ◌↔◌, ◌++◌, [], false, None, is_some, replicate, IfOk, IfSome};
+    ghost use Rattle.std.specs.Prelude.{◌≡◌, ◌+◌, ◌-◌, ◌<◌, ◌≤◌, ◌↔◌, ◌++◌, [], false, None, is_some, replicate, IfOk, IfErr, IsOk, IfSome};
     ghost use Rattle.sim_base.specs.Scheduling.{choice};
     ghost use Rattle.fr_fcfs.specs.Cycles.{IsFirstCycle};
     ghost use Rattle.statistics.specs.Channels.{channel_stats};
     ghost use Rattle.channel_feed.specs.declared.fault.FeedFault.TheVariants.{Unfit};
-    ghost use Rattle.channel_feed.specs.Fed.{rows_fed, mail_fed, has_room, fits, IsAskedMore, MayRun, IsOfPast, IsFedDone};
+    ghost use Rattle.channel_feed.specs.Fed.{rows_fed, mail_fed, has_room, fits, IsAskedMore, MayRun, MaySkipTo, IsOfPast, IsFedDone};
 
     /// The channel with a number, of a machine with this configuration, before the first cycle. Where the machine has no such
     /// channel, no message fits it. Only memory can be refused.
@@ -95,6 +96,38 @@ impl FedChannel {
         ensures first { IsFirstCycle (λ cycle. is_some (choice self.old.config self.old.number (rows_fed self.old ++ replicate (cycle - self.old.cycle) None) (mail_fed self.old))) self.old.cycle result }
     {
         self.channel.next_act(self.cycle)
+    }
+
+    /// Moves the channel on to the cycle `until`, without a look at the cycles before it. It is `Unfit`, and the channel is gone,
+    /// where the channel stands after that cycle already or issues a command before it, or the cycle is above 2^62.
+    pub fn skip(self, until: Cycle) -> Result<FedChannel, FeedFault>
+        ensures done { IfOk result (λ fed. IsOfPast fed self.config self.number (rows_fed self ++ replicate (until - self.cycle) None) (mail_fed self)) }
+        ensures fits { IsOk result ↔ MaySkipTo self until }
+        ensures unfit { IfErr result (λ e. e ≡ Unfit) }
+    {
+        let FedChannel {
+            mut channel,
+            config,
+            number,
+            cycle,
+            firsts,
+            commands,
+            mail,
+        } = self;
+        let next = channel.next_act(cycle);
+        if !may_skip(next, cycle, until) {
+            return Err(FeedFault::Unfit);
+        }
+        channel.skip(until);
+        Ok(FedChannel {
+            channel,
+            config,
+            number,
+            cycle: until,
+            firsts,
+            commands,
+            mail,
+        })
     }
 
     /// Whether there is room for these messages beside the requests that wait.
@@ -202,4 +235,15 @@ fn queue_room(config: &Config) -> usize
 {
     let credits = config.read_credits as usize + config.write_credits as usize;
     usize::from(config.cores) * credits
+}
+
+/// Whether a channel that issues its next command in this cycle, if it ever does, may skip the cycles from one on to another.
+fn may_skip(next: Option<Cycle>, from: Cycle, until: Cycle) -> bool
+    ensures { result ≡ may_skip next from until }
+{
+    let is_idle = match next {
+        Some(next) => until <= next,
+        None => true,
+    };
+    from <= until && until <= LAST_CYCLE && is_idle
 }

@@ -263,3 +263,28 @@ fn a_message_that_comes_too_late(rt: HostRuntime) -> Result<(), Fail> {
     );
     Ok(())
 }
+
+// In cycle 2 the Read arrives, in cycle 5 it is served, and then there is nothing to do.
+#[test]
+fn cycles_that_are_skipped(rt: HostRuntime) -> Result<(), Fail> {
+    let alloc = rt.alloc();
+    let config = read_config(alloc, SMALL.as_bytes())?;
+    let mut fed = run_spans(alloc, &config, &[3])?.fed;
+    assert_eq!(rt; fed.next_act(), Some(5));
+    assert_eq!(rt;
+        fed.skip(6).err(),
+        Some(FeedFault::Unfit),
+        "a command is skipped"
+    );
+    let fed = run_spans(alloc, &config, &[3])?.fed.skip(5)?;
+    let mut fed = fed.run(alloc, &[], 6)?.channel;
+    assert_eq!(rt; fed.next_act(), None);
+    let fed = fed.skip(64)?;
+    assert_eq!(rt; fed.stats(), counted());
+    assert_eq!(rt;
+        fed.skip(63).err(),
+        Some(FeedFault::Unfit),
+        "it stands there already"
+    );
+    Ok(())
+}
