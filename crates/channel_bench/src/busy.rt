@@ -1,4 +1,4 @@
-//! A channel whose queue is kept full.
+//! A channel whose queue is kept full, and one to which nothing comes.
 
 use crate::machine::Machine;
 use crate::traffic::Traffic;
@@ -52,6 +52,21 @@ pub fn run_busy(rt: &impl Clock, alloc: Global, machine: Machine, commands: u64)
         commands: issued,
         cycles: fed.now(),
         stats: fed.stats(),
+        nanoseconds,
+    })
+}
+
+/// Runs a channel to which nothing comes over so many cycles.
+pub fn run_idle(rt: &impl Clock, alloc: Global, machine: Machine, cycles: Cycle) -> Result<Busy> {
+    let config = machine.config(alloc)?;
+    let fed = FedChannel::start(alloc, &config, 0)?;
+    let start = Instant::now(rt)?;
+    let done = fed.run(alloc, &[], cycles)?;
+    let nanoseconds = since(rt, start)?;
+    Ok(Busy {
+        commands: done.commands.len() as u64,
+        cycles: done.channel.now(),
+        stats: done.channel.stats(),
         nanoseconds,
     })
 }

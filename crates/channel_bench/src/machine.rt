@@ -5,7 +5,7 @@ use sim_base::config::Config;
 use sim_base::document::read_config;
 use std::alloc::Global;
 
-/// Devices of 8 Gb with 8 data pins, two ranks of them, with all else that does not depend on the length of the queue.
+/// Devices of 8 Gb with 8 data pins, two ranks of them, and all else that is the same in each machine.
 const DDR4_2400: &str = "\
 channels = 1
 groups = 4
@@ -36,17 +36,18 @@ nWTR_L = 9
 nRTW = 10
 nRFC = 420
 nRTRS = 2
-nREFI = 9360
 write_high = 12
 write_low = 4
 ";
 
-/// What the length of a channel's queue depends on.
+/// What machines differ in.
 #[derive(Clone, Copy)]
 pub struct Machine {
     pub cores: u16,
     /// Credits of a core for reads, and as many for writes.
     pub credits: u16,
+    /// Cycles from one refresh of a rank to the next; 0: there is none.
+    pub refresh: u32,
 }
 
 impl Machine {
@@ -59,8 +60,9 @@ impl Machine {
     pub fn config(self, alloc: Global) -> Result<Config> {
         let cores = self.cores;
         let credits = self.credits;
+        let refresh = self.refresh;
         let document = format!(in alloc;
-            "cores = {cores}\nread_credits = {credits}\nwrite_credits = {credits}\n{DDR4_2400}"
+            "cores = {cores}\nread_credits = {credits}\nwrite_credits = {credits}\nnREFI = {refresh}\n{DDR4_2400}"
         )?;
         Ok(read_config(alloc, document.as_bytes())?)
     }

@@ -1,15 +1,16 @@
-//! Runs a channel whose queue is kept full, with room for 32 requests and for 1,024, for some 2,000 commands each, and prints what
-//! it did. Where the argument is `time`, for some 20,000 commands each, and how long a command took; where it is `short` or
-//! `long`, so for one of the two alone.
+//! Runs a channel whose queue is kept full, with room for 32 requests and for 1,024, for some 2,000 commands each, and then one to
+//! which nothing comes, and prints what they did. Where the argument is `time`, for some 20,000 commands each, and how long that
+//! took; where it is `short`, `long` or `idle`, so for one of the three alone.
 #![tactic(auto)]
 
 mod busy;
 mod machine;
 mod traffic;
 
-use crate::busy::run_busy;
+use crate::busy::{run_busy, run_idle};
 use crate::machine::Machine;
 use anyhow::Result;
+use sim_base::message::Cycle;
 use std::alloc::Global;
 use std::env;
 use std::rt::Clock;
@@ -24,20 +25,33 @@ const MANY: u64 = 20_000;
 const SHORT_QUEUE: Machine = Machine {
     cores: 4,
     credits: 4,
+    refresh: 9_360,
 };
 
 /// A queue with room for 1,024 requests.
 const LONG_QUEUE: Machine = Machine {
     cores: 64,
     credits: 8,
+    refresh: 9_360,
 };
 
-/// Runs a machine for so many commands, and prints what it did.
+/// A machine without refreshes.
+const NO_REFRESH: Machine = Machine {
+    cores: 4,
+    credits: 4,
+    refresh: 0,
+};
+
+/// Cycles in which nothing arrives: a trillion.
+const IDLE_CYCLES: Cycle = 1_000_000_000_000;
+
+/// Runs a machine whose queue is kept full for so many commands, and prints what it did.
 fn show_busy(
     rt: &(impl Print + Clock),
     alloc: Global,
     machine: Machine,
     commands: u64,
+    is_timed: bool,
 ) -> Result<()> {
     let busy = run_busy(rt, alloc, machine, commands)?;
     println!(rt;
@@ -50,8 +64,18 @@ fn show_busy(
         busy.stats.wr,
         busy.stats.hits
     )?;
-    if commands == MANY {
+    if is_timed {
         println!(rt; "{} ns a command", busy.nanoseconds / busy.commands.max(1))?;
+    }
+    Ok(())
+}
+
+/// Runs a machine to which nothing comes, and prints what it counted.
+fn show_idle(rt: &(impl Print + Clock), alloc: Global, is_timed: bool) -> Result<()> {
+    let idle = run_idle(rt, alloc, NO_REFRESH, IDLE_CYCLES)?;
+    println!(rt; "{} idle cycles", idle.stats.idle)?;
+    if is_timed {
+        println!(rt; "{} ns in all", idle.nanoseconds)?;
     }
     Ok(())
 }
@@ -61,17 +85,20 @@ fn main(rt: HostRuntime) -> Result<()> {
     let mut words = env::args(&rt)?;
     let _program = words.next();
     let word = words.next();
-    let (is_short, is_long, commands) = match word.as_ref().map(|word| word.as_str()) {
-        Some("short") => (true, false, MANY),
-        Some("long") => (false, true, MANY),
-        Some(_) => (true, true, MANY),
-        None => (true, true, FEW),
-    };
-    if is_short {
-        show_busy(&rt, alloc, SHORT_QUEUE, commands)?;
-    }
-    if is_long {
-        show_busy(&rt, alloc, LONG_QUEUE, commands)?;
+    match word.as_ref().map(|word| word.as_str()) {
+        Some("short") => show_busy(&rt, alloc, SHORT_QUEUE, MANY, true)?,
+        Some("long") => show_busy(&rt, alloc, LONG_QUEUE, MANY, true)?,
+        Some("idle") => show_idle(&rt, alloc, true)?,
+        Some(_) => {
+            show_busy(&rt, alloc, SHORT_QUEUE, MANY, true)?;
+            show_busy(&rt, alloc, LONG_QUEUE, MANY, true)?;
+            show_idle(&rt, alloc, true)?;
+        }
+        None => {
+            show_busy(&rt, alloc, SHORT_QUEUE, FEW, false)?;
+            show_busy(&rt, alloc, LONG_QUEUE, FEW, false)?;
+            show_idle(&rt, alloc, false)?;
+        }
     }
     Ok(())
 }
