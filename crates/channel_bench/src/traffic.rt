@@ -1,0 +1,70 @@
+//! Random requests.
+
+use address_map::place_of;
+use rand_core::utils::NextWord;
+use rand_pcg::Pcg32;
+use sim_base::config::Config;
+use sim_base::message::{Cycle, Load, Message, Request};
+use std::alloc::{AllocError, Global};
+
+/// Lines among which addresses are: four rows of each of 32 banks.
+const LINES: u32 = 128 * 32 * 4;
+
+/// What is asked for next.
+#[derive(Drop)]
+pub struct Traffic {
+    words: Pcg32,
+    /// Requests so far.
+    asked: u64,
+}
+
+impl Traffic {
+    pub fn new() -> Self {
+        Traffic {
+            words: Pcg32::new(1, 1),
+            asked: 0,
+        }
+    }
+
+    /// The request that comes after so many others in a span. In each cycle of the span one of each core comes. Three in ten
+    /// write.
+    fn next_request(&mut self, config: &Config, from: Cycle, before: u64) -> Message {
+        let cores = u64::from(config.cores);
+        let core = (before % cores) as u16;
+        let entry = self.asked;
+        self.asked = self.asked.wrapping_add(1);
+        let address = 64 * u64::from(self.words.next_word() % LINES);
+        let write = self.words.next_word() % 10 < 3;
+        let arrival = from.wrapping_add(before / cores);
+        let link = config.request_link(core, 0);
+        let request = Request {
+            core,
+            entry,
+            write,
+            address,
+            place: place_of(config, address),
+            arrival,
+            link,
+        };
+        Message {
+            link,
+            arrival,
+            load: Load::Request(request),
+        }
+    }
+
+    /// So many requests, the first of which arrive in a cycle.
+    pub fn requests(
+        &mut self,
+        alloc: Global,
+        config: &Config,
+        from: Cycle,
+        count: u64,
+    ) -> Result<Vec<Message>, AllocError> {
+        let mut requests = Vec::new(alloc);
+        for before in 0..count {
+            requests.push(self.next_request(config, from, before))?;
+        }
+        Ok(requests)
+    }
+}

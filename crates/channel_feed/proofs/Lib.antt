@@ -1,0 +1,5 @@
+pub mod Rows
+pub mod Comes
+pub mod Keeping
+pub mod Feeding
+pub mod Skipping

@@ -1,0 +1,5 @@
+pub mod Rows
+pub mod Fits
+pub mod Kept
+pub mod Skips
+pub mod Fed
