@@ -1,28 +1,28 @@
 //! Numbers that look random, the same for each seed.
 
+use rand_core::utils::NextWord;
+use rand_pcg::Pcg32;
+
 /// A stream of such numbers.
-#[derive(Clone, Copy)]
+#[derive(Drop)]
 pub(crate) struct Random {
-    state: u64,
+    words: Pcg32,
 }
 
 impl Random {
     pub(crate) fn new(seed: u64) -> Self {
         Random {
-            state: seed.wrapping_mul(0x9E37_79B9_7F4A_7C15).wrapping_add(1),
+            words: Pcg32::new(seed, 1),
         }
     }
 
     /// A number below a bound; 0 where the bound is 0.
     pub(crate) fn below(&mut self, bound: u64) -> u64 {
-        self.state = self
-            .state
-            .wrapping_mul(6_364_136_223_846_793_005)
-            .wrapping_add(1_442_695_040_888_963_407);
+        let word = u64::from(self.words.next_word());
         if bound == 0 {
             return 0;
         }
-        (self.state >> 33) % bound
+        word % bound
     }
 
     /// A number from one to another.

@@ -1,7 +1,7 @@
 //! A machine whose units are each run alone, a span at a time, with messages that are tested to fit.
 
-use channel_feed::FedChannel;
-use core_feed::FedCore;
+use channel_feed::fed::FedChannel;
+use core_feed::fed::FedCore;
 use cpu_trace::trace::Trace;
 use links::flight::Links;
 use links::latency::shortest;
