@@ -1,4 +1,5 @@
 pub mod SameLine
 pub mod Eligible
 pub mod Kept
+pub mod Keys
 pub mod Served

@@ -1,5 +1,6 @@
 -- A queue that one request has left keeps its columns.
-use Rattle.std.proofs.Common.{◌≡◌, ℕ, ◌+◌, ◌-◌, ◌<◌, ◌≤◌, true, false, eqb, length, drop, get_or, set, refl, sym, ap, subst, ◌∙◌, vec_capacity, arith}
+use Rattle.std.proofs.Common.{◌≡◌, ℕ, ◌+◌, ◌-◌, ◌<◌, ◌≤◌, true, false, eqb, length, drop, get_or, set, refl, sym, ap, subst, ◌∙◌, vec_capacity, inl, inr, arith}
+use Rattle.std.proofs.lemmas.Bool.{cases_Bool}
 use Rattle.std.proofs.lemmas.List.Edits.{length-remove}
 use Rattle.std.specs.List.{remove, position_or_len}
 use mir.Val.{bool_byte}
@@ -7,10 +8,10 @@ use Rattle.sim_base.specs.Places.{is_line}
 use Rattle.sim_base.specs.declared.message.Request.{Request}
 use Rattle.lane_scan.specs.Marks.{mark}
 use Rattle.queue.specs.declared.Queue.TheInside.{Inside}
-use Rattle.queue.specs.Columns.{bank_number, eligible_column, write_count}
+use Rattle.queue.specs.Columns.{bank_number, eligible_column, key_column, key_of, write_count}
 use Rattle.queue.specs.Kept.{AreKept}
 use Rattle.queue.proofs.Eligible.{served}
-use Rattle.queue.proofs.Kept.{map_removed, writes_removed}
+use Rattle.queue.proofs.Kept.{map_removed, writes_removed, keys_turned, keys_removed}
 
 -- s is q without its n-th request r, whose mark was a word
 pub record IsServed (q s : Inside) (n : ℕ) (r : Request) (word : ℕ) : Type 0 where
@@ -26,11 +27,39 @@ pub record IsServed (q s : Inside) (n : ℕ) (r : Request) (word : ℕ) : Type 0
   pub turn : eqb word 1 ≡ true
       → s.eligible.items ≡ set (remove q.eligible.items n) (n + position_or_len (λ x. is_line x.place r.place) (drop n (remove q.requests.items n))) 1
   pub no_turn : eqb word 1 ≡ false → s.eligible.items ≡ remove q.eligible.items n
+  pub turn_key : eqb word 1 ≡ true
+      → s.keys.items
+      ≡ set (remove q.keys.items n) (n + position_or_len (λ x. is_line x.place r.place) (drop n (remove q.requests.items n)))
+      (key_of true (get_or s.requests.items (n + position_or_len (λ x. is_line x.place r.place) (drop n (remove q.requests.items n))) r))
+  pub no_turn_key : eqb word 1 ≡ false → s.keys.items ≡ remove q.keys.items n
   pub request_room : vec_capacity s.requests ≡ vec_capacity q.requests
   pub bank_room : vec_capacity s.banks ≡ vec_capacity q.banks
   pub row_room : vec_capacity s.rows ≡ vec_capacity q.rows
   pub kind_room : vec_capacity s.kinds ≡ vec_capacity q.kinds
   pub eligible_room : vec_capacity s.eligible ≡ vec_capacity q.eligible
+  pub key_room : vec_capacity s.keys ≡ vec_capacity q.keys
+
+eligible_left : (q s : Inside) (n : ℕ) (r : Request) (word : ℕ) → AreKept q → IsServed q s n r word → s.eligible.items ≡ eligible_column s.requests.items
+eligible_left q s n r word kept left =
+    served q.requests.items n r word s.eligible.items left.exists left.request (left.word_is ∙ ap (λ xs. get_or xs n word) kept.eligible_are)
+    (λ yes.
+    left.turn yes
+    ∙ ap (λ xs. set (remove xs n) (n + position_or_len (λ (x : Request). is_line x.place r.place) (drop n (remove q.requests.items n))) 1) kept.eligible_are)
+    (λ no. left.no_turn no ∙ ap (λ xs. remove xs n) kept.eligible_are)
+    ∙ ap eligible_column (sym left.requests)
+
+keys_left : (q s : Inside) (n : ℕ) (r : Request) (word : ℕ) → AreKept q → IsServed q s n r word → s.keys.items ≡ key_column s.requests.items
+keys_left q s n r word kept left =
+    let marks = eligible_left q s n r word kept left in
+    let place = n + position_or_len (λ (x : Request). is_line x.place r.place) (drop n (remove q.requests.items n)) in
+    elim (cases_Bool (eqb word 1)) [
+      | inl was_first ↦
+          keys_turned q.keys.items s.keys.items q.requests.items s.requests.items n place r kept.keys_are (left.turn_key was_first) left.requests
+          (ap (λ xs. set (remove xs n) place 1) (sym kept.eligible_are) ∙ sym (left.turn was_first) ∙ marks)
+      | inr waited ↦
+          keys_removed q.keys.items s.keys.items q.requests.items s.requests.items n kept.keys_are (left.no_turn_key waited) left.requests
+          (ap (λ xs. remove xs n) (sym kept.eligible_are) ∙ sym (left.no_turn waited) ∙ marks)
+    ]
 
 pub served_kept : (q s : Inside) (n : ℕ) (r : Request) (word byte : ℕ) → AreKept q → IsServed q s n r word → byte ≡ bool_byte r.write
     → AreKept (record s { writes = s.writes - byte })
@@ -38,13 +67,8 @@ served_kept q s n r word byte kept left byte_is = record {
   banks_are = map_removed (λ x. bank_number x.place) q.banks.items s.banks.items q.requests.items s.requests.items n kept.banks_are left.banks left.requests;
   rows_are = map_removed (λ x. x.place.row) q.rows.items s.rows.items q.requests.items s.requests.items n kept.rows_are left.rows left.requests;
   kinds_are = map_removed (λ x. mark x.write) q.kinds.items s.kinds.items q.requests.items s.requests.items n kept.kinds_are left.kinds left.requests;
-  eligible_are =
-      served q.requests.items n r word s.eligible.items left.exists left.request (left.word_is ∙ ap (λ xs. get_or xs n word) kept.eligible_are)
-      (λ yes.
-      left.turn yes
-      ∙ ap (λ xs. set (remove xs n) (n + position_or_len (λ (x : Request). is_line x.place r.place) (drop n (remove q.requests.items n))) 1) kept.eligible_are)
-      (λ no. left.no_turn no ∙ ap (λ xs. remove xs n) kept.eligible_are)
-      ∙ ap eligible_column (sym left.requests);
+  eligible_are = eligible_left q s n r word kept left;
+  keys_are = keys_left q s n r word kept left;
   writes_are =
       let counted = writes_removed q.requests.items s.requests.items r n q.writes byte left.exists left.request kept.writes_are byte_is left.requests in
       omega (arith, counted, left.writes);
@@ -54,4 +78,5 @@ served_kept q s n r word byte kept left byte_is = record {
   row_room = omega (arith, kept.row_room, left.row_room, left.room);
   kind_room = omega (arith, kept.kind_room, left.kind_room, left.room);
   eligible_room = omega (arith, kept.eligible_room, left.eligible_room, left.room);
+  key_room = omega (arith, kept.key_room, left.key_room, left.room);
 }

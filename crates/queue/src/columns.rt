@@ -2,8 +2,9 @@
 
 ghost use Rattle.std.specs.Prelude.{◌≡◌, ◌<◌, ◌≤◌, ◌++◌, [], ◌∷◌, vec_len, vec_capacity};
 ghost use Rattle.lane_scan.specs.Marks.{mark};
-ghost use Rattle.queue.specs.Columns.{bank_number};
+ghost use Rattle.queue.specs.Columns.{bank_number, key_of};
 
+use sim_base::message::Request;
 use sim_base::place::Place;
 
 /// The number of the bank of a place.
@@ -17,6 +18,16 @@ pub(crate) fn mark(test: bool) -> u64
     ensures { result ≡ mark test }
 {
     if test { 1 } else { 0 }
+}
+
+/// The key of a request that may be served, or may not.
+#[tactic(auto, unfolding(crate::specs::Columns::key_word))]
+pub(crate) fn key(eligible: bool, request: Request) -> u64
+    ensures { result ≡ key_of eligible request }
+{
+    let flags = mark(eligible) * 2 + mark(request.write);
+    let bank = bank_number(request.place) % (1 << 30);
+    (flags * (1 << 30) + bank) * (1 << 32) + u64::from(request.place.row)
 }
 
 /// Appends an item where there is room for it.

@@ -8,10 +8,10 @@ ghost use Rattle.std.specs.Prelude.{◌≡◌, ◌+◌, ◌<◌, ◌≤◌, ◌+
 ghost use Rattle.sim_base.specs.Scheduling.{drains_with, first_of_lines};
 ghost use Rattle.sim_base.specs.declared.config.Config.{Config};
 ghost use Rattle.sim_base.specs.declared.message.Request.{Request};
-ghost use Rattle.queue.specs.Columns.{bank_column, row_column, kind_column, eligible_column, marked_items, write_count};
+ghost use Rattle.queue.specs.Columns.{bank_column, row_column, kind_column, eligible_column, key_column, marked_items, write_count};
 ghost use Rattle.queue.specs.View.{QueueView, drains_by, is_draining};
 
-use crate::columns::{bank_number, mark, push_within};
+use crate::columns::{bank_number, key, mark, push_within};
 use crate::lines::{give_turn, is_line_asked};
 use sim_base::message::Request;
 use std::alloc::{AllocError, Global};
@@ -34,6 +34,7 @@ pub struct Queue {
     rows: Vec<u64>,
     kinds: Vec<u64>,
     eligible: Vec<u64>,
+    keys: Vec<u64>,
 }
 
 impl Model for Queue {
@@ -51,7 +52,7 @@ impl Model for Queue {
 impl Queue {
     /// An empty queue with places for `room` requests, which drains its writes from `high` of them on down to `low`, and never
     /// where `high` is 0. Nothing else takes memory.
-    #[tactic(auto, unfolding(crate::specs::Columns::eligible_column))]
+    #[tactic(auto, unfolding(crate::specs::Columns::eligible_column, crate::specs::Columns::key_column))]
     pub fn with_room(alloc: Global, room: usize, high: u32, low: u32) -> Result<Self, AllocError>
         ensures { IfOk result (λ queue. queue ≡ record { room = room; high = high; low = low; requests = []; settled = false }) }
     {
@@ -66,6 +67,7 @@ impl Queue {
             rows: Vec::with_capacity(alloc, room)?,
             kinds: Vec::with_capacity(alloc, room)?,
             eligible: Vec::with_capacity(alloc, room)?,
+            keys: Vec::with_capacity(alloc, room)?,
         })
     }
 
@@ -94,6 +96,7 @@ impl Queue {
         push_within(&mut self.rows, u64::from(request.place.row));
         push_within(&mut self.kinds, mark(request.write));
         push_within(&mut self.eligible, mark(!asked));
+        push_within(&mut self.keys, key(!asked, request));
         push_within(&mut self.requests, request);
         self.writes += usize::from(request.write);
     }
@@ -108,9 +111,10 @@ impl Queue {
         let _bank = self.banks.remove(slot);
         let _row = self.rows.remove(slot);
         let _kind = self.kinds.remove(slot);
+        let _key = self.keys.remove(slot);
         let was_first = self.eligible.remove(slot) == 1;
         if was_first {
-            give_turn(request.place, &self.requests, slot, &mut self.eligible);
+            give_turn(request.place, &self.requests, slot, &mut self.eligible, &mut self.keys);
         }
         self.writes -= usize::from(request.write);
         request
@@ -173,6 +177,14 @@ impl Queue {
         ensures { result.now ≡ eligible_column self.now.requests }
     {
         &self.eligible
+    }
+
+    /// The key of each request, by age, which says in one word what a search for a bank asks for: bit 63 is 1 where the request
+    /// may be served, bit 62 where it is a write; bits 32 to 61 have the number of its bank, and bits 0 to 31 its row.
+    pub fn keys(&self) -> &[u64]
+        ensures { result.now ≡ key_column self.now.requests }
+    {
+        &self.keys
     }
 }
 
