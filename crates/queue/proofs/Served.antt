@@ -1,5 +1,5 @@
 -- A queue that one request has left keeps its columns.
-use Rattle.std.proofs.Common.{◌≡◌, ℕ, ◌+◌, ◌-◌, ◌<◌, ◌≤◌, true, false, eqb, length, drop, get_or, set, refl, sym, ap, subst, ◌∙◌, vec_capacity, inl, inr, arith}
+use Rattle.std.proofs.Common.{◌≡◌, ℕ, ◌+◌, ◌-◌, ◌<◌, true, false, eqb, length, drop, get_or, set, sym, ap, ◌∙◌, vec_capacity, inl, inr, arith}
 use Rattle.std.proofs.lemmas.Bool.{cases_Bool}
 use Rattle.std.proofs.lemmas.List.Edits.{length-remove}
 use Rattle.std.specs.List.{remove, position_or_len}
@@ -8,7 +8,7 @@ use Rattle.sim_base.specs.Places.{is_line}
 use Rattle.sim_base.specs.declared.message.Request.{Request}
 use Rattle.lane_scan.specs.Marks.{mark}
 use Rattle.queue.specs.declared.Queue.TheInside.{Inside}
-use Rattle.queue.specs.Columns.{bank_number, eligible_column, key_column, key_of, write_count}
+use Rattle.queue.specs.Columns.{bank_number, eligible_column, key_column, key_of}
 use Rattle.queue.specs.Kept.{AreKept}
 use Rattle.queue.proofs.Eligible.{served}
 use Rattle.queue.proofs.Kept.{map_removed, writes_removed, keys_turned, keys_removed}

@@ -1,6 +1,6 @@
 -- What a queue keeps beside its requests.
 --     AreKept inside      each column is that of the requests, and there is room in each
-use Rattle.std.specs.Prelude.{◌≡◌, ℕ, ◌≤◌, length, vec_len, vec_capacity}
+use Rattle.std.specs.Prelude.{◌≡◌, ◌≤◌, length, vec_capacity}
 use Rattle.queue.specs.declared.Queue.TheInside.{Inside}
 use Rattle.queue.specs.Columns.{bank_column, row_column, kind_column, eligible_column, key_column, write_count}
 

@@ -1,8 +1,8 @@
 //! The words of a request in the columns, and pushes that take no memory.
 
-ghost use Rattle.std.specs.Prelude.{◌≡◌, ◌<◌, ◌≤◌, ◌++◌, [], ◌∷◌, vec_len, vec_capacity};
+ghost use Rattle.std.specs.Prelude.{◌≡◌, ◌^◌, ◌<◌, ◌≤◌, ◌++◌, [], ◌∷◌, vec_len, vec_capacity};
 ghost use Rattle.lane_scan.specs.Marks.{mark};
-ghost use Rattle.queue.specs.Columns.{bank_number, key_of};
+ghost use Rattle.queue.specs.Columns.{bank_number, key_word, key_of};
 
 use sim_base::message::Request;
 use sim_base::place::Place;
@@ -20,14 +20,23 @@ pub(crate) fn mark(test: bool) -> u64
     if test { 1 } else { 0 }
 }
 
-/// The key of a request that may be served, or may not.
+/// A key of these parts: bit 63 says whether a request may be served, bit 62 whether it is a write, bits 32 to 61 have the number
+/// of its bank, and bits 0 to 31 its row. Of the parts of a mask, 1 and all ones are what a search asks for.
 #[tactic(auto, unfolding(crate::specs::Columns::key_word))]
+pub fn key_word(eligible: bool, write: bool, bank: u64, row: u32) -> u64
+    requires { bank < 2 ^ 30 }
+    ensures { result ≡ key_word eligible write bank row }
+{
+    let flags = mark(eligible) * 2 + mark(write);
+    (flags * (1 << 30) + bank) * (1 << 32) + u64::from(row)
+}
+
+/// The key of a request that may be served, or may not.
 pub(crate) fn key(eligible: bool, request: Request) -> u64
     ensures { result ≡ key_of eligible request }
 {
-    let flags = mark(eligible) * 2 + mark(request.write);
     let bank = bank_number(request.place) % (1 << 30);
-    (flags * (1 << 30) + bank) * (1 << 32) + u64::from(request.place.row)
+    key_word(eligible, request.write, bank, request.place.row)
 }
 
 /// Appends an item where there is room for it.

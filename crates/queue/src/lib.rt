@@ -11,6 +11,7 @@ ghost use Rattle.sim_base.specs.declared.message.Request.{Request};
 ghost use Rattle.queue.specs.Columns.{bank_column, row_column, kind_column, eligible_column, key_column, marked_items, write_count};
 ghost use Rattle.queue.specs.View.{QueueView, drains_by, is_draining};
 
+pub use crate::columns::key_word;
 use crate::columns::{bank_number, key, mark, push_within};
 use crate::lines::{give_turn, is_line_asked};
 use sim_base::message::Request;
@@ -114,7 +115,8 @@ impl Queue {
         let _key = self.keys.remove(slot);
         let was_first = self.eligible.remove(slot) == 1;
         if was_first {
-            give_turn(request.place, &self.requests, slot, &mut self.eligible, &mut self.keys);
+            let (marks, keys) = (&mut self.eligible, &mut self.keys);
+            give_turn(request.place, &self.requests, slot, marks, keys);
         }
         self.writes -= usize::from(request.write);
         request

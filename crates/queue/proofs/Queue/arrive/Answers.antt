@@ -1,9 +1,9 @@
 -- Each column has the word of the request at its end.
-use Rattle.std.proofs.Common.{◌≡◌, ◌+◌, ◌<◌, ◌≤◌, ◌++◌, [], ◌∷◌, length, sym, ap, ◌∙◌, arith}
+use Rattle.std.proofs.Common.{◌<◌, length, ap, ◌∙◌, arith}
 use Rattle.std.proofs.lemmas.List.{length_push}
 use Rattle.sim_base.specs.Scheduling.{asks_for_line}
 use Rattle.lane_scan.specs.Marks.{mark}
-use Rattle.queue.specs.Columns.{bank_number, eligible_column}
+use Rattle.queue.specs.Columns.{bank_number}
 use Rattle.queue.proofs.Eligible.{length-eligible}
 use Rattle.queue.proofs.Kept.{map_pushed, eligible_pushed, keys_pushed, writes_pushed, length_keys}
 use Rattle.queue.proofs.Queue.arrive.Goals as goal

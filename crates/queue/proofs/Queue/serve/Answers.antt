@@ -1,11 +1,10 @@
 -- Each column has lost the word of the request, and the next one for its line is marked.
-use Rattle.std.proofs.Common.{◌≡◌, ℕ, ◌+◌, ◌-◌, ◌<◌, List, length, drop, get_or, set, true, sym, ap, ◌∙◌, ne_eqb, arith}
+use Rattle.std.proofs.Common.{◌≡◌, ◌+◌, ◌<◌, length, drop, get_or, set, true, sym, ap, ◌∙◌, arith}
 use Rattle.std.proofs.lemmas.Bool.{eqb-true, eqb-false}
 use Rattle.std.proofs.lemmas.List.Edits.{length-remove}
 use Rattle.std.specs.List.{remove, position_or_len}
 use Rattle.sim_base.specs.Places.{is_line}
 use Rattle.sim_base.specs.declared.message.Request.{Request}
-use Rattle.queue.specs.Kept.{AreKept}
 use Rattle.queue.proofs.Eligible.{length-eligible}
 use Rattle.queue.specs.Columns.{key_of}
 use Rattle.queue.proofs.Kept.{length_keys}
