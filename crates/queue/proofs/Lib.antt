@@ -3,3 +3,4 @@ pub mod Eligible
 pub mod Kept
 pub mod Keys
 pub mod Served
+pub mod Dropped

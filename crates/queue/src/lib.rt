@@ -1,6 +1,7 @@
 //! The requests that wait in a channel, by age, and their columns.
 #![tactic(auto)]
 
+mod aged;
 mod columns;
 mod lines;
 
