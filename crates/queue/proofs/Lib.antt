@@ -4,3 +4,4 @@ pub mod Kept
 pub mod Keys
 pub mod Served
 pub mod Dropped
+pub mod Found

@@ -8,7 +8,7 @@ use Rattle.sim_base.specs.Places.{is_line}
 use Rattle.sim_base.specs.declared.message.Request.{Request}
 use Rattle.lane_scan.specs.Marks.{mark}
 use Rattle.queue.specs.declared.Queue.TheInside.{Inside}
-use Rattle.queue.specs.Columns.{bank_number, eligible_column, key_column, key_of}
+use Rattle.queue.specs.Columns.{bank_number, line_print, eligible_column, key_column, key_of}
 use Rattle.queue.specs.Kept.{AreKept}
 use Rattle.queue.proofs.Eligible.{served}
 use Rattle.queue.proofs.Kept.{map_removed, writes_removed, keys_turned, keys_removed}
@@ -24,6 +24,7 @@ pub record IsServed (q s : Inside) (n : ℕ) (r : Request) (word : ℕ) : Type 0
   pub banks : s.banks.items ≡ remove q.banks.items n
   pub rows : s.rows.items ≡ remove q.rows.items n
   pub kinds : s.kinds.items ≡ remove q.kinds.items n
+  pub prints : s.prints.items ≡ remove q.prints.items n
   pub turn : eqb word 1 ≡ true
       → s.eligible.items ≡ set (remove q.eligible.items n) (n + position_or_len (λ x. is_line x.place r.place) (drop n (remove q.requests.items n))) 1
   pub no_turn : eqb word 1 ≡ false → s.eligible.items ≡ remove q.eligible.items n
@@ -32,12 +33,13 @@ pub record IsServed (q s : Inside) (n : ℕ) (r : Request) (word : ℕ) : Type 0
       ≡ set (remove q.keys.items n) (n + position_or_len (λ x. is_line x.place r.place) (drop n (remove q.requests.items n)))
       (key_of true (get_or s.requests.items (n + position_or_len (λ x. is_line x.place r.place) (drop n (remove q.requests.items n))) r))
   pub no_turn_key : eqb word 1 ≡ false → s.keys.items ≡ remove q.keys.items n
-  pub request_room : vec_capacity s.requests ≡ vec_capacity q.requests
-  pub bank_room : vec_capacity s.banks ≡ vec_capacity q.banks
-  pub row_room : vec_capacity s.rows ≡ vec_capacity q.rows
-  pub kind_room : vec_capacity s.kinds ≡ vec_capacity q.kinds
-  pub eligible_room : vec_capacity s.eligible ≡ vec_capacity q.eligible
-  pub key_room : vec_capacity s.keys ≡ vec_capacity q.keys
+  pub request_room : s.requests.room ≡ q.requests.room
+  pub bank_room : s.banks.room ≡ q.banks.room
+  pub row_room : s.rows.room ≡ q.rows.room
+  pub kind_room : s.kinds.room ≡ q.kinds.room
+  pub eligible_room : s.eligible.room ≡ q.eligible.room
+  pub key_room : s.keys.room ≡ q.keys.room
+  pub print_room : s.prints.room ≡ q.prints.room
 
 eligible_left : (q s : Inside) (n : ℕ) (r : Request) (word : ℕ) → AreKept q → IsServed q s n r word → s.eligible.items ≡ eligible_column s.requests.items
 eligible_left q s n r word kept left =
@@ -67,6 +69,7 @@ served_kept q s n r word byte kept left byte_is = record {
   banks_are = map_removed (λ x. bank_number x.place) q.banks.items s.banks.items q.requests.items s.requests.items n kept.banks_are left.banks left.requests;
   rows_are = map_removed (λ x. x.place.row) q.rows.items s.rows.items q.requests.items s.requests.items n kept.rows_are left.rows left.requests;
   kinds_are = map_removed (λ x. mark x.write) q.kinds.items s.kinds.items q.requests.items s.requests.items n kept.kinds_are left.kinds left.requests;
+  prints_are = map_removed (λ x. line_print x.place) q.prints.items s.prints.items q.requests.items s.requests.items n kept.prints_are left.prints left.requests;
   eligible_are = eligible_left q s n r word kept left;
   keys_are = keys_left q s n r word kept left;
   writes_are =
@@ -79,4 +82,5 @@ served_kept q s n r word byte kept left byte_is = record {
   kind_room = omega (arith, kept.kind_room, left.kind_room, left.room);
   eligible_room = omega (arith, kept.eligible_room, left.eligible_room, left.room);
   key_room = omega (arith, kept.key_room, left.key_room, left.room);
+  print_room = omega (arith, kept.print_room, left.print_room, left.room);
 }

@@ -6,6 +6,7 @@
 --     key_of eligible r, key_column requests      the key of a request, and those of all
 --     key_mask by_kind by_row, key_wanted by_kind by_row write bank row      the bits of a key that a search asks for, and what it wants of them
 --     is_wanted by_kind by_row write bank row eligible r      what such a search finds
+--     line_print place, print_column requests      a byte that is the same for places of one line
 --     marked_items items marks      the items at the places that are marked
 --     write_count requests      how many of them are writes
 use Rattle.std.specs.Prelude.{ℕ, ◌+◌, ◌-◌, ◌*◌, ◌%◌, ◌^◌, ◌==◌, Bool, true, not, ◌&&◌, ◌||◌, if◌then◌else◌, List, map, filter, take, count_by}
@@ -62,6 +63,14 @@ key_wanted by_kind by_row write bank row = key_word true (by_kind && write) bank
 abbrev pub is_wanted : Bool → Bool → Bool → ℕ → ℕ → Bool → Request → Bool
 is_wanted by_kind by_row write bank row eligible r =
     eligible && (not by_kind || mark r.write == mark write) && bank_number r.place == bank && (not by_row || r.place.row == row)
+
+-- a byte that places of one line have in common, and most others do not
+abbrev pub line_print : Place → ℕ
+line_print place = (place.row * 97 + bank_number place * 41 + place.column) % 256
+
+-- the print of the line of each request
+abbrev pub print_column : List Request → List ℕ
+print_column requests = map (λ r. line_print r.place) requests
 
 -- the items at the places that are marked
 abbrev pub marked_items : {X : Type 0} → List X → List ℕ → List X

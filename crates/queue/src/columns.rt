@@ -1,8 +1,8 @@
-//! The words of a request in the columns, and pushes that take no memory.
+//! The words of a request in the columns.
 
-ghost use Rattle.std.specs.Prelude.{◌≡◌, ◌^◌, ◌<◌, ◌≤◌, ◌++◌, [], ◌∷◌, vec_len, vec_capacity};
+ghost use Rattle.std.specs.Prelude.{◌≡◌, ◌^◌, ◌<◌};
 ghost use Rattle.lane_scan.specs.Marks.{mark};
-ghost use Rattle.queue.specs.Columns.{bank_number, key_word, key_of};
+ghost use Rattle.queue.specs.Columns.{bank_number, key_word, key_of, line_print};
 
 use sim_base::message::Request;
 use sim_base::place::Place;
@@ -39,11 +39,10 @@ pub(crate) fn key(eligible: bool, request: Request) -> u64
     key_word(eligible, request.write, bank, request.place.row)
 }
 
-/// Appends an item where there is room for it.
-pub(crate) fn push_within<T: Drop>(items: &mut Vec<T>, item: T)
-    requires { vec_len items.old < vec_capacity items.old }
-    ensures items { items.new.items ≡ items.old.items ++ item ∷ [] }
-    ensures room { vec_capacity items.old ≤ vec_capacity items.new }
+/// A byte that places of one line have in common, and most others do not.
+pub(crate) fn line_print(place: Place) -> u8
+    ensures { result ≡ line_print place }
 {
-    let _ = items.push(item);
+    let mixed = u64::from(place.row) * 97 + bank_number(place) * 41 + u64::from(place.column);
+    (mixed % 256) as u8
 }

@@ -1,13 +1,15 @@
 //! Which requests ask for the same line.
 
-ghost use Rattle.std.specs.Prelude.{◌≡◌, ◌+◌, ◌≤◌, true, length, drop, position, slice_index_or, slice_set, vec_capacity};
+ghost use Rattle.std.specs.Prelude.{◌≡◌, ◌+◌, ◌≤◌, true, length, drop, position, slice_index_or, slice_set};
 ghost use Rattle.std.specs.List.{position_or_len};
 ghost use Rattle.sim_base.specs.Places.{is_line};
 ghost use Rattle.sim_base.specs.Scheduling.{asks_for_line};
 ghost use Rattle.sim_base.specs.declared.message.Request.{Request};
-ghost use Rattle.queue.specs.Columns.{key_of};
+ghost use Rattle.queue.specs.Columns.{key_of, print_column};
 
-use crate::columns::key;
+use crate::aged::Aged;
+use crate::columns::{key, line_print};
+use memchr::memchr;
 use sim_base::message::Request;
 use sim_base::place::Place;
 
@@ -18,39 +20,49 @@ fn is_same_line(a: Place, b: Place) -> bool
     a.channel == b.channel && same_bank && a.row == b.row && a.column == b.column
 }
 
-/// Whether one of these requests asks for the line of a place.
-#[tactic(auto, unfolding(sim_base::specs::Scheduling::asks_for_line))]
-pub(crate) fn is_line_asked(place: Place, requests: &[Request]) -> bool
-    ensures { result ≡ asks_for_line place requests.now }
-{
-    requests.iter().any(|q| is_same_line(q.place, place))
-}
-
-/// The first of these requests that asks for the line of a place.
-fn first_for_line(place: Place, requests: &[Request]) -> Option<usize>
+/// The first of these requests that asks for the line of a place. Those whose print is another one are passed over.
+fn first_for_line(place: Place, requests: &[Request], prints: &[u8]) -> Option<usize>
+    requires { prints.now ≡ print_column requests.now }
     ensures { result ≡ position (λ q. is_line q.place place) requests.now }
 {
-    requests.iter().position(|q| is_same_line(q.place, place))
+    let print = line_print(place);
+    let mut at = 0;
+    while let Some(next) = memchr(print, &prints[at..]) {
+        at += next;
+        if is_same_line(requests[at].place, place) {
+            return Some(at);
+        }
+        at += 1;
+    }
+    None
+}
+
+/// Whether one of these requests asks for the line of a place.
+pub(crate) fn is_line_asked(place: Place, requests: &[Request], prints: &[u8]) -> bool
+    requires { prints.now ≡ print_column requests.now }
+    ensures { result ≡ asks_for_line place requests.now }
+{
+    first_for_line(place, requests, prints).is_some()
 }
 
 /// Marks the first request for a line from a place on, if there is one, and writes the key that it then has.
 pub(crate) fn give_turn(
     place: Place,
     requests: &[Request],
+    prints: &[u8],
     from: usize,
-    marks: &mut Vec<u64>,
-    keys: &mut Vec<u64>,
+    marks: &mut Aged<u64>,
+    keys: &mut Aged<u64>,
 )
+    requires prints { prints.now ≡ print_column requests.now }
     requires from { from ≤ length requests.now }
     requires same_marks { length marks.old.items ≡ length requests.now }
     requires same_keys { length keys.old.items ≡ length requests.now }
-    ensures items { marks.new.items ≡ slice_set marks.old.items (from + position_or_len (λ q. is_line q.place place) (drop from requests.now)) 1 }
-    ensures keys { (d : Request) → let next = from + position_or_len (λ q. is_line q.place place) (drop from requests.now) in keys.new.items ≡ slice_set keys.old.items next (key_of true (slice_index_or requests.now next d)) }
-    ensures room { vec_capacity marks.new ≡ vec_capacity marks.old }
-    ensures key_room { vec_capacity keys.new ≡ vec_capacity keys.old }
+    ensures items { marks.new ≡ record marks.old { items = slice_set marks.old.items (from + position_or_len (λ q. is_line q.place place) (drop from requests.now)) 1 } }
+    ensures keys { (d : Request) → let next = from + position_or_len (λ q. is_line q.place place) (drop from requests.now) in keys.new ≡ record keys.old { items = slice_set keys.old.items next (key_of true (slice_index_or requests.now next d)) } }
 {
-    if let Some(next) = first_for_line(place, &requests[from..]) {
-        marks[from + next] = 1;
-        keys[from + next] = key(true, requests[from + next]);
+    if let Some(next) = first_for_line(place, &requests[from..], &prints[from..]) {
+        marks.set(from + next, 1);
+        keys.set(from + next, key(true, requests[from + next]));
     }
 }

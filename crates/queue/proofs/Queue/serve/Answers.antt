@@ -6,8 +6,8 @@ use Rattle.std.specs.List.{remove, position_or_len}
 use Rattle.sim_base.specs.Places.{is_line}
 use Rattle.sim_base.specs.declared.message.Request.{Request}
 use Rattle.queue.proofs.Eligible.{length-eligible}
-use Rattle.queue.specs.Columns.{key_of}
-use Rattle.queue.proofs.Kept.{length_keys}
+use Rattle.queue.specs.Columns.{key_of, line_print, print_column}
+use Rattle.queue.proofs.Kept.{length_keys, map_removed, writes_removed}
 use Rattle.queue.proofs.Served.{IsServed, served_kept}
 use Rattle.queue.proofs.Queue.serve.Goals as goal
 use Rattle.queue.proofs.Queue.serve.Goals.{then-was_first, else-was_first}
@@ -17,7 +17,23 @@ remove-was_first-requires c =
     let q = c.self.inside in
     let exists : c.args.slot < length q.requests.items = omega (arith, ap (λ v. length v.requests) c.self.view_is, c.requires) in
     let long = ap length c.self.invariant.eligible_are ∙ length-eligible q.requests.items in
-    omega (arith, q.eligible.ok.0, long, exists)
+    omega (arith, long, exists)
+
+pub remove-key-requires : goal.remove-key-requires
+remove-key-requires c =
+    let q = c.self.inside in
+    let exists : c.args.slot < length q.requests.items = omega (arith, ap (λ v. length v.requests) c.self.view_is, c.requires) in
+    let long = ap length c.self.invariant.keys_are ∙ length_keys q.requests.items in
+    omega (arith, long, exists)
+
+pub give_turn-requires-clause-prints : goal.give_turn-requires-clause-prints
+give_turn-requires-clause-prints c =
+    let q = c.self.inside in
+    let fewer = ap (λ a. a.items) c.remove-request.ensures.rest in
+    let left = ap (λ a. a.items) c.remove-print.ensures.rest in
+    c.as_slice-prints.ensures
+    ∙ map_removed (λ r. line_print r.place) q.prints.items _ q.requests.items _ c.args.slot c.self.invariant.prints_are left fewer
+    ∙ ap print_column (sym c.as_slice-requests.ensures)
 
 pub give_turn-requires-clause-same_marks : goal.give_turn-requires-clause-same_marks
 give_turn-requires-clause-same_marks c =
@@ -26,17 +42,10 @@ give_turn-requires-clause-same_marks c =
     let exists : n < length q.requests.items = omega (arith, ap (λ v. length v.requests) c.self.view_is, c.requires) in
     let long : length q.eligible.items ≡ length q.requests.items = ap length c.self.invariant.eligible_are ∙ length-eligible q.requests.items in
     let marked : n < length q.eligible.items = omega (arith, long, exists) in
-    let fewer : length c.remove-request.new.self.items ≡ length (remove q.requests.items n) = ap length c.remove-request.ensures.items in
-    let left : length c.remove-was_first.new.self.items ≡ length (remove q.eligible.items n) = ap length c.remove-was_first.ensures.items in
-    let same : length c.deref.result.now ≡ length c.remove-request.new.self.items = ap length c.deref.ensures.value in
+    let fewer : length c.remove-request.new.self.items ≡ length (remove q.requests.items n) = ap (λ a. length a.items) c.remove-request.ensures.rest in
+    let left : length c.remove-was_first.new.self.items ≡ length (remove q.eligible.items n) = ap (λ a. length a.items) c.remove-was_first.ensures.rest in
+    let same : length c.as_slice-requests.result.now ≡ length c.remove-request.new.self.items = ap length c.as_slice-requests.ensures in
     omega (arith, length-remove q.requests.items n exists, length-remove q.eligible.items n marked, fewer, left, same, long)
-
-pub remove-key-requires : goal.remove-key-requires
-remove-key-requires c =
-    let q = c.self.inside in
-    let exists : c.args.slot < length q.requests.items = omega (arith, ap (λ v. length v.requests) c.self.view_is, c.requires) in
-    let long = ap length c.self.invariant.keys_are ∙ length_keys q.requests.items in
-    omega (arith, q.keys.ok.0, long, exists)
 
 pub give_turn-requires-clause-same_keys : goal.give_turn-requires-clause-same_keys
 give_turn-requires-clause-same_keys c =
@@ -45,10 +54,25 @@ give_turn-requires-clause-same_keys c =
     let exists : n < length q.requests.items = omega (arith, ap (λ v. length v.requests) c.self.view_is, c.requires) in
     let long : length q.keys.items ≡ length q.requests.items = ap length c.self.invariant.keys_are ∙ length_keys q.requests.items in
     let marked : n < length q.keys.items = omega (arith, long, exists) in
-    let fewer : length c.remove-request.new.self.items ≡ length (remove q.requests.items n) = ap length c.remove-request.ensures.items in
-    let left : length c.remove-key.new.self.items ≡ length (remove q.keys.items n) = ap length c.remove-key.ensures.items in
-    let same : length c.deref.result.now ≡ length c.remove-request.new.self.items = ap length c.deref.ensures.value in
+    let fewer : length c.remove-request.new.self.items ≡ length (remove q.requests.items n) = ap (λ a. length a.items) c.remove-request.ensures.rest in
+    let left : length c.remove-key.new.self.items ≡ length (remove q.keys.items n) = ap (λ a. length a.items) c.remove-key.ensures.rest in
+    let same : length c.as_slice-requests.result.now ≡ length c.remove-request.new.self.items = ap length c.as_slice-requests.ensures in
     omega (arith, length-remove q.requests.items n exists, length-remove q.keys.items n marked, fewer, left, same, long)
+
+pub overflow_sub-self : goal.overflow_sub-self
+overflow_sub-self c =
+    let q = c.self.inside in
+    let n = c.args.slot in
+    let exists : n < length q.requests.items = omega (arith, ap (λ v. length v.requests) c.self.view_is, c.requires) in
+    let fewer = ap (λ a. a.items) c.remove-request.ensures.rest in
+    let request = c.remove-request.ensures.value c.remove-request.result in
+    let counted = writes_removed q.requests.items _ c.remove-request.result n q.writes c.from.result exists request c.self.invariant.writes_are c.from.ensures fewer in
+    let same : c.if-was_first.self-inside.writes ≡ q.writes =
+    elim c.if-was_first.branch [
+      | then-was_first w ↦ ap (λ s. s.writes) w.self-inside-is
+      | else-was_first w ↦ ap (λ s. s.writes) w.self-inside-is
+    ] in
+    omega (arith, counted, same)
 
 pub invariant_of-self : goal.invariant_of-self
 invariant_of-self c =
@@ -62,59 +86,63 @@ invariant_of-self c =
           let h = w.self-inside-is in
           record {
             exists = exists;
-            request = c.remove-request.ensures.value;
-            word_is = c.remove-was_first.ensures.value;
+            request = c.remove-request.ensures.value c.remove-request.result;
+            word_is = c.remove-was_first.ensures.value c.remove-was_first.result;
             room = ap (λ s. s.room) h;
             writes = ap (λ s. s.writes) h;
-            requests = ap (λ s. s.requests.items) h ∙ c.remove-request.ensures.items;
-            banks = ap (λ s. s.banks.items) h ∙ c.remove-bank.ensures.items;
-            rows = ap (λ s. s.rows.items) h ∙ c.remove-row.ensures.items;
-            kinds = ap (λ s. s.kinds.items) h ∙ c.remove-kind.ensures.items;
+            requests = ap (λ s. s.requests.items) h ∙ ap (λ a. a.items) c.remove-request.ensures.rest;
+            banks = ap (λ s. s.banks.items) h ∙ ap (λ a. a.items) c.remove-bank.ensures.rest;
+            rows = ap (λ s. s.rows.items) h ∙ ap (λ a. a.items) c.remove-row.ensures.rest;
+            kinds = ap (λ s. s.kinds.items) h ∙ ap (λ a. a.items) c.remove-kind.ensures.rest;
+            prints = ap (λ s. s.prints.items) h ∙ ap (λ a. a.items) c.remove-print.ensures.rest;
             turn = λ _.
                 ap (λ s. s.eligible.items) h
-                ∙ w.give_turn.ensures.items
+                ∙ ap (λ a. a.items) w.give_turn.ensures.items
                 ∙ (λ i.
-                set (c.remove-was_first.ensures.items i)
-                (n + position_or_len (λ (x : Request). is_line x.place c.remove-request.result.place) (drop n ((w.deref.ensures.value ∙ c.remove-request.ensures.items) i))) 1);
+                set (c.remove-was_first.ensures.rest i).items
+                (n + position_or_len (λ (x : Request). is_line x.place c.remove-request.result.place) (drop n ((w.as_slice-requests.ensures ∙ ap (λ a. a.items) c.remove-request.ensures.rest) i))) 1);
             no_turn = λ no. absurd (eqb-false word 1 no w.if-was_first.true);
             turn_key = λ _.
                 ap (λ s. s.keys.items) h
-                ∙ w.give_turn.ensures.keys c.remove-request.result
+                ∙ ap (λ a. a.items) (w.give_turn.ensures.keys c.remove-request.result)
                 ∙ (λ i.
-                let behind = (w.deref.ensures.value ∙ c.remove-request.ensures.items) i in
-                let seen = (w.deref.ensures.value ∙ sym (ap (λ s. s.requests.items) h)) i in
+                let behind = (w.as_slice-requests.ensures ∙ ap (λ a. a.items) c.remove-request.ensures.rest) i in
+                let seen = (w.as_slice-requests.ensures ∙ sym (ap (λ s. s.requests.items) h)) i in
                 let place = n + position_or_len (λ (x : Request). is_line x.place c.remove-request.result.place) (drop n behind) in
-                set (c.remove-key.ensures.items i) place (key_of true (get_or seen place c.remove-request.result)));
+                set (c.remove-key.ensures.rest i).items place (key_of true (get_or seen place c.remove-request.result)));
             no_turn_key = λ no. absurd (eqb-false word 1 no w.if-was_first.true);
-            request_room = ap (λ s. s.requests.cap) h ∙ c.remove-request.ensures.capacity;
-            bank_room = ap (λ s. s.banks.cap) h ∙ c.remove-bank.ensures.capacity;
-            row_room = ap (λ s. s.rows.cap) h ∙ c.remove-row.ensures.capacity;
-            kind_room = ap (λ s. s.kinds.cap) h ∙ c.remove-kind.ensures.capacity;
-            eligible_room = ap (λ s. s.eligible.cap) h ∙ w.give_turn.ensures.room ∙ c.remove-was_first.ensures.capacity;
-            key_room = ap (λ s. s.keys.cap) h ∙ w.give_turn.ensures.key_room ∙ c.remove-key.ensures.capacity;
+            request_room = ap (λ s. s.requests.room) h ∙ ap (λ a. a.room) c.remove-request.ensures.rest;
+            bank_room = ap (λ s. s.banks.room) h ∙ ap (λ a. a.room) c.remove-bank.ensures.rest;
+            row_room = ap (λ s. s.rows.room) h ∙ ap (λ a. a.room) c.remove-row.ensures.rest;
+            kind_room = ap (λ s. s.kinds.room) h ∙ ap (λ a. a.room) c.remove-kind.ensures.rest;
+            eligible_room = ap (λ s. s.eligible.room) h ∙ ap (λ a. a.room) w.give_turn.ensures.items ∙ ap (λ a. a.room) c.remove-was_first.ensures.rest;
+            key_room = ap (λ s. s.keys.room) h ∙ ap (λ a. a.room) (w.give_turn.ensures.keys c.remove-request.result) ∙ ap (λ a. a.room) c.remove-key.ensures.rest;
+            print_room = ap (λ s. s.prints.room) h ∙ ap (λ a. a.room) c.remove-print.ensures.rest;
           }
       | else-was_first w ↦
           let h = w.self-inside-is in
           record {
             exists = exists;
-            request = c.remove-request.ensures.value;
-            word_is = c.remove-was_first.ensures.value;
+            request = c.remove-request.ensures.value c.remove-request.result;
+            word_is = c.remove-was_first.ensures.value c.remove-was_first.result;
             room = ap (λ s. s.room) h;
             writes = ap (λ s. s.writes) h;
-            requests = ap (λ s. s.requests.items) h ∙ c.remove-request.ensures.items;
-            banks = ap (λ s. s.banks.items) h ∙ c.remove-bank.ensures.items;
-            rows = ap (λ s. s.rows.items) h ∙ c.remove-row.ensures.items;
-            kinds = ap (λ s. s.kinds.items) h ∙ c.remove-kind.ensures.items;
+            requests = ap (λ s. s.requests.items) h ∙ ap (λ a. a.items) c.remove-request.ensures.rest;
+            banks = ap (λ s. s.banks.items) h ∙ ap (λ a. a.items) c.remove-bank.ensures.rest;
+            rows = ap (λ s. s.rows.items) h ∙ ap (λ a. a.items) c.remove-row.ensures.rest;
+            kinds = ap (λ s. s.kinds.items) h ∙ ap (λ a. a.items) c.remove-kind.ensures.rest;
+            prints = ap (λ s. s.prints.items) h ∙ ap (λ a. a.items) c.remove-print.ensures.rest;
             turn = λ yes. absurd (w.if-was_first.false (eqb-true word 1 yes));
-            no_turn = λ _. ap (λ s. s.eligible.items) h ∙ c.remove-was_first.ensures.items;
+            no_turn = λ _. ap (λ s. s.eligible.items) h ∙ ap (λ a. a.items) c.remove-was_first.ensures.rest;
             turn_key = λ yes. absurd (w.if-was_first.false (eqb-true word 1 yes));
-            no_turn_key = λ _. ap (λ s. s.keys.items) h ∙ c.remove-key.ensures.items;
-            request_room = ap (λ s. s.requests.cap) h ∙ c.remove-request.ensures.capacity;
-            bank_room = ap (λ s. s.banks.cap) h ∙ c.remove-bank.ensures.capacity;
-            row_room = ap (λ s. s.rows.cap) h ∙ c.remove-row.ensures.capacity;
-            kind_room = ap (λ s. s.kinds.cap) h ∙ c.remove-kind.ensures.capacity;
-            eligible_room = ap (λ s. s.eligible.cap) h ∙ c.remove-was_first.ensures.capacity;
-            key_room = ap (λ s. s.keys.cap) h ∙ c.remove-key.ensures.capacity;
+            no_turn_key = λ _. ap (λ s. s.keys.items) h ∙ ap (λ a. a.items) c.remove-key.ensures.rest;
+            request_room = ap (λ s. s.requests.room) h ∙ ap (λ a. a.room) c.remove-request.ensures.rest;
+            bank_room = ap (λ s. s.banks.room) h ∙ ap (λ a. a.room) c.remove-bank.ensures.rest;
+            row_room = ap (λ s. s.rows.room) h ∙ ap (λ a. a.room) c.remove-row.ensures.rest;
+            kind_room = ap (λ s. s.kinds.room) h ∙ ap (λ a. a.room) c.remove-kind.ensures.rest;
+            eligible_room = ap (λ s. s.eligible.room) h ∙ ap (λ a. a.room) c.remove-was_first.ensures.rest;
+            key_room = ap (λ s. s.keys.room) h ∙ ap (λ a. a.room) c.remove-key.ensures.rest;
+            print_room = ap (λ s. s.prints.room) h ∙ ap (λ a. a.room) c.remove-print.ensures.rest;
           }
     ] in
     served_kept q c.if-was_first.self-inside n c.remove-request.result word c.from.result c.self.invariant left c.from.ensures
