@@ -1,20 +1,38 @@
 //! Items by age, of which any one can leave.
 
-ghost use Rattle.std.specs.Prelude.{◌≡◌, ◌+◌, ◌<◌, ◌≤◌, ◌++◌, [], ◌∷◌, IfOk, drop, length, remove, slice_index_or, slice_set, vec_len, vec_capacity};
+ghost use Rattle.std.specs.Prelude.{◌≡◌, ◌+◌, ◌-◌, ◌<◌, ◌≤◌, ◌++◌, [], ◌∷◌, IfOk, drop, take, length, remove, slice_index_or, slice_set, vec_len, vec_capacity};
 ghost use Rattle.queue.specs.Aged.{AgedItems};
 
 use std::alloc::{AllocError, Global};
 use std::marker::Model;
 
 /// Takes out the first items.
-fn remove_front<T: Drop>(items: &mut Vec<T>, count: usize)
+fn remove_front<T: Copy + Drop>(items: &mut Vec<T>, count: usize)
     requires { count ≤ vec_len items.old }
     ensures items { items.new.items ≡ drop count items.old.items }
     ensures room { vec_capacity items.new ≡ vec_capacity items.old }
 {
     let len = items.len() - count;
-    items.rotate_left(count);
+    if len <= count {
+        let (front, back) = items.split_at_mut(count);
+        front[..len].copy_from_slice(back);
+    } else {
+        items.rotate_left(count);
+    }
     items.truncate(len);
+}
+
+/// Moves all items but the last one up by a place, over it.
+fn move_up<T: Copy>(items: &mut [T])
+    requires { 0 < length items.old }
+    ensures len { length items.new ≡ length items.old }
+    ensures after { drop 1 items.new ≡ take (length items.old - 1) items.old }
+{
+    let mut at = items.len() - 1;
+    while 0 < at {
+        items[at] = items[at - 1];
+        at -= 1;
+    }
 }
 
 /// Appends an item where there is room for it.
@@ -94,7 +112,7 @@ impl<T: Copy + Drop> Aged<T> {
         let place = self.start + at;
         if at < self.len() / 2 {
             let item = self.places[place];
-            self.places[self.start..=place].rotate_right(1);
+            move_up(&mut self.places[self.start..=place]);
             self.start += 1;
             item
         } else {
