@@ -92,6 +92,7 @@ impl<T: Copy + Drop> Aged<T> {
     }
 
     /// Takes in an item that is younger than all others.
+    #[inline(always)]
     pub(crate) fn push(&mut self, item: T)
         requires { length self.old.items < self.old.room }
         ensures { self.new ≡ record self.old { items = self.old.items ++ item ∷ [] } }
@@ -104,6 +105,7 @@ impl<T: Copy + Drop> Aged<T> {
     }
 
     /// Gives out the item at a place. The others keep their order.
+    #[inline(always)]
     pub(crate) fn remove(&mut self, at: usize) -> T
         requires { at < length self.old.items }
         ensures value { (d : T) → result ≡ slice_index_or self.old.items at d }
