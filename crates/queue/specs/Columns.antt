@@ -3,7 +3,9 @@
 --     bank_column requests, row_column requests, kind_column requests      which bank and row each asks for, and whether it writes
 --     eligible_column requests      which ones may be served: those with no older one for the same line
 --     key_word eligible write bank row      one word that tells all of these
---     key_of eligible r, key_column requests      the key of a request, and those of all
+--     key_of eligible r, keys_of requests marks      the key of a request, and those of some, of which those that are marked may be served
+--     key_column requests      the keys of all
+--     waiting_count marks      how many are not marked
 --     key_mask by_kind by_row, key_wanted by_kind by_row write bank row      the bits of a key that a search asks for, and what it wants of them
 --     is_wanted by_kind by_row write bank row eligible r      what such a search finds
 --     line_print place, print_column requests      a byte that is the same for places of one line
@@ -46,9 +48,17 @@ key_word eligible write bank row = ((mark eligible * 2 + mark write) * 2 ^ 30 + 
 abbrev pub key_of : Bool → Request → ℕ
 key_of eligible r = key_word eligible r.write (bank_number r.place % 2 ^ 30) r.place.row
 
+-- the keys of some requests, of which those that are marked may be served
+abbrev pub keys_of : List Request → List ℕ → List ℕ
+keys_of requests marks = zip2 (λ r eligible. key_of (is_marked eligible) r) requests marks
+
 -- the key of each request
 unfoldable pub key_column : List Request → List ℕ
-key_column requests = zip2 (λ r eligible. key_of (is_marked eligible) r) requests (eligible_column requests)
+key_column requests = keys_of requests (eligible_column requests)
+
+-- how many of these words are no marks: of the eligible ones, how many requests wait for an older one of their line
+abbrev pub waiting_count : List ℕ → ℕ
+waiting_count marks = count_by (λ word. not (is_marked word)) marks
 
 -- The bits of a key that a search for a bank asks for: whether the request may be served and its bank, and by choice its kind
 -- and its row.

@@ -32,6 +32,8 @@ pub struct Queue {
     settled: bool,
     /// Writes among the requests.
     writes: usize,
+    /// Requests that wait for an older one of the same line.
+    waiting: usize,
     requests: Aged<Request>,
     banks: Aged<u64>,
     rows: Aged<u64>,
@@ -66,6 +68,7 @@ impl Queue {
             low,
             settled: false,
             writes: 0,
+            waiting: 0,
             requests: Aged::with_room(alloc, room)?,
             banks: Aged::with_room(alloc, room)?,
             rows: Aged::with_room(alloc, room)?,
@@ -105,6 +108,7 @@ impl Queue {
         self.keys.push(key(!asked, request));
         self.prints.push(line_print(request.place));
         self.requests.push(request);
+        self.waiting += usize::from(asked);
         self.writes += usize::from(request.write);
     }
 
@@ -121,11 +125,15 @@ impl Queue {
         let _key = self.keys.remove(slot);
         let _print = self.prints.remove(slot);
         let was_first = self.eligible.remove(slot) == 1;
-        if was_first {
+        let waited = if was_first {
             let (requests, prints) = (self.requests.as_slice(), self.prints.as_slice());
             let (marks, keys) = (&mut self.eligible, &mut self.keys);
-            give_turn(request.place, requests, prints, slot, marks, keys);
-        }
+            let waiting = self.waiting;
+            give_turn(request.place, requests, prints, slot, waiting, marks, keys)
+        } else {
+            true
+        };
+        self.waiting -= usize::from(waited);
         self.writes -= usize::from(request.write);
         request
     }

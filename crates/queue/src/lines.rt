@@ -1,11 +1,11 @@
 //! Which requests ask for the same line.
 
-ghost use Rattle.std.specs.Prelude.{◌≡◌, ◌+◌, ◌≤◌, true, length, drop, position, slice_index_or, slice_set};
+ghost use Rattle.std.specs.Prelude.{◌≡◌, ◌+◌, ◌≤◌, length, drop, position, slice_set};
 ghost use Rattle.std.specs.List.{position_or_len};
 ghost use Rattle.sim_base.specs.Places.{is_line};
 ghost use Rattle.sim_base.specs.Scheduling.{asks_for_line};
-ghost use Rattle.sim_base.specs.declared.message.Request.{Request};
-ghost use Rattle.queue.specs.Columns.{key_of, print_column};
+ghost use Rattle.queue.specs.Columns.{keys_of, print_column, waiting_count};
+ghost use Rattle.lane_scan.specs.Marks.{mark};
 
 use crate::aged::Aged;
 use crate::columns::{key, line_print};
@@ -45,24 +45,37 @@ pub(crate) fn is_line_asked(place: Place, requests: &[Request], prints: &[u8]) -
     first_for_line(place, requests, prints).is_some()
 }
 
-/// Marks the first request for a line from a place on, if there is one, and writes the key that it then has.
+/// Marks the first request for a line from a place on, if there is one, writes the key that it then has, and says whether it
+/// was not marked. `waiting` is how many are not marked.
 pub(crate) fn give_turn(
     place: Place,
     requests: &[Request],
     prints: &[u8],
     from: usize,
+    waiting: usize,
     marks: &mut Aged<u64>,
     keys: &mut Aged<u64>,
-)
+) -> bool
     requires prints { prints.now ≡ print_column requests.now }
     requires from { from ≤ length requests.now }
-    requires same_marks { length marks.old.items ≡ length requests.now }
-    requires same_keys { length keys.old.items ≡ length requests.now }
-    ensures items { marks.new ≡ record marks.old { items = slice_set marks.old.items (from + position_or_len (λ q. is_line q.place place) (drop from requests.now)) 1 } }
-    ensures keys { (d : Request) → let next = from + position_or_len (λ q. is_line q.place place) (drop from requests.now) in keys.new ≡ record keys.old { items = slice_set keys.old.items next (key_of true (slice_index_or requests.now next d)) } }
+    requires waiting { waiting ≡ waiting_count marks.old.items }
+    requires same_length { length marks.old.items ≡ length requests.now }
+    requires keys { keys.old.items ≡ keys_of requests.now marks.old.items }
+    ensures items { marks.new.items ≡ slice_set marks.old.items (from + position_or_len (λ q. is_line q.place place) (drop from requests.now)) 1 }
+    ensures keys { keys.new.items ≡ keys_of requests.now marks.new.items }
+    ensures waited { waiting_count marks.new.items + mark result ≡ waiting_count marks.old.items }
+    ensures room { marks.new.room ≡ marks.old.room }
+    ensures key_room { keys.new.room ≡ keys.old.room }
 {
-    if let Some(next) = first_for_line(place, &requests[from..], &prints[from..]) {
-        marks.set(from + next, 1);
-        keys.set(from + next, key(true, requests[from + next]));
+    if waiting == 0 {
+        return false;
     }
+    let Some(next) = first_for_line(place, &requests[from..], &prints[from..]) else {
+        return false;
+    };
+    let next = from + next;
+    let waited = marks.as_slice()[next] != 1;
+    marks.set(next, 1);
+    keys.set(next, key(true, requests[next]));
+    waited
 }

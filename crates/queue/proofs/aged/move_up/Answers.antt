@@ -1,4 +1,4 @@
-use Rattle.std.proofs.Common.{◌≡◌, ◌+◌, ◌-◌, ◌<◌, ◌≤◌, length, arith}
+use Rattle.std.proofs.Common.{◌-◌, length, arith}
 use Rattle.queue.proofs.Dropped.{moved_none, moved_more, moved_all}
 use Rattle.queue.proofs.aged.move_up.Goals as goal
 

@@ -1,4 +1,4 @@
-use Rattle.std.proofs.Common.{◌≡◌, ◌+◌, ◌<◌, ◌≤◌, ◌++◌, [], ◌∷◌, drop, length, ap, ◌∙◌, arith}
+use Rattle.std.proofs.Common.{◌≡◌, ◌≤◌, ◌++◌, [], ◌∷◌, drop, length, ap, ◌∙◌, arith}
 use Rattle.queue.proofs.Dropped.{drop-push}
 use Rattle.queue.proofs.aged.Aged.push.Goals as goal
 use Rattle.queue.proofs.aged.Aged.push.Goals.{then-len-capacity, else-len-capacity}

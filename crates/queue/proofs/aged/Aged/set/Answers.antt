@@ -1,4 +1,4 @@
-use Rattle.std.proofs.Common.{◌≡◌, ◌+◌, drop, set, refl, ap, ◌∙◌}
+use Rattle.std.proofs.Common.{◌+◌, set, refl, ap, ◌∙◌}
 use Rattle.queue.proofs.Dropped.{drop-set}
 use Rattle.queue.proofs.aged.Aged.set.Goals as goal
 
