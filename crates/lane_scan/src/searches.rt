@@ -12,6 +12,9 @@ use std::simd::prelude::*;
 /// The words of a full vector.
 const LANES: usize = 8;
 
+/// The words that are tested at once in a long column.
+const WIDE: usize = 32;
+
 /// A test of words.
 trait Test {
     ghost passes: { Self → ℕ → Bool };
@@ -98,10 +101,14 @@ fn skip_failing<const N: usize, T: LaneTest<N>>(test: &T, words: &[u64], from: u
 }
 
 /// The first place whose word passes, if there is one.
-fn first_passing<T: LaneTest<LANES> + LaneTest<1>>(test: &T, words: &[u64]) -> Option<usize>
+fn first_passing<T: LaneTest<WIDE> + LaneTest<LANES> + LaneTest<1>>(
+    test: &T,
+    words: &[u64],
+) -> Option<usize>
     ensures { result ≡ position (T.passes test.now) words.now }
 {
-    let at = skip_failing::<LANES, T>(test, words, 0);
+    let at = skip_failing::<WIDE, T>(test, words, 0);
+    let at = skip_failing::<LANES, T>(test, words, at);
     let at = skip_failing::<1, T>(test, words, at);
     if at < words.len() { Some(at) } else { None }
 }
