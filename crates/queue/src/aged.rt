@@ -66,7 +66,7 @@ impl<T> Model for Aged<T> {
 }
 
 impl<T: Copy + Drop> Aged<T> {
-    /// No items, with room for so many, and as many free places more where memory has them.
+    /// No items, with room for so many and as many free places more.
     pub(crate) fn with_room(alloc: Global, room: usize) -> Result<Self, AllocError>
         ensures { IfOk result (λ aged. aged ≡ record { items = []; room = room }) }
     {
