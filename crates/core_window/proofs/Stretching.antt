@@ -17,7 +17,7 @@ use Rattle.cpu_trace.specs.declared.entries.MemoryEntry.{MemoryEntry}
 use Rattle.statistics.specs.Counts.{one_if}
 use Rattle.statistics.specs.Cores.{core_joined, core_times, CoreFits}
 use Rattle.statistics.specs.declared.cores.CoreStats.{CoreStats}
-use Rattle.core_window.specs.Inside.{StandsAt, IsStanding, IsLike, Advances, GoesOn, Does}
+use Rattle.core_window.specs.Inside.{StandsAt, IsStanding, IsLike, Advances, GoesOn, GoesQuietly, Does}
 use Rattle.core_window.specs.Rests.{idle_row}
 use Rattle.core_window.specs.Steady.{steady_counts, steady_view, IsSteady}
 use Rattle.core_window.specs.Turns.{IsTurn, IsIssued, cycle_counts}
@@ -203,3 +203,50 @@ counted-fits a n row why each e i h l len early =
 pub ok-both : {T E : Type 0} (r : Result T E) (P Q R : Type 0) → (P → Q → R) → OnOk r P → OnOk r Q → OnOk r R
 ok-both (Ok x) P Q R f p q = f p q
 ok-both (Err e) P Q R f p q = p
+
+-- no cycle
+pub quiet-none : (a : CoreView) (until : ℕ) → a.now ≤ until → GoesQuietly until a a
+unfolding core_run
+quiet-none a until l =
+    let z : a.now - a.now ≡ 0 = omega arith in
+    record {
+      since = omega arith;
+      until_then = l;
+      advances = λ sent. subst (λ n. Advances n a sent a sent) (sym z) (λ s core trace rows mail h. (h, λ base e. e));
+    }
+
+-- a stretch
+pub quiet-steady : (a b : CoreView) (n until : ℕ) (row : CoreRow) (why : Stop) → IsSteady a n row why → b ≡ steady_view a row why n → a.now + n ≤ until → GoesQuietly until a b
+quiet-steady a b n until row why h e u =
+    let gone : n ≡ a.now + n - a.now = omega arith in
+    subst (GoesQuietly until a) (sym e)
+    (record {
+      since = omega arith;
+      until_then = u;
+      advances = λ sent. subst (λ k. Advances k a sent (steady_view a row why n) sent) gone (steady-advances a n row why sent h);
+    })
+
+pub quiet-standing : (a b : CoreView) (until : ℕ) → GoesQuietly until a b → IsStanding a → IsStanding b
+quiet-standing a b until h i =
+    record { s = i.s; core = i.core; trace = i.trace; rows = core_run i.s i.core i.trace i.rows i.mail (b.now - a.now); mail = i.mail; stands = (h.advances [] i.s i.core i.trace i.rows i.mail i.stands).0 }
+
+-- and then the rest of the way
+pub quiet-then : (a b d : CoreView) (until : ℕ) (x z : List Message) → GoesQuietly until a b → GoesOn until b x d z → GoesOn until a x d z
+quiet-then a b d until x z q g =
+    let sum : (b.now - a.now) + (d.now - b.now) ≡ d.now - a.now = omega (arith, q.since, g.later) in
+    record {
+      later = omega (arith, q.since, g.later);
+      until_then = g.until_then;
+      advances = subst (λ n. Advances n a x d z) sum (advances-add (b.now - a.now) (d.now - b.now) a b d x x z (q.advances x) g.advances);
+    }
+
+pub quiet-all : (a b : CoreView) (until : ℕ) (x : List Message) → GoesQuietly until a b → a.now < until → until ≤ b.now → GoesOn until a x b x
+quiet-all a b until x q l m = record { later = omega arith; until_then = q.until_then; advances = q.advances x }
+
+pub ok-map : {T E : Type 0} (r : Result T E) (P Q : Type 0) → (P → Q) → OnOk r P → OnOk r Q
+ok-map (Ok x) P Q f p = f p
+ok-map (Err e) P Q f p = p
+
+pub goes-standing : (a b : CoreView) (until : ℕ) (x y : List Message) → GoesOn until a x b y → IsStanding a → IsStanding b
+goes-standing a b until x y h i =
+    record { s = i.s; core = i.core; trace = i.trace; rows = core_run i.s i.core i.trace i.rows i.mail (b.now - a.now); mail = i.mail; stands = (h.advances i.s i.core i.trace i.rows i.mail i.stands).0 }

@@ -2,6 +2,7 @@
 --     StandsAt s core trace rows mail view      what the core stands for
 --     Advances n a b sent      a core goes n cycles, in which no message comes, and sends these
 --     GoesOn until a b sent      a core goes some cycles, at most up to a cycle
+--     GoesQuietly until a b      a core goes no cycles or some, and sends nothing
 --     Does view row why memory      what a core does in the next cycle
 use Rattle.std.specs.Prelude.{◌≡◌, ℕ, ◌-◌, ◌<◌, ◌≤◌, false, true, List, ◌++◌, length, take, drop, slice_get, Option, Some, None}
 use Rattle.std.specs.List.{AllByRecursion as Each}
@@ -83,6 +84,12 @@ pub record GoesOn (until : ℕ) (a : CoreView) (before : List Message) (b : Core
   pub later : a.now < b.now
   pub until_then : b.now ≤ until
   pub advances : Advances (b.now - a.now) a before b after
+
+-- a core goes on by no cycle or by some, at most up to a cycle, while no further message comes, and sends nothing
+pub record GoesQuietly (until : ℕ) (a b : CoreView) : Type 0 where
+  pub since : a.now ≤ b.now
+  pub until_then : b.now ≤ until
+  pub advances : (sent : List Message) → Advances (b.now - a.now) a sent b sent
 
 -- a core stands at the cycle in which a message comes, and the message may come
 pub record IsReceiving (view : CoreView) (m : Message) : Type 0 where

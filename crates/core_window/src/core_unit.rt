@@ -1,6 +1,6 @@
 //! A core.
 
-ghost use Rattle.std.specs.Prelude.{[], ◌∷◌, ◌++◌, ◌/◌, ◌%◌, find, if◌then◌else◌, ◌≡◌, ◌==◌, ◌^◌, ◌+◌, ◌-◌, ◌≤◌, ◌<◌, ℕ, Some, List, length, replicate, slice_get, OnOk, OnErr, IfOk};
+ghost use Rattle.std.specs.Prelude.{[], ◌∷◌, ◌++◌, ◌/◌, ◌%◌, find, if◌then◌else◌, ◌≡◌, ◌==◌, ◌^◌, ◌+◌, ◌-◌, ◌*◌, ◌≤◌, ◌<◌, ℕ, Some, List, length, replicate, slice_get, OnOk, OnErr, IfOk};
 ghost use Rattle.sim_base.specs.declared.history.CoreRow.{CoreRow};
 ghost use Rattle.sim_base.specs.declared.message.Message.{Message};
 ghost use Rattle.sim_base.specs.declared.config.Config.{Config};
@@ -10,7 +10,7 @@ ghost use Rattle.core_window.specs.Turns.{lacks_by, IsSeen, credits_of_kind, mor
 ghost use Rattle.core_window.specs.CoreViews.{view_of};
 ghost use Rattle.core_window.specs.Fit.{IsDue, MayRun, Runs};
 ghost use Rattle.core_window.specs.Stands.{StandsFor};
-ghost use Rattle.core_window.specs.Inside.{IsStanding, IsReceiving, StandsAt, Advances, GoesOn, Does};
+ghost use Rattle.core_window.specs.Inside.{IsStanding, IsReceiving, StandsAt, Advances, GoesOn, GoesQuietly, Does};
 ghost use Rattle.core_window.specs.Views.{CoreView};
 ghost use Rattle.core_window.specs.Rests.{Rests, IsNextAct, MayRest, MaySkip, idle_row};
 ghost use Rattle.core_window.specs.Steady.{steady_view, IsSteady};
@@ -18,6 +18,7 @@ ghost use Rattle.core_window.specs.Replies.{MayTakeReply, after_reply};
 ghost use Rattle.core_window.specs.Waiting.{is_waiting};
 ghost use Rattle.core_window.specs.declared.waiting.WaitingRead.{WaitingRead};
 
+use crate::channel::channel_of;
 use crate::counts::{count_cycle, count_cycles, cycle_counts};
 use crate::flow::{Flow, WindowNumbers, flow_of};
 use crate::issue::{Ahead, entry_issued, issue_of, next_two};
@@ -25,7 +26,6 @@ use crate::issue_effects::{send, spend, wait_for};
 use crate::receive::{add_credit_at, count_reply, is_waiting, issue_cycle_of, remove_read};
 use crate::retire::retire_count;
 use crate::waiting::WaitingRead;
-use address_map::place_of;
 use cpu_trace::entries::MemoryEntry;
 use cpu_trace::trace::Trace;
 use sim_base::config::Config;
@@ -62,8 +62,8 @@ fn is_without_credit(credits: &[Credits], config: &Config, entry: Entry) -> bool
         → result ≡ lacks_by config.now held entry }
 {
     match entry {
-        Entry::Read(address) => credits[place_of(config, address).channel as usize].read == 0,
-        Entry::Write(address) => credits[place_of(config, address).channel as usize].write == 0,
+        Entry::Read(address) => credits[channel_of(config, address) as usize].read == 0,
+        Entry::Write(address) => credits[channel_of(config, address) as usize].write == 0,
         Entry::Plain => false,
     }
 }
@@ -123,6 +123,8 @@ impl Core {
         requires turn { Does (view_of self.old) turn.row turn.why turn.memory }
         requires early { self.old.cycle < 2 ^ 62 }
         ensures cycle { OnOk result (self.new.cycle ≡ self.old.cycle + 1) }
+        ensures entries { OnOk result (self.new.trace ≡ self.old.trace) }
+        ensures issued { OnOk result (self.old.stats.issued ≤ self.new.stats.issued) }
         ensures advances { OnOk result (Advances 1 (view_of self.old) sent.old.items (view_of self.new) sent.new.items) }
     {
         wait_for(&mut self.waiting, turn.memory, self.cycle)?;
@@ -200,6 +202,7 @@ impl Core {
         requires stands { IsStanding (view_of self.now) }
         requires seen { IsSeen self.now.trace self.now.stats.issued ahead.now.one ahead.now.two ahead.now.entry }
         ensures steady { IsSteady (view_of self.now) result.cycles (record { retired = result.retired; issued = self.now.config.width }) Stop.Width }
+        ensures within { self.now.stats.issued + result.cycles * self.now.config.width ≤ ahead.now.one }
         ensures most { result.cycles ≤ most }
     {
         let issued = self.stats.issued;
@@ -214,6 +217,17 @@ impl Core {
         flow_of(&numbers, &self.waiting, most)
     }
 
+    /// Looks for the next two memory entries anew, where the first of those that were found has issued.
+    fn look_ahead(&self, ahead: &mut Ahead)
+        requires stands { IsStanding (view_of self.now) }
+        requires seen { (from : ℕ) × (from ≤ self.now.stats.issued) × IsSeen self.now.trace from ahead.old.one ahead.old.two ahead.old.entry }
+        ensures { IsSeen self.now.trace self.now.stats.issued ahead.new.one ahead.new.two ahead.new.entry }
+    {
+        if ahead.one < self.stats.issued {
+            *ahead = self.ahead();
+        }
+    }
+
     /// Goes on by a cycle, or up to a cycle, if the core does nothing until a message comes.
     fn rest_or_step(
         &mut self,
@@ -225,7 +239,9 @@ impl Core {
         requires seen { IsSeen self.old.trace self.old.stats.issued ahead.now.one ahead.now.two ahead.now.entry }
         requires order { self.old.cycle < until }
         requires early { until < 2 ^ 62 }
-        ensures { OnOk result (GoesOn until (view_of self.old) sent.old.items (view_of self.new) sent.new.items) }
+        ensures goes { OnOk result (GoesOn until (view_of self.old) sent.old.items (view_of self.new) sent.new.items) }
+        ensures entries { OnOk result (self.new.trace ≡ self.old.trace) }
+        ensures issued { OnOk result (self.old.stats.issued ≤ self.new.stats.issued) }
     {
         let turn = self.turn_with(ahead);
         if turn.row.retired == 0 && turn.row.issued == 0 {
@@ -236,25 +252,48 @@ impl Core {
         }
     }
 
-    /// Goes on by a cycle, or by several, at most up to a cycle, in which the core does the same.
-    fn go_on(&mut self, until: Cycle, sent: &mut Vec<Message>) -> Result<(), AllocError>
+    /// Goes on by the cycles, at most up to a cycle, in which the core issues its width of Plain entries and does the same in
+    /// each, if there are any.
+    fn flow_on(&mut self, ahead: &Ahead, until: Cycle)
         requires stands { IsStanding (view_of self.old) }
+        requires seen { IsSeen self.old.trace self.old.stats.issued ahead.now.one ahead.now.two ahead.now.entry }
         requires order { self.old.cycle < until }
         requires early { until < 2 ^ 62 }
-        ensures { OnOk result (GoesOn until (view_of self.old) sent.old.items (view_of self.new) sent.new.items) }
+        ensures goes { GoesQuietly until (view_of self.old) (view_of self.new) }
+        ensures seen { IsSeen self.new.trace self.new.stats.issued ahead.now.one ahead.now.two ahead.now.entry }
     {
-        let ahead = self.ahead();
-        let flow = self.flow(&ahead, until - self.cycle);
+        let flow = self.flow(ahead, until - self.cycle);
         if flow.cycles == 0 {
-            self.rest_or_step(&ahead, until, sent)
-        } else {
-            let row = CoreRow {
-                retired: flow.retired,
-                issued: self.config.width,
-            };
-            self.pass(row, Stop::Width, flow.cycles);
-            Ok(())
+            return;
         }
+        let row = CoreRow {
+            retired: flow.retired,
+            issued: self.config.width,
+        };
+        self.pass(row, Stop::Width, flow.cycles);
+    }
+
+    /// Goes on by some cycles, at most up to a cycle.
+    fn go_on(
+        &mut self,
+        ahead: &mut Ahead,
+        until: Cycle,
+        sent: &mut Vec<Message>,
+    ) -> Result<(), AllocError>
+        requires stands { IsStanding (view_of self.old) }
+        requires seen { IsSeen self.old.trace self.old.stats.issued ahead.old.one ahead.old.two ahead.old.entry }
+        requires order { self.old.cycle < until }
+        requires early { until < 2 ^ 62 }
+        ensures goes { OnOk result (GoesOn until (view_of self.old) sent.old.items (view_of self.new) sent.new.items) }
+        ensures seen { OnOk result (IsSeen self.new.trace self.new.stats.issued ahead.new.one ahead.new.two ahead.new.entry) }
+    {
+        self.flow_on(ahead, until);
+        if self.cycle == until {
+            return Ok(());
+        }
+        self.rest_or_step(ahead, until, sent)?;
+        self.look_ahead(ahead);
+        Ok(())
     }
 
     /// Goes on up to a cycle, while no further message comes.
@@ -265,8 +304,12 @@ impl Core {
         ensures cycle { OnOk result (self.new.cycle ≡ until) }
         ensures advances { OnOk result (Advances (until - self.old.cycle) (view_of self.old) sent.old.items (view_of self.new) sent.new.items) }
     {
+        if self.cycle == until {
+            return Ok(());
+        }
+        let mut ahead = self.ahead();
         'cycles: while self.cycle < until {
-            self.go_on(until, sent)?;
+            self.go_on(&mut ahead, until, sent)?;
         }
         Ok(())
     }

@@ -5,6 +5,7 @@ ghost use Rattle.sim_base.specs.History.{request, request_of};
 ghost use Rattle.core_window.specs.Turns.{reads_issued, requests_issued, credit_after, credit_after_entry, less_credit};
 ghost use Rattle.statistics.specs.declared.final_state.Credits.{Credits};
 
+use crate::channel::channel_of;
 use crate::receive::take_credit;
 use crate::waiting::WaitingRead;
 use address_map::place_of;
@@ -51,8 +52,8 @@ pub fn spend(credits: &mut [Credits], config: &Config, memory: Option<MemoryEntr
 {
     if let Some(next) = memory {
         match next.entry {
-            Entry::Read(address) => spend_at(credits, place_of(config, address).channel, false),
-            Entry::Write(address) => spend_at(credits, place_of(config, address).channel, true),
+            Entry::Read(address) => spend_at(credits, channel_of(config, address), false),
+            Entry::Write(address) => spend_at(credits, channel_of(config, address), true),
             Entry::Plain => (),
         }
     }

@@ -16,3 +16,6 @@ returns-clause-steady c =
     flow-here (view_of c.args.self.now) c.args.ahead.now.one c.args.ahead.now.two c.flow_of.result.retired c.flow_of.result.cycles c.saturating_sub.result _
     c.requires.seen.ahead (sound (view_of c.args.self.now) c.requires.stands).retired (omega (arith, c.args.self.now.config.core_in_range.width_in)) c.flow_of.ensures.plain
     (omega (arith, c.len.ensures.value)) c.deref.ensures.value c.flow_of.ensures.flow
+
+pub returns-clause-within : goal.returns-clause-within
+returns-clause-within c = let from = c.requires.seen.ahead.first.is_from in omega (arith, c.flow_of.ensures.plain, c.len.ensures.value)
