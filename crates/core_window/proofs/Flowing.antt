@@ -100,7 +100,7 @@ plain-turn s core trace rows mail r one two past h =
     lacks = ltb one (length trace) && lacks_credit s core mail sent now (slice_get trace one)
 
 -- entries of a run that issue leave the next memory entries where they are
-pub ahead-later : (trace : List Entry) (number later one two : ℕ) → IsAhead trace number one two → number ≤ later → later ≤ one → IsAhead trace later one two
+ahead-later : (trace : List Entry) (number later one two : ℕ) → IsAhead trace number one two → number ≤ later → later ≤ one → IsAhead trace later one two
 ahead-later trace number later one two h l m =
     record {
       first = record {
@@ -170,10 +170,6 @@ flow-here a one two r (suc n) plain waiting ahead l positive few is same flow =
     let from = ahead.first.is_from in
     flow-steady a one two r (suc n) ahead l (omega arith) (omega arith)
     (subst (λ ws. IsFlow a.config.width a.config.window a.stats.issued a.stats.retired ws r (suc n)) same flow)
-
--- after a stretch the same memory entries are ahead
-pub seen-later : (trace : List Entry) (number later one two : ℕ) (entry : Entry) → IsSeen trace number one two entry → number ≤ later → later ≤ one → IsSeen trace later one two entry
-seen-later trace number later one two entry h l m = record { ahead = ahead-later trace number later one two h.ahead l m; is_at = h.is_at }
 
 -- a message that comes moves no entry
 pub seen-same : (s : Config) (core : ℕ) (trace : List Entry) (rows : List CoreRow) (mail more : List Message) (a b : CoreView) (one two : ℕ) (entry : Entry)
