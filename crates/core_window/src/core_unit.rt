@@ -297,19 +297,22 @@ impl Core {
     }
 
     /// Goes on up to a cycle, while no further message comes.
-    fn advance(&mut self, until: Cycle, sent: &mut Vec<Message>) -> Result<(), AllocError>
+    fn advance(
+        &mut self,
+        ahead: &mut Ahead,
+        until: Cycle,
+        sent: &mut Vec<Message>,
+    ) -> Result<(), AllocError>
         requires stands { IsStanding (view_of self.old) }
+        requires seen { IsSeen self.old.trace self.old.stats.issued ahead.old.one ahead.old.two ahead.old.entry }
         requires order { self.old.cycle ≤ until }
         requires early { until < 2 ^ 62 }
         ensures cycle { OnOk result (self.new.cycle ≡ until) }
         ensures advances { OnOk result (Advances (until - self.old.cycle) (view_of self.old) sent.old.items (view_of self.new) sent.new.items) }
+        ensures seen { OnOk result (IsSeen self.new.trace self.new.stats.issued ahead.new.one ahead.new.two ahead.new.entry) }
     {
-        if self.cycle == until {
-            return Ok(());
-        }
-        let mut ahead = self.ahead();
         'cycles: while self.cycle < until {
-            self.go_on(&mut ahead, until, sent)?;
+            self.go_on(ahead, until, sent)?;
         }
         Ok(())
     }
@@ -355,12 +358,13 @@ impl Core {
         ensures { IfOk result (λ done. Runs (view_of self) from until inbox.now (view_of done.core) done.messages.items) }
     {
         let mut core = self;
+        let mut ahead = core.ahead();
         let mut sent = Vec::new(alloc);
         for message in inbox {
-            core.advance(message.arrival, &mut sent)?;
+            core.advance(&mut ahead, message.arrival, &mut sent)?;
             core.receive(*message);
         }
-        core.advance(until, &mut sent)?;
+        core.advance(&mut ahead, until, &mut sent)?;
         Ok(CoreDone {
             core,
             messages: sent,

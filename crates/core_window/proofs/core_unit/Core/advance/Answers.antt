@@ -6,7 +6,7 @@ use Rattle.core_window.proofs.Running.{underway-first, underway-more, underway-s
 use Rattle.core_window.proofs.core_unit.Core.advance.Goals as goal
 
 pub cycles-init : goal.cycles-init
-cycles-init c = (underway-first c.args.until (view_of c.args.self.now) c.args.sent.now.items c.requires.order, c.ahead-ahead.ensures)
+cycles-init c = (underway-first c.args.until (view_of c.args.self.now) c.args.sent.now.items c.requires.order, c.requires.seen)
 
 pub go_on-requires-clause-stands : goal.go_on-requires-clause-stands
 go_on-requires-clause-stands c = underway-standing c.args.until _ _ _ _ c.cycles.invariant.0 c.requires.stands
@@ -22,9 +22,3 @@ pub returns-clause-advances : goal.returns-clause-advances
 returns-clause-advances c =
     let e : c.cycles.self.cycle - c.args.self.now.cycle ≡ c.args.until - c.args.self.now.cycle = omega (arith, c.cycles.invariant.0.until_then) in
     subst (λ n. Advances n (view_of c.args.self.now) c.args.sent.now.items (view_of c.cycles.self) c.cycles.sent.items) e c.cycles.invariant.0.advances
-
-pub returns-then-self-until-clause-advances : goal.returns-then-self-until-clause-advances
-returns-then-self-until-clause-advances c =
-    let a = view_of c.args.self.now in
-    let e : a.now - a.now ≡ c.args.until - a.now = omega (arith, c.if-self-until.true) in
-    subst (λ n. Advances n a c.args.sent.now.items a c.args.sent.now.items) e (underway-first c.args.until a c.args.sent.now.items c.requires.order).advances
