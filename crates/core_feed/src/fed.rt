@@ -47,7 +47,7 @@ pub struct FedCoreDone {
 }
 
 impl FedCore {
-    ghost use Rattle.core_feed.specs.Fed.{feed_of, rows_of, sent_by, after, RestsUntil, MaySkipTo};
+    ghost use Rattle.core_feed.specs.Fed.{feed_of, rows_of, sent_by, after, MaySkipTo};
 
     /// A core that has done nothing yet, with its trace. Its number should be below the number of cores. Only memory can be refused.
     pub fn start(

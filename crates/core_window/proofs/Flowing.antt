@@ -1,5 +1,5 @@
 -- A run of Plain entries goes through the window of a core by its width.
-use Rattle.std.proofs.Common.{◌≡◌, ℕ, zero, suc, ◌+◌, ◌-◌, ◌*◌, ◌<◌, ◌≤◌, ◌⊎◌, min, Bool, true, false, ◌&&◌, eqb, ltb, List, [], ◌∷◌, length, None, refl, sym, subst, inl, inr, arith, ⊎_elim}
+use Rattle.std.proofs.Common.{◌≡◌, ℕ, zero, suc, ◌+◌, ◌-◌, ◌*◌, ◌<◌, ◌≤◌, ◌⊎◌, min, Bool, true, false, ◌&&◌, eqb, ltb, List, [], ◌∷◌, length, None, refl, sym, subst, inl, inr, arith, ⊎_elim, ◌∙◌}
 use Rattle.std.specs.Prelude.{slice_get}
 use Rattle.std.proofs.Math.Nat.{mul-le-mul_right, mul-le-mul_left}
 use Rattle.std.proofs.lemmas.Bool.{cases_lt, ne_eqb, eq-eqb}
@@ -100,7 +100,7 @@ plain-turn s core trace rows mail r one two past h =
     lacks = ltb one (length trace) && lacks_credit s core mail sent now (slice_get trace one)
 
 -- entries of a run that issue leave the next memory entries where they are
-pub ahead-later : (trace : List Entry) (number later one two : ℕ) → IsAhead trace number one two → number ≤ later → later ≤ one → IsAhead trace later one two
+ahead-later : (trace : List Entry) (number later one two : ℕ) → IsAhead trace number one two → number ≤ later → later ≤ one → IsAhead trace later one two
 ahead-later trace number later one two h l m =
     record {
       first = record {
@@ -171,6 +171,9 @@ flow-here a one two r (suc n) plain waiting ahead l positive few is same flow =
     flow-steady a one two r (suc n) ahead l (omega arith) (omega arith)
     (subst (λ ws. IsFlow a.config.width a.config.window a.stats.issued a.stats.retired ws r (suc n)) same flow)
 
--- after a stretch the same memory entries are ahead
-pub seen-later : (trace : List Entry) (number later one two : ℕ) (entry : Entry) → IsSeen trace number one two entry → number ≤ later → later ≤ one → IsSeen trace later one two entry
-seen-later trace number later one two entry h l m = record { ahead = ahead-later trace number later one two h.ahead l m; is_at = h.is_at }
+-- a message that comes moves no entry
+pub seen-same : (s : Config) (core : ℕ) (trace : List Entry) (rows : List CoreRow) (mail more : List Message) (a b : CoreView) (one two : ℕ) (entry : Entry)
+    → StandsAt s core trace rows mail a → StandsAt s core trace rows more b → IsSeen a.trace a.stats.issued one two entry → IsSeen b.trace b.stats.issued one two entry
+seen-same s core trace rows mail more a b one two entry h k seen =
+    let issued : a.stats.issued ≡ b.stats.issued = issued_of s core trace rows mail a h ∙ sym (issued_of s core trace rows more b k) in
+    subst (λ n. IsSeen b.trace n one two entry) issued (subst (λ t. IsSeen t a.stats.issued one two entry) (h.entries ∙ sym k.entries) seen)

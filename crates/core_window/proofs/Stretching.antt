@@ -246,3 +246,7 @@ quiet-all a b until x q l m = record { later = omega arith; until_then = q.until
 pub ok-map : {T E : Type 0} (r : Result T E) (P Q : Type 0) → (P → Q) → OnOk r P → OnOk r Q
 ok-map (Ok x) P Q f p = f p
 ok-map (Err e) P Q f p = p
+
+pub goes-standing : (a b : CoreView) (until : ℕ) (x y : List Message) → GoesOn until a x b y → IsStanding a → IsStanding b
+goes-standing a b until x y h i =
+    record { s = i.s; core = i.core; trace = i.trace; rows = core_run i.s i.core i.trace i.rows i.mail (b.now - a.now); mail = i.mail; stands = (h.advances i.s i.core i.trace i.rows i.mail i.stands).0 }

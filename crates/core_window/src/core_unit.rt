@@ -123,6 +123,8 @@ impl Core {
         requires turn { Does (view_of self.old) turn.row turn.why turn.memory }
         requires early { self.old.cycle < 2 ^ 62 }
         ensures cycle { OnOk result (self.new.cycle ≡ self.old.cycle + 1) }
+        ensures entries { OnOk result (self.new.trace ≡ self.old.trace) }
+        ensures issued { OnOk result (self.old.stats.issued ≤ self.new.stats.issued) }
         ensures advances { OnOk result (Advances 1 (view_of self.old) sent.old.items (view_of self.new) sent.new.items) }
     {
         wait_for(&mut self.waiting, turn.memory, self.cycle)?;
@@ -215,6 +217,17 @@ impl Core {
         flow_of(&numbers, &self.waiting, most)
     }
 
+    /// Looks for the next two memory entries anew, where the first of those that were found has issued.
+    fn look_ahead(&self, ahead: &mut Ahead)
+        requires stands { IsStanding (view_of self.now) }
+        requires seen { (from : ℕ) × (from ≤ self.now.stats.issued) × IsSeen self.now.trace from ahead.old.one ahead.old.two ahead.old.entry }
+        ensures { IsSeen self.now.trace self.now.stats.issued ahead.new.one ahead.new.two ahead.new.entry }
+    {
+        if ahead.one < self.stats.issued {
+            *ahead = self.ahead();
+        }
+    }
+
     /// Goes on by a cycle, or up to a cycle, if the core does nothing until a message comes.
     fn rest_or_step(
         &mut self,
@@ -226,7 +239,9 @@ impl Core {
         requires seen { IsSeen self.old.trace self.old.stats.issued ahead.now.one ahead.now.two ahead.now.entry }
         requires order { self.old.cycle < until }
         requires early { until < 2 ^ 62 }
-        ensures { OnOk result (GoesOn until (view_of self.old) sent.old.items (view_of self.new) sent.new.items) }
+        ensures goes { OnOk result (GoesOn until (view_of self.old) sent.old.items (view_of self.new) sent.new.items) }
+        ensures entries { OnOk result (self.new.trace ≡ self.old.trace) }
+        ensures issued { OnOk result (self.old.stats.issued ≤ self.new.stats.issued) }
     {
         let turn = self.turn_with(ahead);
         if turn.row.retired == 0 && turn.row.issued == 0 {
@@ -259,31 +274,45 @@ impl Core {
     }
 
     /// Goes on by some cycles, at most up to a cycle.
-    fn go_on(&mut self, until: Cycle, sent: &mut Vec<Message>) -> Result<(), AllocError>
+    fn go_on(
+        &mut self,
+        ahead: &mut Ahead,
+        until: Cycle,
+        sent: &mut Vec<Message>,
+    ) -> Result<(), AllocError>
         requires stands { IsStanding (view_of self.old) }
+        requires seen { IsSeen self.old.trace self.old.stats.issued ahead.old.one ahead.old.two ahead.old.entry }
         requires order { self.old.cycle < until }
         requires early { until < 2 ^ 62 }
-        ensures { OnOk result (GoesOn until (view_of self.old) sent.old.items (view_of self.new) sent.new.items) }
+        ensures goes { OnOk result (GoesOn until (view_of self.old) sent.old.items (view_of self.new) sent.new.items) }
+        ensures seen { OnOk result (IsSeen self.new.trace self.new.stats.issued ahead.new.one ahead.new.two ahead.new.entry) }
     {
-        let ahead = self.ahead();
-        self.flow_on(&ahead, until);
-        if self.cycle < until {
-            self.rest_or_step(&ahead, until, sent)
-        } else {
-            Ok(())
+        self.flow_on(ahead, until);
+        if self.cycle == until {
+            return Ok(());
         }
+        self.rest_or_step(ahead, until, sent)?;
+        self.look_ahead(ahead);
+        Ok(())
     }
 
     /// Goes on up to a cycle, while no further message comes.
-    fn advance(&mut self, until: Cycle, sent: &mut Vec<Message>) -> Result<(), AllocError>
+    fn advance(
+        &mut self,
+        ahead: &mut Ahead,
+        until: Cycle,
+        sent: &mut Vec<Message>,
+    ) -> Result<(), AllocError>
         requires stands { IsStanding (view_of self.old) }
+        requires seen { IsSeen self.old.trace self.old.stats.issued ahead.old.one ahead.old.two ahead.old.entry }
         requires order { self.old.cycle ≤ until }
         requires early { until < 2 ^ 62 }
         ensures cycle { OnOk result (self.new.cycle ≡ until) }
         ensures advances { OnOk result (Advances (until - self.old.cycle) (view_of self.old) sent.old.items (view_of self.new) sent.new.items) }
+        ensures seen { OnOk result (IsSeen self.new.trace self.new.stats.issued ahead.new.one ahead.new.two ahead.new.entry) }
     {
         'cycles: while self.cycle < until {
-            self.go_on(until, sent)?;
+            self.go_on(ahead, until, sent)?;
         }
         Ok(())
     }
@@ -329,12 +358,13 @@ impl Core {
         ensures { IfOk result (λ done. Runs (view_of self) from until inbox.now (view_of done.core) done.messages.items) }
     {
         let mut core = self;
+        let mut ahead = core.ahead();
         let mut sent = Vec::new(alloc);
         for message in inbox {
-            core.advance(message.arrival, &mut sent)?;
+            core.advance(&mut ahead, message.arrival, &mut sent)?;
             core.receive(*message);
         }
-        core.advance(until, &mut sent)?;
+        core.advance(&mut ahead, until, &mut sent)?;
         Ok(CoreDone {
             core,
             messages: sent,

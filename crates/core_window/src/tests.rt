@@ -143,3 +143,41 @@ fn window_of_one_entry_is_full(rt: HostRuntime) -> Result<(), Fail> {
     assert_eq!(rt; sent.len(), 1);
     Ok(())
 }
+
+#[test]
+fn plain_entries_alone_finish(rt: HostRuntime) -> Result<(), Fail> {
+    let config = config(rt.alloc(), 8, 4)?;
+    let entries = [Entry::Plain; 8];
+    let Alone { core, sent } = run_alone(rt.alloc(), &config, &entries, 16)?;
+    let did = CoreStats {
+        issued: 8,
+        retired: 8,
+        stop_end: 13,
+        stop_width: 3,
+        finish: Some(4),
+        ..CoreStats::new()
+    };
+    assert_eq!(rt; core.stats(), did);
+    assert_eq!(rt; sent.len(), 0);
+    Ok(())
+}
+
+#[test]
+fn plain_entries_fill_the_window_behind_a_read(rt: HostRuntime) -> Result<(), Fail> {
+    let config = config(rt.alloc(), 4, 4)?;
+    let mut entries = [Entry::Plain; 8];
+    entries[0] = Entry::Read(0);
+    let Alone { core, sent } = run_alone(rt.alloc(), &config, &entries, 15)?;
+    let did = CoreStats {
+        issued: 4,
+        reads: 1,
+        stop_width: 2,
+        stop_window: 13,
+        ..CoreStats::new()
+    };
+    assert_eq!(rt; core.stats(), did);
+    assert!(rt; core.is_awaited(0));
+    assert!(rt; !core.is_awaited(1));
+    assert_eq!(rt; sent.len(), 1);
+    Ok(())
+}

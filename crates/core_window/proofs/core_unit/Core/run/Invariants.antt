@@ -1,7 +1,9 @@
--- The messages up to the index are taken.
+-- The messages up to the index are taken, and the next two memory entries are known.
 use Rattle.core_window.specs.CoreViews.{view_of}
+use Rattle.core_window.specs.Turns.{IsSeen}
 use Rattle.core_window.proofs.Running.{IsTaking}
 use Rattle.core_window.proofs.core_unit.Core.run.Given as goal
 
 abbrev pub invariant-loop-message : goal.invariant-loop-message
-invariant-loop-message l = IsTaking (view_of l.fn.self) l.from l.until l.inbox l.message-index (view_of l.core) l.sent.items
+invariant-loop-message l =
+    IsTaking (view_of l.fn.self) l.from l.until l.inbox l.message-index (view_of l.core) l.sent.items × IsSeen l.core.trace l.core.stats.issued l.ahead.one l.ahead.two l.ahead.entry
