@@ -1,7 +1,5 @@
 pub mod Booleans
 pub mod Legal
-pub mod Marked
-pub mod Ready
-pub mod Surveyed
-pub mod Waking
-pub mod Chosen
+pub mod Firsts
+pub mod Bests
+pub mod BankOffers

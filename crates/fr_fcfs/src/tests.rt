@@ -2,7 +2,7 @@
 
 ghost use Rattle.std.specs.Prelude.{◌≡◌, ◌<◌, ℕ, IfOk};
 ghost use Rattle.sim_base.specs.Rules.{rank_of};
-ghost use Rattle.fr_fcfs.specs.Columns.{IsInBanks};
+ghost use Rattle.fr_fcfs.specs.Requests.{IsInBanks};
 
 use crate::choice::{choose, wake};
 use crate::scratch::Scratch;

@@ -4,7 +4,7 @@ use Rattle.std.proofs.lemmas.Bool.{cases_lt, cond-true, cond-false, lt-ltb, le-l
 use Rattle.std.specs.List.{position, position_or_len}
 use Rattle.std.specs.Option.{option_map}
 use Rattle.sim_base.specs.Scheduling.{or_else}
-use Rattle.heads.specs.Moves.{past, before}
+use Rattle.heads.specs.Moves.{past, before, earlier}
 
 place_next : (b : Bool) (place len : ℕ)
     → cond (ltb (cond (not b) (1 + place) 0) (suc len)) (Some (cond (not b) (1 + place) 0)) None ≡ cond b (Some 0) (option_map suc (cond (ltb place len) (Some place) None))
@@ -43,12 +43,6 @@ position-append p (x ∷ xs) ys =
     ∙ ap (λ o. cond (p x) (Some 0) (option_map suc o)) (position-append p xs ys)
     ∙ append_next (p x) (length xs) (position p xs) (position p ys)
     ∙ ap (λ o. or_else o (option_map (λ k. suc (length xs) + k) (position p ys))) (sym (position-cons p x xs))
-
--- the first of two places, if there is one
-abbrev pub earlier : Option ℕ → Option ℕ → Option ℕ
-earlier None b = b
-earlier (Some a) None = Some a
-earlier (Some a) (Some b) = Some (min a b)
 
 either_next : (a b : Bool) (m n : Option ℕ) → cond (a || b) (Some 0) (option_map suc (earlier m n)) ≡ earlier (cond a (Some 0) (option_map suc m)) (cond b (Some 0) (option_map suc n))
 either_next true true m n = refl

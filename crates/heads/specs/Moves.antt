@@ -1,8 +1,9 @@
 -- How heads move when a request leaves the queue, and rows that are open after a command.
 --     past slot head      a place, once the request at another place has left
 --     before slot head      a place, if it stands before another
+--     earlier a b      the first of two places, if there is one
 --     NoneBefore test requests slot      no request before a place may be served and passes a test
-use Rattle.std.specs.Prelude.{◌≡◌, ℕ, ◌-◌, ◌<◌, nat_lt, Bool, false, List, length, slice_index_or, Option, Some, None, option_map, if◌then◌else◌}
+use Rattle.std.specs.Prelude.{◌≡◌, ℕ, ◌-◌, ◌<◌, nat_lt, min, Bool, false, List, length, slice_index_or, Option, Some, None, option_map, if◌then◌else◌}
 use Rattle.sim_base.specs.declared.message.Request.{Request}
 use Rattle.heads.specs.declared.entry.KindHeads.{KindHeads}
 use Rattle.heads.specs.declared.entry.BankHeads.{BankHeads}
@@ -24,6 +25,12 @@ bank_past slot heads = record { row = heads.row; reads = kind_past slot heads.re
 abbrev pub before : ℕ → Option ℕ → Option ℕ
 before slot None = None
 before slot (Some k) = if nat_lt k slot then Some k else None
+
+-- the first of two places, if there is one
+abbrev pub earlier : Option ℕ → Option ℕ → Option ℕ
+earlier None b = b
+earlier (Some a) None = Some a
+earlier (Some a) (Some b) = Some (min a b)
 
 -- no request before a place may be served and passes a test
 abbrev pub NoneBefore : (Request → Bool) → List Request → ℕ → Type 0

@@ -4,7 +4,7 @@ use Rattle.std.proofs.lemmas.List.Elements.{All-same, All-cons, All-nil}
 use Rattle.std.specs.List.{All}
 use Rattle.sim_base.specs.declared.message.Request.{Request}
 use Rattle.bank_ready.specs.Stands.{rank_count}
-use Rattle.fr_fcfs.specs.Columns.{IsInBanks}
+use Rattle.fr_fcfs.specs.Requests.{IsInBanks}
 use Rattle.fr_fcfs.proofs.tests.close_is_withheld_for_a_hit.Goals as goal
 
 two_placed : (ranks : ℕ) (a b : Request) (start one two : List Request) → start ≡ [] → one ≡ start ++ a ∷ [] → two ≡ one ++ b ∷ [] → IsInBanks ranks a → IsInBanks ranks b
