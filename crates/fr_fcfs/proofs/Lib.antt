@@ -3,3 +3,6 @@ pub mod Legal
 pub mod Firsts
 pub mod Bests
 pub mod BankOffers
+pub mod Below
+pub mod Favoured
+pub mod Waking
