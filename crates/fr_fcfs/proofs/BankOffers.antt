@@ -1,30 +1,28 @@
 -- What one bank offers.
-use Rattle.std.proofs.Common.{◌≡◌, ℕ, ◌+◌, ◌*◌, ◌/◌, ◌%◌, ◌<◌, ◌≤◌, Bool, true, false, not, cond, ◌&&◌, ◌||◌, eqb, leb, List, length, Option, Some, None, refl, sym, ap, subst, ◌∙◌, inl, inr, arith}
-use Rattle.std.proofs.lemmas.Bool.{cases_Bool, cond-true, cond-false, eqb-true, eqb-false, true≢false, false≢true}
-use Rattle.std.specs.List.{All, list_any}
-use Rattle.std.specs.Option.{is_some, IfSome}
+use Rattle.std.proofs.Common.{◌≡◌, ℕ, ◌/◌, ◌%◌, Bool, true, false, not, cond, ◌&&◌, ◌||◌, eqb, leb, List, Option, Some, None, refl, sym, ap, ◌∙◌, inl, inr, arith}
+use Rattle.std.proofs.lemmas.Bool.{cases_Bool, cond-true, cond-false, eqb-true, true≢false}
+use Rattle.std.specs.List.{All}
+use Rattle.std.specs.Option.{is_some}
 use Rattle.sim_base.specs.declared.config.Config.{Config}
-use Rattle.sim_base.specs.declared.command.Command.TheVariants.{Rd, Wr, Pre, Act}
+use Rattle.sim_base.specs.declared.command.Command.TheVariants.{Rd, Wr, Pre}
 use Rattle.sim_base.specs.declared.command.CommandRow.{CommandRow}
 use Rattle.sim_base.specs.declared.command.Kind.{Kind}
 use Rattle.sim_base.specs.declared.command.Kind.TheVariants as kind
 use Rattle.sim_base.specs.declared.message.Request.{Request}
-use Rattle.sim_base.specs.declared.place.BankId.{BankId}
 use Rattle.sim_base.specs.Places.{bank_in, is_bank}
-use Rattle.sim_base.specs.Rules.{is_legal, open_row, is_row, kind_of, bank_of}
+use Rattle.sim_base.specs.Rules.{is_legal, open_row, is_row, kind_of}
 use Rattle.sim_base.specs.Scheduling.{needed, needed_at, column_command, source_of, is_column_command, has_hit, is_withheld, is_row_hit, ready_hit, ready_row}
 use Rattle.queue.specs.Columns.{bank_number}
 use Rattle.heads.specs.declared.entry.BankHeads.{BankHeads}
-use Rattle.heads.specs.Heads.{bank_at, number_of, asks, hits, first_place, AreHeads}
+use Rattle.heads.specs.Heads.{bank_at, asks, hits, first_place, AreHeads}
 use Rattle.heads.specs.Moves.{earlier}
 use Rattle.heads.proofs.Stood.{bank_named}
 use Rattle.heads.proofs.Searches.{none_everywhere}
 use Rattle.fr_fcfs.specs.declared.kinds.Kinds.{Kinds}
-use Rattle.fr_fcfs.specs.declared.offers.Offer.{Offer}
 use Rattle.fr_fcfs.specs.Requests.{IsInBanks, is_hit}
-use Rattle.fr_fcfs.specs.Offers.{is_of, if_allowed, hit_head, oldest_head, going, hits_now, rows_now, hits_in, rows_in, IsReadyFrom, row_kind, IsBest}
+use Rattle.fr_fcfs.specs.Offers.{is_of, if_allowed, hit_head, oldest_head, going, hits_now, rows_now, hits_in, rows_in, IsReadyFrom, row_kind}
 use Rattle.fr_fcfs.proofs.Booleans.{and_false, and_true, or_false, eqb_swap}
-use Rattle.fr_fcfs.proofs.Legal.{needed_bank, hit_is, hit_at, column_needed, finds_needed, legal_at, withheld_is}
+use Rattle.fr_fcfs.proofs.Legal.{needed_bank, hit_is, column_needed, finds_needed, legal_at, withheld_is}
 use Rattle.fr_fcfs.proofs.Firsts.{same_among, either_among, place_if, same_unless, any_going}
 
 -- the bank of a request, by its number
@@ -213,6 +211,7 @@ rows_are s history ranks requests kinds bank h ready places first row_is from no
     is_none : (o : Option ℕ) → is_some o ≡ false → o ≡ None
     is_none None off = refl
     is_none (Some k) off = cc
+
     kind_here : (r : Request) → IsInBanks ranks r → eqb (bank_number r.place) bank ≡ true → is_hit history r ≡ false → kind_of (needed history r) ≡ row_kind h.row
     kind_here r in_banks here other =
         row_kind_at (open_row (bank_in r.place) history) r other ∙ ap (λ b. row_kind (open_row b history)) (bank_is ranks r bank in_banks here) ∙ ap row_kind (sym row_is)

@@ -1,12 +1,12 @@
 -- The first request that passes a test, among those of the banks below a number.
-use Rattle.std.proofs.Common.{◌≡◌, ℕ, zero, suc, ◌+◌, ◌<◌, ◌≤◌, Bool, true, false, cond, not, ◌&&◌, ◌||◌, ltb, eqb, List, [], ◌∷◌, length, Option, Some, None, refl, sym, ap, subst, ◌∙◌, inl, inr, arith}
-use Rattle.std.proofs.lemmas.Bool.{cases_Bool, cases_lt, cases_eq, lt-ltb, le-ltb, eq-eqb, ne_eqb, true≢false, false≢true}
-use Rattle.std.specs.List.{All, filter, list_any, slice_get, find}
+use Rattle.std.proofs.Common.{◌≡◌, ℕ, zero, suc, ◌+◌, ◌<◌, ◌≤◌, Bool, true, false, ◌&&◌, ◌||◌, ltb, eqb, List, [], ◌∷◌, length, Option, Some, None, refl, sym, ap, ◌∙◌, inl, inr, arith}
+use Rattle.std.proofs.lemmas.Bool.{cases_Bool, cases_lt, cases_eq, lt-ltb, le-ltb, eq-eqb, ne_eqb, true≢false}
+use Rattle.std.specs.List.{All, slice_get}
 use Rattle.std.specs.Option.{is_some, option_map, option_and_then, IfSome}
 use Rattle.sim_base.specs.declared.config.Config.{Config}
 use Rattle.sim_base.specs.declared.command.CommandRow.{CommandRow}
 use Rattle.sim_base.specs.declared.message.Request.{Request}
-use Rattle.sim_base.specs.Scheduling.{is_favoured, needed, or_else, first_ready, ready_hit, ready_row}
+use Rattle.sim_base.specs.Scheduling.{needed, or_else, first_ready, ready_hit, ready_row}
 use Rattle.queue.specs.Columns.{bank_number}
 use Rattle.queue.specs.View.{QueueView}
 use Rattle.heads.specs.declared.entry.BankHeads.{BankHeads}
@@ -16,7 +16,7 @@ use Rattle.heads.proofs.Searches.{none_everywhere, none_narrower_all}
 use Rattle.fr_fcfs.specs.declared.kinds.Kinds.{Kinds}
 use Rattle.fr_fcfs.specs.declared.offers.Offer.{Offer}
 use Rattle.fr_fcfs.specs.Requests.{candidates_of}
-use Rattle.fr_fcfs.specs.Offers.{is_of, going, hits_now, rows_now, head_of, IsAt, IsBestOffer, IsBest, IsReadyAt, IsFirstReady, AreBelow}
+use Rattle.fr_fcfs.specs.Offers.{going, hits_now, rows_now, head_of, IsAt, IsBest, IsFirstReady}
 use Rattle.fr_fcfs.proofs.Firsts.{same_among, either_among, find_going}
 
 -- the first request of the banks below a number that passes a test
@@ -46,6 +46,7 @@ more_below k n t = elim (cases_eq k n) [
     or_none : (b : Bool) → (b || false) ≡ b
     or_none true = refl
     or_none false = refl
+
     beyond : n ≤ k → (k ≡ n → ⊥) → n + 1 ≤ k
     beyond over apart = elim (cases_lt n k) [
       | inl less ↦ omega arith

@@ -1,6 +1,6 @@
 -- Which requests go first.
 use Rattle.std.proofs.Common.{◌≡◌, ℕ, suc, ◌<◌, ◌≤◌, Bool, true, false, not, cond, ◌&&◌, ltb, List, [], ◌∷◌, length, Option, Some, None, refl, sym, ap, subst, ◌∙◌, inl, inr, arith}
-use Rattle.std.proofs.lemmas.Bool.{cases_lt, cond-true, cond-false, and_from, and_left, and_right, lt-ltb, le-ltb, ltb-true, ltb-false}
+use Rattle.std.proofs.lemmas.Bool.{cases_lt, cond-true, cond-false, and_from, and_left, and_right, lt-ltb, le-ltb}
 use Rattle.std.specs.List.{filter, list_any, position, position_or_len}
 use Rattle.std.specs.Option.{is_some, IfSome}
 use Rattle.sim_base.specs.declared.config.Config.{Config}
@@ -10,7 +10,6 @@ use Rattle.queue.specs.View.{QueueView, is_draining}
 use Rattle.heads.specs.declared.entry.BankHeads.{BankHeads}
 use Rattle.heads.specs.Heads.{passes, entries, first_place, AreHeads}
 use Rattle.heads.proofs.Entries.{length-entries}
-use Rattle.fr_fcfs.specs.declared.kinds.Kinds.{Kinds}
 use Rattle.fr_fcfs.specs.Requests.{candidates_of}
 use Rattle.fr_fcfs.specs.Offers.{is_of, AreBelow}
 use Rattle.fr_fcfs.proofs.Firsts.{some_filtered}

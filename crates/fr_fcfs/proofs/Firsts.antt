@@ -1,6 +1,5 @@
 -- The first request that may be served and passes a test, and the requests that are found among those that go.
-use Rattle.std.proofs.Common.{◌≡◌, ℕ, zero, suc, ◌+◌, ◌<◌, Bool, true, false, not, cond, ◌&&◌, ◌||◌, List, [], ◌∷◌, length, map, Option, Some, None, refl, sym, ap, ◌∙◌, inl, inr, arith}
-use Rattle.std.proofs.lemmas.Bool.{cases_Bool, true≢false}
+use Rattle.std.proofs.Common.{◌≡◌, ℕ, suc, Bool, true, false, cond, ◌&&◌, ◌||◌, List, [], ◌∷◌, map, Option, Some, None, refl, sym, ap, ◌∙◌}
 use Rattle.std.proofs.lemmas.List.Elements.{All-head, All-tail}
 use Rattle.std.specs.List.{filter, find, zip, list_any, position, slice_get, All}
 use Rattle.std.specs.Option.{is_some, option_map, option_and_then}
@@ -133,5 +132,6 @@ some_filtered t rs =
     with_true : (b : Bool) → b ≡ (b && true)
     with_true true = refl
     with_true false = refl
+
     same_test : is_some (first_place t rs) ≡ is_some (position (passes (λ r. t r && true)) (zip rs (eligible_column rs)))
     same_test = λ i. is_some (position (λ e. is_marked e.1 && with_true (t e.0) i) (zip rs (eligible_column rs)))

@@ -1,18 +1,17 @@
 -- The first cycle with a command.
-use Rattle.std.proofs.Common.{◌≡◌, ℕ, zero, suc, ◌+◌, ◌<◌, ◌≤◌, Bool, true, false, cond, ltb, leb, max, List, Option, Some, None, refl, sym, ap, ◌∙◌, inl, inr, arith}
+use Rattle.std.proofs.Common.{◌≡◌, ℕ, zero, suc, ◌+◌, ◌<◌, ◌≤◌, cond, ltb, leb, max, List, Option, Some, None, refl, sym, ap, ◌∙◌, inl, inr, arith}
 use Rattle.std.proofs.lemmas.Bool.{cases_Bool, cases_lt, le-leb, lt-leb, cond-true, cond-false}
 use Rattle.std.specs.List.{find, range_with_len}
-use Rattle.std.specs.Option.{is_some, IfSome}
+use Rattle.std.specs.Option.{is_some}
 use Rattle.sim_base.specs.declared.config.Config.{Config}
 use Rattle.sim_base.specs.declared.command.Command.{Command}
 use Rattle.sim_base.specs.declared.command.CommandRow.{CommandRow}
 use Rattle.sim_base.specs.declared.message.Request.{Request}
-use Rattle.sim_base.specs.Rules.{is_legal}
 use Rattle.sim_base.specs.Scheduling.{first_ready, due, refresh_command, if_legal, choice_between}
 use Rattle.refresh.specs.Refreshes.{is_due_at, IsDueFrom}
 use Rattle.fr_fcfs.specs.declared.choice.Choice.{Choice}
 use Rattle.fr_fcfs.specs.Requests.{IsLegalFrom}
-use Rattle.fr_fcfs.specs.Cycles.{IsFirst, IsFirstCycle, IsNextAt, IsNext}
+use Rattle.fr_fcfs.specs.Cycles.{IsFirst, IsNextAt, IsNext}
 use Rattle.fr_fcfs.proofs.Legal.{legal_at}
 
 -- the choice where only the ranks from k on may be refreshed

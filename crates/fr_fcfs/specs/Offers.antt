@@ -5,7 +5,7 @@
 --     rows_in s history requests kinds bank cycle      the place of its first request for which an ACT or a PRE may be issued then
 --     IsBest now hits rows offer      an offer is the first from now on
 --     IsFirstReady s history queue now offer      an offer is what the first request of the queue needs that is ready
-use Rattle.std.specs.Prelude.{◌≡◌, ℕ, ◌<◌, ◌≤◌, ◌==◌, nat_lt, Bool, true, false, not, ◌&&◌, List, filter, Option, Some, None, is_some, IfSome, option_map, slice_get, if◌then◌else◌}
+use Rattle.std.specs.Prelude.{◌≡◌, ℕ, ◌<◌, ◌≤◌, ◌==◌, nat_lt, Bool, true, false, ◌&&◌, List, filter, Option, Some, None, IfSome, option_map, slice_get, if◌then◌else◌}
 use Rattle.sim_base.specs.declared.config.Config.{Config}
 use Rattle.sim_base.specs.declared.command.Command.{Command}
 use Rattle.sim_base.specs.declared.command.CommandRow.{CommandRow}

@@ -64,10 +64,7 @@ fn next_of_requests(
     ensures place { IfSome result (λ next. IsFor queue.now.requests next.1) }
 {
     match first_offer(queue, heads, banks, now) {
-        Some(offer) => Some((
-            offer.cycle,
-            choice_at(banks, queue.requests(), offer.slot),
-        )),
+        Some(offer) => Some((offer.cycle, choice_at(banks, queue.requests(), offer.slot))),
         None => None,
     }
 }

@@ -100,7 +100,13 @@ fn offer_of_head(head: Option<usize>, hit: bool, ready: Cycle, now: Cycle) -> Op
 }
 
 /// What a bank offers to those that ask for its open row.
-fn hit_offer(heads: BankHeads, bank: usize, kinds: Kinds, banks: &Banks, now: Cycle) -> Option<Offer>
+fn hit_offer(
+    heads: BankHeads,
+    bank: usize,
+    kinds: Kinds,
+    banks: &Banks,
+    now: Cycle,
+) -> Option<Offer>
     requires bank { bank < 16 * rank_count banks.now }
     ensures some { is_some result ≡ is_some (hit_head kinds heads) }
     ensures within { (room : ℕ) → AreBelow room heads → IfSome result (λ o. o.slot < room) }
@@ -128,7 +134,13 @@ fn row_kind(row: Option<u32>) -> Kind
 }
 
 /// What a bank offers where none asks for its open row.
-fn row_offer(heads: BankHeads, bank: usize, kinds: Kinds, banks: &Banks, now: Cycle) -> Option<Offer>
+fn row_offer(
+    heads: BankHeads,
+    bank: usize,
+    kinds: Kinds,
+    banks: &Banks,
+    now: Cycle,
+) -> Option<Offer>
     requires bank { bank < 16 * rank_count banks.now }
     ensures within { (room : ℕ) → AreBelow room heads → IfSome result (λ o. o.slot < room) }
     ensures best { (s : Config) (history : List CommandRow) (requests : List Request) → BanksStandFor banks.now s history → AreHeads requests bank heads
@@ -162,12 +174,7 @@ fn offer_of_bank(
 }
 
 /// The offer that goes first of all banks, from now on.
-pub(crate) fn first_offer(
-    queue: &Queue,
-    heads: &Heads,
-    banks: &Banks,
-    now: Cycle,
-) -> Option<Offer>
+pub(crate) fn first_offer(queue: &Queue, heads: &Heads, banks: &Banks, now: Cycle) -> Option<Offer>
     requires places { All (IsInBanks (rank_count banks.now)) queue.now.requests }
     requires banks { bank_count heads.now ≡ 16 * rank_count banks.now }
     requires heads { AreOf heads.now queue.now.requests }

@@ -1,5 +1,5 @@
 -- What the rank needs goes as soon as it is due and legal, where nothing goes before it is due.
-use Rattle.std.proofs.Common.{◌≡◌, ℕ, ◌<◌, ◌≤◌, max, Option, Some, None, sym, ap, subst, ◌∙◌, arith}
+use Rattle.std.proofs.Common.{◌≡◌, ℕ, ◌<◌, ◌≤◌, max, None, sym, subst, arith}
 use Rattle.std.specs.Option.{IfSome}
 use Rattle.sim_base.specs.Scheduling.{refresh_command}
 use Rattle.fr_fcfs.specs.Cycles.{IsNextAt, IsNext}

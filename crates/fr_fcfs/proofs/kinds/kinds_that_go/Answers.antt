@@ -1,10 +1,8 @@
 -- The favoured requests go first where there is one, and the channel ever drains.
-use Rattle.std.proofs.Common.{◌≡◌, ◌<◌, ◌≤◌, length, sym, ap, subst, ◌∙◌, refl, arith}
+use Rattle.std.proofs.Common.{◌<◌, length, sym, ap, ◌∙◌, arith}
 use Rattle.std.proofs.lemmas.Bool.{ltb-true, ltb-false}
 use Rattle.std.specs.List.{filter}
 use Rattle.sim_base.specs.Scheduling.{is_favoured, first_of_lines}
-use Rattle.queue.specs.View.{is_draining}
-use Rattle.fr_fcfs.specs.Offers.{is_of}
 use Rattle.fr_fcfs.proofs.Favoured.{favour_some, favour_none, favour_never, some_favoured, of_one_kind, of_all_kinds}
 use Rattle.fr_fcfs.proofs.kinds.kinds_that_go.Goals as goal
 use Rattle.fr_fcfs.proofs.kinds.kinds_that_go.Goals.{else-high-gt0-via-then-high-gt0+else-has_kind, else-high-gt0-via-else-high-gt0}

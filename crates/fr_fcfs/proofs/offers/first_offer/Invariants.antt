@@ -1,4 +1,4 @@
-use Rattle.std.proofs.Common.{◌≡◌, ℕ, ◌<◌, ◌&&◌, ltb, length, List, Option, None}
+use Rattle.std.proofs.Common.{◌<◌, length, List}
 use Rattle.std.specs.Option.{IfSome}
 use Rattle.sim_base.specs.Rules.{open_row}
 use Rattle.sim_base.specs.declared.config.Config.{Config}

@@ -1,5 +1,5 @@
 -- The first request of a bank, of the kinds that go.
-use Rattle.std.proofs.Common.{◌≡◌, ℕ, cond, false, leb, max, None, Option, refl, sym, ap, subst, ◌∙◌}
+use Rattle.std.proofs.Common.{◌≡◌, cond, false, leb, max, None, refl, sym, ap, subst, ◌∙◌}
 use Rattle.std.specs.Option.{option_map}
 use Rattle.heads.specs.Heads.{bank_at}
 use Rattle.heads.specs.Moves.{earlier}

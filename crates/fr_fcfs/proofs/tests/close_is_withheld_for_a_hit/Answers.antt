@@ -1,9 +1,10 @@
--- Both requests ask for a bank of the only rank.
-use Rattle.std.proofs.Common.{◌≡◌, ℕ, ◌<◌, List, [], ◌∷◌, ◌++◌, sym, ap, ◌∙◌, arith}
+-- Both requests ask for a bank of the only rank, and the heads took note of both.
+use Rattle.std.proofs.Common.{◌≡◌, ℕ, ◌<◌, List, [], ◌∷◌, ◌++◌, None, sym, ap, subst, ◌∙◌, arith}
 use Rattle.std.proofs.lemmas.List.Elements.{All-same, All-cons, All-nil}
 use Rattle.std.specs.List.{All}
 use Rattle.sim_base.specs.declared.message.Request.{Request}
 use Rattle.bank_ready.specs.Stands.{rank_count}
+use Rattle.heads.specs.Stands.{StandsFor}
 use Rattle.fr_fcfs.specs.Requests.{IsInBanks}
 use Rattle.fr_fcfs.proofs.tests.close_is_withheld_for_a_hit.Goals as goal
 
@@ -13,29 +14,60 @@ two_placed ranks a b start one two start_is one_is two_is in_a in_b =
     let whole : two ≡ a ∷ b ∷ [] = two_is ∙ ap (λ xs. xs ++ b ∷ []) (one_is ∙ ap (λ xs. xs ++ a ∷ []) start_is) in
     All-same (IsInBanks ranks) two (a ∷ b ∷ []) whole (All-cons (IsInBanks ranks) a (b ∷ []) in_a (All-cons (IsInBanks ranks) b [] in_b (All-nil (IsInBanks ranks))))
 
+pub arrived-requires-clause-bank : goal.arrived-requires-clause-bank
+arrived-requires-clause-bank g c =
+    let placed = c.read-miss.ensures 1 (omega arith) in
+    omega (arith, placed.rank, placed.group, placed.bank, c.noted.ensures.banks, (c.in_ok-heads.ensures {u = tt}).banks)
+
+pub arrived-requires-2-clause-bank : goal.arrived-requires-2-clause-bank
+arrived-requires-2-clause-bank g c =
+    let placed = c.read-hit.ensures 1 (omega arith) in
+    omega (arith, placed.rank, placed.group, placed.bank, c.arrived.ensures.banks, c.noted.ensures.banks, (c.in_ok-heads.ensures {u = tt}).banks)
+
 pub choose-requires-clause-places : goal.choose-requires-clause-places
 choose-requires-clause-places g c =
     let ranks = rank_count c.note-3.new.self in
     let some : 0 < ranks =
     omega (arith, c.note.ensures.ranks, c.note-2.ensures.ranks, c.note-3.ensures.ranks, (c.in_ok-banks.ensures {u = tt}).ranks, c.in_ok-config.ensures {u = tt}) in
-    two_placed ranks c.read.result c.read-2.result c.in_ok-queue.queue.requests c.arrive.new.self.requests c.arrive-2.new.self.requests
+    two_placed ranks c.read-miss.result c.read-hit.result c.in_ok-queue.queue.requests c.arrive.new.self.requests c.arrive-2.new.self.requests
     (ap (λ q. q.requests) (c.in_ok-queue.ensures {u = tt})) (ap (λ q. q.requests) c.arrive.ensures) (ap (λ q. q.requests) c.arrive-2.ensures)
-    (c.read.ensures ranks some) (c.read-2.ensures ranks some)
+    (c.read-miss.ensures ranks some) (c.read-hit.ensures ranks some)
+
+pub choose-requires-clause-heads : goal.choose-requires-clause-heads
+choose-requires-clause-heads g c =
+    let start = subst (λ rs. StandsFor c.in_ok-heads.heads rs (λ bank. None)) (sym (ap (λ q. q.requests) (c.in_ok-queue.ensures {u = tt}))) (c.in_ok-heads.ensures {u = tt}).stands in
+    let opened = c.noted.ensures.stands (λ bank. None) start in
+    let one = c.arrived.ensures.stands c.in_ok-queue.queue.requests _ (ap (λ q. q.requests) c.arrive.ensures) opened in
+    (_, c.arrived-2.ensures.stands c.arrive.new.self.requests _ (ap (λ q. q.requests) c.arrive-2.ensures) one)
 
 pub wake-requires-clause-places : goal.wake-requires-clause-places
 wake-requires-clause-places g c =
     let ranks = rank_count c.note-3.new.self in
     let some : 0 < ranks =
     omega (arith, c.note.ensures.ranks, c.note-2.ensures.ranks, c.note-3.ensures.ranks, (c.in_ok-banks.ensures {u = tt}).ranks, c.in_ok-config.ensures {u = tt}) in
-    two_placed ranks c.read.result c.read-2.result c.in_ok-queue.queue.requests c.arrive.new.self.requests c.arrive-2.new.self.requests
+    two_placed ranks c.read-miss.result c.read-hit.result c.in_ok-queue.queue.requests c.arrive.new.self.requests c.arrive-2.new.self.requests
     (ap (λ q. q.requests) (c.in_ok-queue.ensures {u = tt})) (ap (λ q. q.requests) c.arrive.ensures) (ap (λ q. q.requests) c.arrive-2.ensures)
-    (c.read.ensures ranks some) (c.read-2.ensures ranks some)
+    (c.read-miss.ensures ranks some) (c.read-hit.ensures ranks some)
 
-pub choose-requires-2-clause-places : goal.choose-requires-2-clause-places
-choose-requires-2-clause-places g c =
+pub wake-requires-clause-heads : goal.wake-requires-clause-heads
+wake-requires-clause-heads g c =
+    let start = subst (λ rs. StandsFor c.in_ok-heads.heads rs (λ bank. None)) (sym (ap (λ q. q.requests) (c.in_ok-queue.ensures {u = tt}))) (c.in_ok-heads.ensures {u = tt}).stands in
+    let opened = c.noted.ensures.stands (λ bank. None) start in
+    let one = c.arrived.ensures.stands c.in_ok-queue.queue.requests _ (ap (λ q. q.requests) c.arrive.ensures) opened in
+    (_, c.arrived-2.ensures.stands c.arrive.new.self.requests _ (ap (λ q. q.requests) c.arrive-2.ensures) one)
+
+pub next-requires-clause-places : goal.next-requires-clause-places
+next-requires-clause-places g c =
     let ranks = rank_count c.note-3.new.self in
     let some : 0 < ranks =
     omega (arith, c.note.ensures.ranks, c.note-2.ensures.ranks, c.note-3.ensures.ranks, (c.in_ok-banks.ensures {u = tt}).ranks, c.in_ok-config.ensures {u = tt}) in
-    two_placed ranks c.read.result c.read-2.result c.in_ok-queue.queue.requests c.arrive.new.self.requests c.arrive-2.new.self.requests
+    two_placed ranks c.read-miss.result c.read-hit.result c.in_ok-queue.queue.requests c.arrive.new.self.requests c.arrive-2.new.self.requests
     (ap (λ q. q.requests) (c.in_ok-queue.ensures {u = tt})) (ap (λ q. q.requests) c.arrive.ensures) (ap (λ q. q.requests) c.arrive-2.ensures)
-    (c.read.ensures ranks some) (c.read-2.ensures ranks some)
+    (c.read-miss.ensures ranks some) (c.read-hit.ensures ranks some)
+
+pub next-requires-clause-heads : goal.next-requires-clause-heads
+next-requires-clause-heads g c =
+    let start = subst (λ rs. StandsFor c.in_ok-heads.heads rs (λ bank. None)) (sym (ap (λ q. q.requests) (c.in_ok-queue.ensures {u = tt}))) (c.in_ok-heads.ensures {u = tt}).stands in
+    let opened = c.noted.ensures.stands (λ bank. None) start in
+    let one = c.arrived.ensures.stands c.in_ok-queue.queue.requests _ (ap (λ q. q.requests) c.arrive.ensures) opened in
+    (_, c.arrived-2.ensures.stands c.arrive.new.self.requests _ (ap (λ q. q.requests) c.arrive-2.ensures) one)
