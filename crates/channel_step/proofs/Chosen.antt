@@ -1,5 +1,5 @@
 -- What a channel chooses: a command in the name of a request that waits, or a refresh.
-use Rattle.std.proofs.Common.{◌≡◌, ℕ, zero, suc, ◌+◌, ◌<◌, ◌≤◌, Bool, true, false, cond, eqb, ltb, List, [], ◌∷◌, Option, Some, None, refl, sym, ap, subst, ◌∙◌, zero-add, arith}
+use Rattle.std.proofs.Common.{◌≡◌, ℕ, zero, suc, ◌+◌, ◌<◌, Bool, true, eqb, ltb, List, Option, Some, None, refl, arith}
 use Rattle.std.specs.Prelude.{find, option_map}
 use Rattle.std.specs.Option.{IfSome}
 use Rattle.std.specs.List.{AllByRecursion as Each, range_with_len}
@@ -12,7 +12,7 @@ use Rattle.sim_base.specs.Counts.{source_in}
 use Rattle.sim_base.specs.History.{below}
 use Rattle.sim_base.specs.Places.{bank_in}
 use Rattle.sim_base.specs.Rules.{is_legal, has_open_bank, open_row, rank_of}
-use Rattle.sim_base.specs.Scheduling.{source_of, column_command, needed_at, needed, ready_hit, ready_row, first_ready, refresh_command, if_legal, candidates, choice_between, refreshes, due, lowest_due}
+use Rattle.sim_base.specs.Scheduling.{source_of, column_command, needed_at, needed, ready_hit, ready_row, first_ready, refresh_command, if_legal, candidates, choice_between, due, lowest_due}
 use Rattle.sim_base.specs.declared.command.Command.{Command}
 use Rattle.sim_base.specs.declared.command.Command.TheVariants.{Act, Rd, Wr, Pre, Prea, Ref}
 use Rattle.sim_base.specs.declared.command.CommandRow.{CommandRow}

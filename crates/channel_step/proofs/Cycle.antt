@@ -1,36 +1,33 @@
 -- One cycle of a channel: first the requests that arrive join the queue, and then a command is issued or none.
-use Rattle.std.proofs.Common.{◌≡◌, ℕ, zero, suc, ◌+◌, ◌<◌, ◌≤◌, Bool, true, false, cond, ◌&&◌, ◌||◌, List, [], ◌∷◌, ◌++◌, length, map, Option, Some, None, refl, sym, ap, ap₂, subst, ◌∙◌, add-one, arith}
-use Rattle.std.specs.Prelude.{count_by, is_some, remove, slice_get, filter, filter_map, not}
+use Rattle.std.proofs.Common.{◌≡◌, ℕ, suc, ◌+◌, ◌<◌, ◌≤◌, Bool, true, false, cond, List, [], ◌∷◌, ◌++◌, length, map, Option, Some, None, sym, ap, ap₂, subst, ◌∙◌, add-one, arith}
+use Rattle.std.specs.Prelude.{count_by, is_some, filter}
 use Rattle.std.specs.List.{AllByRecursion as Each}
 use Rattle.std.proofs.Math.Seq.{take-length}
 use Rattle.std.proofs.lemmas.List.{append-nil, map-append}
 use Rattle.sim_base.proofs.Arrived.{NotBefore}
 use Rattle.sim_base.proofs.Each.{Each-append, Each-filter}
 use Rattle.sim_base.proofs.Ordered.{Each-weaker}
-use Rattle.sim_base.proofs.Same.{Stamped, AgreeUpTo, drains-same}
+use Rattle.sim_base.proofs.Same.{drains-same}
 use Rattle.sim_base.specs.declared.config.Config.{Config}
 use Rattle.sim_base.specs.Counts.{has_refresh_due, queue_length}
 use Rattle.sim_base.specs.History.{issued_commands}
-use Rattle.sim_base.specs.Scheduling.{waiting, is_waiting, drains_with, drains_before, drains, lowest_due, candidates, choice_between, choice, column_command}
+use Rattle.sim_base.specs.Scheduling.{waiting, is_waiting, drains_with, drains, lowest_due, candidates, choice_between, choice}
 use Rattle.sim_base.specs.declared.command.Command.{Command}
-use Rattle.sim_base.specs.declared.command.Command.TheVariants.{Act}
 use Rattle.sim_base.specs.declared.command.CommandRow.{CommandRow}
-use Rattle.sim_base.specs.declared.command.Source.{Source}
 use Rattle.sim_base.specs.declared.message.Message.{Message}
 use Rattle.sim_base.specs.declared.message.Request.{Request}
-use Rattle.sim_base.specs.declared.place.BankId.{BankId}
-use Rattle.statistics.specs.Channels.{channel_stats, channel_cycle_with, channel_cycle, channel_joined}
+use Rattle.statistics.specs.Channels.{channel_cycle_with, channel_cycle, channel_joined}
 use Rattle.statistics.specs.declared.channels.ChannelStats.{ChannelStats}
 use Rattle.statistics.proofs.Lists.{length-push_suc}
 use Rattle.statistics.proofs.ChannelMail.{AgreeUpTo-later, channel_stats-later}
 use Rattle.statistics.proofs.ChannelChoices.{choice-not_late}
 use Rattle.statistics.proofs.ChannelSteps.{issued_now, issued_commands-push, channel_stats-push}
-use Rattle.channel_step.specs.Past.{requests_of, CarriesRequest, IsOther, Differ, is_named, IsPast}
+use Rattle.channel_step.specs.Past.{requests_of, CarriesRequest, IsOther, Differ, is_named}
 use Rattle.channel_step.specs.Fit.{IsUnnamed}
 use Rattle.channel_step.specs.Stands.{marks_of, Recalls, HasJoined}
-use Rattle.channel_step.proofs.Requests.{ArrivedBefore, requests-arrived, carries-stamped, waiting-arrivals, waiting-until, waiting-command, unserved_by}
+use Rattle.channel_step.proofs.Requests.{ArrivedBefore, requests-arrived, carries-stamped, waiting-arrivals, waiting-command, unserved_by}
 use Rattle.channel_step.proofs.Spans.{queue-next, drains-next, drains_before-row, choice-next}
-use Rattle.channel_step.proofs.Marks.{unnamed-marks, marks-no_act, marks-act, opens_none, moves_none, map-remove, served-remove, served-none, column-opens_none}
+use Rattle.channel_step.proofs.Marks.{unnamed-marks}
 
 -- the requests that arrive in the cycle after these rows, and that no command has named
 pub record Arrives (s : Config) (channel : ℕ) (rows : List (Option Command)) (mail new : List Message) : Type 0 where
@@ -98,7 +95,8 @@ pub has_due-next : (s : Config) (channel : ℕ) (rows : List (Option Command)) �
 unfolding has_refresh_due
 has_due-next s channel rows = ap (λ x. is_some (lowest_due s (issued_commands channel x) (length rows))) (take-length rows)
 
-cycle-with : (s : Config) (channel : ℕ) (rows : List (Option Command)) (mail : List Message) (o : Option Command)
+-- what the next cycle counts
+pub cycle-with : (s : Config) (channel : ℕ) (rows : List (Option Command)) (mail : List Message) (o : Option Command)
     → channel_cycle s channel rows mail o
     ≡ channel_cycle_with s (issued_commands channel rows) (length (waiting (issued_commands channel rows) mail (length rows + 1)))
     (is_some (lowest_due s (issued_commands channel rows) (length rows))) (drains s channel rows mail (length rows)) o

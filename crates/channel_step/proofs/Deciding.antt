@@ -1,20 +1,17 @@
 -- What a channel decides in a cycle.
-use Rattle.std.proofs.Common.{◌≡◌, ℕ, ◌+◌, ◌<◌, ◌≤◌, Bool, List, [], ◌∷◌, length, Option, Some, None, refl, sym, ap, ap₂, subst, ◌∙◌, arith}
-use Rattle.std.specs.Prelude.{count_by, option_map}
+use Rattle.std.proofs.Common.{◌≡◌, ℕ, ◌+◌, List, length, Option, sym, ap, ap₂, ◌∙◌}
 use Rattle.std.specs.List.{All}
 use Rattle.sim_base.specs.declared.config.Config.{Config}
 use Rattle.sim_base.specs.History.{issued_commands}
-use Rattle.sim_base.specs.Scheduling.{waiting, drains_with, drains_before, drains, candidates, choice_between, choice, lowest_due}
+use Rattle.sim_base.specs.Scheduling.{drains_with, drains_before, candidates, choice_between, choice, lowest_due}
 use Rattle.sim_base.specs.declared.command.Command.{Command}
-use Rattle.sim_base.specs.declared.command.CommandRow.{CommandRow}
 use Rattle.sim_base.specs.declared.message.Message.{Message}
-use Rattle.sim_base.specs.declared.message.Request.{Request}
 use Rattle.bank_ready.specs.Stands.{rank_count}
 use Rattle.queue.specs.View.{QueueView, is_draining, drains_by}
 use Rattle.queue.specs.Columns.{write_count}
 use Rattle.fr_fcfs.specs.Columns.{IsInBanks}
 use Rattle.fr_fcfs.specs.Choices.{StandFor, choice_in}
-use Rattle.channel_step.specs.Channels.{IsMadeFor, StandsFor, IsInCycle, IsInSomeCycle}
+use Rattle.channel_step.specs.Channels.{IsMadeFor, IsInCycle, IsInSomeCycle}
 use Rattle.channel_step.specs.declared.channel.Channel.{Channel}
 use Rattle.channel_step.proofs.Cycle.{joined-choice}
 use Rattle.channel_step.proofs.Places.{queue-in_banks}

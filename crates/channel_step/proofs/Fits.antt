@@ -1,20 +1,18 @@
 -- What is fit for a span is fit for the rest of it, when one cycle is over.
-use Rattle.std.proofs.Common.{◌≡◌, ℕ, zero, suc, ◌+◌, ◌<◌, ◌≤◌, Bool, true, false, cond, eqb, ltb, ◌&&◌, ◌||◌, List, [], ◌∷◌, ◌++◌, length, take, drop, Option, Some, None, refl, sym, ap, ap₂, subst, ◌∙◌, add-one, add-suc, zero-add, arith}
-use Rattle.std.specs.Prelude.{filter_map}
+use Rattle.std.proofs.Common.{◌≡◌, ℕ, zero, suc, ◌+◌, ◌<◌, ◌≤◌, Bool, true, false, cond, eqb, List, [], ◌∷◌, ◌++◌, length, take, drop, Option, Some, None, refl, sym, ap, ap₂, subst, ◌∙◌, arith}
 use Rattle.std.specs.Option.{IfSome}
 use Rattle.std.specs.List.{AllByRecursion as Each, prefix_len}
-use Rattle.std.proofs.lemmas.Bool.{cond_both, and_parts}
 use Rattle.std.proofs.lemmas.Bool.Decides.{nat_tests}
 use Rattle.std.proofs.lemmas.List.{append-nil, append_assoc, take-append-drop}
 use Rattle.sim_base.proofs.Arrived.{NotBefore}
 use Rattle.sim_base.proofs.Each.{Each-all, Each-append, Each-filter}
 use Rattle.sim_base.proofs.Ordered.{Each-weaker}
-use Rattle.sim_base.proofs.Same.{Stamped, AgreeUpTo, choice-same}
+use Rattle.sim_base.proofs.Same.{choice-same}
 use Rattle.sim_base.specs.declared.config.Config.{Config}
 use Rattle.sim_base.specs.Counts.{source_in, queue_length}
 use Rattle.sim_base.specs.History.{issued_commands, is_before}
 use Rattle.sim_base.specs.Machine.{channel_run}
-use Rattle.sim_base.specs.Scheduling.{is_source, source_of, choice, candidates, choice_between, lowest_due, waiting, is_waiting}
+use Rattle.sim_base.specs.Scheduling.{is_source, source_of, choice, waiting, is_waiting}
 use Rattle.sim_base.specs.declared.command.Command.{Command}
 use Rattle.sim_base.specs.declared.command.CommandRow.{CommandRow}
 use Rattle.sim_base.specs.declared.command.Source.{Source}
@@ -23,9 +21,9 @@ use Rattle.sim_base.specs.declared.message.Request.{Request}
 use Rattle.statistics.proofs.ChannelMail.{AgreeUpTo-later}
 use Rattle.statistics.proofs.ChannelSteps.{issued_now, issued_commands-push}
 use Rattle.statistics.specs.declared.channels.ChannelStats.{ChannelStats}
-use Rattle.channel_step.specs.Past.{requests_of, CarriesRequest, IsOther, Differ, IsPast}
+use Rattle.channel_step.specs.Past.{requests_of, CarriesRequest, IsOther, Differ}
 use Rattle.channel_step.specs.Fit.{queue_room, is_of, is_named_by, IsUnnamed, ComeByAge, IsFit}
-use Rattle.channel_step.specs.Stands.{Recalls, HasJoined}
+use Rattle.channel_step.specs.Stands.{HasJoined}
 use Rattle.channel_step.proofs.Requests.{carries-stamped, requests-append}
 use Rattle.channel_step.proofs.Spans.{channel_run-more, channel_run-first}
 use Rattle.channel_step.proofs.Chosen.{chosen-named}
@@ -54,7 +52,8 @@ arrived-first now (m ∷ ms) = by (eqb m.arrival now) refl (arrived-first now ms
         subst (λ k. Each (λ (n : Message). n.arrival ≡ now) (take k (m ∷ ms))) (sym (next (due_count ms now))) (same, rest)
     by false e rest = tt
 
-no_sooner : (m n : Message) → is_before m n ≡ true → m.arrival ≤ n.arrival
+-- the younger of two messages does not arrive sooner
+pub no_sooner : (m n : Message) → is_before m n ≡ true → m.arrival ≤ n.arrival
 no_sooner m n h = grind (arith, nat_tests)
 
 arrive-later : (now : ℕ) (inbox : List Message) → ComeByAge inbox → Each (λ (m : Message). now ≤ m.arrival) inbox

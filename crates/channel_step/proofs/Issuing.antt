@@ -1,6 +1,6 @@
 -- What a command that a channel issues leaves.
-use Rattle.std.proofs.Common.{◌≡◌, ℕ, zero, suc, ◌+◌, ◌<◌, ◌≤◌, ◌^◌, Bool, true, false, cond, List, [], ◌∷◌, ◌++◌, length, get_or, map, Option, Some, None, refl, sym, ap, ap₂, subst, ◌∙◌, arith}
-use Rattle.std.specs.Prelude.{count_by, option_map, is_some, not, remove, slice_get, filter, filter_map, max}
+use Rattle.std.proofs.Common.{◌≡◌, ℕ, zero, suc, ◌+◌, ◌<◌, ◌≤◌, ◌^◌, Bool, true, false, cond, List, [], ◌∷◌, ◌++◌, length, get_or, map, Option, Some, None, refl, sym, ap, ap₂, subst, ◌∙◌, add-one, arith}
+use Rattle.std.specs.Prelude.{is_some, not, remove, slice_get, filter, filter_map, max}
 use Rattle.std.specs.Option.{IfSome, ForSome}
 use Rattle.std.specs.Prelude.{MatchOption}
 use Rattle.std.specs.List.{All, AllByRecursion as Each, cons_option, enumerate_from}
@@ -12,7 +12,7 @@ use Rattle.sim_base.specs.declared.config.Config.{Config}
 use Rattle.sim_base.specs.Counts.{queued_max, is_hit}
 use Rattle.sim_base.specs.History.{issued_at, issued_commands}
 use Rattle.sim_base.specs.Rules.{rank_of}
-use Rattle.sim_base.specs.Scheduling.{choice, choice_between, candidates, lowest_due, due, is_column_command, column_command}
+use Rattle.sim_base.specs.Scheduling.{choice, lowest_due, due, is_column_command}
 use Rattle.sim_base.specs.declared.command.Command.{Command}
 use Rattle.sim_base.specs.declared.command.Command.TheVariants.{Act, Rd, Wr, Pre, Prea, Ref}
 use Rattle.sim_base.specs.declared.command.CommandRow.{CommandRow}
@@ -29,14 +29,13 @@ use Rattle.statistics.proofs.ChannelSteps.{issued_now, issued_commands-push}
 use Rattle.statistics.proofs.Lists.{length-push_suc}
 use Rattle.fr_fcfs.specs.Choices.{Serves, IsFor}
 use Rattle.fr_fcfs.specs.declared.choice.Choice.{Choice}
-use Rattle.queue.specs.View.{QueueView}
 use Rattle.channel_step.specs.Past.{Differ, is_named}
 use Rattle.channel_step.specs.Fit.{queue_room}
-use Rattle.channel_step.specs.Stands.{marks_of, Recalls, HasJoined}
-use Rattle.channel_step.specs.Queued.{Queued, marked_at, without, after_command, after, moves_unmarked}
+use Rattle.channel_step.specs.Stands.{marks_of, Recalls}
+use Rattle.channel_step.specs.Queued.{Queued, marked_at, after, moves_unmarked}
 use Rattle.channel_step.specs.Counted.{cycle_with_hit}
 use Rattle.channel_step.specs.Owed.{RefIsOwed}
-use Rattle.channel_step.specs.Channels.{IsMadeFor, StandsFor, IsInCycle, IsInSomeCycle, seen_of}
+use Rattle.channel_step.specs.Channels.{StandsFor, IsInCycle, seen_of}
 use Rattle.channel_step.specs.declared.counting.Seen.{Seen}
 use Rattle.channel_step.proofs.Deciding.{settled-drains}
 use Rattle.channel_step.specs.declared.channel.Channel.{Channel}
@@ -176,7 +175,7 @@ stands-after : (c : Channel) (s : Config) (channel : ℕ) (rows : List (Option C
     → BanksStandFor banks s (issued_commands channel rows ++ issued_now channel (length rows) o)
     → RefreshesStandFor refresh s (issued_commands channel rows ++ issued_now channel (length rows) o)
     → stats ≡ channel_joined c.stats (channel_cycle_with s (issued_commands channel rows) (length c.waiting.queue.requests) (is_some (lowest_due s (issued_commands channel rows) (length rows))) c.waiting.queue.settled o)
-    → StandsFor (record c { waiting = w; banks = banks; refresh = refresh; stats = stats }) s channel (rows ++ o ∷ []) mail
+    → StandsFor (record c { cycle = c.cycle + 1; waiting = w; banks = banks; refresh = refresh; stats = stats }) s channel (rows ++ o ∷ []) mail
 unfolding channel_cycle_with
 stands-after c s channel rows mail o w banks refresh stats h e x b r t =
     let history = issued_commands channel rows in
@@ -203,6 +202,7 @@ stands-after c s channel rows mail o w banks refresh stats h e x b r t =
         within = omega (arith, after-le o queue);
         longest = omega arith;
       };
+      cycle_is = ap (λ k. k + 1) h.cycle_is ∙ add-one (length rows) ∙ sym (length-push_suc rows o);
       recalls = subst R (sym x) (subst Q (sym t) got);
       banks_stand = subst (BanksStandFor banks s) (sym (issued_commands-push channel rows o)) b;
       refreshes_stand = subst (RefreshesStandFor refresh s) (sym (issued_commands-push channel rows o)) r;
@@ -215,7 +215,7 @@ pub issued-stands : (c : Channel) (s : Config) (channel : ℕ) (rows : List (Opt
     → BanksStandFor banks s (issued_commands channel rows ++ row_of channel now chosen.command ∷ [])
     → RefreshesStandFor refresh s (issued_commands channel rows ++ row_of channel now chosen.command ∷ [])
     → stats ≡ counted c s (issued_commands channel rows) (length rows) (Some chosen.command) (moves_unmarked c.waiting chosen.slot)
-    → StandsFor (record c { waiting = w; banks = banks; refresh = refresh; stats = stats }) s channel (rows ++ Some chosen.command ∷ []) mail
+    → StandsFor (record c { cycle = c.cycle + 1; waiting = w; banks = banks; refresh = refresh; stats = stats }) s channel (rows ++ Some chosen.command ∷ []) mail
 issued-stands c s channel rows mail now chosen w banks refresh stats h at e f x b r t =
     let history = issued_commands channel rows in
     let left = leaves c.waiting history channel (length rows) chosen (joined-differ _ _ _ _ s channel rows mail h.joined) h.joined.marks_are f in
@@ -228,7 +228,7 @@ issued-stands c s channel rows mail now chosen w banks refresh stats h at e f x 
 pub none-stands : (c : Channel) (s : Config) (channel : ℕ) (rows : List (Option Command)) (mail : List Message) (stats : ChannelStats)
     → IsInCycle c s channel rows mail → None ≡ choice s channel rows mail
     → stats ≡ counted c s (issued_commands channel rows) (length rows) None false
-    → StandsFor (record c { stats = stats }) s channel (rows ++ None ∷ []) mail
+    → StandsFor (record c { cycle = c.cycle + 1; stats = stats }) s channel (rows ++ None ∷ []) mail
 none-stands c s channel rows mail stats h e t =
     let history = issued_commands channel rows in
     let none : history ≡ history ++ [] = sym (append-nil history) in

@@ -12,3 +12,7 @@ pub mod Issuing
 pub mod Stepping
 pub mod Running
 pub mod Starting
+pub mod Dues
+pub mod Skipping
+pub mod Going
+pub mod Alone

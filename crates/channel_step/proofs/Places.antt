@@ -1,5 +1,5 @@
 -- Where the requests that wait lie.
-use Rattle.std.proofs.Common.{◌≡◌, ℕ, ◌+◌, ◌<◌, ◌≤◌, Bool, true, false, ◌%◌, ◌/◌, List, [], ◌∷◌, length, Option, Some, None, refl, sym, ap, subst, ◌∙◌, arith, mod-lt}
+use Rattle.std.proofs.Common.{◌≡◌, ℕ, ◌<◌, ◌≤◌, ◌%◌, ◌/◌, List, [], ◌∷◌, sym, subst, arith, mod-lt}
 use Rattle.std.specs.List.{All, AllByRecursion as Each}
 use Rattle.std.proofs.lemmas.Bool.{cond_both}
 use Rattle.std.proofs.lemmas.List.Elements.{All-from_recursion}

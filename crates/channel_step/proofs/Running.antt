@@ -1,7 +1,8 @@
--- A channel over a span, cycle by cycle.
-use Rattle.std.proofs.Common.{◌≡◌, ℕ, zero, suc, ◌+◌, ◌-◌, ◌<◌, ◌≤◌, List, [], ◌∷◌, ◌++◌, length, take, drop, Option, Some, None, refl, sym, ap, ap₂, subst, ◌∙◌, arith}
+-- A channel over a span, from one cycle in which something happens to the next.
+use Rattle.std.proofs.Common.{◌≡◌, ℕ, ◌+◌, ◌-◌, ◌<◌, ◌≤◌, List, [], ◌∷◌, ◌++◌, length, take, drop, Option, None, refl, sym, ap, ap₂, subst, ◌∙◌, arith}
+use Rattle.std.specs.Prelude.{replicate}
 use Rattle.std.specs.List.{AllByRecursion as Each}
-use Rattle.std.proofs.Math.Seq.{take-add, take-length}
+use Rattle.std.proofs.Math.Seq.{take-add}
 use Rattle.std.proofs.lemmas.List.{append-nil, append_assoc, take-append-drop, drop-drop, length-drop, take_rest}
 use Rattle.sim_base.specs.declared.config.Config.{Config}
 use Rattle.sim_base.specs.History.{issued_commands, channel_messages, messages_at}
@@ -12,9 +13,10 @@ use Rattle.sim_base.specs.declared.command.CommandRow.{CommandRow}
 use Rattle.sim_base.specs.declared.message.Message.{Message}
 use Rattle.channel_step.specs.Fit.{IsFit}
 use Rattle.channel_step.specs.Channels.{StandsFor}
-use Rattle.channel_step.specs.Runs.{issued_in, IsStep, HasRun, IsDone, CanStep}
+use Rattle.channel_step.specs.Runs.{issued_in, IsStep, HasSkipped, HasRun, CanRun, CanStep}
 use Rattle.channel_step.specs.declared.channel.Channel.{Channel}
-use Rattle.channel_step.proofs.Spans.{length-channel_run, channel_run-one, issued-after, messages-after}
+use Rattle.channel_step.proofs.Spans.{length-channel_run, channel_run-one, channel_run-more, issued-after, messages-after}
+use Rattle.channel_step.proofs.Stretches.{idle-issued, idle-messages}
 
 pub run-length : (s : Config) (channel : ℕ) (rows : List (Option Command)) (mail : List Message) (from now : ℕ) → length rows ≡ from → from ≤ now
     → length (channel_run s channel rows mail (now - from)) ≡ now
@@ -127,3 +129,65 @@ run-cycle c d s channel rows mail inbox from now until arrived n o commands more
     (subst (λ i. IsStep d s channel (channel_run s channel rows (mail ++ inbox) (now - from)) (mail ++ take arrived inbox) i now until n o) (take_rest inbox arrived) k)
     (e ∙ ap (λ i. commands ++ issued_in i now o) number)
     (f ∙ ap₂ (λ x i. messages ++ messages_at x i now o) config number)
+
+-- what a step is known to leave, for each past
+abbrev pub StepsTo : Channel → Channel → List Message → ℕ → ℕ → Option Command → Type 0
+StepsTo c d inbox now n o =
+    (s : Config) (channel : ℕ) (rows : List (Option Command)) (mail : List Message) (until : ℕ) → StandsFor c s channel rows mail → length rows ≡ now → now < until
+    → IsFit s channel rows mail inbox now until → IsStep d s channel rows mail inbox now until n o
+
+pub run-stepped : (c d : Channel) (s : Config) (channel : ℕ) (rows : List (Option Command)) (mail inbox : List Message) (from now until arrived n : ℕ) (o : Option Command)
+    (commands : List CommandRow) (messages : List Message) → length rows ≡ from → from ≤ now → now < until
+    → HasRun c s channel rows mail inbox from now until arrived commands messages → StepsTo c d (rest_of inbox arrived) now n o
+    → IsStep d s channel (channel_run s channel rows (mail ++ inbox) (now - from)) (mail ++ take arrived inbox) (rest_of inbox arrived) now until n o
+run-stepped c d s channel rows mail inbox from now until arrived n o commands messages at l m h steps =
+    steps s channel (channel_run s channel rows (mail ++ inbox) (now - from)) (mail ++ take arrived inbox) until h.stands (run-length s channel rows (mail ++ inbox) from now at l) m
+    (run-fit c s channel rows mail inbox from now until arrived commands messages h)
+
+-- so many messages are there
+pub run-some : (c d : Channel) (s : Config) (channel : ℕ) (rows : List (Option Command)) (mail inbox : List Message) (from now until arrived n : ℕ) (o : Option Command)
+    (commands : List CommandRow) (messages : List Message) → length rows ≡ from → from ≤ now → now < until
+    → HasRun c s channel rows mail inbox from now until arrived commands messages → StepsTo c d (rest_of inbox arrived) now n o → arrived + n ≤ length inbox
+run-some c d s channel rows mail inbox from now until arrived n o commands messages at l m h steps =
+    let k = run-stepped c d s channel rows mail inbox from now until arrived n o commands messages at l m h steps in
+    omega (arith, h.some, k.some, ap length (take_rest inbox arrived), length-drop arrived inbox)
+
+-- the channel may go on
+pub run-can_go_on : (c : Channel) (s : Config) (channel : ℕ) (rows : List (Option Command)) (mail inbox : List Message) (from now until arrived : ℕ) (commands : List CommandRow) (messages : List Message)
+    → length rows ≡ from → from ≤ now → HasRun c s channel rows mail inbox from now until arrived commands messages → CanRun c (rest_of inbox arrived) now until
+run-can_go_on c s channel rows mail inbox from now until arrived commands messages at l h =
+    record {
+      s = s;
+      channel = channel;
+      rows = channel_run s channel rows (mail ++ inbox) (now - from);
+      mail = mail ++ take arrived inbox;
+      stands = h.stands;
+      at = run-length s channel rows (mail ++ inbox) from now at l;
+      fit = run-fit c s channel rows mail inbox from now until arrived commands messages h;
+    }
+
+-- when it has gone on
+pub run-gone_on : (c d : Channel) (s : Config) (channel : ℕ) (rows : List (Option Command)) (mail inbox : List Message) (from now until arrived next : ℕ)
+    (commands : List CommandRow) (messages : List Message) → length rows ≡ from → from ≤ now → now ≤ next
+    → HasRun c s channel rows mail inbox from now until arrived commands messages
+    → HasSkipped d s channel (channel_run s channel rows (mail ++ inbox) (now - from)) (mail ++ take arrived inbox) (rest_of inbox arrived) next until
+    → HasRun d s channel rows mail inbox from next until arrived commands messages
+run-gone_on c d s channel rows mail inbox from now until arrived next commands messages at l m h k =
+    let all = mail ++ inbox in
+    let before = channel_run s channel rows all (now - from) in
+    let len : length before ≡ now = run-length s channel rows all from now at l in
+    let n = next - length before in
+    let rest : rest_of inbox arrived ≡ drop arrived inbox = take_rest inbox arrived in
+    let whole : (mail ++ take arrived inbox) ++ rest_of inbox arrived ≡ all =
+    append_assoc mail (take arrived inbox) (rest_of inbox arrived) ∙ ap (λ x. mail ++ (take arrived inbox ++ x)) rest ∙ ap (λ x. mail ++ x) (take-append-drop arrived inbox) in
+    let then : next - from ≡ (now - from) + n = omega arith in
+    let rows_are : channel_run s channel rows all (next - from) ≡ before ++ replicate n None =
+    ap (channel_run s channel rows all) then ∙ channel_run-more s channel rows all (now - from) n ∙ ap (λ x. channel_run s channel before x n) (sym whole) ∙ k.rows_are in
+    record {
+      stands = subst (λ r. StandsFor d s channel r (mail ++ take arrived inbox)) (sym rows_are) k.stands;
+      fit = subst (λ r. IsFit s channel r (mail ++ take arrived inbox) (drop arrived inbox) next until) (sym rows_are)
+          (subst (λ i. IsFit s channel (before ++ replicate n None) (mail ++ take arrived inbox) i next until) rest k.fit);
+      some = h.some;
+      commands_are = ap (issued_commands channel) rows_are ∙ idle-issued channel before n ∙ h.commands_are;
+      messages_are = ap (channel_messages s channel) rows_are ∙ idle-messages s channel before n ∙ h.messages_are;
+    }

@@ -1,13 +1,11 @@
 -- What a channel does over some cycles: what comes after what it did before, and what arrives later does not count.
-use Rattle.std.proofs.Common.{◌≡◌, ℕ, zero, suc, ◌+◌, ◌<◌, ◌≤◌, Bool, true, false, ◌&&◌, ◌||◌, List, [], ◌∷◌, ◌++◌, length, take, drop, Option, Some, None, refl, sym, ap, ap₂, subst, ◌∙◌, add-zero, add-suc, add-one, arith}
-use Rattle.std.specs.Prelude.{replicate, count_by}
-use Rattle.std.specs.List.{AllByRecursion as Each}
+use Rattle.std.proofs.Common.{◌≡◌, ℕ, zero, suc, ◌+◌, ◌≤◌, Bool, List, [], ◌∷◌, ◌++◌, length, Option, refl, sym, ap, ap₂, ◌∙◌, add-zero, add-suc, add-one, arith}
+use Rattle.std.specs.Prelude.{count_by}
 use Rattle.std.proofs.Math.Seq.{take-length}
-use Rattle.std.proofs.lemmas.List.{append-nil, append_assoc, replicate_more, length-replicate, length-append}
+use Rattle.std.proofs.lemmas.List.{append_assoc}
 use Rattle.sim_base.proofs.Added.{channel_messages-push}
 use Rattle.sim_base.proofs.Same.{AgreeUpTo, sooner, choice-same}
 use Rattle.sim_base.specs.declared.config.Config.{Config}
-use Rattle.sim_base.specs.Counts.{has_refresh_due, queue_length}
 use Rattle.sim_base.specs.History.{issued_commands, messages_at, channel_messages}
 use Rattle.sim_base.specs.Machine.{channel_run}
 use Rattle.sim_base.specs.Scheduling.{waiting, queue_in, writes_in, drains_with, drains_before, drains, candidates, lowest_due, choice_between, choice}

@@ -1,6 +1,6 @@
 -- A channel before its first cycle, and a channel between two cycles.
-use Rattle.std.proofs.Common.{◌≡◌, ℕ, zero, suc, ◌+◌, ◌-◌, ◌<◌, ◌≤◌, Bool, true, false, List, [], ◌∷◌, ◌++◌, length, Option, Some, None, refl, sym, ap, ap₂, subst, ◌∙◌, arith}
-use Rattle.std.specs.Prelude.{count_by, is_some, replicate}
+use Rattle.std.proofs.Common.{◌≡◌, ℕ, ◌+◌, ◌-◌, ◌≤◌, Bool, false, List, [], ◌++◌, length, Option, Some, None, refl, sym, ap, ap₂, subst, ◌∙◌, arith}
+use Rattle.std.specs.Prelude.{is_some, replicate}
 use Rattle.std.specs.List.{All, AllByRecursion as Each}
 use Rattle.sim_base.specs.declared.config.Config.{Config}
 use Rattle.sim_base.specs.Counts.{issued_of_kind, hits, queue_lengths, queued, queued_max, idle, refreshing, draining}
@@ -8,7 +8,6 @@ use Rattle.sim_base.specs.History.{issued_commands}
 use Rattle.sim_base.specs.Scheduling.{waiting, drains_with, drains_before, drains, candidates, choice_between, choice, lowest_due}
 use Rattle.sim_base.specs.declared.command.Command.{Command}
 use Rattle.sim_base.specs.declared.message.Message.{Message}
-use Rattle.sim_base.specs.declared.message.Request.{Request}
 use Rattle.bank_ready.specs.Stands.{rank_count, StandsFor as BanksStandFor}
 use Rattle.refresh.specs.Refreshes.{StandsFor as RefreshesStandFor}
 use Rattle.statistics.specs.declared.channels.ChannelStats.{ChannelStats}
@@ -19,7 +18,7 @@ use Rattle.queue.specs.View.{QueueView, is_draining, drains_by}
 use Rattle.queue.specs.Columns.{write_count}
 use Rattle.fr_fcfs.specs.Columns.{IsInBanks}
 use Rattle.fr_fcfs.specs.Choices.{StandFor, choice_in}
-use Rattle.fr_fcfs.specs.Cycles.{IsFirst, IsFirstCycle}
+use Rattle.fr_fcfs.specs.Cycles.{IsFirstCycle}
 use Rattle.channel_step.specs.Past.{requests_of}
 use Rattle.channel_step.specs.Stands.{Recalls}
 use Rattle.channel_step.specs.Channels.{StandsFor}
@@ -57,7 +56,8 @@ at-stand c s channel rows mail queue h e =
       high_is = sym h.made_for.high_is ∙ ap (λ (q : QueueView). q.high) (sym e);
     }
 
-at-drains : (c : Channel) (s : Config) (channel : ℕ) (rows : List (Option Command)) (mail : List Message) → StandsFor c s channel rows mail
+-- whether the channel would drain its writes in the next cycle
+pub at-drains : (c : Channel) (s : Config) (channel : ℕ) (rows : List (Option Command)) (mail : List Message) → StandsFor c s channel rows mail
     → is_draining c.waiting.queue ≡ drains s channel rows mail (length rows)
 at-drains c s channel rows mail h =
     let r = h.recalls in
@@ -94,11 +94,11 @@ pub at-first : (c : Channel) (s : Config) (channel : ℕ) (rows : List (Option C
 at-first c s channel rows mail from queue o h at e f =
     first-agree _ _ from (λ cycle l. ap is_some (at-choice c s channel rows mail from cycle queue h at l e)) o f
 
-pub start-stands : (c : Channel) (s : Config) (number : ℕ) → c.config ≡ s → c.number ≡ number → c.waiting ≡ no_requests (queue_room s) s.write_high s.write_low
+pub start-stands : (c : Channel) (s : Config) (number : ℕ) → c.config ≡ s → c.number ≡ number → c.cycle ≡ 0 → c.waiting ≡ no_requests (queue_room s) s.write_high s.write_low
     → BanksStandFor c.banks s [] → RefreshesStandFor c.refresh s [] → c.stats ≡ record channel_none { draining = draining_of s 0 } → c.scratch ≡ queue_room s
     → StandsFor c s number [] []
 unfolding issued_commands
-start-stands c s number config is waiting banks refresh stats scratch =
+start-stands c s number config is cycle waiting banks refresh stats scratch =
     let R : Queued → ChannelStats → Type 0 = λ w t. Recalls w.queue.requests w.queue.settled w.marks t s number [] [] in
     let base : R (no_requests (queue_room s) s.write_high s.write_low) (record channel_none { draining = draining_of s 0 }) = recalls-none s number in
     let none : length c.waiting.queue.requests ≡ 0 = ap (λ (w : Queued). length w.queue.requests) waiting in
@@ -114,6 +114,7 @@ start-stands c s number config is waiting banks refresh stats scratch =
         within = omega arith;
         longest = omega arith;
       };
+      cycle_is = cycle;
       recalls = subst (λ w. R w c.stats) (sym waiting) (subst (R (no_requests (queue_room s) s.write_high s.write_low)) (sym stats) base);
       banks_stand = banks;
       refreshes_stand = refresh;

@@ -1,17 +1,16 @@
 -- One cycle of a channel, from what arrives in it on.
-use Rattle.std.proofs.Common.{◌≡◌, ℕ, zero, suc, ◌+◌, ◌<◌, ◌≤◌, Bool, List, [], ◌∷◌, ◌++◌, length, take, drop, Option, Some, None, refl, sym, ap, ap₂, subst, ◌∙◌, add-zero, arith, eqb}
-use Rattle.std.specs.Prelude.{count_by, filter_map, take_while}
-use Rattle.std.specs.List.{AllByRecursion as Each, cons_option, prefix_len}
+use Rattle.std.proofs.Common.{◌≡◌, ℕ, suc, ◌+◌, ◌<◌, ◌≤◌, List, [], ◌∷◌, ◌++◌, length, take, drop, Option, Some, None, refl, sym, ap, ap₂, subst, ◌∙◌, add-zero, arith, eqb}
+use Rattle.std.specs.Prelude.{count_by, take_while}
+use Rattle.std.specs.List.{AllByRecursion as Each, cons_option}
 use Rattle.std.proofs.lemmas.List.{append_assoc, take-append-drop, length-append}
 use Rattle.std.proofs.lemmas.List.Folds.{length-prefix_len}
 use Rattle.std.proofs.lemmas.List.Sums.{prefix_len-le-length}
-use Rattle.sim_base.proofs.Ordered.{Each-weaker}
 use Rattle.sim_base.proofs.Same.{queue-same}
 use Rattle.sim_base.specs.declared.config.Config.{Config}
 use Rattle.sim_base.specs.Counts.{queue_length}
 use Rattle.sim_base.specs.History.{issued_commands}
 use Rattle.sim_base.specs.Machine.{channel_run}
-use Rattle.sim_base.specs.Scheduling.{request_in, waiting, drains_with, choice}
+use Rattle.sim_base.specs.Scheduling.{request_in, drains_with, choice}
 use Rattle.sim_base.specs.declared.command.Command.{Command}
 use Rattle.sim_base.specs.declared.message.Message.{Message}
 use Rattle.sim_base.specs.declared.message.Request.{Request}
@@ -20,14 +19,14 @@ use Rattle.queue.specs.View.{drains_by}
 use Rattle.queue.specs.Columns.{write_count}
 use Rattle.channel_step.specs.Past.{requests_of, IsRequestIn, CarriesRequest}
 use Rattle.channel_step.specs.Fit.{queue_room, IsFit}
-use Rattle.channel_step.specs.Stands.{marks_of, HasJoined}
+use Rattle.channel_step.specs.Stands.{marks_of}
 use Rattle.channel_step.specs.Queued.{Queued, with_arrivals}
-use Rattle.channel_step.specs.Channels.{IsMadeFor, StandsFor, IsInCycle}
+use Rattle.channel_step.specs.Channels.{StandsFor, IsInCycle}
 use Rattle.channel_step.specs.Runs.{IsStep}
 use Rattle.channel_step.specs.declared.channel.Channel.{Channel}
 use Rattle.channel_step.proofs.Requests.{carries-stamped}
 use Rattle.channel_step.proofs.Spans.{queue-next}
-use Rattle.channel_step.proofs.Cycle.{Arrives, joined}
+use Rattle.channel_step.proofs.Cycle.{joined}
 use Rattle.channel_step.proofs.Fits.{due_count, fit-arrives, fit-rest, fit-later}
 
 pub due_count-is : (inbox : List Message) (now : ℕ) → length (take_while (λ (m : Message). eqb m.arrival now) inbox) ≡ due_count inbox now
@@ -87,6 +86,7 @@ arrived-stands c s channel rows mail inbox now until w h at l f e =
         within = omega arith;
         longest = h.made_for.longest;
       };
+      cycle_is = h.cycle_is;
       joined = record {
         requests = j.requests;
         arrived = j.arrived;

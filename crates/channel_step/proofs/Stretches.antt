@@ -1,5 +1,5 @@
 -- Cycles in which a channel issues nothing and nothing arrives.
-use Rattle.std.proofs.Common.{◌≡◌, ℕ, zero, suc, ◌+◌, ◌<◌, ◌≤◌, Bool, true, false, ◌&&◌, ◌||◌, List, [], ◌∷◌, ◌++◌, length, Option, Some, None, refl, sym, ap, ap₂, subst, ◌∙◌, add-zero, add-suc, add-one, arith}
+use Rattle.std.proofs.Common.{◌≡◌, ℕ, zero, suc, ◌+◌, ◌<◌, ◌≤◌, Bool, true, false, ◌&&◌, ◌||◌, List, [], ◌∷◌, ◌++◌, length, Option, None, refl, sym, ap, ap₂, ◌∙◌, add-one, arith}
 use Rattle.std.specs.Prelude.{replicate, count_by, is_some}
 use Rattle.std.specs.List.{AllByRecursion as Each}
 use Rattle.std.proofs.Math.Seq.{take-length}
@@ -12,12 +12,8 @@ use Rattle.sim_base.specs.Machine.{channel_run}
 use Rattle.sim_base.specs.Scheduling.{waiting, drains_with, drains_before, drains, candidates, lowest_due, choice_between, choice}
 use Rattle.sim_base.specs.declared.command.Command.{Command}
 use Rattle.sim_base.specs.declared.message.Message.{Message}
-use Rattle.sim_base.specs.declared.message.Request.{Request}
-use Rattle.statistics.proofs.Lists.{length-push_suc}
-use Rattle.statistics.proofs.ChannelSteps.{issued_commands-push, channel_stats-push}
-use Rattle.statistics.proofs.ChannelStretches.{channel_stats-append}
-use Rattle.statistics.proofs.Repeats.{channel_stretch-replicate}
-use Rattle.statistics.specs.Channels.{channel_stats, channel_cycle_with, channel_cycle, channel_joined, channel_times, channel_stretch, ActsComeFirst}
+use Rattle.statistics.proofs.ChannelSteps.{issued_commands-push}
+use Rattle.statistics.specs.Channels.{channel_cycle_with, channel_cycle}
 use Rattle.channel_step.proofs.Requests.{ArrivedBefore, waiting-until}
 use Rattle.channel_step.proofs.Spans.{queue-next, drains-next, drains_before-row, choice-next}
 use Rattle.channel_step.specs.Past.{requests_of}

@@ -1,17 +1,24 @@
 -- What a `Channel` stands for.
 --     IsMadeFor c s channel      the channel with a number, of a machine with a configuration
 --     StandsFor c s channel rows mail      all that it keeps is what these rows, and the messages that arrived in them, make of it
+--     HasRank c rank, HasBank c bank      a channel of a machine with this rank, or with this bank
 --     IsInCycle c s channel rows mail      the same in the cycle after these rows, when what arrives in it has joined the queue
 --     seen_of c now      what is seen of a channel in a cycle
-use Rattle.std.specs.Prelude.{◌≡◌, ℕ, ◌≤◌, List, length, is_some, Option, Some}
+--     idle_cycle c now      the statistics of a cycle in which a channel issues nothing
+--     passed c until      its statistics after such cycles
+use Rattle.std.specs.Prelude.{◌≡◌, ℕ, ◌-◌, ◌<◌, ◌≤◌, false, List, length, is_some, Option, Some, None}
 use Rattle.sim_base.specs.declared.config.Config.{Config}
 use Rattle.sim_base.specs.History.{issued_commands}
 use Rattle.sim_base.specs.Scheduling.{choice}
 use Rattle.sim_base.specs.declared.command.Command.{Command}
 use Rattle.sim_base.specs.declared.message.Message.{Message}
+use Rattle.sim_base.specs.declared.place.BankId.{BankId}
 use Rattle.bank_ready.specs.Stands.{StandsFor as BanksStandFor}
 use Rattle.refresh.specs.Refreshes.{lowest_owed, StandsFor as RefreshesStandFor}
 use Rattle.queue.specs.View.{is_draining}
+use Rattle.statistics.specs.Channels.{channel_joined, channel_times}
+use Rattle.statistics.specs.declared.channels.ChannelStats.{ChannelStats}
+use Rattle.channel_step.specs.Counted.{cycle_with_hit}
 use Rattle.channel_step.specs.Fit.{queue_room}
 use Rattle.channel_step.specs.Stands.{Recalls, HasJoined}
 use Rattle.channel_step.specs.declared.channel.Channel.{Channel}
@@ -32,13 +39,35 @@ pub record IsMadeFor (c : Channel) (s : Config) (channel : ℕ) : Type 0 where
 -- All that a channel keeps between two cycles is what its rows so far, one a cycle, and the messages that arrived in them make of it.
 pub record StandsFor (c : Channel) (s : Config) (channel : ℕ) (rows : List (Option Command)) (mail : List Message) : Type 0 where
   pub made_for : IsMadeFor c s channel
+  pub cycle_is : c.cycle ≡ length rows
   pub recalls : Recalls c.waiting.queue.requests c.waiting.queue.settled c.waiting.marks c.stats s channel rows mail
   pub banks_stand : BanksStandFor c.banks s (issued_commands channel rows)
   pub refreshes_stand : RefreshesStandFor c.refresh s (issued_commands channel rows)
 
+-- a channel stands for a past of a machine with this rank
+pub record HasRank (c : Channel) (rank : ℕ) : Type 0 where
+  pub s : Config
+  pub channel : ℕ
+  pub rows : List (Option Command)
+  pub mail : List Message
+  pub stands : StandsFor c s channel rows mail
+  pub rank_in : rank < s.ranks
+
+-- a channel stands for a past of a machine with this bank
+pub record HasBank (c : Channel) (bank : BankId) : Type 0 where
+  pub s : Config
+  pub channel : ℕ
+  pub rows : List (Option Command)
+  pub mail : List Message
+  pub stands : StandsFor c s channel rows mail
+  pub rank_in : bank.rank < s.ranks
+  pub group_in : bank.group < s.groups
+  pub bank_in : bank.bank < 4
+
 -- The same in the cycle after these rows, when what arrives in it has joined the queue.
 pub record IsInCycle (c : Channel) (s : Config) (channel : ℕ) (rows : List (Option Command)) (mail : List Message) : Type 0 where
   pub made_for : IsMadeFor c s channel
+  pub cycle_is : c.cycle ≡ length rows
   pub joined : HasJoined c.waiting.queue.requests c.waiting.queue.settled c.waiting.marks c.stats s channel rows mail
   pub banks_stand : BanksStandFor c.banks s (issued_commands channel rows)
   pub refreshes_stand : RefreshesStandFor c.refresh s (issued_commands channel rows)
@@ -65,3 +94,11 @@ pub record IsChosen (c : Channel) (now : ℕ) (command : Command) : Type 0 where
 -- what is seen of a channel in a cycle, before it issues a command
 abbrev pub seen_of : Channel → ℕ → Seen
 seen_of c now = record { queued = length c.waiting.queue.requests; refreshing = is_some (lowest_owed c.refresh now); draining = is_draining c.waiting.queue }
+
+-- the statistics of a cycle in which a channel issues nothing
+abbrev pub idle_cycle : Channel → ℕ → ChannelStats
+idle_cycle c now = cycle_with_hit c.config (seen_of c now).queued (seen_of c now).refreshing (seen_of c now).draining None false
+
+-- the statistics of a channel after the cycles before another one, of which each is as the next one, and it issues nothing in them
+abbrev pub passed : Channel → ℕ → ChannelStats
+passed c until = channel_joined c.stats (channel_times (until - c.cycle) (idle_cycle c c.cycle))

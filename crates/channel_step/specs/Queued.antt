@@ -5,7 +5,7 @@
 --     without w slot      one is served
 --     marked_at marks requests source, with_mark w source      the request of an entry gets its mark
 --     after w command slot      what a command leaves
-use Rattle.std.specs.Prelude.{◌≡◌, ℕ, Bool, true, false, not, List, [], length, map, ◌++◌, remove, slice_set, slice_index_or, Option, Some, None}
+use Rattle.std.specs.Prelude.{ℕ, Bool, true, false, not, List, [], map, ◌++◌, remove, slice_set, slice_index_or, Option, Some, None}
 use Rattle.std.specs.List.{position_or_len}
 use Rattle.sim_base.specs.Scheduling.{is_source}
 use Rattle.sim_base.specs.declared.command.Command.{Command}

@@ -1,18 +1,20 @@
 //! A channel that is run alone over a span of cycles.
 
-ghost use Rattle.std.specs.Prelude.{◌≡◌, ℕ, ◌+◌, ◌-◌, ◌<◌, ◌≤◌, ◌^◌, ◌==◌, take_while, ◌++◌, List, [], ◌∷◌, length, Option, Some, None, option_map, replicate, is_some, IfSome, IfOk};
+ghost use Rattle.std.specs.Prelude.{◌≡◌, ℕ, ◌+◌, ◌-◌, ◌<◌, ◌≤◌, ◌^◌, ◌==◌, take_while, ◌++◌, List, [], ◌∷◌, length, Option, Some, None, option_map, replicate, is_some, nat_le, IfSome, IfOk};
 ghost use Rattle.sim_base.specs.History.{issued_commands};
-ghost use Rattle.sim_base.specs.Scheduling.{choice, waiting};
+ghost use Rattle.sim_base.specs.Rules.{open_row};
+ghost use Rattle.sim_base.specs.Scheduling.{choice, due, waiting};
 ghost use Rattle.sim_base.specs.declared.config.Config.{Config};
 ghost use Rattle.sim_base.specs.declared.command.Command.{Command};
 ghost use Rattle.sim_base.specs.declared.message.Message.{Message};
+ghost use Rattle.refresh.specs.Refreshes.{lowest_owed};
 ghost use Rattle.fr_fcfs.specs.Choices.{IsFor};
 ghost use Rattle.fr_fcfs.specs.Cycles.{IsFirstCycle};
 ghost use Rattle.statistics.specs.Channels.{channel_stats, channel_joined, ChannelFits};
 ghost use Rattle.channel_step.specs.Counted.{cycle_with_hit};
-ghost use Rattle.channel_step.specs.Channels.{StandsFor, IsInCycle, IsInSomeCycle, IsChosen, seen_of};
-ghost use Rattle.channel_step.specs.Fit.{IsFit};
-ghost use Rattle.channel_step.specs.Runs.{IsStep, CanStep, CanRun, IsDone, StandsAt};
+ghost use Rattle.channel_step.specs.Channels.{StandsFor, HasRank, HasBank, IsInCycle, IsInSomeCycle, IsChosen, seen_of, passed};
+ghost use Rattle.channel_step.specs.Fit.{IsFit, IsIdle};
+ghost use Rattle.channel_step.specs.Runs.{IsStep, CanStep, CanRun, CanSkip, HasSkipped, IsDone, StandsAt, first_arrival, sooner_of};
 
 use crate::counting::{Seen, cycle_stats, drained};
 use crate::done::ChannelDone;
@@ -26,6 +28,7 @@ use refresh::Refresh;
 use sim_base::command::Command;
 use sim_base::config::Config;
 use sim_base::message::{ChannelId, Cycle, Message, Request};
+use sim_base::place::BankId;
 use statistics::channels::ChannelStats;
 use std::alloc::{AllocError, Global};
 
@@ -34,6 +37,8 @@ use std::alloc::{AllocError, Global};
 pub struct Channel {
     config: Config,
     number: ChannelId,
+    /// The cycle that it stands at: so many are over.
+    cycle: Cycle,
     waiting: Waiting,
     banks: Banks,
     refresh: Refresh,
@@ -53,6 +58,7 @@ impl Channel {
         Ok(Channel {
             config: config.copy(alloc)?,
             number,
+            cycle: 0,
             waiting: Waiting::with_room(alloc, room, config.write_high, config.write_low)?,
             banks: Banks::new(alloc, config)?,
             refresh: Refresh::new(config.timing.n_refi, config.ranks),
@@ -75,6 +81,32 @@ impl Channel {
             → StandsFor self.now s channel rows mail → result.now ≡ waiting (issued_commands channel rows) mail (length rows) }
     {
         self.waiting.queue().requests()
+    }
+
+    /// The cycle where the channel stands: how many cycles are over.
+    pub fn now(&self) -> Cycle
+        ensures { (s : Config) (channel : ℕ) (rows : List (Option Command)) (mail : List Message)
+            → StandsFor self.now s channel rows mail → result ≡ length rows }
+    {
+        self.cycle
+    }
+
+    /// How many refreshes of a rank are due at the cycle where the channel stands.
+    pub fn due(&self, rank: u32) -> u64
+        requires { HasRank self.now rank }
+        ensures { (s : Config) (channel : ℕ) (rows : List (Option Command)) (mail : List Message)
+            → StandsFor self.now s channel rows mail → result ≡ due s rank (issued_commands channel rows) (length rows) }
+    {
+        self.refresh.due(self.cycle, rank)
+    }
+
+    /// The row that is open in a bank at the cycle where the channel stands.
+    pub fn open_row(&self, bank: BankId) -> Option<u32>
+        requires { HasBank self.now bank }
+        ensures { (s : Config) (channel : ℕ) (rows : List (Option Command)) (mail : List Message)
+            → StandsFor self.now s channel rows mail → result ≡ open_row bank (issued_commands channel rows) }
+    {
+        self.banks.open_row(bank)
     }
 
     /// The first cycle from `from` on, where the channel stands, in which it issues a command, if nothing arrives; None where
@@ -125,14 +157,77 @@ impl Channel {
         }
     }
 
-    /// Counts a cycle.
+    /// Adds what the cycles before `until` count, which are then over.
+    fn add(&mut self, counted: ChannelStats, until: Cycle)
+        requires { ChannelFits (channel_joined self.old.stats counted) }
+        ensures { self.new ≡ record self.old { cycle = until; stats = channel_joined self.old.stats counted } }
+    {
+        let stats = &mut self.stats;
+        *stats = stats.joined(counted);
+        let cycle = &mut self.cycle;
+        *cycle = until;
+    }
+
+    /// Counts a cycle, which is then over.
     fn count(&mut self, seen: Seen, command: Option<Command>, hit: bool)
-        requires { ChannelFits (channel_joined self.old.stats (cycle_with_hit self.old.config seen.queued seen.refreshing seen.draining command hit)) }
-        ensures { self.new ≡ record self.old { stats = channel_joined self.old.stats (cycle_with_hit self.old.config seen.queued seen.refreshing seen.draining command hit) } }
+        requires cycle { self.old.cycle < 2 ^ 62 }
+        requires fits { ChannelFits (channel_joined self.old.stats (cycle_with_hit self.old.config seen.queued seen.refreshing seen.draining command hit)) }
+        ensures { self.new ≡ record self.old { cycle = self.old.cycle + 1; stats = channel_joined self.old.stats (cycle_with_hit self.old.config seen.queued seen.refreshing seen.draining command hit) } }
     {
         let cycle = cycle_stats(&self.config, seen, command, hit);
-        let counted = &mut self.stats;
-        *counted = counted.joined(cycle);
+        self.add(cycle, self.cycle + 1);
+    }
+
+    /// Counts the cycles before `until`, in each of which is seen what is seen in the next one, and nothing is issued. They are
+    /// then over.
+    fn pass(&mut self, until: Cycle)
+        requires until { self.old.cycle ≤ until }
+        requires fits { ChannelFits (passed self.old until) }
+        ensures { self.new ≡ record self.old { cycle = until; stats = passed self.old until } }
+    {
+        let seen = self.seen(self.cycle);
+        let each = cycle_stats(&self.config, seen, None, false);
+        let cycles = until - self.cycle;
+        self.add(each.times(cycles), until);
+    }
+
+    /// The first cycle before `until` from which on a refresh is due, if none is issued; `until`, where there is none.
+    #[tactic(auto, using(crate::proofs::Dues::due_from_next, crate::proofs::Dues::never_due))]
+    fn due_from(&self, until: Cycle) -> Cycle
+        requires { self.now.cycle ≤ until }
+        ensures from_now { self.now.cycle ≤ result }
+        ensures within { result ≤ until }
+        ensures due { (cycle : ℕ) → self.now.cycle ≤ cycle → cycle < until → is_some (lowest_owed self.now.refresh cycle) ≡ nat_le result cycle }
+    {
+        match self.refresh.next_due(self.cycle) {
+            Some(due) => due.min(until),
+            None => until,
+        }
+    }
+
+    /// Settles whether the channel drains its writes in the next cycle, where nothing arrives in it.
+    fn settle(&mut self)
+        ensures { (s : Config) (channel : ℕ) (rows : List (Option Command)) (mail : List Message)
+            → StandsFor self.old s channel rows mail → IsInCycle self.new s channel rows mail }
+    {
+        self.waiting.settle();
+    }
+
+    /// Moves on to the cycle `until`, where nothing arrives and nothing is issued before that. A channel that stands there
+    /// already is left as it is.
+    pub fn skip(&mut self, until: Cycle)
+        requires idle { CanSkip self.old until }
+        requires until { until ≤ 2 ^ 62 }
+        ensures { (s : Config) (channel : ℕ) (rows : List (Option Command)) (mail : List Message)
+            → StandsFor self.old s channel rows mail → IsIdle s channel rows mail (until - length rows)
+            → StandsFor self.new s channel (rows ++ replicate (until - length rows) None) mail }
+    {
+        if self.cycle < until {
+            self.settle();
+            let due = self.due_from(until);
+            self.pass(due);
+            self.pass(until);
+        }
     }
 
     /// Does what was chosen for a cycle, and counts the cycle.
@@ -182,7 +277,8 @@ impl Channel {
     ) -> Result<(usize, Option<Command>), AllocError>
         requires can_step { CanStep self.old inbox.now now }
         requires now { now < 2 ^ 62 }
-        ensures { (s : Config) (channel : ℕ) (rows : List (Option Command)) (mail : List Message) (until : ℕ)
+        ensures some { IfOk result (λ done. done.0 ≤ length inbox.now) }
+        ensures stepped { (s : Config) (channel : ℕ) (rows : List (Option Command)) (mail : List Message) (until : ℕ)
             → StandsFor self.old s channel rows mail → length rows ≡ now → now < until → IsFit s channel rows mail inbox.now now until
             → IfOk result (λ done. IsStep self.new s channel rows mail inbox.now now until done.0 done.1) }
     {
@@ -191,8 +287,30 @@ impl Channel {
         Ok((due, self.issue(now)))
     }
 
+    /// Moves on from a cycle, where the channel stands, to the first one before `until` in which one of these messages arrives or
+    /// a command is issued, and to `until` where there is none. Tells which.
+    fn go_on(&mut self, inbox: &[Message], now: Cycle, until: Cycle) -> Cycle
+        requires can_run { CanRun self.old inbox.now now until }
+        requires span { now ≤ until }
+        requires until { until ≤ 2 ^ 62 }
+        ensures from_now { now ≤ result }
+        ensures within { result ≤ until }
+        ensures skipped { (s : Config) (channel : ℕ) (rows : List (Option Command)) (mail : List Message)
+            → StandsFor self.old s channel rows mail → length rows ≡ now → IsFit s channel rows mail inbox.now now until
+            → HasSkipped self.new s channel rows mail inbox.now result until }
+    {
+        let arrival = next_arrival(inbox, until);
+        if arrival <= now {
+            return now;
+        }
+        let next = sooner(self.next_act(now), arrival);
+        self.skip(next);
+        next
+    }
+
     /// Runs the channel over the cycles from `from` on and before `until`, in which these messages arrive, by arrival and then
-    /// by link. The channel that comes back stands at `until`. On an error, which is want of memory alone, it is gone.
+    /// by link. The channel that comes back stands at `until`. On an error, which is want of memory alone, it is gone. It goes from
+    /// one cycle in which something arrives or is issued to the next, and skips those between.
     pub fn run(
         mut self,
         alloc: Global,
@@ -210,7 +328,8 @@ impl Channel {
         let mut commands = Vec::new(alloc);
         let mut messages = Vec::new(alloc);
         let mut arrived = 0;
-        for now in from..until {
+        let mut now = from;
+        while now < until {
             let (due, command) = self.step(&inbox[arrived..], now)?;
             arrived += due;
             tell(
@@ -221,6 +340,7 @@ impl Channel {
                 &mut commands,
                 &mut messages,
             )?;
+            now = self.go_on(&inbox[arrived..], now + 1, until);
         }
         Ok(ChannelDone {
             channel: self,
@@ -235,4 +355,24 @@ fn due_count(inbox: &[Message], now: Cycle) -> usize
     ensures { result ≡ length (take_while (λ m. m.arrival == now) inbox.now) }
 {
     inbox.iter().take_while(|m| m.arrival == now).count()
+}
+
+/// When the first of these messages arrives; `until`, where there is none.
+fn next_arrival(inbox: &[Message], until: Cycle) -> Cycle
+    ensures { result ≡ first_arrival inbox.now until }
+{
+    match inbox.first() {
+        Some(message) => message.arrival,
+        None => until,
+    }
+}
+
+/// The first of two cycles, of which one may not be.
+fn sooner(first: Option<Cycle>, other: Cycle) -> Cycle
+    ensures { result ≡ sooner_of first other }
+{
+    match first {
+        Some(first) => first.min(other),
+        None => other,
+    }
 }

@@ -6,4 +6,6 @@ mod counting;
 pub mod done;
 mod noting;
 mod sending;
+#[cfg(test)]
+mod tests;
 mod waiting;

@@ -74,7 +74,8 @@ impl Waiting {
         Ok(())
     }
 
-    fn settle(&mut self)
+    /// Settles whether the channel drains its writes in a cycle.
+    pub(crate) fn settle(&mut self)
         ensures { self.new ≡ record self.old { queue = settled self.old.queue } }
     {
         self.queue.settle();

@@ -1,4 +1,4 @@
-use Rattle.std.proofs.Common.{◌≡◌, ◌∙◌}
+use Rattle.std.proofs.Common.{◌∙◌}
 use Rattle.channel_step.proofs.noting.note_refresh.Goals as goal
 
 pub returns-in-Ref : goal.returns-in-Ref

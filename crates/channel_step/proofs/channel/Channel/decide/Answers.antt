@@ -1,4 +1,4 @@
-use Rattle.std.proofs.Common.{◌≡◌, length, ◌∙◌}
+use Rattle.std.proofs.Common.{◌∙◌}
 use Rattle.sim_base.specs.History.{issued_commands}
 use Rattle.channel_step.proofs.Deciding.{cycle-in_banks, cycle-choice, cycle-stands}
 use Rattle.channel_step.proofs.channel.Channel.decide.Goals as goal

@@ -1,4 +1,3 @@
-use Rattle.std.proofs.Common.{◌≡◌, length}
 use Rattle.sim_base.specs.History.{issued_commands}
 use Rattle.channel_step.proofs.Starting.{at-in_banks, at-stand, at-first}
 use Rattle.channel_step.proofs.channel.Channel.next_act.Goals as goal

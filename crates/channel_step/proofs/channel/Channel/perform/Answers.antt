@@ -1,4 +1,4 @@
-use Rattle.std.proofs.Common.{◌≡◌, ◌<◌, ◌^◌, ◌∷◌, [], ◌++◌, length, Some, ap, sym, subst, ◌∙◌, arith, refl}
+use Rattle.std.proofs.Common.{◌<◌, ◌^◌, ◌∷◌, [], ◌++◌, length, Some, ap, sym, subst, ◌∙◌, arith, refl}
 use Rattle.sim_base.specs.History.{issued_commands}
 use Rattle.statistics.specs.Channels.{ChannelFits}
 use Rattle.channel_step.specs.Channels.{StandsFor}
@@ -15,14 +15,17 @@ note-requires-clause-rank c = let p = c.requires.chosen in command-rank c.args.s
 pub note_refresh-requires-clause-due : goal.note_refresh-requires-clause-due
 note_refresh-requires-clause-due c = let p = c.requires.chosen in command-owed c.args.self.now p.s p.channel p.rows p.mail c.args.chosen.command c.args.now p.is_in p.at p.chosen
 
-pub count-requires : goal.count-requires
-count-requires c =
+pub count-requires-clause-fits : goal.count-requires-clause-fits
+count-requires-clause-fits c =
     let p = c.requires.chosen in
     let early : length p.rows < 2 ^ 62 = omega arith in
     let hit = leaves-hit c.args.self.now p.s p.channel p.rows p.mail c.args.chosen p.is_in c.requires.slot in
     subst ChannelFits
     (sym (seen-counted c.args.self.now p.s p.channel p.rows p.mail c.args.now c.args.seen (Some c.args.chosen.command) c.take-hit.result p.is_in p.at c.requires.seen))
     (counted-fits c.args.self.now p.s p.channel p.rows p.mail (Some c.args.chosen.command) c.take-hit.result p.is_in early p.chosen (hit ∙ sym c.take-hit.ensures.hit))
+
+pub count-requires-clause-cycle : goal.count-requires-clause-cycle
+count-requires-clause-cycle c = let p = c.requires.chosen in omega (arith, p.is_in.cycle_is, p.at)
 
 pub returns : goal.returns
 returns c s channel rows mail h at e =

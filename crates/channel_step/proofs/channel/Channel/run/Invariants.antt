@@ -1,4 +1,4 @@
-use Rattle.std.proofs.Common.{◌≡◌, ℕ, ◌≤◌, length, List, Option}
+use Rattle.std.proofs.Common.{◌≡◌, ℕ, ◌-◌, ◌≤◌, length, List, Option}
 use Rattle.sim_base.specs.declared.config.Config.{Config}
 use Rattle.sim_base.specs.declared.command.Command.{Command}
 use Rattle.sim_base.specs.declared.message.Message.{Message}
@@ -9,7 +9,10 @@ use Rattle.channel_step.proofs.channel.Channel.run.Given as goal
 
 abbrev pub invariant-loop-now : goal.invariant-loop-now
 invariant-loop-now l =
-    (l.arrived ≤ length l.inbox)
+    (l.arrived ≤ length l.inbox) × (l.fn.from ≤ l.now) × (l.now ≤ l.fn.until)
     × ((s : Config) (channel : ℕ) (rows : List (Option Command)) (mail : List Message)
     → StandsFor l.fn.self s channel rows mail → length rows ≡ l.fn.from → IsFit s channel rows mail l.inbox l.fn.from l.fn.until
     → HasRun l.self s channel rows mail l.inbox l.fn.from l.now l.fn.until l.arrived l.commands.items l.messages.items)
+
+abbrev pub decreases-loop-now : goal.decreases-loop-now
+decreases-loop-now l = l.fn.until - l.now

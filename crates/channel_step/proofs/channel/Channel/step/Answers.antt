@@ -1,6 +1,5 @@
-use Rattle.std.proofs.Common.{◌≡◌, ◌++◌, ◌∙◌, take}
-use Rattle.channel_step.specs.Channels.{IsInSomeCycle}
-use Rattle.channel_step.proofs.Stepping.{due_count-is, admit-room, arrived-in_cycle, step-is}
+use Rattle.std.proofs.Common.{◌++◌, ◌∙◌, take, arith}
+use Rattle.channel_step.proofs.Stepping.{due_count-is, due_count-le, admit-room, arrived-in_cycle, step-is}
 use Rattle.channel_step.proofs.channel.Channel.step.Goals as goal
 
 pub admit-requires : goal.admit-requires
@@ -27,8 +26,14 @@ issue-requires-clause-in_cycle c =
       at = p.at;
     }
 
-pub returns : goal.returns
-returns c s channel rows mail until h at l f =
+pub returns-clause-some : goal.returns-clause-some
+returns-clause-some c =
+    let inbox = c.args.inbox.now in
+    let e = c.due_count-due.ensures ∙ due_count-is inbox c.args.now in
+    omega (arith, e, due_count-le inbox c.args.now)
+
+pub returns-clause-stepped : goal.returns-clause-stepped
+returns-clause-stepped c s channel rows mail until h at l f =
     let inbox = c.args.inbox.now in
     let n = c.due_count-due.result in
     let e = c.due_count-due.ensures ∙ due_count-is inbox c.args.now in

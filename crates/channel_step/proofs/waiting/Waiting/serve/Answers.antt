@@ -1,4 +1,4 @@
-use Rattle.std.proofs.Common.{◌≡◌, ◌<◌, length, ap, arith}
+use Rattle.std.proofs.Common.{length, ap, arith}
 use Rattle.channel_step.proofs.Waits.{same_removed}
 use Rattle.channel_step.proofs.waiting.Waiting.serve.Goals as goal
 
