@@ -134,10 +134,9 @@ fn close_is_withheld_for_a_hit(rt: HostRuntime) -> Result<(), Fail> {
     banks.note(column_read(2, 1), 10);
     let miss = read(1, 1, 0);
     queue.arrive(miss);
-    heads.arrived(miss, &queue);
     let hit = read(3, 0, 2);
     queue.arrive(hit);
-    heads.arrived(hit, &queue);
+    heads.arrived(0, &queue);
     assert_eq!(rt; choose(&queue, &heads, &banks, &refresh, 2, 12), None);
     assert_eq!(rt; wake(&queue, &heads, &banks, &refresh, 2, 11), Some(15));
     let (cycle, choice) = next(&queue, &heads, &banks, &refresh, 2, 11).ok_or("no read")?;

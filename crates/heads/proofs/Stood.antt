@@ -1,16 +1,16 @@
 -- What the heads of all banks stand for, when those of one bank change.
-use Rattle.std.proofs.Common.{◌≡◌, ℕ, zero, suc, ◌+◌, ◌/◌, ◌%◌, ◌<◌, ◌≤◌, Bool, true, false, not, cond, ◌&&◌, eqb, ltb, List, [], ◌∷◌, ◌++◌, length, get_or, set, take, drop, Option, None, refl, sym, ap, subst, ◌∙◌, inl, inr, arith, get_or-set_same, get_or-set_other}
+use Rattle.std.proofs.Common.{◌≡◌, ℕ, zero, suc, ◌+◌, ◌/◌, ◌%◌, ◌<◌, ◌≤◌, Bool, true, false, not, cond, ◌&&◌, ◌||◌, eqb, ltb, List, [], ◌∷◌, ◌++◌, length, get_or, set, take, drop, Option, None, refl, sym, ap, subst, ◌∙◌, inl, inr, arith, get_or-set_same, get_or-set_other}
 use Rattle.std.proofs.lemmas.Bool.{cases_lt, cases_eq, eq-eqb, ne_eqb, cond-true, cond-false, lt-ltb, le-ltb, and_from, and_parts, eqb-true, false_from_ne_true}
-use Rattle.std.proofs.lemmas.List.{get_or_default, get_or_at, length-set}
+use Rattle.std.proofs.lemmas.List.{get_or_default, get_or_at, length-set, length-take-le, take_more}
 use Rattle.std.proofs.lemmas.List.Elements.{All-push, All-append, All-take, All-drop}
 use Rattle.std.specs.List.{remove, All}
-use Rattle.sim_base.specs.Places.{is_bank}
+use Rattle.sim_base.specs.Places.{is_bank, is_line}
 use Rattle.sim_base.specs.declared.place.BankId.{BankId}
 use Rattle.sim_base.specs.Scheduling.{asks_for_line}
 use Rattle.sim_base.specs.declared.message.Request.{Request}
-use Rattle.lane_scan.specs.Marks.{mark}
+use Rattle.lane_scan.specs.Marks.{mark, is_marked}
 use Rattle.queue.specs.Columns.{bank_number, eligible_column}
-use Rattle.queue.proofs.Eligible.{eligible_push, length-eligible}
+use Rattle.queue.proofs.Eligible.{marks_after, length-marks, split_marks, around}
 use Rattle.heads.specs.declared.entry.BankHeads.{BankHeads}
 use Rattle.heads.specs.declared.heads.Heads.{Heads}
 use Rattle.heads.specs.Heads.{asks, AreHeads, bank_at, number_of}
@@ -82,28 +82,33 @@ pub unwritten : (heads : Heads) (requests more : List Request) (open_rows : ℕ 
 unwritten heads requests more open_rows stands within each =
     stand heads more open_rows within (λ bank d exists. (stands.rows_are bank d exists, each bank (heads_of heads bank d) (stands.heads_are bank d exists)))
 
--- the mark of the last request
-pub last_mark : (older : List Request) (r : Request) (slot : ℕ) → slot ≡ length older → get_or (eligible_column (older ++ r ∷ [])) slot 0 ≡ mark (not (asks_for_line r.place older))
-last_mark older r slot long =
-    ap (λ ms. get_or ms slot 0) (eligible_push older r)
-    ∙ get_or_at (eligible_column older) (mark (not (asks_for_line r.place older))) [] 0 slot (length-eligible older ∙ sym long)
+-- the mark of a request
+mark_at : (rs : List Request) (slot : ℕ) (r : Request) (marks : List ℕ) → slot < length rs → r ≡ get_or rs slot r → marks ≡ eligible_column rs
+    → get_or marks slot 0 ≡ mark (not (asks_for_line r.place (take slot rs)))
+mark_at rs slot r marks exists here is =
+    let older = take slot rs in
+    let later = drop (slot + 1) rs in
+    let long : length older ≡ slot = length-take-le slot rs (omega arith) in
+    let whole : rs ≡ older ++ r ∷ later = around rs slot r exists ∙ ap (λ x. older ++ x ∷ later) (sym here) in
+    ap (λ ms. get_or ms slot 0) (is ∙ ap eligible_column whole ∙ split_marks older later r)
+    ∙ get_or_at (marks_after (λ p. false) older) (mark (not (asks_for_line r.place older))) (marks_after (λ p. asks_for_line p older || is_line r.place p) later) 0 slot
+    (length-marks (λ p. false) older ∙ long)
 
-marked_not : (b : Bool) → mark (not b) ≡ 1 → b ≡ false
-marked_not true is = absurd (omega arith)
-marked_not false is = refl
+marked_mark : (b : Bool) → is_marked (mark b) ≡ b
+marked_mark true = refl
+marked_mark false = refl
 
-unmarked_not : (b : Bool) → (mark (not b) ≡ 1 → ⊥) → b ≡ true
-unmarked_not true is = refl
-unmarked_not false is = absurd (is refl)
+-- whether a request that was read is first of its line
+pub first_read : (rs xs : List Request) (slot : ℕ) (e : Request) (marks : List ℕ) → slot < length rs → xs ≡ rs → marks ≡ eligible_column rs
+    → is_marked (get_or marks slot 0) ≡ not (asks_for_line (get_or xs slot e).place (take slot rs))
+first_read rs xs slot e marks exists same is =
+    let r = get_or xs slot e in
+    let here : r ≡ get_or rs slot r = ap (λ ys. get_or ys slot e) same ∙ get_or_default rs slot e r exists in
+    ap is_marked (mark_at rs slot r marks exists here is) ∙ marked_mark (not (asks_for_line r.place (take slot rs)))
 
-pub asked_last : (older : List Request) (r : Request) (slot : ℕ) (marks : List ℕ) → slot ≡ length older → marks ≡ eligible_column (older ++ r ∷ []) → get_or marks slot 0 ≡ 1
-    → asks_for_line r.place older ≡ false
-asked_last older r slot marks long is one = marked_not (asks_for_line r.place older) (sym (last_mark older r slot long) ∙ ap (λ ms. get_or ms slot 0) (sym is) ∙ one)
-
-pub unasked_last : (older : List Request) (r : Request) (slot : ℕ) (marks : List ℕ) → slot ≡ length older → marks ≡ eligible_column (older ++ r ∷ [])
-    → (get_or marks slot 0 ≡ 1 → ⊥) → asks_for_line r.place older ≡ true
-unasked_last older r slot marks long is none =
-    unmarked_not (asks_for_line r.place older) (λ one. none (ap (λ ms. get_or ms slot 0) is ∙ last_mark older r slot long ∙ one))
+-- one request more of a queue
+pub take_next : (rs xs : List Request) (slot : ℕ) (e : Request) → slot < length rs → xs ≡ rs → take slot rs ++ get_or xs slot e ∷ [] ≡ take (slot + 1) rs
+take_next rs xs slot e exists same = ap (λ ys. take slot rs ++ get_or ys slot e ∷ []) same ∙ sym (take_more rs slot e exists)
 
 -- a request more, for one bank
 pub joined_stand : (old new : Heads) (older : List Request) (r : Request) (open_rows : ℕ → Option ℕ) (h : BankHeads) → new.banks.items ≡ set old.banks.items (bank_number r.place) h

@@ -39,9 +39,10 @@ fn move_past(banks: &mut [BankHeads], slot: usize)
 }
 
 impl Heads {
-    ghost use Rattle.std.specs.Prelude.{ℕ, ◌≡◌, ◌<◌, ◌++◌, ◌∷◌, [], List, length, remove, slice_index_or, Option, None, Some, IfOk};
+    ghost use Rattle.std.specs.Prelude.{ℕ, ◌≡◌, ◌<◌, ◌++◌, ◌∷◌, not, [], List, length, take, remove, slice_index_or, All, Option, None, Some, IfOk};
     ghost use Rattle.std.specs.Option.{ForSome};
     ghost use Rattle.sim_base.specs.Rules.{bank_of, row_after};
+    ghost use Rattle.sim_base.specs.Scheduling.{asks_for_line};
     ghost use Rattle.sim_base.specs.declared.message.Request.{Request};
     ghost use Rattle.queue.specs.Columns.{bank_number};
     ghost use Rattle.heads.specs.declared.entry.BankHeads.{BankHeads};
@@ -73,19 +74,29 @@ impl Heads {
         self.banks[bank]
     }
 
-    /// Takes note of the last request of a queue, which has just arrived.
-    pub fn arrived(&mut self, request: Request, queue: &Queue)
-        requires bank { bank_number request.place < bank_count self.old }
-        requires some { 0 < length queue.now.requests }
+    /// Takes note of a request at a place behind all others, which may be served or not.
+    fn join(&mut self, request: Request, slot: usize, first_of_line: bool)
+        requires { bank_number request.place < bank_count self.old }
         ensures banks { bank_count self.new ≡ bank_count self.old }
-        ensures stands { (older : List Request) (open_rows : ℕ → Option ℕ) → queue.now.requests ≡ older ++ request ∷ [] → StandsFor self.old older open_rows
-            → StandsFor self.new queue.now.requests open_rows }
+        ensures stands { (older : List Request) (open_rows : ℕ → Option ℕ) → slot ≡ length older → first_of_line ≡ not (asks_for_line request.place older)
+            → StandsFor self.old older open_rows → StandsFor self.new (older ++ request ∷ []) open_rows }
     {
-        let marks = queue.eligible();
-        let slot = marks.len() - 1;
-        if marks[slot] == 1 {
+        if first_of_line {
             let bank = bank_number(request.place);
             self.banks[bank] = self.banks[bank].joined(request, slot);
+        }
+    }
+
+    /// Takes note of the requests of a queue from a place on, which have just arrived.
+    pub fn arrived(&mut self, from: usize, queue: &Queue)
+        requires { All (λ r. bank_number r.place < bank_count self.old) queue.now.requests }
+        ensures banks { bank_count self.new ≡ bank_count self.old }
+        ensures stands { (open_rows : ℕ → Option ℕ) → StandsFor self.old (take from queue.now.requests) open_rows → StandsFor self.new queue.now.requests open_rows }
+    {
+        let requests = queue.requests();
+        let marks = queue.eligible();
+        for slot in from..requests.len() {
+            self.join(requests[slot], slot, marks[slot] == 1);
         }
     }
 
