@@ -91,7 +91,7 @@ impl Channel {
         self.cycle
     }
 
-    /// How many refreshes of a rank are due at the cycle where the channel stands.
+    /// How many refreshes of a rank of the machine are due at the cycle where the channel stands.
     pub fn due(&self, rank: u32) -> u64
         requires { HasRank self.now rank }
         ensures { (s : Config) (channel : ℕ) (rows : List (Option Command)) (mail : List Message)
@@ -100,7 +100,7 @@ impl Channel {
         self.refresh.due(self.cycle, rank)
     }
 
-    /// The row that is open in a bank at the cycle where the channel stands.
+    /// The row that is open in a bank of the machine at the cycle where the channel stands, if one is.
     pub fn open_row(&self, bank: BankId) -> Option<u32>
         requires { HasBank self.now bank }
         ensures { (s : Config) (channel : ℕ) (rows : List (Option Command)) (mail : List Message)
@@ -191,7 +191,7 @@ impl Channel {
         self.add(each.times(cycles), until);
     }
 
-    /// The first cycle before `until` from which on a refresh is due, if none is issued; `until`, where there is none.
+    /// The first cycle before `until` from which on a refresh is due, as long as no REF is issued; `until`, where there is none.
     #[tactic(auto, using(crate::proofs::Dues::due_from_next, crate::proofs::Dues::never_due))]
     fn due_from(&self, until: Cycle) -> Cycle
         requires { self.now.cycle ≤ until }
@@ -213,8 +213,8 @@ impl Channel {
         self.waiting.settle();
     }
 
-    /// Moves on to the cycle `until`, where nothing arrives and nothing is issued before that. A channel that stands there
-    /// already is left as it is.
+    /// Moves on to the cycle `until`, at most 2^62, where nothing arrives and nothing is issued before that. A channel that stands
+    /// there already is left as it is. It takes no memory, and the time of one cycle, however many are skipped.
     pub fn skip(&mut self, until: Cycle)
         requires idle { CanSkip self.old until }
         requires until { until ≤ 2 ^ 62 }
