@@ -1,10 +1,11 @@
 -- Columns of words, and columns of marks that say yes or no of each place of another column. A mark is the word 1, and
 -- every other word is none.
+--     is_match mask want word      a word has the bits that are wanted under a mask
 --     ready_marks times now      which times have come
 --     equal_marks a b      where two columns have the same word
 --     both_marks a b, first_only_marks a b      where both are marked, and where the first is and the second is not
 --     least_marked times marks      the least of the times that are marked
-use Rattle.std.specs.Prelude.{ℕ, ◌==◌, nat_le, min, Bool, not, ◌&&◌, List, [], ◌∷◌, map, filter, fold, Option, Some, None, if◌then◌else◌}
+use Rattle.std.specs.Prelude.{ℕ, ◌==◌, bit_and, nat_le, min, Bool, not, ◌&&◌, List, [], ◌∷◌, map, filter, fold, Option, Some, None, if◌then◌else◌}
 use Rattle.std.specs.List.{zip}
 use Rattle.std.specs.Simd.Lanes.{zip2}
 
@@ -15,6 +16,10 @@ is_marked word = word == 1
 -- the word that says whether a test holds
 abbrev pub mark : Bool → ℕ
 mark test = if test then 1 else 0
+
+-- a word has just the bits that are wanted, of those of a mask
+abbrev pub is_match : ℕ → ℕ → ℕ → Bool
+is_match mask want word = bit_and word mask == want
 
 -- whether a time has come
 abbrev pub ready_marks : List ℕ → ℕ → List ℕ

@@ -1,14 +1,14 @@
 -- How far a scan of a column has come.
---     NoMarkBefore marks place      no mark stands before a place
+--     NoneBefore passes words place      no word before a place passes a test
 --     times_of_marks times marks      the times that are marked, and the latest time at the other places
 --     earliest times      the least of some times, and the latest time where there are none
-use Rattle.std.specs.Prelude.{◌≡◌, ℕ, ◌-◌, ◌^◌, ◌<◌, min, false, List, fold, slice_index, if◌then◌else◌}
+use Rattle.std.specs.Prelude.{◌≡◌, ℕ, ◌-◌, ◌^◌, ◌<◌, min, Bool, false, List, fold, slice_index, if◌then◌else◌}
 use Rattle.std.specs.Simd.Lanes.{zip2}
 use Rattle.lane_scan.specs.Marks.{is_marked}
 
--- no mark stands before a place
-abbrev pub NoMarkBefore : List ℕ → ℕ → Type 0
-NoMarkBefore marks place = (k : ℕ) → k < place → is_marked (slice_index marks k) ≡ false
+-- no word before a place passes a test
+abbrev pub NoneBefore : (ℕ → Bool) → List ℕ → ℕ → Type 0
+NoneBefore passes words place = (k : ℕ) → k < place → passes (slice_index words k) ≡ false
 
 -- the greatest word
 abbrev pub latest : ℕ

@@ -2,7 +2,7 @@
 
 ghost use Rattle.std.specs.Prelude.{◌≡◌, ◌+◌, ◌≤◌, ◌<◌, ◌==◌, min, nat_le, not, ◌&&◌, length, map};
 ghost use Rattle.std.specs.Simd.Lanes.{chunk, zip2, mask_l};
-ghost use Rattle.lane_scan.specs.Marks.{is_marked, mark};
+ghost use Rattle.lane_scan.specs.Marks.{is_marked, is_match, mark};
 ghost use Rattle.lane_scan.specs.Scans.{time_if_marked};
 
 use std::simd::prelude::*;
@@ -69,6 +69,16 @@ pub(crate) fn mark_bits<const N: usize>(words: Simd<u64, N>) -> u64
     ensures { result ≡ mask_l (map is_marked words.entry) }
 {
     words.simd_eq(Simd::splat(1)).to_bitmask()
+}
+
+/// A bit for each word, which is set where the word is as wanted under a mask; the lowest bit is that of the first word.
+pub(crate) fn match_bits<const N: usize>(words: Simd<u64, N>, mask: u64, want: u64) -> u64
+    requires { N ≤ 64 }
+    ensures { result ≡ mask_l (map (is_match mask want) words.entry) }
+{
+    (words & Simd::splat(mask))
+        .simd_eq(Simd::splat(want))
+        .to_bitmask()
 }
 
 /// The times whose words are marks, and the latest time in place of the others.

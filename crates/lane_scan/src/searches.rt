@@ -1,24 +1,77 @@
 //! What stands at the marks of a column: the first place, and the least time.
 
-ghost use Rattle.std.specs.Prelude.{◌≡◌, ◌+◌, ◌≤◌, ◌<◌, true, length, take, position, slice_index};
+ghost use Rattle.std.specs.Prelude.{◌≡◌, ◌+◌, ◌≤◌, ◌<◌, ℕ, Bool, true, length, map, take, position, slice_index};
 ghost use Rattle.std.specs.List.{position_or_len};
-ghost use Rattle.std.specs.Simd.Lanes.{chunk};
-ghost use Rattle.lane_scan.specs.Marks.{is_marked, least_marked};
-ghost use Rattle.lane_scan.specs.Scans.{NoMarkBefore, times_of_marks, earliest};
+ghost use Rattle.std.specs.Simd.Lanes.{chunk, mask_l};
+ghost use Rattle.lane_scan.specs.Marks.{is_marked, is_match, least_marked};
+ghost use Rattle.lane_scan.specs.Scans.{NoneBefore, times_of_marks, earliest};
 
-use crate::lanes::{lesser, load, mark_bits, marked_times};
+use crate::lanes::{lesser, load, mark_bits, marked_times, match_bits};
 use std::simd::prelude::*;
 
 /// The words of a full vector.
 const LANES: usize = 8;
 
-/// How many words come before the first mark among N words from a place on.
-fn unmarked_in<const N: usize>(marks: &[u64], at: usize) -> usize
-    requires room { at + N ≤ length marks.now }
+/// The words that are tested at once in a long column.
+const WIDE: usize = 32;
+
+/// A test of words.
+trait Test {
+    ghost passes: { Self → ℕ → Bool };
+}
+
+/// A test of N words at once.
+trait LaneTest<const N: usize>: Test {
+    /// A bit for each word, which is set where the word passes; the lowest bit is that of the first word.
+    fn bits(&self, words: Simd<u64, N>) -> u64
+        requires { N ≤ 64 }
+        ensures { result ≡ mask_l (map (Self.passes self.now) words.entry) };
+}
+
+/// Whether a word is a mark.
+#[derive(Drop)]
+struct Marked;
+
+impl Test for Marked {
+    ghost passes = { λ _. is_marked };
+}
+
+impl<const N: usize> LaneTest<N> for Marked {
+    fn bits(&self, words: Simd<u64, N>) -> u64
+        requires { N ≤ 64 }
+        ensures { result ≡ mask_l (map is_marked words.entry) }
+    {
+        mark_bits(words)
+    }
+}
+
+/// Whether a word has the bits that are wanted under a mask.
+#[derive(Drop)]
+struct Matching {
+    mask: u64,
+    want: u64,
+}
+
+impl Test for Matching {
+    ghost passes = { λ m. is_match m.mask m.want };
+}
+
+impl<const N: usize> LaneTest<N> for Matching {
+    fn bits(&self, words: Simd<u64, N>) -> u64
+        requires { N ≤ 64 }
+        ensures { result ≡ mask_l (map (is_match self.now.mask self.now.want) words.entry) }
+    {
+        match_bits(words, self.mask, self.want)
+    }
+}
+
+/// How many words come before the first that passes among N words from a place on.
+fn failing_in<const N: usize, T: LaneTest<N>>(test: &T, words: &[u64], at: usize) -> usize
+    requires room { at + N ≤ length words.now }
     requires one_word { N ≤ 64 }
-    ensures { result ≡ position_or_len is_marked (chunk at N marks.now) }
+    ensures { result ≡ position_or_len (T.passes test.now) (chunk at N words.now) }
 {
-    let bits = mark_bits::<N>(load(marks, at));
+    let bits = test.bits(load(words, at));
     if bits == 0 {
         N
     } else {
@@ -26,19 +79,19 @@ fn unmarked_in<const N: usize>(marks: &[u64], at: usize) -> usize
     }
 }
 
-/// Passes over words that are no marks, N at a time, up to the first mark or to where fewer than N are left.
-fn skip_unmarked<const N: usize>(marks: &[u64], from: usize) -> usize
-    requires begun { from ≤ length marks.now }
-    requires none { NoMarkBefore marks.now from }
+/// Passes over words that fail, N at a time, up to the first that passes or to where fewer than N are left.
+fn skip_failing<const N: usize, T: LaneTest<N>>(test: &T, words: &[u64], from: usize) -> usize
+    requires begun { from ≤ length words.now }
+    requires none { NoneBefore (T.passes test.now) words.now from }
     requires some { 0 < N }
     requires one_word { N ≤ 64 }
-    ensures stop { result ≤ length marks.now }
-    ensures none { NoMarkBefore marks.now result }
-    ensures found { result + N ≤ length marks.now → is_marked (slice_index marks.now result) ≡ true }
+    ensures stop { result ≤ length words.now }
+    ensures none { NoneBefore (T.passes test.now) words.now result }
+    ensures found { result + N ≤ length words.now → T.passes test.now (slice_index words.now result) ≡ true }
 {
     let mut at = from;
-    while N <= marks.len() - at {
-        let run = unmarked_in::<N>(marks, at);
+    while N <= words.len() - at {
+        let run = failing_in::<N, T>(test, words, at);
         if run < N {
             return at + run;
         }
@@ -47,13 +100,32 @@ fn skip_unmarked<const N: usize>(marks: &[u64], from: usize) -> usize
     at
 }
 
+/// The first place whose word passes, if there is one.
+fn first_passing<T: LaneTest<WIDE> + LaneTest<LANES> + LaneTest<1>>(
+    test: &T,
+    words: &[u64],
+) -> Option<usize>
+    ensures { result ≡ position (T.passes test.now) words.now }
+{
+    let at = skip_failing::<WIDE, T>(test, words, 0);
+    let at = skip_failing::<LANES, T>(test, words, at);
+    let at = skip_failing::<1, T>(test, words, at);
+    if at < words.len() { Some(at) } else { None }
+}
+
 /// The first place that is marked, if there is one.
 pub fn first_marked(marks: &[u64]) -> Option<usize>
     ensures { result ≡ position is_marked marks.now }
 {
-    let at = skip_unmarked::<LANES>(marks, 0);
-    let at = skip_unmarked::<1>(marks, at);
-    if at < marks.len() { Some(at) } else { None }
+    first_passing(&Marked, marks)
+}
+
+/// The first place whose word is `want` where `mask` has ones, and where it has zeros `want` has zeros too; none where no
+/// word is so.
+pub fn first_matching(words: &[u64], mask: u64, want: u64) -> Option<usize>
+    ensures { result ≡ position (is_match mask want) words.now }
+{
+    first_passing(&Matching { mask, want }, words)
 }
 
 /// The least lane.

@@ -118,11 +118,37 @@ fn check_all_marked(
     Ok(())
 }
 
+/// The first word as wanted under a mask, where one place has a word of another kind than the others.
+fn check_matching(
+    rt: &impl Abort,
+    alloc: Global,
+    len: usize,
+    place: usize,
+) -> Result<(), AllocError> {
+    let found = if place < len { Some(place) } else { None };
+    let first = if 0 < len { Some(0) } else { None };
+    let high = 1 << 63;
+    for (there, elsewhere, mask, want) in [
+        (7, 5, 2, 2),
+        (high | 9, 9, high, high),
+        (9, high | 9, high | 1, 1),
+        (u64::MAX, u64::MAX - 1, u64::MAX, u64::MAX),
+        (u64::MAX >> 1, u64::MAX, u64::MAX, u64::MAX >> 1),
+    ] {
+        let words = column(alloc, len, place, there, elsewhere)?;
+        expect_place(rt, first_matching(&words, mask, want), found);
+        expect_place(rt, first_matching(&words, 0, 0), first);
+        expect_place(rt, first_matching(&words, 0, 1), None);
+    }
+    Ok(())
+}
+
 fn check(rt: &impl Abort, alloc: Global, len: usize, place: usize) -> Result<(), AllocError> {
     check_pairs(rt, alloc, len, place)?;
     check_ready(rt, alloc, len, place)?;
     check_searches(rt, alloc, len, place)?;
-    check_all_marked(rt, alloc, len, place)
+    check_all_marked(rt, alloc, len, place)?;
+    check_matching(rt, alloc, len, place)
 }
 
 #[test]

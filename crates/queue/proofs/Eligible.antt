@@ -1,7 +1,7 @@
 -- Which requests have no older one for the same line, with one request more and with one less.
-use Rattle.std.proofs.Common.{◌≡◌, ℕ, zero, suc, ◌+◌, ◌-◌, ◌<◌, ◌≤◌, Bool, true, false, not, cond, eqb, ◌&&◌, ◌||◌, List, [], ◌∷◌, ◌++◌, length, map, take, drop, get_or, set, refl, sym, ap, subst, ◌∙◌, inl, inr, append_assoc, length-append, arith}
-use Rattle.std.proofs.lemmas.Bool.{cases_Bool, cond-true, cond-false, false≢true, true≢false, eqb-true, eqb-false}
-use Rattle.std.proofs.lemmas.List.{take_at, drop_at, get_or_at, length-take-le, take-append-drop, drop_more, set-append_right, length_push, map-append}
+use Rattle.std.proofs.Common.{◌≡◌, ℕ, suc, ◌+◌, ◌-◌, ◌<◌, Bool, true, false, not, cond, eqb, ◌||◌, List, [], ◌∷◌, ◌++◌, length, map, take, drop, get_or, set, refl, sym, ap, subst, ◌∙◌, inl, inr, append_assoc, arith}
+use Rattle.std.proofs.lemmas.Bool.{cases_Bool}
+use Rattle.std.proofs.lemmas.List.{take_at, drop_at, get_or_at, length-take-le, take-append-drop, drop_more, set-append_right, length_push}
 use Rattle.std.proofs.lemmas.List.Folds.{list_any-append}
 use Rattle.std.proofs.lemmas.List.Edits.{remove-append_right}
 use Rattle.std.specs.List.{list_any, enumerate_from, position_or_len, remove, filter, zip}
@@ -11,7 +11,7 @@ use Rattle.sim_base.specs.declared.message.Request.{Request}
 use Rattle.sim_base.specs.declared.place.Place.{Place}
 use Rattle.lane_scan.specs.Marks.{mark, is_marked}
 use Rattle.queue.specs.Columns.{eligible_column, marked_items}
-use Rattle.queue.proofs.SameLine.{line_same, line_itself, line_apart}
+use Rattle.queue.proofs.SameLine.{line_same, line_apart}
 
 or_false : (a : Bool) → (a || false) ≡ a
 or_false true = refl

@@ -1,14 +1,17 @@
 -- The columns of a queue with one request more and with one less.
-use Rattle.std.proofs.Common.{◌≡◌, ℕ, suc, ◌+◌, ◌<◌, ◌≤◌, Bool, true, false, not, cond, List, [], ◌∷◌, ◌++◌, length, map, take, drop, get_or, refl, sym, ap, ◌∙◌, arith}
+use Rattle.std.proofs.Common.{◌≡◌, ℕ, zero, suc, ◌+◌, ◌<◌, ◌≤◌, Bool, true, false, not, cond, eqb, inl, inr, List, [], ◌∷◌, ◌++◌, length, map, take, drop, get_or, set, refl, sym, ap, ◌∙◌, arith}
+use Rattle.std.proofs.lemmas.Bool.{cases_Bool, eqb-true}
 use Rattle.std.proofs.lemmas.List.{map_push, map-append, take-map, drop-map}
-use Rattle.std.proofs.lemmas.List.Sums.{sum_by_push, sum_by-remove}
-use Rattle.std.specs.List.{remove, count_by, sum_by}
+use Rattle.std.proofs.lemmas.List.Sums.{sum_by-cons, sum_by_push, sum_by-remove}
+use Rattle.std.specs.List.{remove}
 use mir.Val.{bool_byte}
 use Rattle.sim_base.specs.Scheduling.{asks_for_line}
 use Rattle.sim_base.specs.declared.message.Request.{Request}
-use Rattle.lane_scan.specs.Marks.{mark}
-use Rattle.queue.specs.Columns.{eligible_column, write_count}
-use Rattle.queue.proofs.Eligible.{eligible_push}
+use Rattle.std.specs.Simd.Lanes.{zip2}
+use Rattle.std.proofs.lemmas.Simd.{length-zip2}
+use Rattle.lane_scan.specs.Marks.{mark, is_marked}
+use Rattle.queue.specs.Columns.{eligible_column, key_column, key_of, keys_of, waiting_count, write_count}
+use Rattle.queue.proofs.Eligible.{eligible_push, length-eligible}
 
 pub map_pushed : (f : Request → ℕ) (column longer : List ℕ) (rs more : List Request) (r : Request) (word : ℕ) → column ≡ map f rs → longer ≡ column ++ word ∷ [] → word ≡ f r
     → more ≡ rs ++ r ∷ [] → longer ≡ map f more
@@ -24,7 +27,7 @@ eligible_pushed column longer rs more r word asked is pushed word_is asked_is mo
     ∙ sym (eligible_push rs r)
     ∙ ap eligible_column (sym more_is)
 
-byte_is : (b : Bool) → bool_byte b ≡ cond b 1 0
+pub byte_is : (b : Bool) → bool_byte b ≡ cond b 1 0
 byte_is true = refl
 byte_is false = refl
 
@@ -48,3 +51,109 @@ writes_removed rs fewer r n writes byte exists here is byte_is_one fewer_is =
     (λ i. write_count (fewer_is i) + (byte_is_one ∙ byte_is r.write ∙ ap (λ x. cond x.write 1 0) here) i)
     ∙ sum_by-remove (λ x. cond x.write 1 0) rs n r exists
     ∙ sym is
+
+zip2-push : {X Y Z : Type 0} (f : X → Y → Z) (xs : List X) (ys : List Y) (x : X) (y : Y) → length xs ≡ length ys → zip2 f (xs ++ x ∷ []) (ys ++ y ∷ []) ≡ zip2 f xs ys ++ f x y ∷ []
+zip2-push f [] [] x y same = refl
+zip2-push f [] (b ∷ ys) x y same = absurd (omega arith)
+zip2-push f (a ∷ xs) [] x y same = absurd (omega arith)
+zip2-push f (a ∷ xs) (b ∷ ys) x y same = ap (λ zs. f a b ∷ zs) (zip2-push f xs ys x y (omega arith))
+
+zip2_none : {X Y Z : Type 0} (f : X → Y → Z) (xs : List X) → zip2 f xs [] ≡ []
+zip2_none f [] = refl
+zip2_none f (x ∷ xs) = refl
+
+zip2-remove : {X Y Z : Type 0} (f : X → Y → Z) (n : ℕ) (xs : List X) (ys : List Y) → zip2 f (remove xs n) (remove ys n) ≡ remove (zip2 f xs ys) n
+zip2-remove f zero [] ys = refl
+zip2-remove f zero (x ∷ xs) [] = zip2_none f xs
+zip2-remove f zero (x ∷ xs) (y ∷ ys) = refl
+zip2-remove f (suc n) [] ys = refl
+zip2-remove f (suc n) (x ∷ xs) [] = refl
+zip2-remove f (suc n) (x ∷ xs) (y ∷ ys) = ap (λ zs. f x y ∷ zs) (zip2-remove f n xs ys)
+
+zip2-set : {X Y Z : Type 0} (f : X → Y → Z) (n : ℕ) (xs : List X) (ys : List Y) (y : Y) (d : X) → set (zip2 f xs ys) n (f (get_or xs n d) y) ≡ zip2 f xs (set ys n y)
+zip2-set f zero [] ys y d = refl
+zip2-set f zero (a ∷ xs) [] y d = refl
+zip2-set f zero (a ∷ xs) (b ∷ ys) y d = refl
+zip2-set f (suc n) [] ys y d = refl
+zip2-set f (suc n) (a ∷ xs) [] y d = refl
+zip2-set f (suc n) (a ∷ xs) (b ∷ ys) y d = ap (λ zs. f a b ∷ zs) (zip2-set f n xs ys y d)
+
+marked_mark : (b : Bool) → is_marked (mark b) ≡ b
+marked_mark true = refl
+marked_mark false = refl
+
+abbrev key_at : Request → ℕ → ℕ
+key_at r eligible = key_of (is_marked eligible) r
+
+pub keys_pushed : (column longer : List ℕ) (rs more : List Request) (r : Request) (word : ℕ) (asked : Bool) → column ≡ key_column rs → longer ≡ column ++ word ∷ []
+    → word ≡ key_of (not asked) r → asked ≡ asks_for_line r.place rs → more ≡ rs ++ r ∷ [] → longer ≡ key_column more
+unfolding key_column
+keys_pushed column longer rs more r word asked is pushed word_is asked_is more_is =
+    pushed
+    ∙ (λ i. is i ++ (word_is ∙ (λ j. key_of (sym (marked_mark (not (asked_is j))) j) r)) i ∷ [])
+    ∙ sym (zip2-push key_at rs (eligible_column rs) r (mark (not (asks_for_line r.place rs))) (sym (length-eligible rs)))
+    ∙ (λ i. zip2 key_at (sym more_is i) ((sym (eligible_push rs r) ∙ ap eligible_column (sym more_is)) i))
+
+-- the keys without one of the requests
+pub keys_removed : (column shorter : List ℕ) (rs fewer : List Request) (marks left : List ℕ) (n : ℕ) → column ≡ keys_of rs marks → shorter ≡ remove column n → fewer ≡ remove rs n
+    → left ≡ remove marks n → shorter ≡ keys_of fewer left
+keys_removed column shorter rs fewer marks left n is shorter_is fewer_is left_is =
+    shorter_is ∙ ap (λ xs. remove xs n) is ∙ sym (zip2-remove key_at n rs marks) ∙ (λ i. zip2 key_at (sym fewer_is i) (sym left_is i))
+
+-- the keys where one request more may be served
+pub keys_turned : (column changed : List ℕ) (rs : List Request) (marks : List ℕ) (p : ℕ) (d : Request) → column ≡ keys_of rs marks
+    → changed ≡ set column p (key_of true (get_or rs p d)) → changed ≡ keys_of rs (set marks p 1)
+keys_turned column changed rs marks p d is changed_is = changed_is ∙ ap (λ xs. set xs p (key_of true (get_or rs p d))) is ∙ zip2-set key_at p rs marks 1 d
+
+pub keys_whole : (column : List ℕ) (rs : List Request) → column ≡ key_column rs → column ≡ keys_of rs (eligible_column rs)
+unfolding key_column
+keys_whole column rs is = is
+
+pub keys_again : (column : List ℕ) (rs : List Request) (marks : List ℕ) → column ≡ keys_of rs marks → marks ≡ eligible_column rs → column ≡ key_column rs
+unfolding key_column
+keys_again column rs marks is marks_are = is ∙ ap (keys_of rs) marks_are
+
+first_marked : (word rest : ℕ) → cond (not (eqb word 1)) 1 0 + rest ≡ 0 → (word ≡ 1) × (rest ≡ 0)
+first_marked word rest none = elim (cases_Bool (eqb word 1)) [
+  | inl same ↦
+      let nothing : cond {A = ℕ} (not (eqb word 1)) 1 0 ≡ 0 = ap (λ b. cond {A = ℕ} (not b) 1 0) same in
+      (eqb-true word 1 same, omega (arith, none, nothing))
+  | inr other ↦
+      let one : cond {A = ℕ} (not (eqb word 1)) 1 0 ≡ 1 = ap (λ b. cond {A = ℕ} (not b) 1 0) other in
+      absurd (omega (arith, none, one))
+]
+
+waiting-cons : (word : ℕ) (marks : List ℕ) → waiting_count (word ∷ marks) ≡ cond (not (eqb word 1)) 1 0 + waiting_count marks
+waiting-cons word marks = sum_by-cons (λ x. cond (not (is_marked x)) 1 0) word marks
+
+-- where all are marked, a mark more changes nothing
+pub set_marked : (marks : List ℕ) (p : ℕ) → waiting_count marks ≡ 0 → set marks p 1 ≡ marks
+set_marked [] p none = refl
+set_marked (m ∷ marks) zero none = ap (λ x. x ∷ marks) (sym (first_marked m (waiting_count marks) (sym (waiting-cons m marks) ∙ none)).0)
+set_marked (m ∷ marks) (suc p) none =
+    ap (λ xs. m ∷ xs) (set_marked marks p (first_marked m (waiting_count marks) (sym (waiting-cons m marks) ∙ none)).1)
+
+waits_marked : (asked : Bool) → cond (not (is_marked (mark (not asked)))) 1 0 ≡ bool_byte asked
+waits_marked true = refl
+waits_marked false = refl
+
+pub waiting_pushed : (marks more : List ℕ) (waiting byte word : ℕ) (asked : Bool) → waiting ≡ waiting_count marks → more ≡ marks ++ word ∷ [] → word ≡ mark (not asked)
+    → byte ≡ bool_byte asked → waiting + byte ≡ waiting_count more
+waiting_pushed marks more waiting byte word asked is more_is word_is byte_is_one =
+    (λ i. is i + (byte_is_one ∙ sym (waits_marked asked) ∙ ap (λ x. cond (not (is_marked x)) 1 0) (sym word_is)) i)
+    ∙ sym (sum_by_push (λ x. cond (not (is_marked x)) 1 0) marks word)
+    ∙ ap waiting_count (sym more_is)
+
+pub mark_le : (b : Bool) → cond b 1 0 ≤ 1
+mark_le true = omega arith
+mark_le false = omega arith
+
+-- one request less
+pub waiting_removed : (marks left : List ℕ) (n word : ℕ) → n < length marks → word ≡ get_or marks n word → left ≡ remove marks n
+    → waiting_count left + cond (not (eqb word 1)) 1 0 ≡ waiting_count marks
+waiting_removed marks left n word below here left_is =
+    (λ i. waiting_count (left_is i) + cond (not (eqb (here i) 1)) 1 0) ∙ sum_by-remove (λ x. cond (not (is_marked x)) 1 0) marks n word below
+
+pub length_keys : (rs : List Request) → length (key_column rs) ≡ length rs
+unfolding key_column
+length_keys rs = length-zip2 key_at rs (eligible_column rs) (sym (length-eligible rs))

@@ -1,5 +1,5 @@
 -- Two places on the same line are one place.
-use Rattle.std.proofs.Common.{◌≡◌, ◌==◌, Bool, true, false, ◌&&◌, refl, sym, subst, ◌∙◌, inl, inr, eq-eqb}
+use Rattle.std.proofs.Common.{◌≡◌, ◌==◌, true, false, ◌&&◌, refl, sym, subst, ◌∙◌, inl, inr, eq-eqb}
 use Rattle.std.proofs.lemmas.Bool.{cases_Bool, and_parts, and_from, eqb-true, false≢true}
 use Rattle.sim_base.specs.Places.{is_line, is_bank, bank_in}
 use Rattle.sim_base.specs.declared.place.Place.{Place}

@@ -1,3 +1,4 @@
+pub mod Aged
 pub mod Columns
 pub mod View
 pub mod Kept

@@ -1,9 +1,10 @@
-//! The words of a request in the columns, and pushes that take no memory.
+//! The words of a request in the columns.
 
-ghost use Rattle.std.specs.Prelude.{◌≡◌, ◌<◌, ◌≤◌, ◌++◌, [], ◌∷◌, vec_len, vec_capacity};
+ghost use Rattle.std.specs.Prelude.{◌≡◌, ◌^◌, ◌<◌};
 ghost use Rattle.lane_scan.specs.Marks.{mark};
-ghost use Rattle.queue.specs.Columns.{bank_number};
+ghost use Rattle.queue.specs.Columns.{bank_number, key_word, key_of, line_print};
 
+use sim_base::message::Request;
 use sim_base::place::Place;
 
 /// The number of the bank of a place.
@@ -19,11 +20,29 @@ pub(crate) fn mark(test: bool) -> u64
     if test { 1 } else { 0 }
 }
 
-/// Appends an item where there is room for it.
-pub(crate) fn push_within<T: Drop>(items: &mut Vec<T>, item: T)
-    requires { vec_len items.old < vec_capacity items.old }
-    ensures items { items.new.items ≡ items.old.items ++ item ∷ [] }
-    ensures room { vec_capacity items.old ≤ vec_capacity items.new }
+/// A key of these parts: bit 63 says whether a request may be served, bit 62 whether it is a write, bits 32 to 61 have the number
+/// of its bank, and bits 0 to 31 its row. Of the parts of a mask, 1 and all ones are what a search asks for.
+#[tactic(auto, unfolding(crate::specs::Columns::key_word))]
+pub fn key_word(eligible: bool, write: bool, bank: u64, row: u32) -> u64
+    requires { bank < 2 ^ 30 }
+    ensures { result ≡ key_word eligible write bank row }
 {
-    let _ = items.push(item);
+    let flags = mark(eligible) * 2 + mark(write);
+    (flags * (1 << 30) + bank) * (1 << 32) + u64::from(row)
+}
+
+/// The key of a request that may be served, or may not.
+pub(crate) fn key(eligible: bool, request: Request) -> u64
+    ensures { result ≡ key_of eligible request }
+{
+    let bank = bank_number(request.place) % (1 << 30);
+    key_word(eligible, request.write, bank, request.place.row)
+}
+
+/// A byte that places of one line have in common, and most others do not.
+pub(crate) fn line_print(place: Place) -> u8
+    ensures { result ≡ line_print place }
+{
+    let mixed = u64::from(place.row) * 97 + bank_number(place) * 41 + u64::from(place.column);
+    (mixed % 256) as u8
 }

@@ -1,6 +1,7 @@
 //! The requests that wait in a channel, by age, and their columns.
 #![tactic(auto)]
 
+mod aged;
 mod columns;
 mod lines;
 
@@ -8,10 +9,12 @@ ghost use Rattle.std.specs.Prelude.{◌≡◌, ◌+◌, ◌<◌, ◌≤◌, ◌+
 ghost use Rattle.sim_base.specs.Scheduling.{drains_with, first_of_lines};
 ghost use Rattle.sim_base.specs.declared.config.Config.{Config};
 ghost use Rattle.sim_base.specs.declared.message.Request.{Request};
-ghost use Rattle.queue.specs.Columns.{bank_column, row_column, kind_column, eligible_column, marked_items, write_count};
+ghost use Rattle.queue.specs.Columns.{bank_column, row_column, kind_column, eligible_column, key_column, marked_items, write_count};
 ghost use Rattle.queue.specs.View.{QueueView, drains_by, is_draining};
 
-use crate::columns::{bank_number, mark, push_within};
+use crate::aged::Aged;
+pub use crate::columns::key_word;
+use crate::columns::{bank_number, key, line_print, mark};
 use crate::lines::{give_turn, is_line_asked};
 use sim_base::message::Request;
 use std::alloc::{AllocError, Global};
@@ -29,11 +32,15 @@ pub struct Queue {
     settled: bool,
     /// Writes among the requests.
     writes: usize,
-    requests: Vec<Request>,
-    banks: Vec<u64>,
-    rows: Vec<u64>,
-    kinds: Vec<u64>,
-    eligible: Vec<u64>,
+    /// Requests that wait for an older one of the same line.
+    waiting: usize,
+    requests: Aged<Request>,
+    banks: Aged<u64>,
+    rows: Aged<u64>,
+    kinds: Aged<u64>,
+    eligible: Aged<u64>,
+    keys: Aged<u64>,
+    prints: Aged<u8>,
 }
 
 impl Model for Queue {
@@ -51,7 +58,7 @@ impl Model for Queue {
 impl Queue {
     /// An empty queue with places for `room` requests, which drains its writes from `high` of them on down to `low`, and never
     /// where `high` is 0. Nothing else takes memory.
-    #[tactic(auto, unfolding(crate::specs::Columns::eligible_column))]
+    #[tactic(auto, unfolding(crate::specs::Columns::eligible_column, crate::specs::Columns::key_column))]
     pub fn with_room(alloc: Global, room: usize, high: u32, low: u32) -> Result<Self, AllocError>
         ensures { IfOk result (λ queue. queue ≡ record { room = room; high = high; low = low; requests = []; settled = false }) }
     {
@@ -61,11 +68,14 @@ impl Queue {
             low,
             settled: false,
             writes: 0,
-            requests: Vec::with_capacity(alloc, room)?,
-            banks: Vec::with_capacity(alloc, room)?,
-            rows: Vec::with_capacity(alloc, room)?,
-            kinds: Vec::with_capacity(alloc, room)?,
-            eligible: Vec::with_capacity(alloc, room)?,
+            waiting: 0,
+            requests: Aged::with_room(alloc, room)?,
+            banks: Aged::with_room(alloc, room)?,
+            rows: Aged::with_room(alloc, room)?,
+            kinds: Aged::with_room(alloc, room)?,
+            eligible: Aged::with_room(alloc, room)?,
+            keys: Aged::with_room(alloc, room)?,
+            prints: Aged::with_room(alloc, room)?,
         })
     }
 
@@ -89,12 +99,16 @@ impl Queue {
         requires { length self.old.requests < self.old.room }
         ensures { self.new ≡ record self.old { requests = self.old.requests ++ request ∷ [] } }
     {
-        let asked = is_line_asked(request.place, &self.requests);
-        push_within(&mut self.banks, bank_number(request.place));
-        push_within(&mut self.rows, u64::from(request.place.row));
-        push_within(&mut self.kinds, mark(request.write));
-        push_within(&mut self.eligible, mark(!asked));
-        push_within(&mut self.requests, request);
+        let (requests, prints) = (self.requests.as_slice(), self.prints.as_slice());
+        let asked = is_line_asked(request.place, requests, prints);
+        self.banks.push(bank_number(request.place));
+        self.rows.push(u64::from(request.place.row));
+        self.kinds.push(mark(request.write));
+        self.eligible.push(mark(!asked));
+        self.keys.push(key(!asked, request));
+        self.prints.push(line_print(request.place));
+        self.requests.push(request);
+        self.waiting += usize::from(asked);
         self.writes += usize::from(request.write);
     }
 
@@ -108,10 +122,18 @@ impl Queue {
         let _bank = self.banks.remove(slot);
         let _row = self.rows.remove(slot);
         let _kind = self.kinds.remove(slot);
+        let _key = self.keys.remove(slot);
+        let _print = self.prints.remove(slot);
         let was_first = self.eligible.remove(slot) == 1;
-        if was_first {
-            give_turn(request.place, &self.requests, slot, &mut self.eligible);
-        }
+        let waited = if was_first {
+            let (requests, prints) = (self.requests.as_slice(), self.prints.as_slice());
+            let (marks, keys) = (&mut self.eligible, &mut self.keys);
+            let waiting = self.waiting;
+            give_turn(request.place, requests, prints, slot, waiting, marks, keys)
+        } else {
+            true
+        };
+        self.waiting -= usize::from(waited);
         self.writes -= usize::from(request.write);
         request
     }
@@ -144,35 +166,43 @@ impl Queue {
     pub fn requests(&self) -> &[Request]
         ensures { result.now ≡ self.now.requests }
     {
-        &self.requests
+        self.requests.as_slice()
     }
 
     /// The number of the bank of each request, by age: 16 times its rank, 4 times its group and its bank, together.
     pub fn banks(&self) -> &[u64]
         ensures { result.now ≡ bank_column self.now.requests }
     {
-        &self.banks
+        self.banks.as_slice()
     }
 
     /// The row of each request, by age.
     pub fn rows(&self) -> &[u64]
         ensures { result.now ≡ row_column self.now.requests }
     {
-        &self.rows
+        self.rows.as_slice()
     }
 
     /// The kind of each request, by age: 1 for a write, 0 for a read.
     pub fn kinds(&self) -> &[u64]
         ensures { result.now ≡ kind_column self.now.requests }
     {
-        &self.kinds
+        self.kinds.as_slice()
     }
 
     /// Which requests may be served, by age: 1 where no older request of the same line waits, 0 elsewhere.
     pub fn eligible(&self) -> &[u64]
         ensures { result.now ≡ eligible_column self.now.requests }
     {
-        &self.eligible
+        self.eligible.as_slice()
+    }
+
+    /// The key of each request, by age, which says in one word what a search for a bank asks for: bit 63 is 1 where the request
+    /// may be served, bit 62 where it is a write; bits 32 to 61 have the number of its bank, and bits 0 to 31 its row.
+    pub fn keys(&self) -> &[u64]
+        ensures { result.now ≡ key_column self.now.requests }
+    {
+        self.keys.as_slice()
     }
 }
 

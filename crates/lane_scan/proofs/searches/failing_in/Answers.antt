@@ -3,16 +3,16 @@ use Rattle.std.proofs.lemmas.Bool.{cond-true, cond-false}
 use Rattle.std.proofs.lemmas.Simd.{length-chunk}
 use Rattle.std.specs.Simd.Lanes.{chunk}
 use Rattle.lane_scan.proofs.FirstMark.{first_set}
-use Rattle.lane_scan.proofs.searches.unmarked_in.Goals as goal
+use Rattle.lane_scan.proofs.searches.failing_in.Goals as goal
 
 pub returns-then-bits-eq0 : goal.returns-then-bits-eq0
 returns-then-bits-eq0 g c =
-    let words = chunk c.args.at g.row.N c.args.marks.now in
+    let words = chunk c.args.at g.row.N c.args.words.now in
     sym (cond-true _ _ _ (eq-eqb _ _ c.if-bits-eq0.true))
-    ∙ first_set _ g.row.N words _ c.mark_bits-bits.ensures c.load.ensures (length-chunk c.args.at g.row.N c.args.marks.now c.requires.room) c.requires.one_word
+    ∙ first_set _ _ g.row.N words _ c.bits-bits.ensures c.load.ensures (length-chunk c.args.at g.row.N c.args.words.now c.requires.room) c.requires.one_word
 
 pub returns-else-bits-eq0 : goal.returns-else-bits-eq0
 returns-else-bits-eq0 g c =
-    let words = chunk c.args.at g.row.N c.args.marks.now in
+    let words = chunk c.args.at g.row.N c.args.words.now in
     sym (cond-false _ _ _ (ne_eqb _ _ c.if-bits-eq0.false))
-    ∙ first_set _ g.row.N words _ c.mark_bits-bits.ensures c.load.ensures (length-chunk c.args.at g.row.N c.args.marks.now c.requires.room) c.requires.one_word
+    ∙ first_set _ _ g.row.N words _ c.bits-bits.ensures c.load.ensures (length-chunk c.args.at g.row.N c.args.words.now c.requires.room) c.requires.one_word

@@ -1,0 +1,18 @@
+use Rattle.std.proofs.Common.{◌+◌, ◌≤◌, length, arith}
+use Rattle.lane_scan.proofs.FirstMark.{none_more, none_all, found_at}
+use Rattle.lane_scan.proofs.searches.skip_failing.Goals as goal
+
+pub returns-then-run-clause-none : goal.returns-then-run-clause-none
+returns-then-run-clause-none g c =
+    let room : c.loop-at.at + g.row.N ≤ length c.args.words.now = omega (arith, c.loop-at-test.true, c.loop-at.invariant.0) in
+    none_more _ c.args.words.now c.loop-at.at g.row.N _ room c.failing_in-run.ensures c.loop-at.invariant.1
+
+pub returns-then-run-clause-found : goal.returns-then-run-clause-found
+returns-then-run-clause-found g c _ =
+    let room : c.loop-at.at + g.row.N ≤ length c.args.words.now = omega (arith, c.loop-at-test.true, c.loop-at.invariant.0) in
+    found_at _ c.args.words.now c.loop-at.at g.row.N _ room c.failing_in-run.ensures c.if-run.true
+
+pub loop-at-preserved : goal.loop-at-preserved
+loop-at-preserved g c =
+    let room : c.loop-at.at + g.row.N ≤ length c.args.words.now = omega (arith, c.loop-at-test.true, c.loop-at.invariant.0) in
+    (room, none_all _ c.args.words.now c.loop-at.at g.row.N _ room c.failing_in-run.ensures c.if-run.false c.loop-at.invariant.1)

@@ -1,0 +1,82 @@
+-- A list without its first items.
+use Rattle.std.proofs.Common.{◌≡◌, ℕ, zero, suc, ◌+◌, ◌-◌, ◌<◌, ◌≤◌, List, [], ◌∷◌, ◌++◌, length, get_or, take, drop, set, refl, sym, ap, ◌∙◌, append_assoc, arith}
+use Rattle.std.proofs.lemmas.List.{append-nil, drop_at, drop_more, drop-append-le, get_or-take, get_or_append_left, length-take-le, length-drop, set-append_right, take_all, take_more, take-take, drop-drop}
+use Rattle.std.specs.List.{remove}
+
+remove_none : {X : Type 0} (at : ℕ) → remove {X = X} [] at ≡ []
+remove_none zero = refl
+remove_none (suc at) = refl
+
+-- the item at a place is taken out of the items behind the free places
+pub drop-remove : {X : Type 0} (start at place : ℕ) (xs : List X) → place ≡ start + at → drop start (remove xs place) ≡ remove (drop start xs) at
+drop-remove zero at place xs is = ap (remove xs) (is ∙ omega arith)
+drop-remove (suc start) at zero xs is = absurd (omega arith)
+drop-remove (suc start) at (suc place) [] is = sym (remove_none at)
+drop-remove (suc start) at (suc place) (x ∷ xs) is = drop-remove start at place xs (omega arith)
+
+-- an item is written over one of them
+pub drop-set : {X : Type 0} (start at place : ℕ) (xs : List X) (x : X) → place ≡ start + at → drop start (set xs place x) ≡ set (drop start xs) at x
+drop-set zero at place xs x is = ap (λ n. set xs n x) (is ∙ omega arith)
+drop-set (suc start) at zero xs x is = absurd (omega arith)
+drop-set (suc start) at (suc place) [] x is = refl
+drop-set (suc start) at (suc place) (y ∷ xs) x is = drop-set start at place xs x (omega arith)
+
+-- an item follows them
+pub drop-push : {X : Type 0} (start : ℕ) (xs : List X) (x : X) → start ≤ length xs → drop start (xs ++ x ∷ []) ≡ drop start xs ++ x ∷ []
+drop-push zero xs x begun = refl
+drop-push (suc start) [] x begun = absurd (omega arith)
+drop-push (suc start) (y ∷ xs) x begun = drop-push start xs x (omega arith)
+
+-- no item has moved up yet
+pub moved_none : {X : Type 0} (xs : List X) (at : ℕ) → at + 1 ≡ length xs → xs ≡ take (at + 1) xs ++ take (length xs - 1 - at) (drop at xs)
+moved_none xs at last =
+    let none : length xs - 1 - at ≡ 0 = omega arith in
+    sym (append-nil xs) ∙ (λ i. sym (take_all (at + 1) xs (omega arith)) i ++ take (sym none i) (drop at xs))
+
+-- the item at a place is written over the next one
+pub moved_more : {X : Type 0} (xs items : List X) (at : ℕ) (x : X) → 0 < at → at < length xs → items ≡ take (at + 1) xs ++ take (length xs - 1 - at) (drop at xs)
+    → x ≡ get_or items (at - 1) x → set items at x ≡ take (at - 1 + 1) xs ++ take (length xs - 1 - (at - 1)) (drop (at - 1) xs)
+moved_more xs items at x some within items_are read =
+    let below = at - 1 in
+    let n = length xs - 1 - at in
+    let rest = take n (drop at xs) in
+    let front : length (take at xs) ≡ at = length-take-le at xs (omega arith) in
+    let longer : length (take (at + 1) xs) ≡ at + 1 = length-take-le (at + 1) xs (omega arith) in
+    let read_first : x ≡ get_or xs below x =
+    read ∙ ap (λ ys. get_or ys below x) items_are ∙ get_or_append_left (take (at + 1) xs) rest x below (omega arith) ∙ get_or-take (at + 1) xs below x (omega arith) in
+    let same : at - at ≡ 0 = omega arith in
+    let next : below + 1 ≡ at = omega arith in
+    let one_more : length xs - 1 - below ≡ suc n = omega arith in
+    let split : items ≡ take at xs ++ (get_or xs at x ∷ rest) =
+    items_are ∙ ap (λ ys. ys ++ rest) (take_more xs at x within) ∙ append_assoc (take at xs) (get_or xs at x ∷ []) rest in
+    ap (λ ys. set ys at x) split
+    ∙ set-append_right (take at xs) (get_or xs at x ∷ rest) at at x front (omega arith)
+    ∙ ap (λ k. take at xs ++ set (get_or xs at x ∷ rest) k x) same
+    ∙ (λ i. take (sym next i) xs ++ (read_first i ∷ take n (drop (sym next i) xs)))
+    ∙ (λ i. take (below + 1) xs ++ take (sym one_more i) (sym (drop_more xs below x (omega arith)) i))
+
+-- all items but the last have moved up
+pub moved_all : {X : Type 0} (xs items : List X) (at : ℕ) → at ≡ 0 → 0 < length xs → items ≡ take (at + 1) xs ++ take (length xs - 1 - at) (drop at xs)
+    → drop 1 items ≡ take (length xs - 1) xs
+moved_all xs items at none some items_are =
+    let single : length (take (at + 1) xs) ≡ 1 = omega (arith, length-take-le (at + 1) xs (omega arith)) in
+    let whole : length xs - 1 - at ≡ length xs - 1 = omega arith in
+    ap (drop 1) items_are ∙ drop_at (take (at + 1) xs) (take (length xs - 1 - at) (drop at xs)) 1 single ∙ (λ i. take (whole i) (drop (none i) xs))
+
+-- the item at a place goes where those before it have moved up, and the first place is free then
+pub moved : {X : Type 0} (start at n : ℕ) (xs turn post : List X) → n ≡ at + 1 → start + at < length xs → length turn ≡ length (take n (drop start xs))
+    → drop 1 turn ≡ take (length (take n (drop start xs)) - 1) (take n (drop start xs)) → post ≡ drop n (drop start xs)
+    → drop (start + 1) (take start xs ++ (turn ++ post)) ≡ remove (drop start xs) at
+moved start at n xs turn post one exists turn_len turn_is post_is =
+    let ys = drop start xs in
+    let enough : n ≤ length ys = omega (arith, length-drop start xs) in
+    let whole : length (take n ys) ≡ n = length-take-le n ys enough in
+    let long : length (take n ys) - 1 ≡ at = omega arith in
+    let front : length (take start xs) ≡ start = length-take-le start xs (omega arith) in
+    let others : take (length (take n ys) - 1) (take n ys) ≡ take at ys = ap (λ k. take k (take n ys)) long ∙ take-take at n ys (omega arith) in
+    let next : n ≡ suc at = omega arith in
+    let behind : post ≡ drop (suc at) ys = post_is ∙ ap (λ k. drop k ys) next in
+    sym (drop-drop 1 start (take start xs ++ (turn ++ post)))
+    ∙ ap (drop 1) (drop_at (take start xs) (turn ++ post) start front)
+    ∙ drop-append-le 1 turn post (omega arith)
+    ∙ (λ i. (turn_is ∙ others) i ++ behind i)
