@@ -17,7 +17,7 @@ use Rattle.heads.specs.declared.entry.BankHeads.{BankHeads}
 use Rattle.heads.specs.Heads.{bank_at, asks, hits, first_place, AreHeads}
 use Rattle.heads.specs.Moves.{earlier}
 use Rattle.heads.proofs.Stood.{bank_named}
-use Rattle.heads.proofs.Searches.{none_everywhere}
+use Rattle.heads.proofs.Searches.{none_everywhere, none_narrower_all}
 use Rattle.fr_fcfs.specs.declared.kinds.Kinds.{Kinds}
 use Rattle.fr_fcfs.specs.Requests.{IsInBanks, is_hit}
 use Rattle.fr_fcfs.specs.Offers.{is_of, if_allowed, hit_head, oldest_head, going, hits_now, rows_now, hits_in, rows_in, IsReadyFrom, row_kind}
@@ -235,3 +235,19 @@ rows_withheld s history ranks requests kinds bank h places first row_is some cyc
     ∙ ap (λ b. has_hit history cands b && not (is_hit history r)) (bank_is ranks r bank in_banks here)
     ∙ ap (λ b. b && not (is_hit history r)) (has_hit_is history ranks requests kinds bank h places first row_is ∙ some)))
     ∙ sym (none_everywhere (λ r. false) requests (λ r. refl))
+
+either_kind : (b w : Bool) → ((b && cond false w (not w)) || (b && cond true w (not w))) ≡ b
+either_kind true true = refl
+either_kind true false = refl
+either_kind false w = refl
+
+-- no request of a bank may be served that has no heads
+pub none_offered : (requests : List Request) (bank : ℕ) (h : BankHeads) (test : Request → Bool) → AreHeads requests bank h → h.reads.oldest ≡ None → h.writes.oldest ≡ None
+    → first_place (λ r. eqb (bank_number r.place) bank && test r) requests ≡ None
+none_offered requests bank h test first no_read no_write =
+    let none : first_place (λ r. asks bank false r || asks bank true r) requests ≡ None =
+    either_among (λ r. asks bank false r || asks bank true r) (asks bank false) (asks bank true) (λ r. Unit {0}) requests (λ k d exists. tt) (λ r in_all. refl)
+    ∙ (λ i. earlier ((sym first.reads_are.oldest_is ∙ no_read) i) ((sym first.writes_are.oldest_is ∙ no_write) i)) in
+    sym
+    (none_narrower_all (λ r. eqb (bank_number r.place) bank && test r) (λ r. asks bank false r || asks bank true r) requests
+    (λ r off. ap (λ b. b && test r) (sym (either_kind (eqb (bank_number r.place) bank) r.write) ∙ off)) (sym none))

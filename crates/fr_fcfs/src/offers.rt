@@ -167,6 +167,9 @@ fn offer_of_bank(
         → heads.row ≡ open_row (bank_at bank) history → All (IsInBanks (rank_count banks.now)) requests
         → IsBest now (hits_in s history requests kinds bank) (rows_in s history requests kinds bank) result }
 {
+    if heads.reads.oldest.is_none() && heads.writes.oldest.is_none() {
+        return None;
+    }
     match hit_offer(heads, bank, kinds, banks, now) {
         Some(offer) => Some(offer),
         None => row_offer(heads, bank, kinds, banks, now),

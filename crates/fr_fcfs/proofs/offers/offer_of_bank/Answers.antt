@@ -1,9 +1,20 @@
 -- A row hit withholds all else of its bank.
-use Rattle.std.proofs.Common.{Some, None, refl, sym}
-use Rattle.fr_fcfs.specs.Offers.{hits_in, rows_in}
+use Rattle.std.proofs.Common.{Some, None, not, refl, sym, ap, ◌∙◌}
+use Rattle.fr_fcfs.specs.Offers.{hits_in, rows_in, hits_now, rows_now}
 use Rattle.fr_fcfs.proofs.Bests.{best_same}
-use Rattle.fr_fcfs.proofs.BankOffers.{rows_withheld}
+use Rattle.fr_fcfs.proofs.BankOffers.{rows_withheld, none_offered}
+use Rattle.fr_fcfs.proofs.Below.{none_is}
 use Rattle.fr_fcfs.proofs.offers.offer_of_bank.Goals as goal
+
+pub returns-then-is_none-2-clause-best : goal.returns-then-is_none-2-clause-best
+returns-then-is_none-2-clause-best c s history requests stands first row_is places cycle late =
+    let h = c.args.heads in
+    let kinds = c.args.kinds in
+    let reads = none_is h.reads.oldest (c.is_none.ensures ∙ ap not c.if-is_none.true) in
+    let writes = none_is h.writes.oldest (c.is_none-then-is_none.ensures ∙ ap not c.if-is_none-2.true) in (
+      none_offered requests c.args.bank h (hits_now s history kinds cycle) first reads writes,
+      none_offered requests c.args.bank h (rows_now s history requests kinds cycle) first reads writes,
+    )
 
 pub returns-in-Some-clause-best : goal.returns-in-Some-clause-best
 returns-in-Some-clause-best c s history requests stands first row_is places =
