@@ -1,5 +1,5 @@
 -- What a channel decides in a cycle.
-use Rattle.std.proofs.Common.{◌≡◌, ℕ, ◌+◌, List, length, Option, sym, ap, ap₂, ◌∙◌}
+use Rattle.std.proofs.Common.{◌≡◌, ℕ, ◌+◌, List, length, Option, sym, ap, ap₂, subst, ◌∙◌}
 use Rattle.std.specs.List.{All}
 use Rattle.sim_base.specs.declared.config.Config.{Config}
 use Rattle.sim_base.specs.History.{issued_commands}
@@ -9,9 +9,9 @@ use Rattle.sim_base.specs.declared.message.Message.{Message}
 use Rattle.bank_ready.specs.Stands.{rank_count}
 use Rattle.queue.specs.View.{QueueView, is_draining, drains_by}
 use Rattle.queue.specs.Columns.{write_count}
-use Rattle.fr_fcfs.specs.Columns.{IsInBanks}
+use Rattle.fr_fcfs.specs.Requests.{IsInBanks}
 use Rattle.fr_fcfs.specs.Choices.{StandFor, choice_in}
-use Rattle.channel_step.specs.Channels.{IsMadeFor, IsInCycle, IsInSomeCycle}
+use Rattle.channel_step.specs.Channels.{HeadsStand, IsMadeFor, IsInCycle, IsInSomeCycle}
 use Rattle.channel_step.specs.declared.channel.Channel.{Channel}
 use Rattle.channel_step.proofs.Cycle.{joined-choice}
 use Rattle.channel_step.proofs.Places.{queue-in_banks}
@@ -54,9 +54,10 @@ cycle-choice c s channel rows mail now queue h at e =
 
 -- the parts of the channel stand for its commands
 pub cycle-stands : (c : Channel) (s : Config) (channel : ℕ) (rows : List (Option Command)) (mail : List Message) (queue : QueueView) → IsInCycle c s channel rows mail → queue ≡ c.waiting.queue
-    → StandFor c.banks c.refresh queue c.config.groups s (issued_commands channel rows)
+    → StandFor c.heads c.banks c.refresh queue c.config.groups s (issued_commands channel rows)
 cycle-stands c s channel rows mail queue h e =
     record {
+      heads_stand = subst (λ (q : QueueView). HeadsStand c.heads q.requests (issued_commands channel rows)) (sym e) h.heads_stand;
       banks_stand = h.banks_stand;
       refreshes_stand = h.refreshes_stand;
       groups_are = ap (λ (x : Config). x.groups) (sym h.made_for.config_is);

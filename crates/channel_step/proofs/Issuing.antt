@@ -1,6 +1,6 @@
 -- What a command that a channel issues leaves.
-use Rattle.std.proofs.Common.{◌≡◌, ℕ, zero, suc, ◌+◌, ◌<◌, ◌≤◌, ◌^◌, Bool, true, false, cond, List, [], ◌∷◌, ◌++◌, length, get_or, map, Option, Some, None, refl, sym, ap, ap₂, subst, ◌∙◌, add-one, arith}
-use Rattle.std.specs.Prelude.{is_some, not, remove, slice_get, filter, filter_map, max}
+use Rattle.std.proofs.Common.{◌≡◌, ℕ, zero, suc, ◌+◌, ◌*◌, ◌<◌, ◌≤◌, ◌^◌, Bool, true, false, cond, List, [], ◌∷◌, ◌++◌, length, get_or, map, Option, Some, None, refl, sym, ap, ap₂, subst, ◌∙◌, add-one, arith}
+use Rattle.std.specs.Prelude.{is_some, not, remove, slice_get, filter, filter_map, max, option_and_then}
 use Rattle.std.specs.Option.{IfSome, ForSome}
 use Rattle.std.specs.Prelude.{MatchOption}
 use Rattle.std.specs.List.{All, AllByRecursion as Each, cons_option, enumerate_from}
@@ -11,7 +11,7 @@ use Rattle.sim_base.proofs.Ordered.{Each-weaker}
 use Rattle.sim_base.specs.declared.config.Config.{Config}
 use Rattle.sim_base.specs.Counts.{queued_max, is_hit}
 use Rattle.sim_base.specs.History.{issued_at, issued_commands}
-use Rattle.sim_base.specs.Rules.{rank_of}
+use Rattle.sim_base.specs.Rules.{rank_of, bank_of, row_after, open_row}
 use Rattle.sim_base.specs.Scheduling.{choice, lowest_due, due, is_column_command}
 use Rattle.sim_base.specs.declared.command.Command.{Command}
 use Rattle.sim_base.specs.declared.command.Command.TheVariants.{Act, Rd, Wr, Pre, Prea, Ref}
@@ -27,23 +27,30 @@ use Rattle.statistics.specs.declared.channels.ChannelStats.{ChannelStats}
 use Rattle.statistics.proofs.ChannelBounds.{channel_stats-fit}
 use Rattle.statistics.proofs.ChannelSteps.{issued_now, issued_commands-push}
 use Rattle.statistics.proofs.Lists.{length-push_suc}
+use Rattle.bank_ready.proofs.Readiness.{open_row-more}
+use Rattle.queue.specs.Columns.{bank_number}
+use Rattle.heads.specs.declared.heads.Heads.{Heads}
+use Rattle.heads.specs.Heads.{bank_at}
+use Rattle.heads.specs.Stands.{bank_count, IsAmong, StandsFor as HeadsStandFor}
+use Rattle.heads.proofs.Stood.{same_rows}
+use Rattle.fr_fcfs.specs.Requests.{IsInBanks}
 use Rattle.fr_fcfs.specs.Choices.{Serves, IsFor}
 use Rattle.fr_fcfs.specs.declared.choice.Choice.{Choice}
 use Rattle.channel_step.specs.Past.{Differ, is_named}
 use Rattle.channel_step.specs.Fit.{queue_room}
 use Rattle.channel_step.specs.Stands.{marks_of, Recalls}
-use Rattle.channel_step.specs.Queued.{Queued, marked_at, after, moves_unmarked}
+use Rattle.channel_step.specs.Queued.{Queued, marked_at, after, after_command, requests_left, moves_unmarked}
 use Rattle.channel_step.specs.Counted.{cycle_with_hit}
 use Rattle.channel_step.specs.Owed.{RefIsOwed}
-use Rattle.channel_step.specs.Channels.{StandsFor, IsInCycle, seen_of}
+use Rattle.channel_step.specs.Channels.{HeadsStand, StandsFor, IsInCycle, seen_of}
 use Rattle.channel_step.specs.declared.counting.Seen.{Seen}
 use Rattle.channel_step.proofs.Deciding.{settled-drains}
 use Rattle.channel_step.specs.declared.channel.Channel.{Channel}
 use Rattle.channel_step.proofs.Requests.{unserved_by}
 use Rattle.channel_step.proofs.Marks.{marks-act, marks-no_act, moves_none, opens_none, map-remove, served-remove, served-none, hit-mark, column-opens_none}
 use Rattle.channel_step.proofs.Cycle.{queue_after, marks_after, joined-choice, joined-differ, recalled}
-use Rattle.channel_step.proofs.Chosen.{chosen-rank, chosen-ref_is_due, RefIsDue}
-use Rattle.channel_step.proofs.Places.{queue-ranks}
+use Rattle.channel_step.proofs.Chosen.{chosen-rank, chosen-bank, NamesBank, chosen-ref_is_due, RefIsDue}
+use Rattle.channel_step.proofs.Places.{queue-ranks, in-banks, queue-in_banks, below-count}
 
 -- the command of a cycle as a row
 abbrev pub row_of : ℕ → ℕ → Command → CommandRow
@@ -169,15 +176,16 @@ abbrev pub left_after : Queued → List CommandRow → ℕ → ℕ → Option Co
 left_after w history channel now o = record { queue = record w.queue { requests = queue_after o w.queue.requests }; marks = marks_after history channel now o w.queue.requests }
 
 -- what a channel stands for after a cycle in which it did this
-stands-after : (c : Channel) (s : Config) (channel : ℕ) (rows : List (Option Command)) (mail : List Message) (o : Option Command) (w : Queued) (banks : Banks) (refresh : RefreshCounts) (stats : ChannelStats)
+stands-after : (c : Channel) (s : Config) (channel : ℕ) (rows : List (Option Command)) (mail : List Message) (o : Option Command) (w : Queued) (heads : Heads) (banks : Banks) (refresh : RefreshCounts) (stats : ChannelStats)
     → IsInCycle c s channel rows mail → o ≡ choice s channel rows mail
-    → w ≡ left_after c.waiting (issued_commands channel rows) channel (length rows) o
+    → w ≡ left_after c.waiting (issued_commands channel rows) channel (length rows) o → bank_count heads ≡ bank_count c.heads
+    → HeadsStand heads w.queue.requests (issued_commands channel rows ++ issued_now channel (length rows) o)
     → BanksStandFor banks s (issued_commands channel rows ++ issued_now channel (length rows) o)
     → RefreshesStandFor refresh s (issued_commands channel rows ++ issued_now channel (length rows) o)
     → stats ≡ channel_joined c.stats (channel_cycle_with s (issued_commands channel rows) (length c.waiting.queue.requests) (is_some (lowest_due s (issued_commands channel rows) (length rows))) c.waiting.queue.settled o)
-    → StandsFor (record c { cycle = c.cycle + 1; waiting = w; banks = banks; refresh = refresh; stats = stats }) s channel (rows ++ o ∷ []) mail
+    → StandsFor (record c { cycle = c.cycle + 1; waiting = w; heads = heads; banks = banks; refresh = refresh; stats = stats }) s channel (rows ++ o ∷ []) mail
 unfolding channel_cycle_with
-stands-after c s channel rows mail o w banks refresh stats h e x b r t =
+stands-after c s channel rows mail o w heads banks refresh stats h e x count hs b r t =
     let history = issued_commands channel rows in
     let queue = c.waiting.queue.requests in
     let drained = c.waiting.queue.settled in
@@ -198,28 +206,33 @@ stands-after c s channel rows mail o w banks refresh stats h e x b r t =
         high_is = ap (λ (z : Queued). z.queue.high) x ∙ h.made_for.high_is;
         low_is = ap (λ (z : Queued). z.queue.low) x ∙ h.made_for.low_is;
         room_is = ap (λ (z : Queued). z.queue.room) x ∙ h.made_for.room_is;
-        scratch_is = h.made_for.scratch_is;
+        banks_are = count ∙ h.made_for.banks_are;
         within = omega (arith, after-le o queue);
         longest = omega arith;
       };
       cycle_is = ap (λ k. k + 1) h.cycle_is ∙ add-one (length rows) ∙ sym (length-push_suc rows o);
       recalls = subst R (sym x) (subst Q (sym t) got);
+      heads_stand = subst (HeadsStand heads w.queue.requests) (sym (issued_commands-push channel rows o)) hs;
       banks_stand = subst (BanksStandFor banks s) (sym (issued_commands-push channel rows o)) b;
       refreshes_stand = subst (RefreshesStandFor refresh s) (sym (issued_commands-push channel rows o)) r;
     }
 
 -- what it stands for when it has issued a command
-pub issued-stands : (c : Channel) (s : Config) (channel : ℕ) (rows : List (Option Command)) (mail : List Message) (now : ℕ) (chosen : Choice) (w : Queued) (banks : Banks) (refresh : RefreshCounts) (stats : ChannelStats)
+pub issued-stands : (c : Channel) (s : Config) (channel : ℕ) (rows : List (Option Command)) (mail : List Message) (now : ℕ) (chosen : Choice) (w : Queued) (heads : Heads) (banks : Banks) (refresh : RefreshCounts) (stats : ChannelStats)
     → IsInCycle c s channel rows mail → length rows ≡ now → Some chosen.command ≡ choice s channel rows mail → IsFor c.waiting.queue.requests chosen
-    → w ≡ after c.waiting chosen.command chosen.slot
+    → w ≡ after c.waiting chosen.command chosen.slot → bank_count heads ≡ bank_count c.heads
+    → HeadsStandFor heads w.queue.requests (λ bank. row_after (bank_at bank) (open_row (bank_at bank) (issued_commands channel rows)) chosen.command)
     → BanksStandFor banks s (issued_commands channel rows ++ row_of channel now chosen.command ∷ [])
     → RefreshesStandFor refresh s (issued_commands channel rows ++ row_of channel now chosen.command ∷ [])
     → stats ≡ counted c s (issued_commands channel rows) (length rows) (Some chosen.command) (moves_unmarked c.waiting chosen.slot)
-    → StandsFor (record c { cycle = c.cycle + 1; waiting = w; banks = banks; refresh = refresh; stats = stats }) s channel (rows ++ Some chosen.command ∷ []) mail
-issued-stands c s channel rows mail now chosen w banks refresh stats h at e f x b r t =
+    → StandsFor (record c { cycle = c.cycle + 1; waiting = w; heads = heads; banks = banks; refresh = refresh; stats = stats }) s channel (rows ++ Some chosen.command ∷ []) mail
+issued-stands c s channel rows mail now chosen w heads banks refresh stats h at e f x count hs b r t =
     let history = issued_commands channel rows in
     let left = leaves c.waiting history channel (length rows) chosen (joined-differ _ _ _ _ s channel rows mail h.joined) h.joined.marks_are f in
-    stands-after c s channel rows mail (Some chosen.command) w banks refresh stats h e (x ∙ left.0)
+    stands-after c s channel rows mail (Some chosen.command) w heads banks refresh stats h e (x ∙ left.0) count
+    (same_rows heads w.queue.requests (λ bank. row_after (bank_at bank) (open_row (bank_at bank) history) chosen.command)
+    (λ bank. open_row (bank_at bank) (history ++ row_of channel (length rows) chosen.command ∷ [])) hs
+    (λ bank there. sym (open_row-more (bank_at bank) history (row_of channel (length rows) chosen.command))))
     (subst (λ k. BanksStandFor banks s (history ++ row_of channel k chosen.command ∷ [])) (sym at) b)
     (subst (λ k. RefreshesStandFor refresh s (history ++ row_of channel k chosen.command ∷ [])) (sym at) r)
     (t ∙ counted-is c s history (length rows) (Some chosen.command) (moves_unmarked c.waiting chosen.slot) left.1)
@@ -233,7 +246,8 @@ none-stands c s channel rows mail stats h e t =
     let history = issued_commands channel rows in
     let none : history ≡ history ++ [] = sym (append-nil history) in
     let marks : c.waiting.marks ≡ marks_of (history ++ []) c.waiting.queue.requests = h.joined.marks_are ∙ ap (λ x. marks_of x c.waiting.queue.requests) none in
-    stands-after c s channel rows mail None c.waiting c.banks c.refresh stats h e (λ i. record { queue = c.waiting.queue; marks = marks i })
+    stands-after c s channel rows mail None c.waiting c.heads c.banks c.refresh stats h e (λ i. record { queue = c.waiting.queue; marks = marks i }) refl
+    (subst (HeadsStand c.heads c.waiting.queue.requests) none h.heads_stand)
     (subst (BanksStandFor c.banks s) none h.banks_stand) (subst (RefreshesStandFor c.refresh s) none h.refreshes_stand)
     (t ∙ counted-is c s history (length rows) None false refl)
 
@@ -310,3 +324,46 @@ pub leaves-hit : (c : Channel) (s : Config) (channel : ℕ) (rows : List (Option
     → IsFor c.waiting.queue.requests chosen → moves_hit (issued_commands channel rows) (Some chosen.command) ≡ moves_unmarked c.waiting chosen.slot
 leaves-hit c s channel rows mail chosen h f =
     (leaves c.waiting (issued_commands channel rows) channel (length rows) chosen (joined-differ _ _ _ _ s channel rows mail h.joined) h.joined.marks_are f).1
+
+-- the requests that a command leaves
+after-left : (w : Queued) (command : Command) → (after_command w command).queue.requests ≡ w.queue.requests
+after-left w (Act bank row source) = refl
+after-left w (Rd bank row column source) = refl
+after-left w (Wr bank row column source) = refl
+after-left w (Pre bank source) = refl
+after-left w (Prea rank) = refl
+after-left w (Ref rank) = refl
+
+pub left-is : (w : Queued) (command : Command) (slot : Option ℕ) → (after w command slot).queue.requests ≡ requests_left w.queue.requests slot
+left-is w command None = after-left w command
+left-is w command (Some slot) = refl
+
+-- what is chosen in a cycle names a bank that has heads, if it names one
+pub command-among : (c : Channel) (s : Config) (channel : ℕ) (rows : List (Option Command)) (mail : List Message) (command : Command) → IsInCycle c s channel rows mail
+    → Some command ≡ choice s channel rows mail → ForSome (bank_of command) (IsAmong c.heads)
+command-among c s channel rows mail command h e =
+    let history = issued_commands channel rows in
+    let queue = c.waiting.queue.requests in
+    let named =
+    IfSome-at (NamesBank s) _ command (e ∙ joined-choice _ _ _ _ s channel rows mail h.joined)
+    (chosen-bank s history (length rows) c.waiting.queue.settled queue (in-banks s channel history mail (length rows + 1) queue h.joined.requests h.joined.queue_is)) in
+    λ b is.
+    let inside = subst (λ o. IfSome o (λ x. (x.rank < s.ranks) × (x.group < 4) × (x.bank < 4))) is named in
+    let count = h.made_for.banks_are in
+    record { number = omega arith; group = inside.1; bank = inside.2 }
+
+-- the request that is served asks for a bank that has heads
+pub served-among : (c : Channel) (s : Config) (channel : ℕ) (rows : List (Option Command)) (mail : List Message) (slot : Option ℕ) (o : Option Request) → IsInCycle c s channel rows mail
+    → o ≡ option_and_then (slice_get c.waiting.queue.requests) slot → IfSome o (λ r. bank_number r.place < bank_count c.heads)
+served-among c s channel rows mail slot o h is =
+    subst (λ z. IfSome z (λ r. bank_number r.place < bank_count c.heads)) (sym is) (at slot)
+  where
+    got : (xs : List Request) (k : ℕ) → All (λ r. bank_number r.place < bank_count c.heads) xs → IfSome (slice_get xs k) (λ r. bank_number r.place < bank_count c.heads)
+    got [] k all = tt
+    got (x ∷ xs) zero all = all 0 x (omega arith)
+    got (x ∷ xs) (suc k) all = got xs k (λ j d within. all (suc j) d (omega arith))
+    at : (k : Option ℕ) → IfSome (option_and_then (slice_get c.waiting.queue.requests) k) (λ r. bank_number r.place < bank_count c.heads)
+    at None = tt
+    at (Some k) = got c.waiting.queue.requests k (below-count s.ranks (bank_count c.heads) c.waiting.queue.requests h.made_for.banks_are
+        (queue-in_banks s channel s.ranks (issued_commands channel rows) mail (length rows + 1) c.waiting.queue.requests refl h.joined.requests h.joined.queue_is))
+

@@ -1,8 +1,8 @@
 -- Where the requests that wait lie.
-use Rattle.std.proofs.Common.{◌≡◌, ℕ, ◌<◌, ◌≤◌, ◌%◌, ◌/◌, List, [], ◌∷◌, sym, subst, arith, mod-lt}
+use Rattle.std.proofs.Common.{◌≡◌, ℕ, ◌*◌, ◌<◌, ◌≤◌, ◌%◌, ◌/◌, List, [], ◌∷◌, sym, subst, arith, mod-lt}
 use Rattle.std.specs.List.{All, AllByRecursion as Each}
 use Rattle.std.proofs.lemmas.Bool.{cond_both}
-use Rattle.std.proofs.lemmas.List.Elements.{All-from_recursion}
+use Rattle.std.proofs.lemmas.List.Elements.{All-from_recursion, All-weaker}
 use Rattle.sim_base.proofs.Each.{Each-all, Each-filter}
 use Rattle.sim_base.proofs.Ordered.{Each-weaker}
 use Rattle.sim_base.specs.declared.config.Config.{Config}
@@ -15,7 +15,8 @@ use Rattle.sim_base.specs.declared.message.Request.{Request}
 use Rattle.sim_base.specs.declared.place.Place.{Place}
 use Rattle.sim_base.specs.declared.place.Field.{Field}
 use Rattle.sim_base.specs.declared.place.Field.TheVariants.{Rank, Group, Bank}
-use Rattle.fr_fcfs.specs.Columns.{IsInBanks}
+use Rattle.queue.specs.Columns.{bank_number}
+use Rattle.fr_fcfs.specs.Requests.{IsInBanks}
 use Rattle.channel_step.specs.Past.{requests_of, IsRequestOf, CarriesRequest}
 use Rattle.channel_step.proofs.Requests.{carried}
 
@@ -65,3 +66,13 @@ pub queue-ranks : (s : Config) (channel : ℕ) (history : List CommandRow) (mail
 queue-ranks s channel history mail until queue h is =
     subst (Each (λ (r : Request). r.place.rank < s.ranks)) (sym is)
     (Each-weaker (InBanks s) (λ (r : Request). r.place.rank < s.ranks) (λ r b. b.0) (waiting history mail until) (waiting-in_banks s channel history mail until h))
+
+-- the numbers of the banks that these requests ask for
+pub below-count : (ranks count : ℕ) (queue : List Request) → count ≡ 16 * ranks → All (IsInBanks ranks) queue → All (λ r. bank_number r.place < count) queue
+below-count ranks count queue is places =
+    All-weaker (IsInBanks ranks) (λ (r : Request). bank_number r.place < count)
+    (λ r placed. let rank = placed.rank in let group = placed.group in let bank = placed.bank in omega arith) queue places
+
+pub in-banks : (s : Config) (channel : ℕ) (history : List CommandRow) (mail : List Message) (until : ℕ) (queue : List Request)
+    → Each (CarriesRequest s channel) mail → queue ≡ waiting history mail until → Each (InBanks s) queue
+in-banks s channel history mail until queue h is = subst (Each (InBanks s)) (sym is) (waiting-in_banks s channel history mail until h)

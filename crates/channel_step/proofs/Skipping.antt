@@ -25,7 +25,7 @@ use Rattle.channel_step.specs.Stands.{marks_of}
 use Rattle.channel_step.specs.Counted.{cycle_with_hit}
 use Rattle.channel_step.specs.Fit.{queue_room}
 use Rattle.channel_step.specs.Queued.{settled}
-use Rattle.channel_step.specs.Channels.{StandsFor, IsInCycle, passed}
+use Rattle.channel_step.specs.Channels.{HeadsStand, StandsFor, IsInCycle, passed}
 use Rattle.channel_step.specs.declared.channel.Channel.{Channel}
 use Rattle.channel_step.proofs.Requests.{ArrivedBefore, requests-arrived, waiting-until}
 use Rattle.channel_step.proofs.Spans.{drains_before-row}
@@ -51,7 +51,7 @@ settled-in_cycle c s channel rows mail h =
         high_is = h.made_for.high_is;
         low_is = h.made_for.low_is;
         room_is = h.made_for.room_is;
-        scratch_is = h.made_for.scratch_is;
+        banks_are = h.made_for.banks_are;
         within = h.made_for.within;
         longest = h.made_for.longest;
       };
@@ -65,6 +65,7 @@ settled-in_cycle c s channel rows mail h =
         marks_are = r.marks_are;
         stats_are = r.stats_are;
       };
+      heads_stand = h.heads_stand;
       banks_stand = h.banks_stand;
       refreshes_stand = h.refreshes_stand;
     }
@@ -161,7 +162,7 @@ passed-in_cycle c s channel rows mail n due until h before alike e =
         high_is = h.made_for.high_is;
         low_is = h.made_for.low_is;
         room_is = h.made_for.room_is;
-        scratch_is = h.made_for.scratch_is;
+        banks_are = h.made_for.banks_are;
         within = h.made_for.within;
         longest = passed-longest c s channel rows mail n due h;
       };
@@ -178,6 +179,7 @@ passed-in_cycle c s channel rows mail n due until h before alike e =
         marks_are = j.marks_are ∙ ap (λ x. marks_of x c.waiting.queue.requests) (sym history);
         stats_are = passed-stats c s channel rows mail n due h before alike;
       };
+      heads_stand = subst (HeadsStand c.heads c.waiting.queue.requests) (sym history) h.heads_stand;
       banks_stand = subst (BanksStandFor c.banks s) (sym history) h.banks_stand;
       refreshes_stand = subst (RefreshesStandFor c.refresh s) (sym history) h.refreshes_stand;
     }
@@ -211,6 +213,7 @@ skipped-stands c s channel rows mail (suc k) h arrived before some =
         marks_are = j.marks_are;
         stats_are = j.stats_are;
       };
+      heads_stand = h.heads_stand;
       banks_stand = h.banks_stand;
       refreshes_stand = h.refreshes_stand;
     }

@@ -1,5 +1,5 @@
 -- A channel before its first cycle, and a channel between two cycles.
-use Rattle.std.proofs.Common.{◌≡◌, ℕ, ◌+◌, ◌-◌, ◌≤◌, Bool, false, List, [], ◌++◌, length, Option, Some, None, refl, sym, ap, ap₂, subst, ◌∙◌, arith}
+use Rattle.std.proofs.Common.{◌≡◌, ℕ, ◌+◌, ◌-◌, ◌*◌, ◌≤◌, Bool, false, List, [], ◌++◌, length, Option, Some, None, refl, sym, ap, ap₂, subst, ◌∙◌, arith}
 use Rattle.std.specs.Prelude.{is_some, replicate}
 use Rattle.std.specs.List.{All, AllByRecursion as Each}
 use Rattle.sim_base.specs.declared.config.Config.{Config}
@@ -14,14 +14,16 @@ use Rattle.statistics.specs.declared.channels.ChannelStats.{ChannelStats}
 use Rattle.channel_step.specs.Fit.{queue_room}
 use Rattle.channel_step.specs.Queued.{Queued, no_requests}
 use Rattle.statistics.specs.Channels.{channel_none, channel_stats, draining_of}
+use Rattle.sim_base.specs.Rules.{open_row}
+use Rattle.heads.specs.Stands.{bank_count, StandsFor as HeadsStandFor}
 use Rattle.queue.specs.View.{QueueView, is_draining, drains_by}
 use Rattle.queue.specs.Columns.{write_count}
-use Rattle.fr_fcfs.specs.Columns.{IsInBanks}
+use Rattle.fr_fcfs.specs.Requests.{IsInBanks}
 use Rattle.fr_fcfs.specs.Choices.{StandFor, choice_in}
 use Rattle.fr_fcfs.specs.Cycles.{IsFirstCycle}
 use Rattle.channel_step.specs.Past.{requests_of}
 use Rattle.channel_step.specs.Stands.{Recalls}
-use Rattle.channel_step.specs.Channels.{StandsFor}
+use Rattle.channel_step.specs.Channels.{HeadsStand, StandsFor}
 use Rattle.channel_step.specs.Runs.{StandsAt}
 use Rattle.channel_step.specs.declared.channel.Channel.{Channel}
 use Rattle.channel_step.proofs.Requests.{ArrivedBefore, requests-arrived, waiting-until}
@@ -47,9 +49,10 @@ at-in_banks c from queue h e =
     i.banks_stand.ranks i.recalls.past.requests (ap (λ (q : QueueView). q.requests) e ∙ i.recalls.queue_is)
 
 pub at-stand : (c : Channel) (s : Config) (channel : ℕ) (rows : List (Option Command)) (mail : List Message) (queue : QueueView) → StandsFor c s channel rows mail → queue ≡ c.waiting.queue
-    → StandFor c.banks c.refresh queue c.config.groups s (issued_commands channel rows)
+    → StandFor c.heads c.banks c.refresh queue c.config.groups s (issued_commands channel rows)
 at-stand c s channel rows mail queue h e =
     record {
+      heads_stand = subst (λ (q : QueueView). HeadsStand c.heads q.requests (issued_commands channel rows)) (sym e) h.heads_stand;
       banks_stand = h.banks_stand;
       refreshes_stand = h.refreshes_stand;
       groups_are = ap (λ (x : Config). x.groups) (sym h.made_for.config_is);
@@ -95,10 +98,10 @@ at-first c s channel rows mail from queue o h at e f =
     first-agree _ _ from (λ cycle l. ap is_some (at-choice c s channel rows mail from cycle queue h at l e)) o f
 
 pub start-stands : (c : Channel) (s : Config) (number : ℕ) → c.config ≡ s → c.number ≡ number → c.cycle ≡ 0 → c.waiting ≡ no_requests (queue_room s) s.write_high s.write_low
-    → BanksStandFor c.banks s [] → RefreshesStandFor c.refresh s [] → c.stats ≡ record channel_none { draining = draining_of s 0 } → c.scratch ≡ queue_room s
-    → StandsFor c s number [] []
-unfolding issued_commands
-start-stands c s number config is cycle waiting banks refresh stats scratch =
+    → BanksStandFor c.banks s [] → RefreshesStandFor c.refresh s [] → c.stats ≡ record channel_none { draining = draining_of s 0 } → bank_count c.heads ≡ 16 * s.ranks
+    → HeadsStandFor c.heads [] (λ bank. None) → StandsFor c s number [] []
+unfolding issued_commands open_row
+start-stands c s number config is cycle waiting banks refresh stats count heads =
     let R : Queued → ChannelStats → Type 0 = λ w t. Recalls w.queue.requests w.queue.settled w.marks t s number [] [] in
     let base : R (no_requests (queue_room s) s.write_high s.write_low) (record channel_none { draining = draining_of s 0 }) = recalls-none s number in
     let none : length c.waiting.queue.requests ≡ 0 = ap (λ (w : Queued). length w.queue.requests) waiting in
@@ -110,12 +113,13 @@ start-stands c s number config is cycle waiting banks refresh stats scratch =
         high_is = ap (λ (w : Queued). w.queue.high) waiting;
         low_is = ap (λ (w : Queued). w.queue.low) waiting;
         room_is = ap (λ (w : Queued). w.queue.room) waiting;
-        scratch_is = scratch;
+        banks_are = count;
         within = omega arith;
         longest = omega arith;
       };
       cycle_is = cycle;
       recalls = subst (λ w. R w c.stats) (sym waiting) (subst (R (no_requests (queue_room s) s.write_high s.write_low)) (sym stats) base);
+      heads_stand = subst (λ (w : Queued). HeadsStandFor c.heads w.queue.requests (λ bank. None)) (sym waiting) heads;
       banks_stand = banks;
       refreshes_stand = refresh;
     }

@@ -1,8 +1,8 @@
 -- One cycle of a channel, from what arrives in it on.
 use Rattle.std.proofs.Common.{◌≡◌, ℕ, suc, ◌+◌, ◌<◌, ◌≤◌, List, [], ◌∷◌, ◌++◌, length, take, drop, Option, Some, None, refl, sym, ap, ap₂, subst, ◌∙◌, add-zero, arith, eqb}
 use Rattle.std.specs.Prelude.{count_by, take_while}
-use Rattle.std.specs.List.{AllByRecursion as Each, cons_option}
-use Rattle.std.proofs.lemmas.List.{append_assoc, take-append-drop, length-append}
+use Rattle.std.specs.List.{All, AllByRecursion as Each, cons_option}
+use Rattle.std.proofs.lemmas.List.{append_assoc, take-append-drop, length-append, take_at}
 use Rattle.std.proofs.lemmas.List.Folds.{length-prefix_len}
 use Rattle.std.proofs.lemmas.List.Sums.{prefix_len-le-length}
 use Rattle.sim_base.proofs.Same.{queue-same}
@@ -16,17 +16,20 @@ use Rattle.sim_base.specs.declared.message.Message.{Message}
 use Rattle.sim_base.specs.declared.message.Request.{Request}
 use Rattle.statistics.proofs.ChannelMail.{AgreeUpTo-later}
 use Rattle.queue.specs.View.{drains_by}
-use Rattle.queue.specs.Columns.{write_count}
+use Rattle.queue.specs.Columns.{bank_number, write_count}
+use Rattle.heads.specs.declared.heads.Heads.{Heads}
+use Rattle.heads.specs.Stands.{bank_count}
 use Rattle.channel_step.specs.Past.{requests_of, IsRequestIn, CarriesRequest}
 use Rattle.channel_step.specs.Fit.{queue_room, IsFit}
 use Rattle.channel_step.specs.Stands.{marks_of}
 use Rattle.channel_step.specs.Queued.{Queued, with_arrivals}
-use Rattle.channel_step.specs.Channels.{StandsFor, IsInCycle}
+use Rattle.channel_step.specs.Channels.{HeadsStand, StandsFor, IsInCycle}
 use Rattle.channel_step.specs.Runs.{IsStep}
 use Rattle.channel_step.specs.declared.channel.Channel.{Channel}
 use Rattle.channel_step.proofs.Requests.{carries-stamped}
 use Rattle.channel_step.proofs.Spans.{queue-next}
 use Rattle.channel_step.proofs.Cycle.{joined}
+use Rattle.channel_step.proofs.Places.{queue-in_banks, below-count}
 use Rattle.channel_step.proofs.Fits.{due_count, fit-arrives, fit-rest, fit-later}
 
 pub due_count-is : (inbox : List Message) (now : ℕ) → length (take_while (λ (m : Message). eqb m.arrival now) inbox) ≡ due_count inbox now
@@ -63,10 +66,11 @@ arrivals-room c s channel rows mail inbox now until h at l f =
     omega arith
 
 -- when they have joined
-pub arrived-stands : (c : Channel) (s : Config) (channel : ℕ) (rows : List (Option Command)) (mail inbox : List Message) (now until : ℕ) (w : Queued) → StandsFor c s channel rows mail → length rows ≡ now → now < until
+pub arrived-stands : (c : Channel) (s : Config) (channel : ℕ) (rows : List (Option Command)) (mail inbox : List Message) (now until : ℕ) (w : Queued) (heads : Heads) → StandsFor c s channel rows mail → length rows ≡ now → now < until
     → IsFit s channel rows mail inbox now until → w ≡ with_arrivals c.waiting (requests_of (take (due_count inbox now) inbox))
-    → IsInCycle (record c { waiting = w }) s channel rows (mail ++ take (due_count inbox now) inbox)
-arrived-stands c s channel rows mail inbox now until w h at l f e =
+    → bank_count heads ≡ bank_count c.heads → HeadsStand heads w.queue.requests (issued_commands channel rows)
+    → IsInCycle (record c { waiting = w; heads = heads }) s channel rows (mail ++ take (due_count inbox now) inbox)
+arrived-stands c s channel rows mail inbox now until w heads h at l f e count heads_stand =
     let new = take (due_count inbox now) inbox in
     let requests = requests_of new in
     let j = joined _ _ _ _ s channel rows mail new h.recalls (fit-arrives s channel rows mail inbox now until at f) in
@@ -82,7 +86,7 @@ arrived-stands c s channel rows mail inbox now until w h at l f e =
         high_is = ap (λ (x : Queued). x.queue.high) e ∙ h.made_for.high_is;
         low_is = ap (λ (x : Queued). x.queue.low) e ∙ h.made_for.low_is;
         room_is = ap (λ (x : Queued). x.queue.room) e ∙ h.made_for.room_is;
-        scratch_is = h.made_for.scratch_is;
+        banks_are = count ∙ h.made_for.banks_are;
         within = omega arith;
         longest = h.made_for.longest;
       };
@@ -96,6 +100,7 @@ arrived-stands c s channel rows mail inbox now until w h at l f e =
         marks_are = ap (λ (x : Queued). x.marks) e ∙ j.marks_are ∙ ap (marks_of (issued_commands channel rows)) (sym (ap (λ (x : Queued). x.queue.requests) e));
         stats_are = j.stats_are;
       };
+      heads_stand = heads_stand;
       banks_stand = h.banks_stand;
       refreshes_stand = h.refreshes_stand;
     }
@@ -111,21 +116,41 @@ admit-room c s channel rows mail inbox now until n h at l f e =
     omega (arith, arrivals-room c s channel rows mail inbox now until h at l f, length-append c.waiting.queue.requests (requests_of new))
 
 -- the same, for as many messages as arrive
-pub arrived-in_cycle : (c : Channel) (s : Config) (channel : ℕ) (rows : List (Option Command)) (mail inbox : List Message) (now until n : ℕ) (w : Queued) → StandsFor c s channel rows mail → length rows ≡ now → now < until
+pub arrived-in_cycle : (c : Channel) (s : Config) (channel : ℕ) (rows : List (Option Command)) (mail inbox : List Message) (now until n : ℕ) (w : Queued) (heads : Heads) → StandsFor c s channel rows mail → length rows ≡ now → now < until
     → IsFit s channel rows mail inbox now until → n ≡ due_count inbox now → w ≡ with_arrivals c.waiting (requests_of (take n inbox))
-    → IsInCycle (record c { waiting = w }) s channel rows (mail ++ take n inbox)
-arrived-in_cycle c s channel rows mail inbox now until n w h at l f e x =
-    subst (λ k. IsInCycle (record c { waiting = w }) s channel rows (mail ++ take k inbox)) (sym e)
-    (arrived-stands c s channel rows mail inbox now until w h at l f (x ∙ ap (λ k. with_arrivals c.waiting (requests_of (take k inbox))) e))
+    → bank_count heads ≡ bank_count c.heads → HeadsStand heads w.queue.requests (issued_commands channel rows)
+    → IsInCycle (record c { waiting = w; heads = heads }) s channel rows (mail ++ take n inbox)
+arrived-in_cycle c s channel rows mail inbox now until n w heads h at l f e x count heads_stand =
+    subst (λ k. IsInCycle (record c { waiting = w; heads = heads }) s channel rows (mail ++ take k inbox)) (sym e)
+    (arrived-stands c s channel rows mail inbox now until w heads h at l f (x ∙ ap (λ k. with_arrivals c.waiting (requests_of (take k inbox))) e) count heads_stand)
+
+-- the banks that the requests ask for which are there then
+pub arrived-in_banks : (c : Channel) (s : Config) (channel : ℕ) (rows : List (Option Command)) (mail inbox : List Message) (now until n : ℕ) (w : Queued) → StandsFor c s channel rows mail → length rows ≡ now → now < until
+    → IsFit s channel rows mail inbox now until → n ≡ due_count inbox now → w ≡ with_arrivals c.waiting (requests_of (take n inbox))
+    → All (λ r. bank_number r.place < bank_count c.heads) w.queue.requests
+arrived-in_banks c s channel rows mail inbox now until n w h at l f e x =
+    let new = take (due_count inbox now) inbox in
+    let j = joined _ _ _ _ s channel rows mail new h.recalls (fit-arrives s channel rows mail inbox now until at f) in
+    let is = x ∙ ap (λ k. with_arrivals c.waiting (requests_of (take k inbox))) e in
+    below-count s.ranks (bank_count c.heads) w.queue.requests h.made_for.banks_are
+    (queue-in_banks s channel s.ranks (issued_commands channel rows) (mail ++ new) (length rows + 1) w.queue.requests refl j.requests (ap (λ (z : Queued). z.queue.requests) is ∙ j.queue_is))
+
+-- heads of the requests that were there before
+pub heads-before : (c : Channel) (s : Config) (channel : ℕ) (rows : List (Option Command)) (mail new : List Message) (n : ℕ) (w : Queued) → StandsFor c s channel rows mail
+    → n ≡ length c.waiting.queue.requests → w ≡ with_arrivals c.waiting (requests_of new) → HeadsStand c.heads (take n w.queue.requests) (issued_commands channel rows)
+heads-before c s channel rows mail new n w h e x =
+    let before : c.waiting.queue.requests ≡ take n w.queue.requests =
+    sym (ap (λ (z : Queued). take n z.queue.requests) x ∙ take_at c.waiting.queue.requests (requests_of new) n (sym e)) in
+    subst (λ rs. HeadsStand c.heads rs (issued_commands channel rows)) before h.heads_stand
 
 -- the whole cycle
-pub step-is : (c d : Channel) (s : Config) (channel : ℕ) (rows : List (Option Command)) (mail inbox : List Message) (now until n : ℕ) (w : Queued) (o : Option Command) → length rows ≡ now
-    → IsFit s channel rows mail inbox now until → n ≡ due_count inbox now → IsInCycle (record c { waiting = w }) s channel rows (mail ++ take n inbox)
+pub step-is : (c d : Channel) (s : Config) (channel : ℕ) (rows : List (Option Command)) (mail inbox : List Message) (now until n : ℕ) (w : Queued) (heads : Heads) (o : Option Command) → length rows ≡ now
+    → IsFit s channel rows mail inbox now until → n ≡ due_count inbox now → IsInCycle (record c { waiting = w; heads = heads }) s channel rows (mail ++ take n inbox)
     → o ≡ choice s channel rows (mail ++ take n inbox) → StandsFor d s channel (rows ++ o ∷ []) (mail ++ take n inbox)
     → IsStep d s channel rows mail inbox now until n o
-step-is c d s channel rows mail inbox now until n w o at f e h choose stands =
+step-is c d s channel rows mail inbox now until n w heads o at f e h choose stands =
     let k = due_count inbox now in
-    let joined_then = subst (λ i. IsInCycle (record c { waiting = w }) s channel rows (mail ++ take i inbox)) e h in
+    let joined_then = subst (λ i. IsInCycle (record c { waiting = w; heads = heads }) s channel rows (mail ++ take i inbox)) e h in
     let left = fit-rest _ _ _ _ s channel rows mail inbox now until at f joined_then.joined in
     let chosen : o ≡ choice s channel rows (mail ++ take k inbox) = choose ∙ ap (λ i. choice s channel rows (mail ++ take i inbox)) e in
     record {

@@ -1,4 +1,5 @@
 -- What a `Channel` stands for.
+--     HeadsStand heads requests history      heads are those of these requests, after these commands
 --     IsMadeFor c s channel      the channel with a number, of a machine with a configuration
 --     StandsFor c s channel rows mail      all that it keeps is what these rows, and the messages that arrived in them, make of it
 --     HasRank c rank, HasBank c bank      a channel of a machine with this rank, or with this bank
@@ -6,15 +7,21 @@
 --     seen_of c now      what is seen of a channel in a cycle
 --     idle_cycle c now      the statistics of a cycle in which a channel issues nothing
 --     passed c until      its statistics after such cycles
-use Rattle.std.specs.Prelude.{◌≡◌, ℕ, ◌-◌, ◌<◌, ◌≤◌, false, List, length, is_some, Option, Some, None}
+use Rattle.std.specs.Prelude.{◌≡◌, ℕ, ◌-◌, ◌*◌, ◌<◌, ◌≤◌, false, List, length, is_some, Option, Some, None}
 use Rattle.sim_base.specs.declared.config.Config.{Config}
 use Rattle.sim_base.specs.History.{issued_commands}
+use Rattle.sim_base.specs.Rules.{open_row}
 use Rattle.sim_base.specs.Scheduling.{choice}
 use Rattle.sim_base.specs.declared.command.Command.{Command}
+use Rattle.sim_base.specs.declared.command.CommandRow.{CommandRow}
+use Rattle.sim_base.specs.declared.message.Request.{Request}
 use Rattle.sim_base.specs.declared.message.Message.{Message}
 use Rattle.sim_base.specs.declared.place.BankId.{BankId}
 use Rattle.bank_ready.specs.Stands.{StandsFor as BanksStandFor}
 use Rattle.refresh.specs.Refreshes.{lowest_owed, StandsFor as RefreshesStandFor}
+use Rattle.heads.specs.declared.heads.Heads.{Heads}
+use Rattle.heads.specs.Heads.{bank_at}
+use Rattle.heads.specs.Stands.{bank_count, StandsFor as HeadsStandFor}
 use Rattle.queue.specs.View.{is_draining}
 use Rattle.statistics.specs.Channels.{channel_joined, channel_times}
 use Rattle.statistics.specs.declared.channels.ChannelStats.{ChannelStats}
@@ -24,15 +31,19 @@ use Rattle.channel_step.specs.Stands.{Recalls, HasJoined}
 use Rattle.channel_step.specs.declared.channel.Channel.{Channel}
 use Rattle.channel_step.specs.declared.counting.Seen.{Seen}
 
--- the channel with a number, of a machine with a configuration, has a place in its queue for each credit, and never had more
--- requests in it
+-- heads are those of these requests, where the rows are open that these commands opened
+abbrev pub HeadsStand : Heads → List Request → List CommandRow → Type 0
+HeadsStand heads requests history = HeadsStandFor heads requests (λ bank. open_row (bank_at bank) history)
+
+-- the channel with a number, of a machine with a configuration, has a place in its queue for each credit and heads for each bank,
+-- and never had more requests in it
 pub record IsMadeFor (c : Channel) (s : Config) (channel : ℕ) : Type 0 where
   pub config_is : c.config ≡ s
   pub number_is : c.number ≡ channel
   pub high_is : c.waiting.queue.high ≡ s.write_high
   pub low_is : c.waiting.queue.low ≡ s.write_low
   pub room_is : c.waiting.queue.room ≡ queue_room s
-  pub scratch_is : c.scratch ≡ queue_room s
+  pub banks_are : bank_count c.heads ≡ 16 * s.ranks
   pub within : length c.waiting.queue.requests ≤ queue_room s
   pub longest : c.stats.queued_max ≤ queue_room s
 
@@ -41,6 +52,7 @@ pub record StandsFor (c : Channel) (s : Config) (channel : ℕ) (rows : List (Op
   pub made_for : IsMadeFor c s channel
   pub cycle_is : c.cycle ≡ length rows
   pub recalls : Recalls c.waiting.queue.requests c.waiting.queue.settled c.waiting.marks c.stats s channel rows mail
+  pub heads_stand : HeadsStand c.heads c.waiting.queue.requests (issued_commands channel rows)
   pub banks_stand : BanksStandFor c.banks s (issued_commands channel rows)
   pub refreshes_stand : RefreshesStandFor c.refresh s (issued_commands channel rows)
 
@@ -69,6 +81,7 @@ pub record IsInCycle (c : Channel) (s : Config) (channel : ℕ) (rows : List (Op
   pub made_for : IsMadeFor c s channel
   pub cycle_is : c.cycle ≡ length rows
   pub joined : HasJoined c.waiting.queue.requests c.waiting.queue.settled c.waiting.marks c.stats s channel rows mail
+  pub heads_stand : HeadsStand c.heads c.waiting.queue.requests (issued_commands channel rows)
   pub banks_stand : BanksStandFor c.banks s (issued_commands channel rows)
   pub refreshes_stand : RefreshesStandFor c.refresh s (issued_commands channel rows)
 

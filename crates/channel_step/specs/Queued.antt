@@ -4,6 +4,7 @@
 --     with_arrivals w new      these requests join, and it is settled whether the channel drains its writes
 --     without w slot      one is served
 --     marked_at marks requests source, with_mark w source      the request of an entry gets its mark
+--     requests_left requests slot      the requests that are left
 --     after w command slot      what a command leaves
 use Rattle.std.specs.Prelude.{ℕ, Bool, true, false, not, List, [], map, ◌++◌, remove, slice_set, slice_index_or, Option, Some, None}
 use Rattle.std.specs.List.{position_or_len}
@@ -59,6 +60,11 @@ after_command w (Wr bank row column source) = w
 after_command w (Pre bank source) = w
 after_command w (Prea rank) = w
 after_command w (Ref rank) = w
+
+-- the requests that are left when the one at this place is served, if one is
+abbrev pub requests_left : List Request → Option ℕ → List Request
+requests_left requests (Some slot) = remove requests slot
+requests_left requests None = requests
 
 -- what a command leaves, which moves the data of the request at this place, if it moves any
 abbrev pub after : Queued → Command → Option ℕ → Queued

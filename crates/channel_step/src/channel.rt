@@ -18,12 +18,12 @@ ghost use Rattle.channel_step.specs.Runs.{IsStep, CanStep, CanRun, CanSkip, HasS
 
 use crate::counting::{Seen, cycle_stats, drained};
 use crate::done::ChannelDone;
-use crate::noting::note_refresh;
+use crate::noting::{note_heads, note_refresh, request_at};
 use crate::sending::tell;
 use crate::waiting::Waiting;
 use bank_ready::banks::Banks;
-use fr_fcfs::Scratch;
 use fr_fcfs::choice::{Choice, choose, wake};
+use heads::Heads;
 use refresh::Refresh;
 use sim_base::command::Command;
 use sim_base::config::Config;
@@ -43,7 +43,7 @@ pub struct Channel {
     banks: Banks,
     refresh: Refresh,
     stats: ChannelStats,
-    scratch: Scratch,
+    heads: Heads,
 }
 
 impl Channel {
@@ -63,7 +63,7 @@ impl Channel {
             banks: Banks::new(alloc, config)?,
             refresh: Refresh::new(config.timing.n_refi, config.ranks),
             stats,
-            scratch: Scratch::with_room(alloc, room)?,
+            heads: Heads::with_room(alloc, 16 * config.ranks as usize)?,
         })
     }
 
@@ -120,11 +120,11 @@ impl Channel {
     {
         wake(
             self.waiting.queue(),
+            &self.heads,
             &self.banks,
             &self.refresh,
             self.config.groups,
             from,
-            &mut self.scratch,
         )
     }
 
@@ -138,11 +138,11 @@ impl Channel {
     {
         choose(
             self.waiting.queue(),
+            &self.heads,
             &self.banks,
             &self.refresh,
             self.config.groups,
             now,
-            &mut self.scratch,
         )
     }
 
@@ -240,7 +240,9 @@ impl Channel {
             → IsInCycle self.old s channel rows mail → length rows ≡ now → Some chosen.command ≡ choice s channel rows mail
             → StandsFor self.new s channel (rows ++ Some chosen.command ∷ []) mail }
     {
+        let served = request_at(self.waiting.queue(), chosen.slot);
         let hit = self.waiting.take(chosen);
+        note_heads(&mut self.heads, self.waiting.queue(), chosen, served);
         self.banks.note(chosen.command, now);
         note_refresh(&mut self.refresh, chosen.command, now);
         self.count(seen, Some(chosen.command), hit);
@@ -283,7 +285,9 @@ impl Channel {
             → IfOk result (λ done. IsStep self.new s channel rows mail inbox.now now until done.0 done.1) }
     {
         let due = due_count(inbox, now);
+        let older = self.waiting.queue().len();
         self.waiting.admit(&inbox[..due])?;
+        self.heads.arrived(older, self.waiting.queue());
         Ok((due, self.issue(now)))
     }
 

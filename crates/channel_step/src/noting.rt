@@ -1,16 +1,25 @@
 //! What a channel notes of a command that it issues.
 
-ghost use Rattle.std.specs.Prelude.{◌≡◌, ℕ, ◌<◌, ◌^◌, ◌++◌, List, [], ◌∷◌, All};
-ghost use Rattle.sim_base.specs.Rules.{rank_of};
+ghost use Rattle.std.specs.Prelude.{◌≡◌, ℕ, ◌<◌, ◌^◌, ◌++◌, List, [], ◌∷◌, All, length, Option, IfSome, option_and_then, slice_get};
+ghost use Rattle.std.specs.Option.{ForSome};
+ghost use Rattle.sim_base.specs.Rules.{rank_of, bank_of, row_after};
 ghost use Rattle.sim_base.specs.declared.config.Config.{Config};
 ghost use Rattle.sim_base.specs.declared.command.CommandRow.{CommandRow};
+ghost use Rattle.sim_base.specs.declared.message.Request.{Request};
 ghost use Rattle.bank_ready.specs.Stands.{rank_count, StandsFor as BanksStandFor};
 ghost use Rattle.refresh.specs.Refreshes.{StandsFor as RefreshesStandFor};
+ghost use Rattle.queue.specs.Columns.{bank_number};
+ghost use Rattle.heads.specs.Heads.{bank_at};
+ghost use Rattle.heads.specs.Stands.{bank_count, IsAmong, StandsFor as HeadsStandFor};
+ghost use Rattle.channel_step.specs.Queued.{requests_left};
 ghost use Rattle.channel_step.specs.Owed.{RefIsOwed};
 
+use fr_fcfs::choice::Choice;
+use heads::Heads;
+use queue::Queue;
 use refresh::Refresh;
 use sim_base::command::Command;
-use sim_base::message::Cycle;
+use sim_base::message::{Cycle, Request};
 
 /// Counts a command, where it is a REF, which is due then.
 #[tactic(auto, using(crate::proofs::Chosen::no_refresh, refresh::proofs::Due::stands_without_refresh))]
@@ -23,4 +32,45 @@ pub(crate) fn note_refresh(refresh: &mut Refresh, command: Command, now: Cycle)
     if let Command::Ref { rank } = command {
         refresh.note_ref(now, rank);
     }
+}
+
+/// The request at a place of a queue, if one is given.
+pub(crate) fn request_at(queue: &Queue, slot: Option<usize>) -> Option<Request>
+    requires { ForSome slot (λ k. k < length queue.now.requests) }
+    ensures { result ≡ option_and_then (slice_get queue.now.requests) slot }
+{
+    match slot {
+        Some(slot) => Some(queue.requests()[slot]),
+        None => None,
+    }
+}
+
+/// Takes note in the heads of a request that has left its place in the queue, if one has.
+fn note_served(heads: &mut Heads, queue: &Queue, slot: Option<usize>, served: Option<Request>)
+    requires { IfSome served (λ r. bank_number r.place < bank_count heads.old) }
+    ensures banks { bank_count heads.new ≡ bank_count heads.old }
+    ensures stands { (earlier : List Request) (open_rows : ℕ → Option ℕ) → served ≡ option_and_then (slice_get earlier) slot
+        → ForSome slot (λ k. k < length earlier) → queue.now.requests ≡ requests_left earlier slot → HeadsStandFor heads.old earlier open_rows
+        → HeadsStandFor heads.new queue.now.requests open_rows }
+{
+    let Some(slot) = slot else {
+        return;
+    };
+    let Some(request) = served else {
+        return;
+    };
+    heads.served(request, slot, queue);
+}
+
+/// Takes note of a choice in the heads, once the request that it serves, if it serves one, has left the queue.
+pub(crate) fn note_heads(heads: &mut Heads, queue: &Queue, choice: Choice, served: Option<Request>)
+    requires bank { IfSome served (λ r. bank_number r.place < bank_count heads.old) }
+    requires among { ForSome (bank_of choice.command) (IsAmong heads.old) }
+    ensures banks { bank_count heads.new ≡ bank_count heads.old }
+    ensures stands { (earlier : List Request) (open_rows : ℕ → Option ℕ) → served ≡ option_and_then (slice_get earlier) choice.slot
+        → ForSome choice.slot (λ k. k < length earlier) → queue.now.requests ≡ requests_left earlier choice.slot → HeadsStandFor heads.old earlier open_rows
+        → HeadsStandFor heads.new queue.now.requests (λ bank. row_after (bank_at bank) (open_rows bank) choice.command) }
+{
+    note_served(heads, queue, choice.slot, served);
+    heads.noted(choice.command, queue);
 }

@@ -14,7 +14,7 @@ use Rattle.sim_base.specs.Rules.{is_legal, is_allowed, finds_its_banks, open_row
 use Rattle.sim_base.specs.Scheduling.{source_of, column_command, needed_at, needed, is_column_command, is_withheld, has_hit, is_row_hit}
 use Rattle.bank_ready.specs.Stands.{IsAllowedFrom}
 use Rattle.queue.specs.Columns.{bank_number}
-use Rattle.fr_fcfs.specs.Columns.{IsInBanks, IsLegalFrom, is_hit}
+use Rattle.fr_fcfs.specs.Requests.{IsInBanks, IsLegalFrom, is_hit}
 use Rattle.fr_fcfs.proofs.Booleans.{and_false, and_true, eqb_swap, any_never}
 
 -- the command that moves the data of a request, if it writes or not

@@ -1,7 +1,8 @@
 pub mod Booleans
 pub mod Legal
-pub mod Marked
-pub mod Ready
-pub mod Surveyed
+pub mod Firsts
+pub mod Bests
+pub mod BankOffers
+pub mod Below
+pub mod Favoured
 pub mod Waking
-pub mod Chosen

@@ -1,7 +1,9 @@
 -- The first cycle in which something holds.
 --     IsFirstCycle holds now first      the first cycle from now on in which it does, if there is one
---     is_due_from due cycle      something that is due from a cycle on, if ever
+--     IsNext commands now next      the first cycle from now on with a command, and that command, if there is one
 use Rattle.std.specs.Prelude.{◌≡◌, ℕ, ◌<◌, ◌≤◌, Bool, true, false, Option, Some, None}
+use Rattle.sim_base.specs.declared.command.Command.{Command}
+use Rattle.fr_fcfs.specs.declared.choice.Choice.{Choice}
 
 -- the first cycle from now on in which something holds
 pub record IsFirst (holds : ℕ → Bool) (now first : ℕ) : Type 0 where
@@ -13,3 +15,14 @@ pub record IsFirst (holds : ℕ → Bool) (now first : ℕ) : Type 0 where
 abbrev pub IsFirstCycle : (ℕ → Bool) → ℕ → Option ℕ → Type 0
 IsFirstCycle holds now (Some first) = IsFirst holds now first
 IsFirstCycle holds now None = (cycle : ℕ) → now ≤ cycle → holds cycle ≡ false
+
+-- the first cycle from now on that has a command, and that command
+pub record IsNextAt (commands : ℕ → Option Command) (now cycle : ℕ) (command : Command) : Type 0 where
+  pub from_now : now ≤ cycle
+  pub then_is : commands cycle ≡ Some command
+  pub none_before : (c : ℕ) → now ≤ c → c < cycle → commands c ≡ None
+
+-- the same, where there may be none
+abbrev pub IsNext : (ℕ → Option Command) → ℕ → Option (ℕ × Choice) → Type 0
+IsNext commands now (Some next) = IsNextAt commands now next.0 next.1.command
+IsNext commands now None = (c : ℕ) → now ≤ c → commands c ≡ None

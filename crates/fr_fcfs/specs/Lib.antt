@@ -1,3 +1,4 @@
-pub mod Columns
+pub mod Requests
+pub mod Offers
 pub mod Cycles
 pub mod Choices

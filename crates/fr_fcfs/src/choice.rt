@@ -1,21 +1,25 @@
 //! The command of the next cycle, and the first cycle with one.
 
-ghost use Rattle.std.specs.Prelude.{◌≡◌, ◌<◌, ◌≤◌, ℕ, Bool, List, length, All, max, nat_le, if◌then◌else◌, option_map, option_and_then, slice_get, is_some, IfSome, Some};
-ghost use Rattle.sim_base.specs.Scheduling.{needed, first_ready, if_legal, refresh_command, choice_between, lowest_due};
+ghost use Rattle.std.specs.Prelude.{◌≡◌, ◌<◌, ◌≤◌, ◌*◌, ℕ, List, Option, Some, length, All, if◌then◌else◌, option_map, slice_get, is_some, IfSome};
+ghost use Rattle.sim_base.specs.Rules.{open_row};
+ghost use Rattle.sim_base.specs.Scheduling.{needed, first_ready, if_legal, refresh_command};
 ghost use Rattle.sim_base.specs.declared.config.Config.{Config};
+ghost use Rattle.sim_base.specs.declared.command.Command.{Command};
 ghost use Rattle.sim_base.specs.declared.command.CommandRow.{CommandRow};
 ghost use Rattle.sim_base.specs.declared.message.Request.{Request};
 ghost use Rattle.bank_ready.specs.Stands.{rank_count, StandsFor as BanksStandFor};
-ghost use Rattle.refresh.specs.Refreshes.{is_due_at, StandsFor as RefreshesStandFor};
-ghost use Rattle.fr_fcfs.specs.Columns.{IsInBanks, candidates_of};
-ghost use Rattle.fr_fcfs.specs.Cycles.{IsFirstCycle};
+ghost use Rattle.refresh.specs.Refreshes.{is_due_at};
+ghost use Rattle.heads.specs.Heads.{bank_at};
+ghost use Rattle.heads.specs.Stands.{bank_count, StandsFor as HeadsStandFor};
+ghost use Rattle.fr_fcfs.specs.Requests.{IsInBanks, candidates_of};
+ghost use Rattle.fr_fcfs.specs.Offers.{AreOf};
+ghost use Rattle.fr_fcfs.specs.Cycles.{IsFirstCycle, IsNext};
 ghost use Rattle.fr_fcfs.specs.Choices.{StandFor, choice_in, IsFor};
 
-use crate::needs::{Need, is_column, need_of, refresh_need};
-use crate::scratch::Scratch;
-use crate::survey::survey;
+use crate::needs::{is_column, need_of, refresh_need};
+use crate::offers::first_offer;
 use bank_ready::banks::Banks;
-use lane_scan::{and_mask, first_marked, least_marked, ready_mask};
+use heads::Heads;
 use queue::Queue;
 use refresh::Refresh;
 use sim_base::command::Command;
@@ -26,56 +30,6 @@ use sim_base::message::{Cycle, Request};
 pub struct Choice {
     pub command: Command,
     pub slot: Option<usize>,
-}
-
-/// The place of the request whose need comes first in a cycle: row hits first, and then the oldest.
-fn first_place(
-    queue: &Queue,
-    banks: &Banks,
-    now: Cycle,
-    times: &mut [u64],
-    hits: &mut [u64],
-    free: &mut [u64],
-    spare: &mut [u64],
-) -> Option<usize>
-    requires places { All (IsInBanks (rank_count banks.now)) queue.now.requests }
-    requires time_room { length times.old ≡ length queue.now.requests }
-    requires hit_room { length hits.old ≡ length queue.now.requests }
-    requires free_room { length free.old ≡ length queue.now.requests }
-    requires spare_room { length spare.old ≡ length queue.now.requests }
-    ensures within { IfSome result (λ slot. slot < length queue.now.requests) }
-    ensures first { (s : Config) (history : List CommandRow) → BanksStandFor banks.now s history → s.write_high ≡ queue.now.high
-        → first_ready s history now (candidates_of s queue.now) ≡ option_map (needed history) (option_and_then (slice_get queue.now.requests) result) }
-{
-    survey(queue, banks, times, hits, free, spare);
-    ready_mask(times, now, spare);
-    and_mask(free, spare, times);
-    and_mask(times, hits, spare);
-    match first_marked(spare) {
-        Some(slot) => Some(slot),
-        None => first_marked(times),
-    }
-}
-
-/// From which cycle on what some request needs may be issued, and is not withheld.
-fn first_time(
-    queue: &Queue,
-    banks: &Banks,
-    times: &mut [u64],
-    hits: &mut [u64],
-    free: &mut [u64],
-    spare: &mut [u64],
-) -> Option<Cycle>
-    requires places { All (IsInBanks (rank_count banks.now)) queue.now.requests }
-    requires time_room { length times.old ≡ length queue.now.requests }
-    requires hit_room { length hits.old ≡ length queue.now.requests }
-    requires free_room { length free.old ≡ length queue.now.requests }
-    requires spare_room { length spare.old ≡ length queue.now.requests }
-    ensures { (s : Config) (history : List CommandRow) → BanksStandFor banks.now s history → s.write_high ≡ queue.now.high
-        → (cycle : ℕ) → is_some (first_ready s history cycle (candidates_of s queue.now)) ≡ is_due_at result cycle }
-{
-    survey(queue, banks, times, hits, free, spare);
-    least_marked(times, free)
 }
 
 /// What a request at a place of the queue needs, as a choice.
@@ -94,231 +48,133 @@ fn choice_at(banks: &Banks, requests: &[Request], slot: usize) -> Choice
     }
 }
 
-/// The place of the request whose need comes first in a cycle, found in columns with room for the queue.
-fn first_place_within(
+/// The first cycle from now on in which some request has what it needs issued, and what that is.
+fn next_of_requests(
     queue: &Queue,
+    heads: &Heads,
     banks: &Banks,
     now: Cycle,
-    times: &mut [u64],
-    hits: &mut [u64],
-    free: &mut [u64],
-    spare: &mut [u64],
-) -> Option<usize>
+) -> Option<(Cycle, Choice)>
     requires places { All (IsInBanks (rank_count banks.now)) queue.now.requests }
-    requires time_room { length queue.now.requests ≤ length times.old }
-    requires hit_room { length queue.now.requests ≤ length hits.old }
-    requires free_room { length queue.now.requests ≤ length free.old }
-    requires spare_room { length queue.now.requests ≤ length spare.old }
-    ensures within { IfSome result (λ slot. slot < length queue.now.requests) }
-    ensures first { (s : Config) (history : List CommandRow) → BanksStandFor banks.now s history → s.write_high ≡ queue.now.high
-        → first_ready s history now (candidates_of s queue.now) ≡ option_map (needed history) (option_and_then (slice_get queue.now.requests) result) }
+    requires banks { bank_count heads.now ≡ 16 * rank_count banks.now }
+    requires heads { AreOf heads.now queue.now.requests }
+    ensures next { (s : Config) (history : List CommandRow) → BanksStandFor banks.now s history
+        → HeadsStandFor heads.now queue.now.requests (λ bank. open_row (bank_at bank) history) → s.write_high ≡ queue.now.high
+        → IsNext (λ cycle. first_ready s history cycle (candidates_of s queue.now)) now result }
+    ensures place { IfSome result (λ next. IsFor queue.now.requests next.1) }
 {
-    let len = queue.len();
-    first_place(
-        queue,
-        banks,
-        now,
-        &mut times[..len],
-        &mut hits[..len],
-        &mut free[..len],
-        &mut spare[..len],
-    )
-}
-
-fn place_of_first(queue: &Queue, banks: &Banks, now: Cycle, scratch: &mut Scratch) -> Option<usize>
-    requires places { All (IsInBanks (rank_count banks.now)) queue.now.requests }
-    requires room { length queue.now.requests ≤ scratch.old }
-    ensures within { IfSome result (λ slot. slot < length queue.now.requests) }
-    ensures first { (s : Config) (history : List CommandRow) → BanksStandFor banks.now s history → s.write_high ≡ queue.now.high
-        → first_ready s history now (candidates_of s queue.now) ≡ option_map (needed history) (option_and_then (slice_get queue.now.requests) result) }
-    ensures room { scratch.new ≡ scratch.old }
-{
-    first_place_within(
-        queue,
-        banks,
-        now,
-        &mut scratch.times,
-        &mut scratch.hits,
-        &mut scratch.free,
-        &mut scratch.spare,
-    )
-}
-
-fn choice_of_requests(
-    queue: &Queue,
-    banks: &Banks,
-    now: Cycle,
-    scratch: &mut Scratch,
-) -> Option<Choice>
-    requires places { All (IsInBanks (rank_count banks.now)) queue.now.requests }
-    requires room { length queue.now.requests ≤ scratch.old }
-    ensures command { (s : Config) (history : List CommandRow) → BanksStandFor banks.now s history → s.write_high ≡ queue.now.high
-        → option_map (λ c. c.command) result ≡ first_ready s history now (candidates_of s queue.now) }
-    ensures place { IfSome result (IsFor queue.now.requests) }
-    ensures room { scratch.new ≡ scratch.old }
-{
-    match place_of_first(queue, banks, now, scratch) {
-        Some(slot) => Some(choice_at(banks, queue.requests(), slot)),
+    match first_offer(queue, heads, banks, now) {
+        Some(offer) => Some((offer.cycle, choice_at(banks, queue.requests(), offer.slot))),
         None => None,
     }
 }
 
-fn choice_of_refresh(banks: &Banks, rank: u32, groups: u32, now: Cycle) -> Option<Choice>
+/// The first cycle with a command, where a rank's refresh may be due from some cycle on and keeps all else waiting then, of which
+/// `next` is the first.
+fn with_refresh(
+    next: Option<(Cycle, Choice)>,
+    due: Option<Cycle>,
+    banks: &Banks,
+    rank: u32,
+    groups: u32,
+) -> Option<(Cycle, Choice)>
     requires rank { rank < rank_count banks.now }
     requires groups { groups ≤ 4 }
-    ensures command { (s : Config) (history : List CommandRow) → BanksStandFor banks.now s history → s.groups ≡ groups
-        → option_map (λ c. c.command) result ≡ if_legal s history now (refresh_command s history rank) }
-    ensures place { (requests : List Request) → IfSome result (IsFor requests) }
-{
-    let need = refresh_need(banks, rank, groups);
-    if need.ready <= now {
-        Some(Choice {
-            command: need.command,
-            slot: None,
-        })
-    } else {
-        None
-    }
-}
-
-/// The command that the channel issues in a cycle, if it issues one. `groups` is the number of groups of each rank. What a rank
-/// needs that is to be refreshed goes first, and keeps the requests waiting; of these row hits go first, and then the oldest.
-pub fn choose(
-    queue: &Queue,
-    banks: &Banks,
-    refresh: &Refresh,
-    groups: u32,
-    now: Cycle,
-    scratch: &mut Scratch,
-) -> Option<Choice>
-    requires places { All (IsInBanks (rank_count banks.now)) queue.now.requests }
-    requires ranks { refresh.now.ranks ≤ rank_count banks.now }
-    requires groups { groups ≤ 4 }
-    requires room { length queue.now.requests ≤ scratch.old }
-    ensures command { (s : Config) (history : List CommandRow) → StandFor banks.now refresh.now queue.now groups s history
-        → option_map (λ c. c.command) result ≡ choice_in s history queue.now now }
-    ensures place { IfSome result (IsFor queue.now.requests) }
-    ensures room { scratch.new ≡ scratch.old }
-{
-    match refresh.lowest_due(now) {
-        Some(rank) => choice_of_refresh(banks, rank, groups, now),
-        None => choice_of_requests(queue, banks, now, scratch),
-    }
-}
-
-/// The same, found in columns with room for the queue.
-fn first_time_within(
-    queue: &Queue,
-    banks: &Banks,
-    times: &mut [u64],
-    hits: &mut [u64],
-    free: &mut [u64],
-    spare: &mut [u64],
-) -> Option<Cycle>
-    requires places { All (IsInBanks (rank_count banks.now)) queue.now.requests }
-    requires time_room { length queue.now.requests ≤ length times.old }
-    requires hit_room { length queue.now.requests ≤ length hits.old }
-    requires free_room { length queue.now.requests ≤ length free.old }
-    requires spare_room { length queue.now.requests ≤ length spare.old }
-    ensures { (s : Config) (history : List CommandRow) → BanksStandFor banks.now s history → s.write_high ≡ queue.now.high
-        → (cycle : ℕ) → is_some (first_ready s history cycle (candidates_of s queue.now)) ≡ is_due_at result cycle }
-{
-    let len = queue.len();
-    first_time(
-        queue,
-        banks,
-        &mut times[..len],
-        &mut hits[..len],
-        &mut free[..len],
-        &mut spare[..len],
-    )
-}
-
-fn time_of_first(queue: &Queue, banks: &Banks, scratch: &mut Scratch) -> Option<Cycle>
-    requires places { All (IsInBanks (rank_count banks.now)) queue.now.requests }
-    requires room { length queue.now.requests ≤ scratch.old }
-    ensures time { (s : Config) (history : List CommandRow) → BanksStandFor banks.now s history → s.write_high ≡ queue.now.high
-        → (cycle : ℕ) → is_some (first_ready s history cycle (candidates_of s queue.now)) ≡ is_due_at result cycle }
-    ensures room { scratch.new ≡ scratch.old }
-{
-    first_time_within(
-        queue,
-        banks,
-        &mut scratch.times,
-        &mut scratch.hits,
-        &mut scratch.free,
-        &mut scratch.spare,
-    )
-}
-
-/// The first cycle from `now` on that is not before a time, if there is one.
-fn not_before(now: Cycle, time: Option<Cycle>) -> Option<Cycle>
-    ensures { result ≡ option_map (max now) time }
-{
-    match time {
-        Some(time) => Some(now.max(time)),
-        None => None,
-    }
-}
-
-/// The first cycle with something, where a refresh that is due from some cycle on, and may be issued from another on, keeps all
-/// else waiting, of which `first` is the first cycle.
-fn first_with_refresh(first: Option<Cycle>, due: Option<Cycle>, ready: Cycle) -> Option<Cycle>
-    ensures { (holds rest : ℕ → Bool) (now : ℕ) → IfSome due (λ cycle. now ≤ cycle)
-        → ((c : ℕ) → now ≤ c → holds c ≡ (if is_due_at due c then nat_le ready c else rest c))
-        → IsFirstCycle rest now first → IsFirstCycle holds now result }
+    ensures next { (s : Config) (history : List CommandRow) (commands rest : ℕ → Option Command) (now : ℕ) → BanksStandFor banks.now s history → s.groups ≡ groups
+        → IfSome due (λ cycle. now ≤ cycle)
+        → ((c : ℕ) → now ≤ c → commands c ≡ (if is_due_at due c then if_legal s history c (refresh_command s history rank) else rest c))
+        → IsNext rest now next → IsNext commands now result }
+    ensures place { (requests : List Request) → IfSome next (λ n. IsFor requests n.1) → IfSome result (λ n. IsFor requests n.1) }
 {
     let Some(due) = due else {
-        return first;
+        return next;
     };
-    match first {
-        Some(first) if first < due => Some(first),
-        _ => Some(due.max(ready)),
+    match next {
+        Some((cycle, choice)) if cycle < due => Some((cycle, choice)),
+        _ => {
+            let need = refresh_need(banks, rank, groups);
+            let choice = Choice {
+                command: need.command,
+                slot: None,
+            };
+            Some((due.max(need.ready), choice))
+        }
     }
 }
 
-/// The first cycle from `now` on with a command, where the requests have one from a time on.
-fn first_of_all(
+/// The first cycle with a command from `now` on, if the queue stays as it is, and that command; None where there is none. `groups`
+/// is the number of groups of each rank. What a rank needs that is to be refreshed goes first, and keeps the requests waiting; of
+/// these row hits go first, and then the oldest.
+pub fn next(
+    queue: &Queue,
+    heads: &Heads,
     banks: &Banks,
     refresh: &Refresh,
     groups: u32,
     now: Cycle,
-    time: Option<Cycle>,
-) -> Option<Cycle>
+) -> Option<(Cycle, Choice)>
+    requires places { All (IsInBanks (rank_count banks.now)) queue.now.requests }
+    requires banks { bank_count heads.now ≡ 16 * rank_count banks.now }
+    requires heads { AreOf heads.now queue.now.requests }
     requires ranks { refresh.now.ranks ≤ rank_count banks.now }
     requires groups { groups ≤ 4 }
-    ensures { (s : Config) (history : List CommandRow) (requests : List Request) → BanksStandFor banks.now s history → RefreshesStandFor refresh.now s history
-        → s.groups ≡ groups → ((cycle : ℕ) → is_some (first_ready s history cycle requests) ≡ is_due_at time cycle)
-        → IsFirstCycle (λ cycle. is_some (choice_between s history cycle requests (lowest_due s history cycle))) now result }
+    ensures next { (s : Config) (history : List CommandRow) → StandFor heads.now banks.now refresh.now queue.now groups s history
+        → IsNext (choice_in s history queue.now) now result }
+    ensures place { IfSome result (λ next. IsFor queue.now.requests next.1) }
 {
-    let mut first = not_before(now, time);
+    let mut next = next_of_requests(queue, heads, banks, now);
     let mut rank = refresh.ranks();
     while 0 < rank {
         rank -= 1;
-        let need = refresh_need(banks, rank, groups);
-        first = first_with_refresh(first, refresh.first_due(now, rank), need.ready);
+        next = with_refresh(next, refresh.first_due(now, rank), banks, rank, groups);
     }
-    first
+    next
+}
+
+/// The command that the channel issues in a cycle, if it issues one. `groups` is the number of groups of each rank.
+pub fn choose(
+    queue: &Queue,
+    heads: &Heads,
+    banks: &Banks,
+    refresh: &Refresh,
+    groups: u32,
+    now: Cycle,
+) -> Option<Choice>
+    requires places { All (IsInBanks (rank_count banks.now)) queue.now.requests }
+    requires banks { bank_count heads.now ≡ 16 * rank_count banks.now }
+    requires heads { AreOf heads.now queue.now.requests }
+    requires ranks { refresh.now.ranks ≤ rank_count banks.now }
+    requires groups { groups ≤ 4 }
+    ensures command { (s : Config) (history : List CommandRow) → StandFor heads.now banks.now refresh.now queue.now groups s history
+        → option_map (λ c. c.command) result ≡ choice_in s history queue.now now }
+    ensures place { IfSome result (IsFor queue.now.requests) }
+{
+    match next(queue, heads, banks, refresh, groups, now) {
+        Some((cycle, choice)) if cycle <= now => Some(choice),
+        _ => None,
+    }
 }
 
 /// The first cycle from `now` on in which the channel issues a command, as long as its queue stays as it is; None where there
 /// is none. `groups` is the number of groups of each rank.
 pub fn wake(
     queue: &Queue,
+    heads: &Heads,
     banks: &Banks,
     refresh: &Refresh,
     groups: u32,
     now: Cycle,
-    scratch: &mut Scratch,
 ) -> Option<Cycle>
     requires places { All (IsInBanks (rank_count banks.now)) queue.now.requests }
+    requires banks { bank_count heads.now ≡ 16 * rank_count banks.now }
+    requires heads { AreOf heads.now queue.now.requests }
     requires ranks { refresh.now.ranks ≤ rank_count banks.now }
     requires groups { groups ≤ 4 }
-    requires room { length queue.now.requests ≤ scratch.old }
-    ensures first { (s : Config) (history : List CommandRow) → StandFor banks.now refresh.now queue.now groups s history
+    ensures { (s : Config) (history : List CommandRow) → StandFor heads.now banks.now refresh.now queue.now groups s history
         → IsFirstCycle (λ cycle. is_some (choice_in s history queue.now cycle)) now result }
-    ensures room { scratch.new ≡ scratch.old }
 {
-    let time = time_of_first(queue, banks, scratch);
-    first_of_all(banks, refresh, groups, now, time)
+    match next(queue, heads, banks, refresh, groups, now) {
+        Some((cycle, _)) => Some(cycle),
+        None => None,
+    }
 }

@@ -2,11 +2,11 @@
 #![tactic(auto)]
 
 pub mod choice;
+mod kinds;
 mod needs;
-mod scratch;
-mod survey;
+mod offers;
 
-pub use scratch::Scratch;
+pub use heads::Heads as Scratch;
 
 #[cfg(test)]
 mod tests;

@@ -8,7 +8,7 @@ ghost use Rattle.sim_base.specs.declared.config.Config.{Config};
 ghost use Rattle.sim_base.specs.declared.command.CommandRow.{CommandRow};
 ghost use Rattle.bank_ready.specs.Words.{names_bank, names_rank};
 ghost use Rattle.bank_ready.specs.Stands.{rank_count, StandsFor};
-ghost use Rattle.fr_fcfs.specs.Columns.{IsInBanks, IsLegalFrom};
+ghost use Rattle.fr_fcfs.specs.Requests.{IsInBanks, IsLegalFrom};
 
 use bank_ready::banks::Banks;
 use sim_base::command::{Command, Kind, Source};

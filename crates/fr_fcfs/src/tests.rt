@@ -2,10 +2,10 @@
 
 ghost use Rattle.std.specs.Prelude.{◌≡◌, ◌<◌, ℕ, IfOk};
 ghost use Rattle.sim_base.specs.Rules.{rank_of};
-ghost use Rattle.fr_fcfs.specs.Columns.{IsInBanks};
+ghost use Rattle.fr_fcfs.specs.Requests.{IsInBanks};
 
-use crate::choice::{choose, wake};
-use crate::scratch::Scratch;
+use crate::Scratch;
+use crate::choice::{choose, next, wake};
 use bank_ready::banks::Banks;
 use queue::Queue;
 use refresh::Refresh;
@@ -122,25 +122,25 @@ fn close_is_withheld_for_a_hit(rt: HostRuntime) -> Result<(), Fail> {
     let mut banks = Banks::new(rt.alloc(), &config)?;
     let refresh = Refresh::new(0, 1);
     let mut queue = Queue::with_room(rt.alloc(), 2, 0, 0)?;
-    let mut scratch = Scratch::with_room(rt.alloc(), 2)?;
-    banks.note(
-        Command::Act {
-            bank: BANK,
-            row: 0,
-            source: Source { core: 0, entry: 0 },
-        },
-        2,
-    );
+    let mut heads = Scratch::with_room(rt.alloc(), 16)?;
+    let act = Command::Act {
+        bank: BANK,
+        row: 0,
+        source: Source { core: 0, entry: 0 },
+    };
+    banks.note(act, 2);
+    heads.noted(act, &queue);
     banks.note(column_read(0, 0), 5);
     banks.note(column_read(2, 1), 10);
-    queue.arrive(read(1, 1, 0));
-    queue.arrive(read(3, 0, 2));
-    assert_eq!(rt; choose(&queue, &banks, &refresh, 2, 12, &mut scratch), None);
-    assert_eq!(rt;
-        wake(&queue, &banks, &refresh, 2, 11, &mut scratch),
-        Some(15)
-    );
-    let choice = choose(&queue, &banks, &refresh, 2, 15, &mut scratch).ok_or("no read")?;
+    let miss = read(1, 1, 0);
+    queue.arrive(miss);
+    let hit = read(3, 0, 2);
+    queue.arrive(hit);
+    heads.arrived(0, &queue);
+    assert_eq!(rt; choose(&queue, &heads, &banks, &refresh, 2, 12), None);
+    assert_eq!(rt; wake(&queue, &heads, &banks, &refresh, 2, 11), Some(15));
+    let (cycle, choice) = next(&queue, &heads, &banks, &refresh, 2, 11).ok_or("no read")?;
+    assert_eq!(rt; cycle, 15);
     assert_eq!(rt; choice.command, column_read(3, 2));
     assert_eq!(rt; choice.slot, Some(1));
     Ok(())
@@ -153,13 +153,10 @@ fn idle_channel_is_refreshed(rt: HostRuntime) -> Result<(), Fail> {
     let banks = Banks::new(rt.alloc(), &config)?;
     let refresh = Refresh::new(100, 1);
     let queue = Queue::with_room(rt.alloc(), 1, 0, 0)?;
-    let mut scratch = Scratch::with_room(rt.alloc(), 1)?;
-    assert_eq!(rt;
-        wake(&queue, &banks, &refresh, 2, 0, &mut scratch),
-        Some(100)
-    );
-    assert_eq!(rt; choose(&queue, &banks, &refresh, 2, 99, &mut scratch), None);
-    let choice = choose(&queue, &banks, &refresh, 2, 100, &mut scratch).ok_or("no refresh")?;
+    let heads = Scratch::with_room(rt.alloc(), 16)?;
+    assert_eq!(rt; wake(&queue, &heads, &banks, &refresh, 2, 0), Some(100));
+    assert_eq!(rt; choose(&queue, &heads, &banks, &refresh, 2, 99), None);
+    let choice = choose(&queue, &heads, &banks, &refresh, 2, 100).ok_or("no refresh")?;
     assert_eq!(rt; choice.command, Command::Ref { rank: 0 });
     assert_eq!(rt; choice.slot, None);
     Ok(())

@@ -33,7 +33,7 @@ or_twice false true = refl
 or_twice false false = refl
 
 -- the marks of requests that follow others, by which lines those asked for
-abbrev marks_after : (Place → Bool) → List Request → List ℕ
+abbrev pub marks_after : (Place → Bool) → List Request → List ℕ
 marks_after asked [] = []
 marks_after asked (r ∷ rs) = mark (not (asked r.place)) ∷ marks_after (λ p. asked p || is_line r.place p) rs
 
@@ -55,15 +55,15 @@ marks_from older (r ∷ rs) n long =
     ∙ ap (λ (f : Place → Bool). marks_after f rs) (λ i p. asks_push p older r i) in
     λ i. mark (not (asks_for_line r.place (before i))) ∷ rest i
 
-eligible_is : (rs : List Request) → eligible_column rs ≡ marks_after (λ p. false) rs
+pub eligible_is : (rs : List Request) → eligible_column rs ≡ marks_after (λ p. false) rs
 unfolding eligible_column asks_for_line
 eligible_is rs = marks_from [] rs 0 refl
 
-length-marks : (asked : Place → Bool) (rs : List Request) → length (marks_after asked rs) ≡ length rs
+pub length-marks : (asked : Place → Bool) (rs : List Request) → length (marks_after asked rs) ≡ length rs
 length-marks asked [] = refl
 length-marks asked (r ∷ rs) = ap suc (length-marks (λ p. asked p || is_line r.place p) rs)
 
-marks-append : (asked : Place → Bool) (rs more : List Request)
+pub marks-append : (asked : Place → Bool) (rs more : List Request)
     → marks_after asked (rs ++ more) ≡ marks_after asked rs ++ marks_after (λ p. asked p || asks_for_line p rs) more
 unfolding asks_for_line
 marks-append asked [] more = ap (λ (f : Place → Bool). marks_after f more) (λ i p. sym (or_false (asked p)) i)
@@ -124,12 +124,12 @@ pub around : {X : Type 0} (xs : List X) (i : ℕ) (d : X) → i < length xs → 
 around xs i d exists = sym (take-append-drop i xs) ∙ ap (λ ys. take i xs ++ ys) (drop_more xs i d exists)
 
 -- the marks round the place of a request
-split_marks : (older rs : List Request) (r : Request)
+pub split_marks : (older rs : List Request) (r : Request)
     → eligible_column (older ++ r ∷ rs)
     ≡ marks_after (λ p. false) older ++ mark (not (asks_for_line r.place older)) ∷ marks_after (λ p. asks_for_line p older || is_line r.place p) rs
 split_marks older rs r = eligible_is (older ++ r ∷ rs) ∙ marks-append (λ p. false) older (r ∷ rs)
 
-remove_at : {X : Type 0} (xs ys : List X) (x : X) (n : ℕ) → length xs ≡ n → remove (xs ++ x ∷ ys) n ≡ xs ++ ys
+pub remove_at : {X : Type 0} (xs ys : List X) (x : X) (n : ℕ) → length xs ≡ n → remove (xs ++ x ∷ ys) n ≡ xs ++ ys
 remove_at xs ys x n long =
     let here : n - n ≡ 0 = omega arith in
     remove-append_right xs (x ∷ ys) n n long (omega arith) ∙ ap (λ k. xs ++ remove (x ∷ ys) k) here

@@ -4,7 +4,7 @@ use Rattle.std.proofs.lemmas.Bool.{cond-true, cond-false}
 use Rattle.sim_base.specs.declared.command.Command.TheVariants.{Prea, Ref}
 use Rattle.sim_base.specs.Rules.{has_open_bank}
 use Rattle.sim_base.specs.Scheduling.{refresh_command}
-use Rattle.fr_fcfs.specs.Columns.{IsLegalFrom}
+use Rattle.fr_fcfs.specs.Requests.{IsLegalFrom}
 use Rattle.fr_fcfs.proofs.Legal.{legal_from}
 use Rattle.fr_fcfs.proofs.needs.refresh_need.Goals as goal
 

@@ -1,13 +1,33 @@
-use Rattle.std.proofs.Common.{◌<◌, ◌^◌, ◌∷◌, [], ◌++◌, length, Some, ap, sym, subst, ◌∙◌, arith, refl}
+use Rattle.std.proofs.Common.{◌≡◌, ◌<◌, ◌^◌, ◌∷◌, [], ◌++◌, length, Some, ap, sym, subst, ◌∙◌, arith, refl}
 use Rattle.sim_base.specs.History.{issued_commands}
+use Rattle.std.specs.Prelude.{slice_get, option_and_then}
+use Rattle.std.specs.Option.{ForSome}
+use Rattle.sim_base.specs.Rules.{row_after, open_row}
+use Rattle.queue.specs.View.{QueueView}
+use Rattle.heads.specs.Heads.{bank_at}
+use Rattle.heads.specs.Stands.{StandsFor as HeadsStandFor}
+use Rattle.channel_step.specs.Queued.{Queued, requests_left}
 use Rattle.statistics.specs.Channels.{ChannelFits}
 use Rattle.channel_step.specs.Channels.{StandsFor}
 use Rattle.channel_step.specs.declared.channel.Channel.{Channel}
-use Rattle.channel_step.proofs.Issuing.{row_of, counted, slot-below, leaves-hit, counted-fits, issued-stands, issued-before, command-rank, command-owed, seen-counted}
+use Rattle.channel_step.proofs.Issuing.{row_of, counted, slot-below, leaves-hit, counted-fits, issued-stands, issued-before, command-rank, command-among, served-among, left-is, command-owed, seen-counted}
 use Rattle.channel_step.proofs.channel.Channel.perform.Goals as goal
 
 pub take-hit-requires : goal.take-hit-requires
 take-hit-requires c = slot-below c.args.self.now.waiting.queue.requests c.args.chosen c.requires.slot
+
+pub request_at-served-requires : goal.request_at-served-requires
+request_at-served-requires c =
+    subst (λ (z : QueueView). ForSome c.args.chosen.slot (λ k. k < length z.requests)) (sym c.queue.ensures) (slot-below c.args.self.now.waiting.queue.requests c.args.chosen c.requires.slot)
+
+pub note_heads-requires-clause-bank : goal.note_heads-requires-clause-bank
+note_heads-requires-clause-bank c =
+    let p = c.requires.chosen in
+    served-among c.args.self.now p.s p.channel p.rows p.mail c.args.chosen.slot c.request_at-served.result p.is_in
+    (c.request_at-served.ensures ∙ ap (λ (z : QueueView). option_and_then (slice_get z.requests) c.args.chosen.slot) c.queue.ensures)
+
+pub note_heads-requires-clause-among : goal.note_heads-requires-clause-among
+note_heads-requires-clause-among c = let p = c.requires.chosen in command-among c.args.self.now p.s p.channel p.rows p.mail c.args.chosen.command p.is_in p.chosen
 
 pub note-requires-clause-rank : goal.note-requires-clause-rank
 note-requires-clause-rank c = let p = c.requires.chosen in command-rank c.args.self.now p.s p.channel p.rows p.mail c.args.chosen.command p.is_in p.chosen
@@ -32,9 +52,16 @@ returns c s channel rows mail h at e =
     let x = c.args.self.now in
     let history = issued_commands channel rows in
     let command = c.args.chosen.command in
+    let slot = c.args.chosen.slot in
+    let served : c.request_at-served.result ≡ option_and_then (slice_get x.waiting.queue.requests) slot =
+    c.request_at-served.ensures ∙ ap (λ (z : QueueView). option_and_then (slice_get z.requests) slot) c.queue.ensures in
+    let left : c.queue-2.result.now.requests ≡ requests_left x.waiting.queue.requests slot =
+    ap (λ (z : QueueView). z.requests) c.queue-2.ensures ∙ ap (λ (z : Queued). z.queue.requests) c.take-hit.ensures.rest ∙ left-is x.waiting command slot in
     subst (λ (z : Channel). StandsFor z s channel (rows ++ Some command ∷ []) mail) (sym c.count.ensures)
-    (issued-stands x s channel rows mail c.args.now c.args.chosen c.take-hit.new.self c.note.new.self c.note_refresh.new.refresh _ h at e c.requires.slot
-    c.take-hit.ensures.rest
+    (issued-stands x s channel rows mail c.args.now c.args.chosen c.take-hit.new.self c.note_heads.new.heads c.note.new.self c.note_refresh.new.refresh _ h at e c.requires.slot
+    c.take-hit.ensures.rest c.note_heads.ensures.banks
+    (subst (λ (z : QueueView). HeadsStandFor c.note_heads.new.heads z.requests (λ bank. row_after (bank_at bank) (open_row (bank_at bank) history) command)) c.queue-2.ensures
+    (c.note_heads.ensures.stands x.waiting.queue.requests (λ bank. open_row (bank_at bank) history) served (slot-below x.waiting.queue.requests c.args.chosen c.requires.slot) left h.heads_stand))
     (c.note.ensures.stands s history channel h.banks_stand (issued-before channel c.args.now rows at))
     (c.note_refresh.ensures s history (row_of channel c.args.now command) refl h.refreshes_stand)
     (seen-counted x s channel rows mail c.args.now c.args.seen (Some command) c.take-hit.result h at c.requires.seen

@@ -12,4 +12,5 @@ returns c =
     (c.in_ok-new.ensures {u = tt}).stands
     (c.new-2.ensures.stands s refl refl)
     (ap₂ (λ (x : ChannelStats) d. record x { draining = d }) c.new-stats.ensures c.drained-stats.ensures)
-    (c.in_ok-with_room-2.ensures {u = tt} ∙ ap (λ k. k * (s.read_credits + s.write_credits)) c.from.ensures)
+    (c.in_ok-with_room-2.ensures {u = tt}).banks
+    (c.in_ok-with_room-2.ensures {u = tt}).stands

@@ -1,0 +1,253 @@
+-- What one bank offers.
+use Rattle.std.proofs.Common.{◌≡◌, ℕ, ◌/◌, ◌%◌, Bool, true, false, not, cond, ◌&&◌, ◌||◌, eqb, leb, List, Option, Some, None, refl, sym, ap, ◌∙◌, inl, inr, arith}
+use Rattle.std.proofs.lemmas.Bool.{cases_Bool, cond-true, cond-false, eqb-true, true≢false}
+use Rattle.std.specs.List.{All}
+use Rattle.std.specs.Option.{is_some}
+use Rattle.sim_base.specs.declared.config.Config.{Config}
+use Rattle.sim_base.specs.declared.command.Command.TheVariants.{Rd, Wr, Pre}
+use Rattle.sim_base.specs.declared.command.CommandRow.{CommandRow}
+use Rattle.sim_base.specs.declared.command.Kind.{Kind}
+use Rattle.sim_base.specs.declared.command.Kind.TheVariants as kind
+use Rattle.sim_base.specs.declared.message.Request.{Request}
+use Rattle.sim_base.specs.Places.{bank_in, is_bank}
+use Rattle.sim_base.specs.Rules.{is_legal, open_row, is_row, kind_of}
+use Rattle.sim_base.specs.Scheduling.{needed, needed_at, column_command, source_of, is_column_command, has_hit, is_withheld, is_row_hit, ready_hit, ready_row}
+use Rattle.queue.specs.Columns.{bank_number}
+use Rattle.heads.specs.declared.entry.BankHeads.{BankHeads}
+use Rattle.heads.specs.Heads.{bank_at, asks, hits, first_place, AreHeads}
+use Rattle.heads.specs.Moves.{earlier}
+use Rattle.heads.proofs.Stood.{bank_named}
+use Rattle.heads.proofs.Searches.{none_everywhere, none_narrower_all}
+use Rattle.fr_fcfs.specs.declared.kinds.Kinds.{Kinds}
+use Rattle.fr_fcfs.specs.Requests.{IsInBanks, is_hit}
+use Rattle.fr_fcfs.specs.Offers.{is_of, if_allowed, hit_head, oldest_head, going, hits_now, rows_now, hits_in, rows_in, IsReadyFrom, row_kind}
+use Rattle.fr_fcfs.proofs.Booleans.{and_false, and_true, or_false, eqb_swap}
+use Rattle.fr_fcfs.proofs.Legal.{needed_bank, hit_is, column_needed, finds_needed, legal_at, withheld_is}
+use Rattle.fr_fcfs.proofs.Firsts.{same_among, either_among, place_if, same_unless, any_going}
+
+-- the bank of a request, by its number
+pub number_is : (ranks : ℕ) (r : Request) (bank : ℕ) → IsInBanks ranks r → is_bank (bank_in r.place) (bank_at bank) ≡ eqb (bank_number r.place) bank
+number_is ranks r bank places =
+    (λ i. eqb_swap r.place.rank (bank / 16) i && eqb_swap r.place.group (bank / 4 % 4) i && eqb_swap r.place.bank (bank % 4) i)
+    ∙ sym (bank_named bank (bank_in r.place) places.group places.bank)
+    ∙ eqb_swap bank (bank_number r.place)
+
+pub bank_is : (ranks : ℕ) (r : Request) (bank : ℕ) → IsInBanks ranks r → eqb (bank_number r.place) bank ≡ true → bank_in r.place ≡ bank_at bank
+bank_is ranks r bank places same =
+    let number : bank_number r.place ≡ bank = eqb-true (bank_number r.place) bank same in
+    let group_in = places.group in
+    let bank_in_group = places.bank in
+    let rank : r.place.rank ≡ bank / 16 = omega arith in
+    let group : r.place.group ≡ bank / 4 % 4 = omega arith in
+    let number_in_group : r.place.bank ≡ bank % 4 = omega arith in
+    λ i. record { rank = rank i; group = group i; bank = number_in_group i }
+
+-- a request of a bank asks for its open row
+row_hit_is : (history : List CommandRow) (ranks : ℕ) (r : Request) (bank : ℕ) (row : Option ℕ) → IsInBanks ranks r → row ≡ open_row (bank_at bank) history
+    → eqb (bank_number r.place) bank ≡ true → is_hit history r ≡ is_row r.place.row row
+row_hit_is history ranks r bank row places row_is here =
+    hit_is history r ∙ ap (λ b. is_row r.place.row (open_row b history)) (bank_is ranks r bank places here) ∙ ap (is_row r.place.row) (sym row_is)
+
+column_kind : (w : Bool) (r : Request) → kind_of (cond w (Wr (bank_in r.place) r.place.row r.place.column (source_of r)) (Rd (bank_in r.place) r.place.row r.place.column (source_of r))) ≡ cond w kind.Wr kind.Rd
+column_kind true r = refl
+column_kind false r = refl
+
+hit_kind : (history : List CommandRow) (r : Request) → is_hit history r ≡ true → kind_of (needed history r) ≡ cond r.write kind.Wr kind.Rd
+unfolding needed
+hit_kind history r hit = ap kind_of (column_needed (open_row (bank_in r.place) history) r hit) ∙ column_kind r.write r
+
+row_kind_at : (row : Option ℕ) (r : Request) → is_column_command (needed_at row r) ≡ false → kind_of (needed_at row r) ≡ row_kind row
+row_kind_at None r other = refl
+row_kind_at (Some row) r other = elim (cases_Bool (eqb row r.place.row)) [
+  | inl same ↦
+      absurd (true≢false (sym (column_any r.write r) ∙ ap is_column_command (sym (cond-true (eqb row r.place.row) (column_command r) (Pre (bank_in r.place) (source_of r)) same)) ∙ other))
+  | inr apart ↦ ap kind_of (cond-false (eqb row r.place.row) (column_command r) (Pre (bank_in r.place) (source_of r)) apart)
+]
+  where
+    column_any : (w : Bool) (r : Request)
+        → is_column_command (cond w (Wr (bank_in r.place) r.place.row r.place.column (source_of r)) (Rd (bank_in r.place) r.place.row r.place.column (source_of r))) ≡ true
+    column_any true r = refl
+    column_any false r = refl
+
+-- when what a request of a bank needs is legal
+legal_then : (s : Config) (history : List CommandRow) (ranks : ℕ) (r : Request) (bank : ℕ) (k : Kind) (ready : ℕ) → IsInBanks ranks r → IsReadyFrom s history (bank_at bank) k ready
+    → eqb (bank_number r.place) bank ≡ true → kind_of (needed history r) ≡ k → (cycle : ℕ) → is_legal s history cycle (needed history r) ≡ leb ready cycle
+unfolding needed
+legal_then s history ranks r bank k ready places from here kind_is =
+    legal_at s history (needed history r) ready
+    (from (needed history r) kind_is (needed_bank (open_row (bank_in r.place) history) r ∙ ap Some (bank_is ranks r bank places here)) (finds_needed s history r))
+
+hit_test : (b w kr kw lr lw hit row_hit legal : Bool) → (b ≡ true → hit ≡ row_hit) → (b ≡ true → hit ≡ true → legal ≡ cond w lw lr)
+    → (b && (cond w kw kr && (hit && legal)))
+    ≡ (((kr && lr) && ((b && cond false w (not w)) && row_hit)) || ((kw && lw) && ((b && cond true w (not w)) && row_hit)))
+hit_test false w kr kw lr lw hit row_hit legal same when = sym (ap (λ t. t || ((kw && lw) && false)) (and_false (kr && lr)) ∙ and_false (kw && lw))
+hit_test true true kr kw lr lw hit row_hit legal same when =
+    one hit row_hit legal lw kw (same refl) (when refl) ∙ sym (ap (λ t. t || ((kw && lw) && row_hit)) (and_false (kr && lr)))
+  where
+    one : (h rh l ready k : Bool) → h ≡ rh → (h ≡ true → l ≡ ready) → (k && (h && l)) ≡ ((k && ready) && rh)
+    one true rh l ready k is then = ap (λ t. k && t) (then refl) ∙ sym (ap (λ t. (k && ready) && t) (sym is) ∙ and_true (k && ready))
+    one false rh l ready k is then = and_false k ∙ sym (ap (λ t. (k && ready) && t) (sym is) ∙ and_false (k && ready))
+hit_test true false kr kw lr lw hit row_hit legal same when =
+    one hit row_hit legal lr kr (same refl) (when refl) ∙ sym (ap (λ t. ((kr && lr) && row_hit) || t) (and_false (kw && lw)) ∙ or_false ((kr && lr) && row_hit))
+  where
+    one : (h rh l ready k : Bool) → h ≡ rh → (h ≡ true → l ≡ ready) → (k && (h && l)) ≡ ((k && ready) && rh)
+    one true rh l ready k is then = ap (λ t. k && t) (then refl) ∙ sym (ap (λ t. (k && ready) && t) (sym is) ∙ and_true (k && ready))
+    one false rh l ready k is then = and_false k ∙ sym (ap (λ t. (k && ready) && t) (sym is) ∙ and_false (k && ready))
+
+allowed_then : (k ready : Bool) (head : Option ℕ) → cond (k && ready) head None ≡ cond ready (if_allowed head k) None
+allowed_then true true head = refl
+allowed_then true false head = refl
+allowed_then false true head = refl
+allowed_then false false head = refl
+
+-- the first row hit of a bank that is ready
+pub hits_are : (s : Config) (history : List CommandRow) (ranks : ℕ) (requests : List Request) (kinds : Kinds) (bank : ℕ) (h : BankHeads) (read write : ℕ)
+    → All (IsInBanks ranks) requests → AreHeads requests bank h → h.row ≡ open_row (bank_at bank) history → IsReadyFrom s history (bank_at bank) kind.Rd read
+    → IsReadyFrom s history (bank_at bank) kind.Wr write → (cycle : ℕ)
+    → hits_in s history requests kinds bank cycle
+    ≡ earlier (cond (leb read cycle) (if_allowed h.reads.hit kinds.reads) None) (cond (leb write cycle) (if_allowed h.writes.hit kinds.writes) None)
+unfolding ready_hit
+hits_are s history ranks requests kinds bank h read write places first row_is reads writes cycle =
+    either_among (λ r. eqb (bank_number r.place) bank && hits_now s history kinds cycle r) (λ r. (kinds.reads && leb read cycle) && hits bank false h.row r)
+    (λ r. (kinds.writes && leb write cycle) && hits bank true h.row r) (IsInBanks ranks) requests places
+    (λ r in_banks.
+    hit_test (eqb (bank_number r.place) bank) r.write kinds.reads kinds.writes (leb read cycle) (leb write cycle) (is_hit history r) (is_row r.place.row h.row)
+    (is_legal s history cycle (needed history r)) (row_hit_is history ranks r bank h.row in_banks row_is)
+    (λ here hit. legal_hit r.write r in_banks here (hit_kind history r hit)))
+    ∙ (λ i. earlier (place_if (kinds.reads && leb read cycle) (hits bank false h.row) requests i) (place_if (kinds.writes && leb write cycle) (hits bank true h.row) requests i))
+    ∙ (λ i. earlier (cond (kinds.reads && leb read cycle) ((sym first.reads_are.hit_is) i) None) (cond (kinds.writes && leb write cycle) ((sym first.writes_are.hit_is) i) None))
+    ∙ (λ i. earlier (allowed_then kinds.reads (leb read cycle) h.reads.hit i) (allowed_then kinds.writes (leb write cycle) h.writes.hit i))
+  where
+    legal_hit : (w : Bool) (r : Request) → IsInBanks ranks r → eqb (bank_number r.place) bank ≡ true → kind_of (needed history r) ≡ cond w kind.Wr kind.Rd
+        → is_legal s history cycle (needed history r) ≡ cond w (leb write cycle) (leb read cycle)
+    legal_hit true r in_banks here is = legal_then s history ranks r bank kind.Wr write in_banks writes here is cycle
+    legal_hit false r in_banks here is = legal_then s history ranks r bank kind.Rd read in_banks reads here is cycle
+
+-- some request that goes asks for the open row of the bank
+row_hit_test : (b w kr kw row_hit : Bool) → (cond w kw kr && (b && row_hit)) ≡ ((kr && ((b && cond false w (not w)) && row_hit)) || (kw && ((b && cond true w (not w)) && row_hit)))
+row_hit_test false w kr kw row_hit = and_false (cond w kw kr) ∙ sym (ap (λ t. t || (kw && false)) (and_false kr) ∙ and_false kw)
+row_hit_test true true kr kw row_hit = sym (ap (λ t. t || (kw && row_hit)) (and_false kr))
+row_hit_test true false kr kw row_hit = sym (ap (λ t. (kr && row_hit) || t) (and_false kw) ∙ or_false (kr && row_hit))
+
+abbrev wants_row : Kinds → ℕ → Option ℕ → Request → Bool
+wants_row kinds bank row r = (kinds.reads && hits bank false row r) || (kinds.writes && hits bank true row r)
+
+hit_head_is : (ranks : ℕ) (requests : List Request) (kinds : Kinds) (bank : ℕ) (h : BankHeads) → All (IsInBanks ranks) requests → AreHeads requests bank h
+    → first_place (wants_row kinds bank h.row) requests ≡ hit_head kinds h
+hit_head_is ranks requests kinds bank h places first =
+    either_among (wants_row kinds bank h.row) (λ r. kinds.reads && hits bank false h.row r) (λ r. kinds.writes && hits bank true h.row r) (IsInBanks ranks) requests places (λ r in_banks. refl)
+    ∙ (λ i. earlier (place_if kinds.reads (hits bank false h.row) requests i) (place_if kinds.writes (hits bank true h.row) requests i))
+    ∙ (λ i. earlier (cond kinds.reads ((sym first.reads_are.hit_is) i) None) (cond kinds.writes ((sym first.writes_are.hit_is) i) None))
+
+has_hit_is : (history : List CommandRow) (ranks : ℕ) (requests : List Request) (kinds : Kinds) (bank : ℕ) (h : BankHeads) → All (IsInBanks ranks) requests
+    → AreHeads requests bank h → h.row ≡ open_row (bank_at bank) history → has_hit history (going kinds requests) (bank_at bank) ≡ is_some (hit_head kinds h)
+has_hit_is history ranks requests kinds bank h places first row_is =
+    let row = open_row (bank_at bank) history in
+    any_going (λ x. is_row_hit x (bank_at bank) row) kinds requests
+    ∙ ap is_some
+    (same_among (λ x. is_of kinds x && is_row_hit x (bank_at bank) row) (wants_row kinds bank h.row) (IsInBanks ranks) requests places
+    (λ x in_banks.
+    (λ i. is_of kinds x && (number_is ranks x bank in_banks i && is_row x.place.row (row_is' i)))
+    ∙ row_hit_test (eqb (bank_number x.place) bank) x.write kinds.reads kinds.writes (is_row x.place.row h.row))
+    ∙ hit_head_is ranks requests kinds bank h places first)
+  where
+    row_is' : open_row (bank_at bank) history ≡ h.row
+    row_is' = sym row_is
+
+row_test : (b w kr kw hit row_hit legal ready withheld : Bool) → (b ≡ true → hit ≡ row_hit) → (b ≡ true → hit ≡ false → legal ≡ ready) → (b ≡ true → withheld ≡ false)
+    → ((kr && ((b && cond false w (not w)) && row_hit)) || (kw && ((b && cond true w (not w)) && row_hit))) ≡ false
+    → (b && (cond w kw kr && ((not hit && legal) && not withheld))) ≡ (((kr && ready) && (b && cond false w (not w))) || ((kw && ready) && (b && cond true w (not w))))
+row_test false w kr kw hit row_hit legal ready withheld same when free none = sym (ap (λ t. t || ((kw && ready) && false)) (and_false (kr && ready)) ∙ and_false (kw && ready))
+row_test true true kr kw hit row_hit legal ready withheld same when free none =
+    one_row kw hit row_hit legal ready withheld (same refl) (when refl) (free refl) (ap (λ t. t || (kw && row_hit)) (sym (and_false kr)) ∙ none)
+    ∙ sym (ap (λ t. t || ((kw && ready) && true)) (and_false (kr && ready)) ∙ and_true (kw && ready))
+  where
+    one_row : (k h rh l ready wh : Bool) → h ≡ rh → (h ≡ false → l ≡ ready) → wh ≡ false → (k && rh) ≡ false → (k && ((not h && l) && not wh)) ≡ (k && ready)
+    one_row false h rh l ready wh is then free none = refl
+    one_row true h rh l ready wh is then free none =
+        let off : h ≡ false = is ∙ none in
+        (λ i. (not (off i) && then off i) && not (free i)) ∙ and_true ready
+row_test true false kr kw hit row_hit legal ready withheld same when free none =
+    one_row kr hit row_hit legal ready withheld (same refl) (when refl) (free refl) (sym (or_false (kr && row_hit)) ∙ ap (λ t. (kr && row_hit) || t) (sym (and_false kw)) ∙ none)
+    ∙ sym (ap (λ t. ((kr && ready) && true) || t) (and_false (kw && ready)) ∙ or_false ((kr && ready) && true) ∙ and_true (kr && ready))
+  where
+    one_row : (k h rh l ready wh : Bool) → h ≡ rh → (h ≡ false → l ≡ ready) → wh ≡ false → (k && rh) ≡ false → (k && ((not h && l) && not wh)) ≡ (k && ready)
+    one_row false h rh l ready wh is then free none = refl
+    one_row true h rh l ready wh is then free none =
+        let off : h ≡ false = is ∙ none in
+        (λ i. (not (off i) && then off i) && not (free i)) ∙ and_true ready
+
+both_allowed : (ready : Bool) (a b : Option ℕ) (ka kb : Bool)
+    → earlier (cond (ka && ready) a None) (cond (kb && ready) b None) ≡ cond ready (earlier (if_allowed a ka) (if_allowed b kb)) None
+both_allowed true a b ka kb = λ i. earlier (cond (and_true ka i) a None) (cond (and_true kb i) b None)
+both_allowed false a b ka kb = λ i. earlier (cond (and_false ka i) a None) (cond (and_false kb i) b None)
+
+-- the first request of a bank whose ACT or PRE is ready, where none asks for its open row
+pub rows_are : (s : Config) (history : List CommandRow) (ranks : ℕ) (requests : List Request) (kinds : Kinds) (bank : ℕ) (h : BankHeads) (ready : ℕ)
+    → All (IsInBanks ranks) requests → AreHeads requests bank h → h.row ≡ open_row (bank_at bank) history → IsReadyFrom s history (bank_at bank) (row_kind h.row) ready
+    → is_some (hit_head kinds h) ≡ false → (cycle : ℕ)
+    → rows_in s history requests kinds bank cycle ≡ cond (leb ready cycle) (oldest_head kinds h) None
+unfolding ready_row needed
+rows_are s history ranks requests kinds bank h ready places first row_is from none cycle =
+    let cands = going kinds requests in
+    same_unless (λ r. eqb (bank_number r.place) bank && rows_now s history requests kinds cycle r)
+    (λ r. ((kinds.reads && leb ready cycle) && asks bank false r) || ((kinds.writes && leb ready cycle) && asks bank true r)) (wants_row kinds bank h.row) (IsInBanks ranks) requests
+    (hit_head_is ranks requests kinds bank h places first ∙ is_none (hit_head kinds h) none) places
+    (λ r in_banks off.
+    row_test (eqb (bank_number r.place) bank) r.write kinds.reads kinds.writes (is_hit history r) (is_row r.place.row h.row) (is_legal s history cycle (needed history r)) (leb ready cycle)
+    (is_withheld history cands (needed history r)) (row_hit_is history ranks r bank h.row in_banks row_is)
+    (λ here other. legal_then s history ranks r bank (row_kind h.row) ready in_banks from here (kind_here r in_banks here other) cycle)
+    (λ here.
+    withheld_is history cands r
+    ∙ ap (λ b. has_hit history cands b && not (is_hit history r)) (bank_is ranks r bank in_banks here)
+    ∙ ap (λ b. b && not (is_hit history r)) (has_hit_is history ranks requests kinds bank h places first row_is ∙ none))
+    off)
+    ∙ either_among (λ r. ((kinds.reads && leb ready cycle) && asks bank false r) || ((kinds.writes && leb ready cycle) && asks bank true r)) (λ r. (kinds.reads && leb ready cycle) && asks bank false r)
+    (λ r. (kinds.writes && leb ready cycle) && asks bank true r) (IsInBanks ranks) requests places (λ r in_banks. refl)
+    ∙ (λ i. earlier (place_if (kinds.reads && leb ready cycle) (asks bank false) requests i) (place_if (kinds.writes && leb ready cycle) (asks bank true) requests i))
+    ∙ (λ i. earlier (cond (kinds.reads && leb ready cycle) ((sym first.reads_are.oldest_is) i) None) (cond (kinds.writes && leb ready cycle) ((sym first.writes_are.oldest_is) i) None))
+    ∙ both_allowed (leb ready cycle) h.reads.oldest h.writes.oldest kinds.reads kinds.writes
+  where
+    is_none : (o : Option ℕ) → is_some o ≡ false → o ≡ None
+    is_none None off = refl
+    is_none (Some k) off = cc
+
+    kind_here : (r : Request) → IsInBanks ranks r → eqb (bank_number r.place) bank ≡ true → is_hit history r ≡ false → kind_of (needed history r) ≡ row_kind h.row
+    kind_here r in_banks here other =
+        row_kind_at (open_row (bank_in r.place) history) r other ∙ ap (λ b. row_kind (open_row b history)) (bank_is ranks r bank in_banks here) ∙ ap row_kind (sym row_is)
+
+withheld_test : (b k hit legal withheld : Bool) → (b ≡ true → withheld ≡ (true && not hit)) → (b && (k && ((not hit && legal) && not withheld))) ≡ false
+withheld_test false k hit legal withheld is = refl
+withheld_test true k true legal withheld is = and_false k
+withheld_test true k false legal withheld is = ap (λ w. k && (legal && not w)) (is refl) ∙ ap (λ t. k && t) (and_false legal) ∙ and_false k
+
+-- a row hit that goes withholds all else of its bank
+pub rows_withheld : (s : Config) (history : List CommandRow) (ranks : ℕ) (requests : List Request) (kinds : Kinds) (bank : ℕ) (h : BankHeads) → All (IsInBanks ranks) requests
+    → AreHeads requests bank h → h.row ≡ open_row (bank_at bank) history → is_some (hit_head kinds h) ≡ true → (cycle : ℕ) → rows_in s history requests kinds bank cycle ≡ None
+unfolding ready_row
+rows_withheld s history ranks requests kinds bank h places first row_is some cycle =
+    let cands = going kinds requests in
+    same_among (λ r. eqb (bank_number r.place) bank && rows_now s history requests kinds cycle r) (λ r. false) (IsInBanks ranks) requests places
+    (λ r in_banks.
+    withheld_test (eqb (bank_number r.place) bank) (is_of kinds r) (is_hit history r) (is_legal s history cycle (needed history r)) (is_withheld history cands (needed history r))
+    (λ here.
+    withheld_is history cands r
+    ∙ ap (λ b. has_hit history cands b && not (is_hit history r)) (bank_is ranks r bank in_banks here)
+    ∙ ap (λ b. b && not (is_hit history r)) (has_hit_is history ranks requests kinds bank h places first row_is ∙ some)))
+    ∙ sym (none_everywhere (λ r. false) requests (λ r. refl))
+
+either_kind : (b w : Bool) → ((b && cond false w (not w)) || (b && cond true w (not w))) ≡ b
+either_kind true true = refl
+either_kind true false = refl
+either_kind false w = refl
+
+-- no request of a bank may be served that has no heads
+pub none_offered : (requests : List Request) (bank : ℕ) (h : BankHeads) (test : Request → Bool) → AreHeads requests bank h → h.reads.oldest ≡ None → h.writes.oldest ≡ None
+    → first_place (λ r. eqb (bank_number r.place) bank && test r) requests ≡ None
+none_offered requests bank h test first no_read no_write =
+    let none : first_place (λ r. asks bank false r || asks bank true r) requests ≡ None =
+    either_among (λ r. asks bank false r || asks bank true r) (asks bank false) (asks bank true) (λ r. Unit {0}) requests (λ k d exists. tt) (λ r in_all. refl)
+    ∙ (λ i. earlier ((sym first.reads_are.oldest_is ∙ no_read) i) ((sym first.writes_are.oldest_is ∙ no_write) i)) in
+    sym
+    (none_narrower_all (λ r. eqb (bank_number r.place) bank && test r) (λ r. asks bank false r || asks bank true r) requests
+    (λ r off. ap (λ b. b && test r) (sym (either_kind (eqb (bank_number r.place) bank) r.write) ∙ off)) (sym none))

@@ -1,0 +1,140 @@
+-- The first request that passes a test, among those of the banks below a number.
+use Rattle.std.proofs.Common.{◌≡◌, ℕ, zero, suc, ◌+◌, ◌<◌, ◌≤◌, Bool, true, false, ◌&&◌, ◌||◌, ltb, eqb, List, [], ◌∷◌, length, Option, Some, None, refl, sym, ap, ◌∙◌, inl, inr, arith}
+use Rattle.std.proofs.lemmas.Bool.{cases_Bool, cases_lt, cases_eq, lt-ltb, le-ltb, eq-eqb, ne_eqb, true≢false}
+use Rattle.std.specs.List.{All, slice_get}
+use Rattle.std.specs.Option.{is_some, option_map, option_and_then, IfSome}
+use Rattle.sim_base.specs.declared.config.Config.{Config}
+use Rattle.sim_base.specs.declared.command.CommandRow.{CommandRow}
+use Rattle.sim_base.specs.declared.message.Request.{Request}
+use Rattle.sim_base.specs.Scheduling.{needed, or_else, first_ready, ready_hit, ready_row}
+use Rattle.queue.specs.Columns.{bank_number}
+use Rattle.queue.specs.View.{QueueView}
+use Rattle.heads.specs.declared.entry.BankHeads.{BankHeads}
+use Rattle.heads.specs.Heads.{first_place, asks, AreHeads}
+use Rattle.heads.specs.Moves.{earlier}
+use Rattle.heads.proofs.Searches.{none_everywhere, none_narrower_all}
+use Rattle.fr_fcfs.specs.declared.kinds.Kinds.{Kinds}
+use Rattle.fr_fcfs.specs.declared.offers.Offer.{Offer}
+use Rattle.fr_fcfs.specs.Requests.{candidates_of}
+use Rattle.fr_fcfs.specs.Offers.{going, hits_now, rows_now, head_of, IsAt, IsBest, IsFirstReady}
+use Rattle.fr_fcfs.proofs.Firsts.{same_among, either_among, find_going}
+
+-- the first request of the banks below a number that passes a test
+abbrev pub place_below : ℕ → (Request → Bool) → List Request → Option ℕ
+place_below n test requests = first_place (λ r. ltb (bank_number r.place) n && test r) requests
+
+pub none_below : (test : Request → Bool) (requests : List Request) → place_below 0 test requests ≡ None
+none_below test requests =
+    sym (none_everywhere (λ r. ltb (bank_number r.place) 0 && test r) requests (λ r. ap (λ b. b && test r) (le-ltb (bank_number r.place) 0 (omega arith))))
+
+more_below : (k n : ℕ) (t : Bool) → (ltb k (n + 1) && t) ≡ ((ltb k n && t) || (eqb k n && t))
+more_below k n t = elim (cases_eq k n) [
+  | inl same ↦
+      ap (λ b. b && t) (lt-ltb k (n + 1) (omega arith))
+      ∙ (λ i. ((sym (le-ltb k n (omega arith))) i && t) || ((sym (eq-eqb k n same)) i && t))
+  | inr apart ↦ elim (cases_lt k n) [
+    | inl below ↦
+        ap (λ b. b && t) (lt-ltb k (n + 1) (omega arith) ∙ sym (lt-ltb k n below))
+        ∙ sym (or_none (ltb k n && t))
+        ∙ ap (λ b. (ltb k n && t) || (b && t)) (sym (ne_eqb k n apart))
+    | inr over ↦
+        ap (λ b. b && t) (le-ltb k (n + 1) (beyond over apart))
+        ∙ (λ i. ((sym (le-ltb k n over)) i && t) || ((sym (ne_eqb k n apart)) i && t))
+  ]
+]
+  where
+    or_none : (b : Bool) → (b || false) ≡ b
+    or_none true = refl
+    or_none false = refl
+
+    beyond : n ≤ k → (k ≡ n → ⊥) → n + 1 ≤ k
+    beyond over apart = elim (cases_lt n k) [
+      | inl less ↦ omega arith
+      | inr more ↦ absurd (apart (omega arith))
+    ]
+
+-- one bank more
+pub place_more : (n : ℕ) (test : Request → Bool) (requests : List Request)
+    → place_below (n + 1) test requests ≡ earlier (place_below n test requests) (first_place (λ r. eqb (bank_number r.place) n && test r) requests)
+place_more n test requests =
+    either_among (λ r. ltb (bank_number r.place) (n + 1) && test r) (λ r. ltb (bank_number r.place) n && test r) (λ r. eqb (bank_number r.place) n && test r) (λ r. Unit {0}) requests
+    (λ k d exists. tt) (λ r in_all. more_below (bank_number r.place) n (test r))
+
+-- all banks
+pub place_all : (n : ℕ) (test : Request → Bool) (requests : List Request) → All (λ r. bank_number r.place < n) requests → place_below n test requests ≡ first_place test requests
+place_all n test requests within =
+    same_among (λ r. ltb (bank_number r.place) n && test r) test (λ r. bank_number r.place < n) requests within (λ r below. ap (λ b. b && test r) (lt-ltb (bank_number r.place) n below))
+
+-- the head of a kind
+pub head_is : (write : Bool) (requests : List Request) (bank : ℕ) (h : BankHeads) → AreHeads requests bank h
+    → head_of write h.reads.oldest h.writes.oldest ≡ first_place (asks bank write) requests
+head_is true requests bank h first = first.writes_are.oldest_is
+head_is false requests bank h first = first.reads_are.oldest_is
+
+pub none_is : (o : Option ℕ) → is_some o ≡ false → o ≡ None
+none_is None off = refl
+none_is (Some k) off = cc
+
+-- some request passes a test where one passes another that asks for more
+pub some_wider : (p q : Request → Bool) (requests : List Request) → ((x : Request) → q x ≡ false → p x ≡ false) → is_some (first_place p requests) ≡ true
+    → is_some (first_place q requests) ≡ true
+some_wider p q requests weaker some = elim (cases_Bool (is_some (first_place q requests))) [
+  | inl is ↦ is
+  | inr none ↦ absurd (true≢false (sym some ∙ ap is_some (sym (none_narrower_all p q requests weaker (sym (none_is (first_place q requests) none))))))
+]
+
+-- the command of the first request that is ready, by the places
+pub ready_by_places : (s : Config) (history : List CommandRow) (requests : List Request) (kinds : Kinds) (cycle : ℕ)
+    → first_ready s history cycle (going kinds requests)
+    ≡ option_map (needed history)
+    (or_else (option_and_then (slice_get requests) (first_place (hits_now s history kinds cycle) requests))
+    (option_and_then (slice_get requests) (first_place (rows_now s history requests kinds cycle) requests)))
+unfolding first_ready
+ready_by_places s history requests kinds cycle =
+    λ i. option_map (needed history)
+    (or_else (find_going (ready_hit s history cycle) kinds requests i) (find_going (ready_row s history cycle (going kinds requests)) kinds requests i))
+
+none_ready : (s : Config) (history : List CommandRow) (requests : List Request) (a b : Option ℕ) → a ≡ None → b ≡ None
+    → option_map (needed history) (or_else (option_and_then (slice_get requests) a) (option_and_then (slice_get requests) b)) ≡ None
+none_ready s history requests a b none_a none_b = λ i. option_map (needed history) (or_else (option_and_then (slice_get requests) (none_a i)) (option_and_then (slice_get requests) (none_b i)))
+
+some_at : {X : Type 0} (xs : List X) (k : ℕ) → k < length xs → is_some (slice_get xs k) ≡ true
+some_at [] k within = absurd (omega arith)
+some_at (x ∷ xs) zero within = refl
+some_at (x ∷ xs) (suc k) within = some_at xs k (omega arith)
+
+first_some : {X : Type 0} (a b : Option X) → is_some a ≡ true → or_else a b ≡ a
+first_some (Some x) b some = refl
+first_some None b some = cc
+
+ready_at : (history : List CommandRow) (requests : List Request) (hit : Bool) (a b : Option ℕ) (slot : ℕ) → slot < length requests → IsAt hit a b slot
+    → option_map (needed history) (or_else (option_and_then (slice_get requests) a) (option_and_then (slice_get requests) b)) ≡ option_map (needed history) (slice_get requests slot)
+ready_at history requests true a b slot within is =
+    ap (λ o. option_map (needed history) (or_else (option_and_then (slice_get requests) o) (option_and_then (slice_get requests) b))) is
+    ∙ ap (option_map (needed history)) (first_some (slice_get requests slot) (option_and_then (slice_get requests) b) (some_at requests slot within))
+ready_at history requests false a b slot within is = λ i. option_map (needed history) (or_else (option_and_then (slice_get requests) (is.0 i)) (option_and_then (slice_get requests) (is.1 i)))
+
+-- the offer that goes first of all is what the first request needs that is ready
+pub first_ready_is : (s : Config) (history : List CommandRow) (queue : QueueView) (kinds : Kinds) (now : ℕ) (o : Option Offer) → candidates_of s queue ≡ going kinds queue.requests
+    → IfSome o (λ x. x.slot < length queue.requests)
+    → IsBest now (λ cycle. first_place (hits_now s history kinds cycle) queue.requests) (λ cycle. first_place (rows_now s history queue.requests kinds cycle) queue.requests) o
+    → IsFirstReady s history queue now o
+first_ready_is s history queue kinds now None cands within best = λ cycle late.
+    let none = best cycle late in
+    ap (first_ready s history cycle) cands
+    ∙ ready_by_places s history queue.requests kinds cycle
+    ∙ none_ready s history queue.requests (first_place (hits_now s history kinds cycle) queue.requests) (first_place (rows_now s history queue.requests kinds cycle) queue.requests) none.0 none.1
+first_ready_is s history queue kinds now (Some o) cands within best = record {
+  from_now = best.from_now;
+  none_before = λ cycle late sooner.
+      let none = best.none_before cycle late sooner in
+      ap (first_ready s history cycle) cands
+      ∙ ready_by_places s history queue.requests kinds cycle
+      ∙ none_ready s history queue.requests (first_place (hits_now s history kinds cycle) queue.requests) (first_place (rows_now s history queue.requests kinds cycle) queue.requests) none.0
+      none.1;
+  then_is =
+      ap (first_ready s history o.cycle) cands
+      ∙ ready_by_places s history queue.requests kinds o.cycle
+      ∙ ready_at history queue.requests o.hit (first_place (hits_now s history kinds o.cycle) queue.requests) (first_place (rows_now s history queue.requests kinds o.cycle) queue.requests)
+      o.slot within best.then_is;
+}

@@ -1,0 +1,97 @@
+-- Which requests go first.
+use Rattle.std.proofs.Common.{◌≡◌, ℕ, suc, ◌<◌, ◌≤◌, Bool, true, false, not, cond, ◌&&◌, ltb, List, [], ◌∷◌, length, Option, Some, None, refl, sym, ap, subst, ◌∙◌, inl, inr, arith}
+use Rattle.std.proofs.lemmas.Bool.{cases_lt, cond-true, cond-false, and_from, and_left, and_right, lt-ltb, le-ltb}
+use Rattle.std.specs.List.{filter, list_any, position, position_or_len}
+use Rattle.std.specs.Option.{is_some, IfSome}
+use Rattle.sim_base.specs.declared.config.Config.{Config}
+use Rattle.sim_base.specs.declared.message.Request.{Request}
+use Rattle.sim_base.specs.Scheduling.{candidates, favour, is_favoured, first_of_lines}
+use Rattle.queue.specs.View.{QueueView, is_draining}
+use Rattle.heads.specs.declared.entry.BankHeads.{BankHeads}
+use Rattle.heads.specs.Heads.{passes, entries, first_place, AreHeads}
+use Rattle.heads.proofs.Entries.{length-entries}
+use Rattle.fr_fcfs.specs.Requests.{candidates_of}
+use Rattle.fr_fcfs.specs.Offers.{is_of, AreBelow}
+use Rattle.fr_fcfs.proofs.Firsts.{some_filtered}
+
+-- Where the channel ever drains and some request is favoured, the favoured ones go first.
+pub favour_some : (s : Config) (queue : QueueView) (requests : List Request) → 0 < s.write_high → requests ≡ filter (is_favoured (is_draining queue)) (first_of_lines queue.requests)
+    → 0 < length requests → requests ≡ candidates_of s queue
+unfolding candidates favour
+favour_some s queue requests ever is some =
+    let eligible = first_of_lines queue.requests in
+    let favoured = filter (is_favoured (is_draining queue)) eligible in
+    let long : 0 < length favoured = subst (λ xs. 0 < length xs) is some in
+    is ∙ sym (cond-true (ltb 0 s.write_high && ltb 0 (length favoured)) favoured eligible
+    (and_from (ltb 0 s.write_high) (ltb 0 (length favoured)) (lt-ltb 0 s.write_high ever) (lt-ltb 0 (length favoured) long)))
+
+-- Where none is favoured, all that are eligible go.
+pub favour_none : (s : Config) (queue : QueueView) (requests : List Request) → requests ≡ filter (is_favoured (is_draining queue)) (first_of_lines queue.requests)
+    → length requests ≡ 0 → first_of_lines queue.requests ≡ candidates_of s queue
+unfolding candidates favour
+favour_none s queue requests is none =
+    let eligible = first_of_lines queue.requests in
+    let favoured = filter (is_favoured (is_draining queue)) eligible in
+    let long : length favoured ≤ 0 = subst (λ xs. length xs ≤ 0) is (omega arith) in
+    sym (cond-false (ltb 0 s.write_high && ltb 0 (length favoured)) favoured eligible (and_right (ltb 0 s.write_high) (ltb 0 (length favoured)) (le-ltb 0 (length favoured) long)))
+
+-- So do they where the channel never drains.
+pub favour_never : (s : Config) (queue : QueueView) → s.write_high ≡ 0 → first_of_lines queue.requests ≡ candidates_of s queue
+unfolding candidates favour
+favour_never s queue never =
+    let eligible = first_of_lines queue.requests in
+    let favoured = filter (is_favoured (is_draining queue)) eligible in
+    sym (cond-false (ltb 0 s.write_high && ltb 0 (length favoured)) favoured eligible (and_left (ltb 0 s.write_high) (ltb 0 (length favoured)) (le-ltb 0 s.write_high (omega arith))))
+
+any_item : {X : Type 0} (xs : List X) → list_any (λ x. true) xs ≡ ltb 0 (length xs)
+any_item [] = refl
+any_item (x ∷ xs) = sym (lt-ltb 0 (suc (length xs)) (omega arith))
+
+pub some_favoured : (write : Bool) (requests : List Request) → is_some (first_place (is_favoured write) requests) ≡ ltb 0 (length (filter (is_favoured write) (first_of_lines requests)))
+some_favoured write requests = some_filtered (is_favoured write) requests ∙ any_item (filter (is_favoured write) (first_of_lines requests))
+
+filter_same : {X : Type 0} (p q : X → Bool) (xs : List X) → ((x : X) → p x ≡ q x) → filter p xs ≡ filter q xs
+filter_same p q xs same = λ i. filter (λ x. same x i) xs
+
+filter_all : {X : Type 0} (p : X → Bool) (xs : List X) → ((x : X) → p x ≡ true) → filter p xs ≡ xs
+filter_all p [] all = refl
+filter_all p (x ∷ xs) all = cond-true (p x) (x ∷ filter p xs) (filter p xs) (all x) ∙ ap (λ ys. x ∷ ys) (filter_all p xs all)
+
+one_kind : (write w : Bool) → cond write w (not w) ≡ cond w write (not write)
+one_kind true true = refl
+one_kind true false = refl
+one_kind false true = refl
+one_kind false false = refl
+
+pub of_one_kind : (write : Bool) (requests : List Request) → filter (is_favoured write) requests ≡ filter (is_of (record { reads = not write; writes = write })) requests
+of_one_kind write requests = filter_same (is_favoured write) (is_of (record { reads = not write; writes = write })) requests (λ r. one_kind write r.write)
+
+pub of_all_kinds : (requests : List Request) → requests ≡ filter (is_of (record { reads = true; writes = true })) requests
+of_all_kinds requests = sym (filter_all (is_of (record { reads = true; writes = true })) requests (λ r. any_kind r.write))
+  where
+    any_kind : (w : Bool) → cond w true true ≡ true
+    any_kind true = refl
+    any_kind false = refl
+
+bound : {X : Type 0} (p : X → Bool) (xs : List X) (k : ℕ) → position p xs ≡ Some k → k < length xs
+bound p xs k is =
+    let place = position_or_len p xs in
+    elim (cases_lt place (length xs)) [
+      | inl within ↦
+          let found : Some place ≡ Some k = sym (cond-true (ltb place (length xs)) (Some place) None (lt-ltb place (length xs) within)) ∙ is in
+          let same : place ≡ k = cc in omega arith
+      | inr over ↦ let none : None ≡ Some k = sym (cond-false (ltb place (length xs)) (Some place) None (le-ltb place (length xs) over)) ∙ is in cc
+    ]
+
+within : (test : Request → Bool) (requests : List Request) (o : Option ℕ) → o ≡ first_place test requests → IfSome o (λ k. k < length requests)
+within test requests None is = tt
+within test requests (Some k) is = let inside = bound (passes test) (entries requests) k (sym is) in omega (arith, length-entries requests)
+
+-- the heads of a bank stand within the queue
+pub heads_below : (requests : List Request) (bank : ℕ) (h : BankHeads) → AreHeads requests bank h → AreBelow (length requests) h
+heads_below requests bank h first = record {
+  read_oldest = within _ requests h.reads.oldest first.reads_are.oldest_is;
+  read_hit = within _ requests h.reads.hit first.reads_are.hit_is;
+  write_oldest = within _ requests h.writes.oldest first.writes_are.oldest_is;
+  write_hit = within _ requests h.writes.hit first.writes_are.hit_is;
+}

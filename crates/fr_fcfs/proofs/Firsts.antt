@@ -1,0 +1,137 @@
+-- The first request that may be served and passes a test, and the requests that are found among those that go.
+use Rattle.std.proofs.Common.{◌≡◌, ℕ, suc, Bool, true, false, cond, ◌&&◌, ◌||◌, List, [], ◌∷◌, map, Option, Some, None, refl, sym, ap, ◌∙◌}
+use Rattle.std.proofs.lemmas.List.Elements.{All-head, All-tail}
+use Rattle.std.specs.List.{filter, find, zip, list_any, position, slice_get, All}
+use Rattle.std.specs.Option.{is_some, option_map, option_and_then}
+use Rattle.sim_base.specs.declared.message.Request.{Request}
+use Rattle.sim_base.specs.Scheduling.{first_of_lines}
+use Rattle.lane_scan.specs.Marks.{is_marked}
+use Rattle.queue.specs.Columns.{eligible_column, marked_items}
+use Rattle.queue.proofs.Eligible.{marked_eligible}
+use Rattle.heads.specs.Heads.{passes, entries, first_place}
+use Rattle.heads.specs.Moves.{earlier}
+use Rattle.heads.proofs.Positions.{position-cons, position-either}
+use Rattle.heads.proofs.Searches.{none_everywhere}
+use Rattle.fr_fcfs.specs.Offers.{going, is_of}
+use Rattle.fr_fcfs.specs.declared.kinds.Kinds.{Kinds}
+
+zipped : (p q : Request → Bool) (P : Request → Type 0) (rs : List Request) (ms : List ℕ) → All P rs → ((r : Request) → P r → p r ≡ q r)
+    → position (passes p) (zip rs ms) ≡ position (passes q) (zip rs ms)
+zipped p q P [] ms all same = refl
+zipped p q P (r ∷ rs) [] all same = refl
+zipped p q P (r ∷ rs) (m ∷ ms) all same =
+    position-cons (passes p) (r, m) (zip rs ms)
+    ∙ (λ i. cond (is_marked m && same r (All-head P r rs all) i) (Some 0) (option_map suc (zipped p q P rs ms (All-tail P r rs all) same i)))
+    ∙ sym (position-cons (passes q) (r, m) (zip rs ms))
+
+-- tests that agree on all requests
+pub same_among : (p q : Request → Bool) (P : Request → Type 0) (rs : List Request) → All P rs → ((r : Request) → P r → p r ≡ q r) → first_place p rs ≡ first_place q rs
+same_among p q P rs all same = zipped p q P rs (eligible_column rs) all same
+
+or_split : (m a b : Bool) → (m && (a || b)) ≡ ((m && a) || (m && b))
+or_split true a b = refl
+or_split false a b = refl
+
+-- a test that is one of two
+pub either_among : (p q t : Request → Bool) (P : Request → Type 0) (rs : List Request) → All P rs → ((r : Request) → P r → p r ≡ (q r || t r))
+    → first_place p rs ≡ earlier (first_place q rs) (first_place t rs)
+either_among p q t P rs all same =
+    same_among p (λ r. q r || t r) P rs all same
+    ∙ position-either (passes (λ r. q r || t r)) (passes q) (passes t) (entries rs) (λ e. or_split (is_marked e.1) (q e.0) (t e.0))
+
+-- a test under a condition
+pub place_if : (b : Bool) (test : Request → Bool) (rs : List Request) → first_place (λ r. b && test r) rs ≡ cond b (first_place test rs) None
+place_if true test rs = refl
+place_if false test rs = sym (none_everywhere (λ r. false) rs (λ r. refl))
+
+none_parts : (t : Bool) (o : Option ℕ) → cond t (Some 0) (option_map suc o) ≡ None → (t ≡ false) × (o ≡ None)
+none_parts true o none = cc
+none_parts false None none = (refl, refl)
+none_parts false (Some k) none = cc
+
+unless_next : (m p q h : Bool) → (m && h) ≡ false → (h ≡ false → p ≡ q) → (m && p) ≡ (m && q)
+unless_next true p q h none same = same none
+unless_next false p q h none same = refl
+
+zipped_unless : (p q h : Request → Bool) (P : Request → Type 0) (rs : List Request) (ms : List ℕ) → position (passes h) (zip rs ms) ≡ None → All P rs
+    → ((r : Request) → P r → h r ≡ false → p r ≡ q r) → position (passes p) (zip rs ms) ≡ position (passes q) (zip rs ms)
+zipped_unless p q h P [] ms none all same = refl
+zipped_unless p q h P (r ∷ rs) [] none all same = refl
+zipped_unless p q h P (r ∷ rs) (m ∷ ms) none all same =
+    let parts = none_parts (is_marked m && h r) (position (passes h) (zip rs ms)) (sym (position-cons (passes h) (r, m) (zip rs ms)) ∙ none) in
+    let head = unless_next (is_marked m) (p r) (q r) (h r) parts.0 (same r (All-head P r rs all)) in
+    position-cons (passes p) (r, m) (zip rs ms)
+    ∙ (λ i. cond (head i) (Some 0) (option_map suc (zipped_unless p q h P rs ms parts.1 (All-tail P r rs all) same i)))
+    ∙ sym (position-cons (passes q) (r, m) (zip rs ms))
+
+-- tests that agree wherever a third one fails, which none passes
+pub same_unless : (p q h : Request → Bool) (P : Request → Type 0) (rs : List Request) → first_place h rs ≡ None → All P rs
+    → ((r : Request) → P r → h r ≡ false → p r ≡ q r) → first_place p rs ≡ first_place q rs
+same_unless p q h P rs none all same = zipped_unless p q h P rs (eligible_column rs) none all same
+
+get_next : (b : Bool) (r : Request) (rs : List Request) (o : Option ℕ) → option_and_then (slice_get (r ∷ rs)) (cond b (Some 0) (option_map suc o)) ≡ cond b (Some r) (option_and_then (slice_get rs) o)
+get_next true r rs o = refl
+get_next false r rs None = refl
+get_next false r rs (Some k) = refl
+
+find_next : (m q : Bool) (p : Request → Bool) (t : Request → Bool) (r : Request) (n : ℕ) (rest : List (Request × ℕ)) → t r ≡ q
+    → find p (filter t (map (λ e. e.0) (cond m ((r, n) ∷ rest) rest))) ≡ cond (m && (q && p r)) (Some r) (find p (filter t (map (λ e. e.0) rest)))
+find_next true true p t r n rest is = ap (λ b. find p (cond b (r ∷ filter t (map (λ e. e.0) rest)) (filter t (map (λ e. e.0) rest)))) is
+find_next true false p t r n rest is = ap (λ b. find p (cond b (r ∷ filter t (map (λ e. e.0) rest)) (filter t (map (λ e. e.0) rest)))) is
+find_next false q p t r n rest is = refl
+
+find_zipped : (p t : Request → Bool) (rs : List Request) (ms : List ℕ)
+    → find p (filter t (marked_items rs ms)) ≡ option_and_then (slice_get rs) (position (passes (λ r. t r && p r)) (zip rs ms))
+find_zipped p t [] ms = refl
+find_zipped p t (r ∷ rs) [] = refl
+find_zipped p t (r ∷ rs) (m ∷ ms) =
+    let test = λ (x : Request). t x && p x in
+    find_next (is_marked m) (t r) p t r m (filter (λ e. is_marked e.1) (zip rs ms)) refl
+    ∙ ap (cond (is_marked m && (t r && p r)) (Some r)) (find_zipped p t rs ms)
+    ∙ sym (get_next (is_marked m && (t r && p r)) r rs (position (passes test) (zip rs ms)))
+    ∙ ap (option_and_then (slice_get (r ∷ rs))) (sym (position-cons (passes test) (r, m) (zip rs ms)))
+
+-- the first request among those that go that passes a test
+pub find_going : (p : Request → Bool) (kinds : Kinds) (rs : List Request)
+    → find p (going kinds rs) ≡ option_and_then (slice_get rs) (first_place (λ r. is_of kinds r && p r) rs)
+find_going p kinds rs = ap (λ xs. find p (filter (is_of kinds) xs)) (sym (marked_eligible rs)) ∙ find_zipped p (is_of kinds) rs (eligible_column rs)
+
+some_next : (b : Bool) (o : Option ℕ) → is_some (cond b (Some 0) (option_map suc o)) ≡ (b || is_some o)
+some_next true o = refl
+some_next false None = refl
+some_next false (Some k) = refl
+
+any_next : (m q : Bool) (p : Request → Bool) (t : Request → Bool) (r : Request) (n : ℕ) (rest : List (Request × ℕ)) → t r ≡ q
+    → list_any p (filter t (map (λ e. e.0) (cond m ((r, n) ∷ rest) rest))) ≡ ((m && (q && p r)) || list_any p (filter t (map (λ e. e.0) rest)))
+any_next true true p t r n rest is = ap (λ b. list_any p (cond b (r ∷ filter t (map (λ e. e.0) rest)) (filter t (map (λ e. e.0) rest)))) is
+any_next true false p t r n rest is = ap (λ b. list_any p (cond b (r ∷ filter t (map (λ e. e.0) rest)) (filter t (map (λ e. e.0) rest)))) is
+any_next false q p t r n rest is = refl
+
+any_zipped : (p t : Request → Bool) (rs : List Request) (ms : List ℕ)
+    → list_any p (filter t (marked_items rs ms)) ≡ is_some (position (passes (λ r. t r && p r)) (zip rs ms))
+any_zipped p t [] ms = refl
+any_zipped p t (r ∷ rs) [] = refl
+any_zipped p t (r ∷ rs) (m ∷ ms) =
+    let test = λ (x : Request). t x && p x in
+    any_next (is_marked m) (t r) p t r m (filter (λ e. is_marked e.1) (zip rs ms)) refl
+    ∙ ap (λ b. (is_marked m && (t r && p r)) || b) (any_zipped p t rs ms)
+    ∙ sym (some_next (is_marked m && (t r && p r)) (position (passes test) (zip rs ms)))
+    ∙ ap is_some (sym (position-cons (passes test) (r, m) (zip rs ms)))
+
+-- whether some request among those that go passes a test
+pub any_going : (p : Request → Bool) (kinds : Kinds) (rs : List Request) → list_any p (going kinds rs) ≡ is_some (first_place (λ r. is_of kinds r && p r) rs)
+any_going p kinds rs = ap (λ xs. list_any p (filter (is_of kinds) xs)) (sym (marked_eligible rs)) ∙ any_zipped p (is_of kinds) rs (eligible_column rs)
+
+-- whether some request of a kind may be served
+pub some_filtered : (t : Request → Bool) (rs : List Request) → is_some (first_place t rs) ≡ list_any (λ r. true) (filter t (first_of_lines rs))
+some_filtered t rs =
+    same_test
+    ∙ sym (any_zipped (λ r. true) t rs (eligible_column rs))
+    ∙ ap (λ xs. list_any (λ r. true) (filter t xs)) (marked_eligible rs)
+  where
+    with_true : (b : Bool) → b ≡ (b && true)
+    with_true true = refl
+    with_true false = refl
+
+    same_test : is_some (first_place t rs) ≡ is_some (position (passes (λ r. t r && true)) (zip rs (eligible_column rs)))
+    same_test = λ i. is_some (position (λ e. is_marked e.1 && with_true (t e.0) i) (zip rs (eligible_column rs)))

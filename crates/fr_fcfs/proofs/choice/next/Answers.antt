@@ -1,0 +1,39 @@
+-- One rank more, from the highest on.
+use Rattle.std.proofs.Common.{◌≡◌, ◌+◌, ◌-◌, subst, arith}
+use Rattle.sim_base.specs.Scheduling.{lowest_due}
+use Rattle.fr_fcfs.specs.Requests.{candidates_of}
+use Rattle.fr_fcfs.specs.Cycles.{IsNext}
+use Rattle.fr_fcfs.proofs.Waking.{chosen_from, chosen_start, refreshes_more}
+use Rattle.fr_fcfs.proofs.choice.next.Goals as goal
+
+pub loop-rank-init : goal.loop-rank-init
+loop-rank-init c = record {
+  rank = omega (arith, c.ranks-rank.ensures);
+  next = λ s history stand n all.
+      chosen_start s history (candidates_of s c.args.queue.now) c.ranks-rank.result c.args.now c.next_of_requests-next.result
+      (c.next_of_requests-next.ensures.next s history stand.banks_stand stand.heads_stand stand.high_is) n (omega (arith, c.ranks-rank.ensures, all));
+  place = c.next_of_requests-next.ensures.place;
+}
+
+pub loop-rank-preserved : goal.loop-rank-preserved
+loop-rank-preserved c =
+    let rank = c.loop-rank.rank - 1 in
+    let requests = c.args.queue.now.requests in
+    record {
+      rank = omega arith;
+      next = λ s history stand n all.
+          let after : c.loop-rank.rank ≡ rank + 1 = omega arith in
+          let is_due = c.first_due.ensures.stands s history stand.refreshes_stand in
+          refreshes_more s history (candidates_of s c.args.queue.now) rank c.args.refresh.now.ranks c.args.now c.first_due.result c.loop-rank.next c.with_refresh-next.result is_due (omega arith)
+          (λ m whole.
+          subst (λ k. IsNext (chosen_from s history (candidates_of s c.args.queue.now) k m) c.args.now c.loop-rank.next) after (c.loop-rank.invariant.next s history stand m (omega arith)))
+          (λ commands rest same before. c.with_refresh-next.ensures.next s history commands rest c.args.now stand.banks_stand stand.groups_are is_due.from_now same before) n all;
+      place = c.with_refresh-next.ensures.place requests c.loop-rank.invariant.place;
+    }
+
+pub returns-clause-next : goal.returns-clause-next
+unfolding lowest_due
+returns-clause-next c s history stand =
+    let last : c.loop-rank.rank ≡ 0 = omega arith in
+    let whole : c.loop-rank.rank + s.ranks ≡ c.args.refresh.now.ranks = omega (arith, last, stand.refreshes_stand.ranks_are) in
+    subst (λ k. IsNext (chosen_from s history (candidates_of s c.args.queue.now) k s.ranks) c.args.now c.loop-rank.next) last (c.loop-rank.invariant.next s history stand s.ranks whole)

@@ -1,0 +1,120 @@
+-- What banks offer for the heads of their queues.
+--     head_of write read write      the head to write, or to read
+--     is_of kinds r      a request is of the kinds that go
+--     hits_in s history requests kinds bank cycle      the place of the first ready row hit of a bank in a cycle
+--     rows_in s history requests kinds bank cycle      the place of its first request for which an ACT or a PRE may be issued then
+--     IsBest now hits rows offer      an offer is the first from now on
+--     IsFirstReady s history queue now offer      an offer is what the first request of the queue needs that is ready
+use Rattle.std.specs.Prelude.{◌≡◌, ℕ, ◌<◌, ◌≤◌, ◌==◌, nat_lt, Bool, true, false, ◌&&◌, List, filter, Option, Some, None, IfSome, option_map, slice_get, if◌then◌else◌}
+use Rattle.sim_base.specs.declared.config.Config.{Config}
+use Rattle.sim_base.specs.declared.command.Command.{Command}
+use Rattle.sim_base.specs.declared.command.CommandRow.{CommandRow}
+use Rattle.sim_base.specs.declared.command.Kind.{Kind}
+use Rattle.sim_base.specs.declared.command.Kind.TheVariants as kind
+use Rattle.sim_base.specs.declared.message.Request.{Request}
+use Rattle.sim_base.specs.declared.place.BankId.{BankId}
+use Rattle.sim_base.specs.Rules.{kind_of, bank_of, finds_its_banks}
+use Rattle.sim_base.specs.Scheduling.{needed, ready_hit, ready_row, first_of_lines, first_ready}
+use Rattle.queue.specs.Columns.{bank_number}
+use Rattle.queue.specs.View.{QueueView}
+use Rattle.heads.specs.declared.entry.BankHeads.{BankHeads}
+use Rattle.heads.specs.declared.heads.Heads.{Heads}
+use Rattle.heads.specs.Heads.{first_place}
+use Rattle.heads.specs.Moves.{earlier}
+use Rattle.heads.specs.Stands.{StandsFor as HeadsStandFor}
+use Rattle.fr_fcfs.specs.declared.kinds.Kinds.{Kinds}
+use Rattle.fr_fcfs.specs.declared.offers.Offer.{Offer}
+use Rattle.fr_fcfs.specs.Requests.{IsLegalFrom, candidates_of}
+
+-- the head to write, or to read
+abbrev pub head_of : Bool → Option ℕ → Option ℕ → Option ℕ
+head_of write reads writes = if write then writes else reads
+
+-- a request is of the kinds that go
+abbrev pub is_of : Kinds → Request → Bool
+is_of kinds r = if r.write then kinds.writes else kinds.reads
+
+-- a head, if its kind goes
+abbrev pub if_allowed : Option ℕ → Bool → Option ℕ
+if_allowed head allowed = if allowed then head else None
+
+-- the first row hit of a bank, of the kinds that go
+abbrev pub hit_head : Kinds → BankHeads → Option ℕ
+hit_head kinds heads = earlier (if_allowed heads.reads.hit kinds.reads) (if_allowed heads.writes.hit kinds.writes)
+
+-- the first request of a bank, of the kinds that go
+abbrev pub oldest_head : Kinds → BankHeads → Option ℕ
+oldest_head kinds heads = earlier (if_allowed heads.reads.oldest kinds.reads) (if_allowed heads.writes.oldest kinds.writes)
+
+-- the requests that may be served, of the kinds that go
+abbrev pub going : Kinds → List Request → List Request
+going kinds requests = filter (is_of kinds) (first_of_lines requests)
+
+-- a row hit of a bank that is ready in a cycle
+abbrev pub hits_now : Config → List CommandRow → Kinds → ℕ → Request → Bool
+hits_now s history kinds cycle r = is_of kinds r && ready_hit s history cycle r
+
+-- a request for which an ACT or a PRE may be issued in a cycle
+abbrev pub rows_now : Config → List CommandRow → List Request → Kinds → ℕ → Request → Bool
+rows_now s history requests kinds cycle r = is_of kinds r && ready_row s history cycle (going kinds requests) r
+
+-- the place of the first row hit of a bank that is ready in a cycle
+abbrev pub hits_in : Config → List CommandRow → List Request → Kinds → ℕ → ℕ → Option ℕ
+hits_in s history requests kinds bank cycle = first_place (λ r. (bank_number r.place == bank) && hits_now s history kinds cycle r) requests
+
+-- the place of its first request for which an ACT or a PRE may be issued then
+abbrev pub rows_in : Config → List CommandRow → List Request → Kinds → ℕ → ℕ → Option ℕ
+rows_in s history requests kinds bank cycle = first_place (λ r. (bank_number r.place == bank) && rows_now s history requests kinds cycle r) requests
+
+-- a row hit is at this place, or there is none and the other is
+abbrev pub IsAt : Bool → Option ℕ → Option ℕ → ℕ → Type 0
+IsAt true hits rows slot = hits ≡ Some slot
+IsAt false hits rows slot = (hits ≡ None) × (rows ≡ Some slot)
+
+-- An offer is the first from now on, where in each cycle the first ready row hit and the first other ready request have these
+-- places: nothing is ready before its cycle.
+pub record IsBestOffer (now : ℕ) (hits rows : ℕ → Option ℕ) (o : Offer) : Type 0 where
+  pub from_now : now ≤ o.cycle
+  pub none_before : (cycle : ℕ) → now ≤ cycle → cycle < o.cycle → (hits cycle ≡ None) × (rows cycle ≡ None)
+  pub then_is : IsAt o.hit (hits o.cycle) (rows o.cycle) o.slot
+
+-- the same, where there may be none
+abbrev pub IsBest : ℕ → (ℕ → Option ℕ) → (ℕ → Option ℕ) → Option Offer → Type 0
+IsBest now hits rows None = (cycle : ℕ) → now ≤ cycle → (hits cycle ≡ None) × (rows cycle ≡ None)
+IsBest now hits rows (Some o) = IsBestOffer now hits rows o
+
+-- An offer goes before another for an earlier cycle, or in the same one as a row hit, or else for an older request.
+abbrev pub goes_before : Offer → Offer → Bool
+goes_before a b = if a.cycle == b.cycle then (if a.hit then (if b.hit then nat_lt a.slot b.slot else true) else (if b.hit then false else nat_lt a.slot b.slot)) else nat_lt a.cycle b.cycle
+
+-- the heads of a bank stand below a place
+pub record AreBelow (room : ℕ) (heads : BankHeads) : Type 0 where
+  pub read_oldest : IfSome heads.reads.oldest (λ k. k < room)
+  pub read_hit : IfSome heads.reads.hit (λ k. k < room)
+  pub write_oldest : IfSome heads.writes.oldest (λ k. k < room)
+  pub write_hit : IfSome heads.writes.hit (λ k. k < room)
+
+-- heads are those of a queue of requests, whichever rows are open
+abbrev pub AreOf : Heads → List Request → Type 0
+AreOf heads requests = (open_rows : ℕ → Option ℕ) × HeadsStandFor heads requests open_rows
+
+-- from which cycle on commands of a kind may be issued to a bank, where they find it as they should
+abbrev pub IsReadyFrom : Config → List CommandRow → BankId → Kind → ℕ → Type 0
+IsReadyFrom s history bank kind ready =
+    (command : Command) → kind_of command ≡ kind → bank_of command ≡ Some bank → finds_its_banks s history command ≡ true → IsLegalFrom s history command ready
+
+-- what closes a bank in which a row is open, and opens one in which none is
+abbrev pub row_kind : Option ℕ → Kind
+row_kind (Some row) = kind.Pre
+row_kind None = kind.Act
+
+-- An offer is what the first request needs that is ready from now on.
+pub record IsReadyAt (s : Config) (history : List CommandRow) (queue : QueueView) (now : ℕ) (o : Offer) : Type 0 where
+  pub from_now : now ≤ o.cycle
+  pub none_before : (cycle : ℕ) → now ≤ cycle → cycle < o.cycle → first_ready s history cycle (candidates_of s queue) ≡ None
+  pub then_is : first_ready s history o.cycle (candidates_of s queue) ≡ option_map (needed history) (slice_get queue.requests o.slot)
+
+-- the same, where there may be none
+abbrev pub IsFirstReady : Config → List CommandRow → QueueView → ℕ → Option Offer → Type 0
+IsFirstReady s history queue now None = (cycle : ℕ) → now ≤ cycle → first_ready s history cycle (candidates_of s queue) ≡ None
+IsFirstReady s history queue now (Some o) = IsReadyAt s history queue now o

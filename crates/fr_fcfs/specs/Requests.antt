@@ -1,0 +1,31 @@
+-- What a request needs, and which requests may be served next.
+--     IsInBanks ranks r      a request asks for a bank that there is
+--     IsLegalFrom s history command cycle      from which cycle on a command may be issued
+--     is_hit history r      the request waits for its data alone
+--     candidates_of s queue      the requests that may be served next
+use Rattle.std.specs.Prelude.{ℕ, ◌<◌, ◌≤◌, ◌↔◌, Bool, IsTrue, List}
+use Rattle.sim_base.specs.declared.config.Config.{Config}
+use Rattle.sim_base.specs.declared.command.Command.{Command}
+use Rattle.sim_base.specs.declared.command.CommandRow.{CommandRow}
+use Rattle.sim_base.specs.declared.message.Request.{Request}
+use Rattle.sim_base.specs.Rules.{is_legal}
+use Rattle.sim_base.specs.Scheduling.{needed, is_column_command, candidates}
+use Rattle.queue.specs.View.{QueueView, is_draining}
+
+-- a request asks for a bank of so many ranks, each with four groups of four banks at most
+pub record IsInBanks (ranks : ℕ) (r : Request) : Type 0 where
+  pub rank : r.place.rank < ranks
+  pub group : r.place.group < 4
+  pub bank : r.place.bank < 4
+
+-- from this cycle on, and not before, a command may be issued after a history
+abbrev pub IsLegalFrom : Config → List CommandRow → Command → ℕ → Type 0
+IsLegalFrom s history command cycle = (now : ℕ) → (cycle ≤ now) ↔ IsTrue (is_legal s history now command)
+
+-- a request waits for nothing but its data
+abbrev pub is_hit : List CommandRow → Request → Bool
+is_hit history r = is_column_command (needed history r)
+
+-- the requests that may be served next
+abbrev pub candidates_of : Config → QueueView → List Request
+candidates_of s queue = candidates s (is_draining queue) queue.requests

@@ -1,0 +1,59 @@
+-- What the heads of a queue stand for.
+--     bank_at number, number_of bank      the bank with a number, and the number of a bank
+--     asks bank write r      a request asks to write to a bank, or to read from it
+--     hits bank write row r      it does, and for the row that is open there
+--     wants bank write row r      it does, and for this row if one is given
+--     first_place test requests      the place of the first request that may be served and passes a test
+--     AreHeads requests bank heads      each head of a bank is the place of the first such request
+use Rattle.std.specs.Prelude.{◌≡◌, ℕ, ◌+◌, ◌*◌, ◌/◌, ◌%◌, ◌==◌, Bool, true, false, not, ◌&&◌, List, position, Option, Some, None, if◌then◌else◌}
+use Rattle.std.specs.List.{zip}
+use Rattle.sim_base.specs.declared.message.Request.{Request}
+use Rattle.sim_base.specs.declared.place.BankId.{BankId}
+use Rattle.sim_base.specs.Rules.{is_row}
+use Rattle.lane_scan.specs.Marks.{is_marked}
+use Rattle.queue.specs.Columns.{bank_number, eligible_column}
+use Rattle.heads.specs.declared.entry.KindHeads.{KindHeads}
+use Rattle.heads.specs.declared.entry.BankHeads.{BankHeads}
+
+-- the bank with a number
+abbrev pub bank_at : ℕ → BankId
+bank_at number = record { rank = number / 16; group = number / 4 % 4; bank = number % 4 }
+
+-- the number of a bank
+abbrev pub number_of : BankId → ℕ
+number_of bank = (bank.rank * 4 + bank.group) * 4 + bank.bank
+
+-- a request asks to write to a bank, or to read from it
+abbrev pub asks : ℕ → Bool → Request → Bool
+asks bank write r = (bank_number r.place == bank) && (if write then r.write else not r.write)
+
+-- the same, and for the row that is open there
+abbrev pub hits : ℕ → Bool → Option ℕ → Request → Bool
+hits bank write row r = asks bank write r && is_row r.place.row row
+
+-- the same, and for a row if one is given
+abbrev pub wants : ℕ → Bool → Option ℕ → Request → Bool
+wants bank write None r = asks bank write r
+wants bank write (Some row) r = asks bank write r && (r.place.row == row)
+
+-- a request at a place of the queue may be served, and passes a test
+abbrev pub passes : (Request → Bool) → Request × ℕ → Bool
+passes test e = is_marked e.1 && test e.0
+
+-- the requests, each with its mark
+abbrev pub entries : List Request → List (Request × ℕ)
+entries requests = zip requests (eligible_column requests)
+
+-- the place of the first request that may be served and passes a test
+abbrev pub first_place : (Request → Bool) → List Request → Option ℕ
+first_place test requests = position (passes test) (entries requests)
+
+-- the heads of a bank to read or to write, where this row is open
+pub record AreFirst (requests : List Request) (bank : ℕ) (write : Bool) (row : Option ℕ) (heads : KindHeads) : Type 0 where
+  pub oldest_is : heads.oldest ≡ first_place (asks bank write) requests
+  pub hit_is : heads.hit ≡ first_place (hits bank write row) requests
+
+-- the heads of a bank
+pub record AreHeads (requests : List Request) (bank : ℕ) (heads : BankHeads) : Type 0 where
+  pub reads_are : AreFirst requests bank false heads.row heads.reads
+  pub writes_are : AreFirst requests bank true heads.row heads.writes

@@ -1,0 +1,3 @@
+pub mod Heads
+pub mod Moves
+pub mod Stands

@@ -1,0 +1,165 @@
+//! The heads of all banks.
+
+ghost use Rattle.std.specs.Prelude.{◌≡◌, ◌<◌, ℕ, length, slice_index_or};
+ghost use Rattle.heads.specs.declared.entry.BankHeads.{BankHeads};
+ghost use Rattle.heads.specs.Moves.{bank_past};
+
+use crate::entry::{BankHeads, KindHeads, bank_number, number_of};
+use queue::Queue;
+use sim_base::command::Command;
+use sim_base::message::Request;
+use sim_base::place::BankId;
+use std::alloc::{AllocError, Global};
+
+/// Of each bank of a channel, by number, the first requests that may be served, to read and to write, and the row that is open.
+#[derive(Drop)]
+pub struct Heads {
+    banks: Vec<BankHeads>,
+}
+
+const NONE: BankHeads = BankHeads {
+    row: None,
+    reads: KindHeads {
+        oldest: None,
+        hit: None,
+    },
+    writes: KindHeads {
+        oldest: None,
+        hit: None,
+    },
+};
+
+/// Moves the heads past a place, once a request has left it.
+fn move_past(banks: &mut [BankHeads], slot: usize)
+    ensures { (k : ℕ) (d : BankHeads) → k < length banks.old → slice_index_or banks.new k d ≡ bank_past slot (slice_index_or banks.old k d) }
+{
+    for heads in banks.iter_mut() {
+        *heads = heads.past(slot);
+    }
+}
+
+impl Heads {
+    ghost use Rattle.std.specs.Prelude.{ℕ, ◌≡◌, ◌<◌, ◌++◌, ◌∷◌, not, [], List, length, take, remove, slice_index_or, All, Option, None, Some, IfOk};
+    ghost use Rattle.std.specs.Option.{ForSome};
+    ghost use Rattle.sim_base.specs.Rules.{bank_of, row_after};
+    ghost use Rattle.sim_base.specs.Scheduling.{asks_for_line};
+    ghost use Rattle.sim_base.specs.declared.message.Request.{Request};
+    ghost use Rattle.queue.specs.Columns.{bank_number};
+    ghost use Rattle.heads.specs.declared.entry.BankHeads.{BankHeads};
+    ghost use Rattle.heads.specs.Heads.{bank_at, number_of};
+    ghost use Rattle.heads.specs.Stands.{bank_count, heads_of, StandsFor, with_row, closed_in, IsAmong};
+
+    /// The heads of an empty queue, of so many banks, which are all closed. Nothing else takes memory.
+    pub fn with_room(alloc: Global, banks: usize) -> Result<Self, AllocError>
+        ensures banks { IfOk result (λ heads. bank_count heads ≡ banks) }
+        ensures stands { IfOk result (λ heads. StandsFor heads [] (λ bank. None)) }
+    {
+        Ok(Heads {
+            banks: vec![in alloc; NONE; banks]?,
+        })
+    }
+
+    /// How many banks there are.
+    pub fn bank_count(&self) -> usize
+        ensures { result ≡ bank_count self.now }
+    {
+        self.banks.len()
+    }
+
+    /// The heads of a bank, by its number.
+    pub fn of_bank(&self, bank: usize) -> BankHeads
+        requires { bank < bank_count self.now }
+        ensures { (d : BankHeads) → result ≡ heads_of self.now bank d }
+    {
+        self.banks[bank]
+    }
+
+    /// Takes note of a request at a place behind all others, which may be served or not.
+    fn join(&mut self, request: Request, slot: usize, first_of_line: bool)
+        requires { bank_number request.place < bank_count self.old }
+        ensures banks { bank_count self.new ≡ bank_count self.old }
+        ensures stands { (older : List Request) (open_rows : ℕ → Option ℕ) → slot ≡ length older → first_of_line ≡ not (asks_for_line request.place older)
+            → StandsFor self.old older open_rows → StandsFor self.new (older ++ request ∷ []) open_rows }
+    {
+        if first_of_line {
+            let bank = bank_number(request.place);
+            self.banks[bank] = self.banks[bank].joined(request, slot);
+        }
+    }
+
+    /// Takes note of the requests of a queue from a place on, which have just arrived.
+    pub fn arrived(&mut self, from: usize, queue: &Queue)
+        requires { All (λ r. bank_number r.place < bank_count self.old) queue.now.requests }
+        ensures banks { bank_count self.new ≡ bank_count self.old }
+        ensures stands { (open_rows : ℕ → Option ℕ) → StandsFor self.old (take from queue.now.requests) open_rows → StandsFor self.new queue.now.requests open_rows }
+    {
+        let requests = queue.requests();
+        let marks = queue.eligible();
+        for slot in from..requests.len() {
+            self.join(requests[slot], slot, marks[slot] == 1);
+        }
+    }
+
+    /// Takes note of a request that has left its place in the queue.
+    pub fn served(&mut self, request: Request, slot: usize, queue: &Queue)
+        requires { bank_number request.place < bank_count self.old }
+        ensures banks { bank_count self.new ≡ bank_count self.old }
+        ensures stands { (earlier : List Request) (open_rows : ℕ → Option ℕ) → slot < length earlier → ((d : Request) → request ≡ slice_index_or earlier slot d)
+            → queue.now.requests ≡ remove earlier slot → StandsFor self.old earlier open_rows → StandsFor self.new queue.now.requests open_rows }
+    {
+        let bank = bank_number(request.place);
+        let own = self.banks[bank].after(queue, slot, bank);
+        move_past(&mut self.banks, slot);
+        self.banks[bank] = own;
+    }
+
+    /// Takes note of a row that has been opened in a bank.
+    fn opened(&mut self, bank: BankId, row: u32, queue: &Queue)
+        requires { number_of bank < bank_count self.old }
+        ensures banks { bank_count self.new ≡ bank_count self.old }
+        ensures stands { (open_rows : ℕ → Option ℕ) → StandsFor self.old queue.now.requests open_rows
+            → StandsFor self.new queue.now.requests (with_row (number_of bank) (Some row) open_rows) }
+    {
+        let number = number_of(bank);
+        self.banks[number] = self.banks[number].opened(queue, number, row);
+    }
+
+    /// Takes note of a bank that has been closed.
+    fn closed(&mut self, bank: BankId)
+        requires { number_of bank < bank_count self.old }
+        ensures banks { bank_count self.new ≡ bank_count self.old }
+        ensures stands { (requests : List Request) (open_rows : ℕ → Option ℕ) → StandsFor self.old requests open_rows
+            → StandsFor self.new requests (with_row (number_of bank) None open_rows) }
+    {
+        let number = number_of(bank);
+        self.banks[number] = self.banks[number].closed();
+    }
+
+    /// Takes note of a rank whose banks have all been closed.
+    fn closed_rank(&mut self, rank: u32)
+        ensures banks { bank_count self.new ≡ bank_count self.old }
+        ensures stands { (requests : List Request) (open_rows : ℕ → Option ℕ) → StandsFor self.old requests open_rows
+            → StandsFor self.new requests (closed_in rank open_rows) }
+    {
+        for number in 0..self.banks.len() {
+            if number / 16 == rank as usize {
+                self.banks[number] = self.banks[number].closed();
+            }
+        }
+    }
+
+    /// Takes note of a command, once the request that it serves has left the queue.
+    pub fn noted(&mut self, command: Command, queue: &Queue)
+        requires { ForSome (bank_of command) (IsAmong self.old) }
+        ensures banks { bank_count self.new ≡ bank_count self.old }
+        ensures stands { (open_rows : ℕ → Option ℕ) → StandsFor self.old queue.now.requests open_rows
+            → StandsFor self.new queue.now.requests (λ bank. row_after (bank_at bank) (open_rows bank) command) }
+    {
+        match command {
+            Command::Act { bank, row, .. } => self.opened(bank, row, queue),
+            Command::Pre { bank, .. } => self.closed(bank),
+            Command::Prea { rank } => self.closed_rank(rank),
+            Command::Rd { .. } | Command::Wr { .. } | Command::Ref { .. } => {}
+        }
+    }
+}

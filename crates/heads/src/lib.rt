@@ -1,0 +1,10 @@
+//! The heads of a channel's queue: of each bank, to read and to write, the first request that may be served, and the first of
+//! these that asks for the bank's open row.
+#![tactic(auto)]
+
+mod entry;
+pub mod heads;
+mod search;
+
+pub use entry::{BankHeads, KindHeads, bank_at};
+pub use heads::Heads;
