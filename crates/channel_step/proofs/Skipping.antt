@@ -1,8 +1,7 @@
 -- A channel that skips cycles in which nothing arrives and nothing is issued.
-use Rattle.std.proofs.Common.{◌≡◌, ℕ, zero, suc, ◌+◌, ◌-◌, ◌<◌, ◌≤◌, ◌^◌, Bool, true, false, cond, List, [], ◌∷◌, ◌++◌, length, Option, Some, None, refl, sym, ap, ap₂, subst, ◌∙◌, add-zero, append_assoc, eqb, arith}
+use Rattle.std.proofs.Common.{◌≡◌, ℕ, zero, suc, ◌+◌, ◌-◌, ◌<◌, ◌≤◌, ◌^◌, Bool, true, false, cond, List, [], ◌∷◌, ◌++◌, length, Option, None, refl, sym, ap, ap₂, subst, ◌∙◌, add-zero, append_assoc, eqb, arith}
 use Rattle.std.specs.Prelude.{replicate, is_some, nat_le, max}
 use Rattle.std.specs.List.{AllByRecursion as Each}
-use Rattle.std.specs.Option.{IfSome}
 use Rattle.std.proofs.lemmas.Bool.{lt-leb, le-leb}
 use Rattle.std.proofs.lemmas.List.{append-nil, replicate-append-replicate}
 use Rattle.sim_base.proofs.Ordered.{Each-weaker}
@@ -13,7 +12,6 @@ use Rattle.sim_base.specs.Scheduling.{waiting, drains_before, drains, lowest_due
 use Rattle.sim_base.specs.declared.command.Command.{Command}
 use Rattle.sim_base.specs.declared.message.Message.{Message}
 use Rattle.statistics.specs.Channels.{channel_stats, channel_cycle, channel_cycle_with, channel_joined, channel_times, channel_stretch, ChannelFits}
-use Rattle.statistics.specs.Counts.{sum_of_counts}
 use Rattle.statistics.specs.declared.channels.ChannelStats.{ChannelStats}
 use Rattle.statistics.proofs.ChannelSteps.{channel_stats-push}
 use Rattle.statistics.proofs.ChannelBounds.{channel_stats-fit}
@@ -22,11 +20,11 @@ use Rattle.statistics.proofs.Repeats.{channel_stretch-replicate}
 use Rattle.bank_ready.specs.Stands.{StandsFor as BanksStandFor}
 use Rattle.refresh.specs.Refreshes.{RefreshCounts, lowest_owed, StandsFor as RefreshesStandFor}
 use Rattle.refresh.proofs.Due.{lowest_due_from_owed}
-use Rattle.channel_step.specs.Past.{requests_of}
+use Rattle.channel_step.specs.Past.{requests_of, IsPast}
 use Rattle.channel_step.specs.Stands.{marks_of}
 use Rattle.channel_step.specs.Counted.{cycle_with_hit}
 use Rattle.channel_step.specs.Fit.{queue_room}
-use Rattle.channel_step.specs.Queued.{Queued, settled}
+use Rattle.channel_step.specs.Queued.{settled}
 use Rattle.channel_step.specs.Channels.{StandsFor, IsInCycle, passed}
 use Rattle.channel_step.specs.declared.channel.Channel.{Channel}
 use Rattle.channel_step.proofs.Requests.{ArrivedBefore, requests-arrived, waiting-until}
@@ -70,6 +68,11 @@ settled-in_cycle c s channel rows mail h =
       banks_stand = h.banks_stand;
       refreshes_stand = h.refreshes_stand;
     }
+
+-- the same, as it is told what is settled
+pub settled_stands : (c d : Channel) (s : Config) (channel : ℕ) (rows : List (Option Command)) (mail : List Message)
+    → d ≡ record c { waiting = record { queue = settled c.waiting.queue; marks = c.waiting.marks } } → StandsFor c s channel rows mail → IsInCycle d s channel rows mail
+settled_stands c d s channel rows mail e h = subst (λ x. IsInCycle x s channel rows mail) (sym e) (settled-in_cycle c s channel rows mail h)
 
 -- the statistics of rows and of idle cycles after them
 idle-stretch : (s : Config) (channel : ℕ) (mail : List Message) (n : ℕ) (rows : List (Option Command))
@@ -141,29 +144,6 @@ passed-fits c s channel rows mail n due h before alike early =
     let most = passed-longest c s channel rows mail n due h in
     let room : queue_room s ≤ 8192 = s.credits_fit in
     subst ChannelFits (sym is) (channel_stats-fit s channel more mail (omega (arith, length-idle rows n)) (omega arith))
-
-joined-fit : (a b : Option ℕ) → IfSome (sum_of_counts a b) (λ count. count < 2 ^ 64) → IfSome b (λ count. count < 2 ^ 64)
-joined-fit None b h = h
-joined-fit (Some x) None h = tt
-joined-fit (Some x) (Some y) h = omega arith
-
--- where the statistics of two stretches fit, so do those of the second
-pub second-fits : (a b : ChannelStats) → ChannelFits (channel_joined a b) → ChannelFits b
-second-fits a b h =
-    record {
-      act = omega (arith, h.act);
-      rd = omega (arith, h.rd);
-      wr = omega (arith, h.wr);
-      pre = omega (arith, h.pre);
-      prea = omega (arith, h.prea);
-      refs = omega (arith, h.refs);
-      hits = omega (arith, h.hits);
-      queued = omega (arith, h.queued);
-      queued_max = omega (arith, h.queued_max);
-      idle = omega (arith, h.idle);
-      refreshing = omega (arith, h.refreshing);
-      draining = joined-fit a.draining b.draining h.draining;
-    }
 
 -- after them the channel is in a cycle that is as the first
 pub passed-in_cycle : (c : Channel) (s : Config) (channel : ℕ) (rows : List (Option Command)) (mail : List Message) (n : ℕ) (due : Bool) (until : ℕ) → IsInCycle c s channel rows mail
@@ -271,95 +251,80 @@ pass-in_cycle c s channel rows mail until h before due l =
     subst (λ x. IsInCycle (record c { cycle = until; stats = x }) s channel (rows ++ replicate (until - c.cycle) None) mail) (sym (passed-is c s channel rows mail until h))
     (passed-in_cycle c s channel rows mail (until - c.cycle) _ until h before due (omega (arith, h.cycle_is)))
 
--- the channel in the first cycle of those that it skips, and in the first of them with a refresh that is due
-abbrev pub at_first : Channel → Queued → Channel
-at_first c w = record c { waiting = w }
+-- the channel in the first of the cycles that it skips with a refresh that is due, and at the end of them
+abbrev pub passed_to : Channel → ℕ → Channel
+passed_to c until = record c { cycle = until; stats = passed c until }
 
-abbrev pub at_due : Channel → Queued → ℕ → Channel
-at_due c w due = record c { waiting = w; cycle = due; stats = passed (at_first c w) due }
-
-abbrev pub at_end : Channel → ℕ → Channel
-at_end c until = record c { cycle = until; stats = passed c until }
-
-abbrev pub settled_in : Queued → Queued
-settled_in w = record { queue = settled w.queue; marks = w.marks }
-
--- what is known where a channel skips cycles
-pub record Skips (c : Channel) (s : Config) (channel : ℕ) (rows : List (Option Command)) (mail : List Message) (w : Queued) (until due : ℕ) : Type 0 where
-  pub stands : StandsFor c s channel rows mail
-  pub settles : w ≡ settled_in c.waiting
+-- what is known where a channel skips cycles, when it is settled whether it drains its writes in them
+pub record Skips (c : Channel) (s : Config) (channel : ℕ) (rows : List (Option Command)) (mail : List Message) (until due : ℕ) : Type 0 where
+  pub past : IsPast s channel rows mail
+  pub in_cycle : IsInCycle c s channel rows mail
   pub from_now : c.cycle ≤ due
   pub within : due ≤ until
   pub early : until ≤ 2 ^ 62
   pub dues : IsDueIn c.refresh c.cycle until due
 
-skips-before : (c : Channel) (s : Config) (channel : ℕ) (rows : List (Option Command)) (mail : List Message) (w : Queued) (until due : ℕ) → Skips c s channel rows mail w until due
+skips-before : (c : Channel) (s : Config) (channel : ℕ) (rows : List (Option Command)) (mail : List Message) (until due : ℕ) → Skips c s channel rows mail until due
     → Each (ArrivedBefore (length rows)) (requests_of mail)
-skips-before c s channel rows mail w until due h = let p = h.stands.recalls.past in requests-arrived s channel (length rows) mail p.requests p.arrived
+skips-before c s channel rows mail until due h = requests-arrived s channel (length rows) mail h.past.requests h.past.arrived
 
-skips-first : (c : Channel) (s : Config) (channel : ℕ) (rows : List (Option Command)) (mail : List Message) (w : Queued) (until due : ℕ) → Skips c s channel rows mail w until due
-    → IsInCycle (at_first c w) s channel rows mail
-skips-first c s channel rows mail w until due h = subst (λ x. IsInCycle (at_first c x) s channel rows mail) (sym h.settles) (settled-in_cycle c s channel rows mail h.stands)
-
-skips-alike : (c : Channel) (s : Config) (channel : ℕ) (rows : List (Option Command)) (mail : List Message) (w : Queued) (until due : ℕ) → Skips c s channel rows mail w until due
+skips-alike : (c : Channel) (s : Config) (channel : ℕ) (rows : List (Option Command)) (mail : List Message) (until due : ℕ) → Skips c s channel rows mail until due
     → IsDueThroughout s channel rows (due - c.cycle) (is_some (lowest_owed c.refresh c.cycle))
-skips-alike c s channel rows mail w until due h =
+skips-alike c s channel rows mail until due h =
     let from_now = h.from_now in
     let within = h.within in
-    alike (at_first c w) s channel rows mail until due (due - c.cycle) (skips-first c s channel rows mail w until due h) h.dues (omega arith)
+    alike c s channel rows mail until due (due - c.cycle) h.in_cycle h.dues (omega arith)
     (λ k l. lt-leb due (c.cycle + k) (omega arith) ∙ sym (lt-leb due c.cycle (omega arith)))
 
-pub skips-first_fits : (c : Channel) (s : Config) (channel : ℕ) (rows : List (Option Command)) (mail : List Message) (w : Queued) (until due : ℕ) → Skips c s channel rows mail w until due
-    → ChannelFits (passed (at_first c w) due)
-skips-first_fits c s channel rows mail w until due h =
+pub skips-first_fits : (c : Channel) (s : Config) (channel : ℕ) (rows : List (Option Command)) (mail : List Message) (until due : ℕ) → Skips c s channel rows mail until due
+    → ChannelFits (passed c due)
+skips-first_fits c s channel rows mail until due h =
     let within = h.within in
     let early = h.early in
-    pass-fits (at_first c w) s channel rows mail due (skips-first c s channel rows mail w until due h) (skips-before c s channel rows mail w until due h)
-    (skips-alike c s channel rows mail w until due h) h.from_now (omega arith)
+    pass-fits c s channel rows mail due h.in_cycle (skips-before c s channel rows mail until due h) (skips-alike c s channel rows mail until due h) h.from_now (omega arith)
 
-skips-second : (c : Channel) (s : Config) (channel : ℕ) (rows : List (Option Command)) (mail : List Message) (w : Queued) (until due : ℕ) → Skips c s channel rows mail w until due
-    → IsInCycle (at_due c w due) s channel (rows ++ replicate (due - c.cycle) None) mail
-skips-second c s channel rows mail w until due h =
-    pass-in_cycle (at_first c w) s channel rows mail due (skips-first c s channel rows mail w until due h) (skips-before c s channel rows mail w until due h)
-    (skips-alike c s channel rows mail w until due h) h.from_now
+skips-second : (c : Channel) (s : Config) (channel : ℕ) (rows : List (Option Command)) (mail : List Message) (until due : ℕ) → Skips c s channel rows mail until due
+    → IsInCycle (passed_to c due) s channel (rows ++ replicate (due - c.cycle) None) mail
+skips-second c s channel rows mail until due h =
+    pass-in_cycle c s channel rows mail due h.in_cycle (skips-before c s channel rows mail until due h) (skips-alike c s channel rows mail until due h) h.from_now
 
-skips-before_second : (c : Channel) (s : Config) (channel : ℕ) (rows : List (Option Command)) (mail : List Message) (w : Queued) (until due : ℕ) → Skips c s channel rows mail w until due
+skips-before_second : (c : Channel) (s : Config) (channel : ℕ) (rows : List (Option Command)) (mail : List Message) (until due : ℕ) → Skips c s channel rows mail until due
     → Each (ArrivedBefore (length (rows ++ replicate (due - c.cycle) None))) (requests_of mail)
-skips-before_second c s channel rows mail w until due h =
+skips-before_second c s channel rows mail until due h =
     let len = length-idle rows (due - c.cycle) in
-    Each-weaker (ArrivedBefore (length rows)) (ArrivedBefore (length (rows ++ replicate (due - c.cycle) None))) (λ r l. omega arith) (requests_of mail) (skips-before c s channel rows mail w until due h)
+    Each-weaker (ArrivedBefore (length rows)) (ArrivedBefore (length (rows ++ replicate (due - c.cycle) None))) (λ r l. omega arith) (requests_of mail) (skips-before c s channel rows mail until due h)
 
-skips-alike_second : (c : Channel) (s : Config) (channel : ℕ) (rows : List (Option Command)) (mail : List Message) (w : Queued) (until due : ℕ) → Skips c s channel rows mail w until due
+skips-alike_second : (c : Channel) (s : Config) (channel : ℕ) (rows : List (Option Command)) (mail : List Message) (until due : ℕ) → Skips c s channel rows mail until due
     → IsDueThroughout s channel (rows ++ replicate (due - c.cycle) None) (until - due) (is_some (lowest_owed c.refresh due))
-skips-alike_second c s channel rows mail w until due h =
+skips-alike_second c s channel rows mail until due h =
     let from_now = h.from_now in
     let within = h.within in
-    alike (at_due c w due) s channel (rows ++ replicate (due - c.cycle) None) mail until due (until - due) (skips-second c s channel rows mail w until due h)
+    alike (passed_to c due) s channel (rows ++ replicate (due - c.cycle) None) mail until due (until - due) (skips-second c s channel rows mail until due h)
     (λ cycle l m. h.dues cycle (omega arith) m) (omega arith)
     (λ k l. le-leb due (due + k) (omega arith) ∙ sym (le-leb due due (omega arith)))
 
-pub skips-second_fits : (c : Channel) (s : Config) (channel : ℕ) (rows : List (Option Command)) (mail : List Message) (w : Queued) (until due : ℕ) → Skips c s channel rows mail w until due
-    → ChannelFits (passed (at_due c w due) until)
-skips-second_fits c s channel rows mail w until due h =
-    pass-fits (at_due c w due) s channel (rows ++ replicate (due - c.cycle) None) mail until (skips-second c s channel rows mail w until due h)
-    (skips-before_second c s channel rows mail w until due h) (skips-alike_second c s channel rows mail w until due h) h.within h.early
+pub skips-second_fits : (c : Channel) (s : Config) (channel : ℕ) (rows : List (Option Command)) (mail : List Message) (until due : ℕ) → Skips c s channel rows mail until due
+    → ChannelFits (passed (passed_to c due) until)
+skips-second_fits c s channel rows mail until due h =
+    pass-fits (passed_to c due) s channel (rows ++ replicate (due - c.cycle) None) mail until (skips-second c s channel rows mail until due h)
+    (skips-before_second c s channel rows mail until due h) (skips-alike_second c s channel rows mail until due h) h.within h.early
 
 -- the channel after the cycles that it skips
-pub skips-stands : (c : Channel) (s : Config) (channel : ℕ) (rows : List (Option Command)) (mail : List Message) (w : Queued) (until due : ℕ) → Skips c s channel rows mail w until due
-    → c.cycle < until → StandsFor (at_end (at_due c w due) until) s channel (rows ++ replicate (until - length rows) None) mail
-skips-stands c s channel rows mail w until due h some =
-    let d = at_end (at_due c w due) until in
+pub skips-stands : (c : Channel) (s : Config) (channel : ℕ) (rows : List (Option Command)) (mail : List Message) (until due : ℕ) → Skips c s channel rows mail until due
+    → length rows < until → StandsFor (passed_to (passed_to c due) until) s channel (rows ++ replicate (until - length rows) None) mail
+skips-stands c s channel rows mail until due h some =
+    let d = passed_to (passed_to c due) until in
     let n = due - c.cycle in
     let m = until - due in
     let from_now = h.from_now in
     let within = h.within in
-    let is = h.stands.cycle_is in
+    let is = h.in_cycle.cycle_is in
     let whole : (rows ++ replicate n None) ++ replicate m None ≡ rows ++ replicate (until - length rows) None =
     append_assoc rows (replicate n None) (replicate m None)
     ∙ ap (λ x. rows ++ x) (replicate-append-replicate {A = Option Command} n m None)
     ∙ ap (λ k. rows ++ replicate k None) (let e : n + m ≡ until - length rows = omega arith in e) in
     skipped-stands d s channel rows mail (until - length rows)
     (subst (λ r. IsInCycle d s channel r mail) whole
-    (pass-in_cycle (at_due c w due) s channel (rows ++ replicate n None) mail until (skips-second c s channel rows mail w until due h)
-    (skips-before_second c s channel rows mail w until due h) (skips-alike_second c s channel rows mail w until due h) within))
-    h.stands.recalls.past.arrived (skips-before c s channel rows mail w until due h) (omega arith)
+    (pass-in_cycle (passed_to c due) s channel (rows ++ replicate n None) mail until (skips-second c s channel rows mail until due h)
+    (skips-before_second c s channel rows mail until due h) (skips-alike_second c s channel rows mail until due h) within))
+    h.past.arrived (skips-before c s channel rows mail until due h) (omega arith)

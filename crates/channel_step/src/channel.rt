@@ -10,9 +10,9 @@ ghost use Rattle.sim_base.specs.declared.message.Message.{Message};
 ghost use Rattle.refresh.specs.Refreshes.{lowest_owed};
 ghost use Rattle.fr_fcfs.specs.Choices.{IsFor};
 ghost use Rattle.fr_fcfs.specs.Cycles.{IsFirstCycle};
-ghost use Rattle.statistics.specs.Channels.{channel_stats, channel_joined, channel_times, ChannelFits};
+ghost use Rattle.statistics.specs.Channels.{channel_stats, channel_joined, ChannelFits};
 ghost use Rattle.channel_step.specs.Counted.{cycle_with_hit};
-ghost use Rattle.channel_step.specs.Channels.{StandsFor, HasRank, HasBank, IsInCycle, IsInSomeCycle, IsChosen, seen_of, idle_cycle, passed};
+ghost use Rattle.channel_step.specs.Channels.{StandsFor, HasRank, HasBank, IsInCycle, IsInSomeCycle, IsChosen, seen_of, passed};
 ghost use Rattle.channel_step.specs.Fit.{IsFit, IsIdle};
 ghost use Rattle.channel_step.specs.Runs.{IsStep, CanStep, CanRun, CanSkip, HasSkipped, IsDone, StandsAt, first_arrival, sooner_of};
 
@@ -91,7 +91,7 @@ impl Channel {
         self.cycle
     }
 
-    /// How many refreshes of a rank are due at the cycle where the channel stands.
+    /// How many refreshes of a rank of the machine are due at the cycle where the channel stands.
     pub fn due(&self, rank: u32) -> u64
         requires { HasRank self.now rank }
         ensures { (s : Config) (channel : ℕ) (rows : List (Option Command)) (mail : List Message)
@@ -100,7 +100,7 @@ impl Channel {
         self.refresh.due(self.cycle, rank)
     }
 
-    /// The row that is open in a bank at the cycle where the channel stands.
+    /// The row that is open in a bank of the machine at the cycle where the channel stands, if one is.
     pub fn open_row(&self, bank: BankId) -> Option<u32>
         requires { HasBank self.now bank }
         ensures { (s : Config) (channel : ℕ) (rows : List (Option Command)) (mail : List Message)
@@ -182,7 +182,6 @@ impl Channel {
     /// then over.
     fn pass(&mut self, until: Cycle)
         requires until { self.old.cycle ≤ until }
-        requires each { ChannelFits (channel_times (until - self.old.cycle) (idle_cycle self.old self.old.cycle)) }
         requires fits { ChannelFits (passed self.old until) }
         ensures { self.new ≡ record self.old { cycle = until; stats = passed self.old until } }
     {
@@ -192,7 +191,7 @@ impl Channel {
         self.add(each.times(cycles), until);
     }
 
-    /// The first cycle before `until` from which on a refresh is due, if none is issued; `until`, where there is none.
+    /// The first cycle before `until` from which on a refresh is due, as long as no REF is issued; `until`, where there is none.
     #[tactic(auto, using(crate::proofs::Dues::due_from_next, crate::proofs::Dues::never_due))]
     fn due_from(&self, until: Cycle) -> Cycle
         requires { self.now.cycle ≤ until }
@@ -206,8 +205,16 @@ impl Channel {
         }
     }
 
-    /// Moves on to the cycle `until`, where nothing arrives and nothing is issued before that. A channel that stands there
-    /// already is left as it is.
+    /// Settles whether the channel drains its writes in the next cycle, where nothing arrives in it.
+    fn settle(&mut self)
+        ensures { (s : Config) (channel : ℕ) (rows : List (Option Command)) (mail : List Message)
+            → StandsFor self.old s channel rows mail → IsInCycle self.new s channel rows mail }
+    {
+        self.waiting.settle();
+    }
+
+    /// Moves on to the cycle `until`, at most 2^62, where nothing arrives and nothing is issued before that. A channel that stands
+    /// there already is left as it is. It takes no memory, and the time of one cycle, however many are skipped.
     pub fn skip(&mut self, until: Cycle)
         requires idle { CanSkip self.old until }
         requires until { until ≤ 2 ^ 62 }
@@ -216,7 +223,7 @@ impl Channel {
             → StandsFor self.new s channel (rows ++ replicate (until - length rows) None) mail }
     {
         if self.cycle < until {
-            self.waiting.settle();
+            self.settle();
             let due = self.due_from(until);
             self.pass(due);
             self.pass(until);
