@@ -6,3 +6,5 @@ pub mod Dues
 pub mod CoreSpans
 pub mod ChannelsOn
 pub mod CoresOn
+pub mod Later
+pub mod Flights

@@ -1,3 +1,4 @@
 pub mod Mail
 pub mod Channels
 pub mod Cores
+pub mod Flight

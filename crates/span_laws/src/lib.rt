@@ -4,4 +4,5 @@
 
 pub mod channels;
 pub mod cores;
+pub mod flight;
 pub mod mail;
