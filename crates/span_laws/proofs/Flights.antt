@@ -1,11 +1,10 @@
 -- Links that hold what is in flight at a cycle of a run, from span to span.
-use Rattle.std.proofs.Common.{◌≡◌, ℕ, zero, suc, ◌+◌, ◌-◌, ◌<◌, ◌≤◌, Bool, true, false, not, ltb, leb, eqb, ◌&&◌, ◌||◌, List, [], ◌∷◌, ◌++◌, refl, sym, ap, ap₂, subst, ◌∙◌, ◌⊎◌, inl, inr, arith}
+use Rattle.std.proofs.Common.{◌≡◌, ℕ, ◌<◌, ◌≤◌, Bool, true, false, not, ltb, leb, eqb, ◌&&◌, ◌||◌, List, [], ◌∷◌, ◌++◌, refl, sym, ap, ap₂, subst, ◌∙◌, ◌⊎◌, inl, inr, arith}
 use Rattle.std.specs.Prelude.{filter, fold, flat_map}
-use Rattle.std.specs.List.{AllByRecursion as Each, list_any}
+use Rattle.std.specs.List.{list_any}
 use Rattle.std.proofs.lemmas.Bool.{cases_lt, lt-ltb, le-ltb, le-leb, lt-leb, leb-true, eqb-true}
 use Rattle.sim_base.specs.declared.config.Config.{Config}
-use Rattle.sim_base.specs.History.{below, is_unit, is_to, receiver, messages_of_core, messages_of_channel, messages, insert_by_age, by_age, inbox}
-use Rattle.sim_base.specs.Locality.{TravelsFor}
+use Rattle.sim_base.specs.History.{below, is_unit, is_to, receiver, messages, insert_by_age, by_age}
 use Rattle.sim_base.specs.Machine.{run}
 use Rattle.sim_base.specs.declared.message.Message.{Message}
 use Rattle.sim_base.specs.declared.message.Unit.{Unit as MachineUnit}
@@ -17,9 +16,9 @@ use Rattle.sim_base.proofs.Ordered.{Each-weaker, filter-by_age, filter-puts, Sor
 use Rattle.laws.proofs.Receivers.{Each-filter_passes}
 use Rattle.laws.proofs.Sent.{messages-none}
 use Rattle.channel_step.proofs.Requests.{filter-both, filter-each, filter-agree}
-use Rattle.links.specs.InFlight.{InFlight, is_due, receiver_of}
-use Rattle.span_laws.specs.Flight.{IsFlightAt, has_unit, left_after, LinksStart, LinksBring, LinksGoOn}
-use Rattle.span_laws.specs.Mail.{arriving, mail_in}
+use Rattle.links.specs.InFlight.{is_due, receiver_of}
+use Rattle.span_laws.specs.Flight.{has_unit, left_after, LinksStart, LinksBring, LinksGoOn}
+use Rattle.span_laws.specs.Mail.{mail_in}
 use Rattle.span_laws.proofs.Arrivals.{mail-sent}
 use Rattle.span_laws.proofs.Later.{IsOfMachine, IsReceived, messages-received, core-sent_late, channel-sent_late, messages-more}
 

@@ -1,15 +1,14 @@
 -- What the units of a run send in a span that is no longer than each message travels arrives after it, and the messages by age
 -- grow by it in any order of units.
-use Rattle.std.proofs.Common.{◌≡◌, ℕ, zero, suc, ◌+◌, ◌-◌, ◌*◌, ◌<◌, ◌≤◌, Bool, true, false, eqb, List, [], ◌∷◌, ◌++◌, length, Option, Some, None, refl, sym, ap, ap₂, subst, ◌∙◌, add-zero, add-suc, append_assoc, arith}
+use Rattle.std.proofs.Common.{◌≡◌, ℕ, zero, suc, ◌+◌, ◌-◌, ◌<◌, ◌≤◌, false, eqb, List, [], ◌∷◌, ◌++◌, length, Option, Some, None, refl, sym, ap, ap₂, subst, ◌∙◌, add-zero, add-suc, append_assoc, arith}
 use Rattle.std.specs.Prelude.{flat_map}
 use Rattle.std.specs.Option.{IfSome}
 use Rattle.std.specs.List.{AllByRecursion as Each}
 use Rattle.std.proofs.lemmas.List.{append-nil, append_cancel_left}
 use Rattle.sim_base.specs.declared.config.Config.{Config}
-use Rattle.sim_base.specs.Config.{request_link, reply_link, credit_link}
 use Rattle.sim_base.specs.Places.{place_of}
-use Rattle.sim_base.specs.Row.{Row, channel_row}
-use Rattle.sim_base.specs.History.{below, trace_of, core_rows, inbox, request, request_of, reply, credit, requests_in, core_messages, messages_of, messages_at, channel_messages, messages_of_core, messages_of_channel, messages, receiver}
+use Rattle.sim_base.specs.Row.{channel_row}
+use Rattle.sim_base.specs.History.{below, trace_of, inbox, request, request_of, reply, credit, requests_in, core_messages, messages_of, messages_at, channel_messages, messages_of_core, messages_of_channel, messages, receiver}
 use Rattle.sim_base.specs.Locality.{TravelsFor}
 use Rattle.sim_base.specs.Machine.{run, next_row}
 use Rattle.sim_base.specs.Sends.{sender, channel_sends}
