@@ -1,9 +1,10 @@
 -- Links that hold what is in flight at a cycle of a run, from span to span.
-use Rattle.std.proofs.Common.{◌≡◌, ℕ, ◌<◌, ◌≤◌, Bool, true, false, not, ltb, leb, eqb, ◌&&◌, ◌||◌, List, [], ◌∷◌, ◌++◌, refl, sym, ap, ap₂, subst, ◌∙◌, ◌⊎◌, inl, inr, arith}
+use Rattle.std.proofs.Common.{◌≡◌, ℕ, ◌<◌, ◌≤◌, Bool, true, false, not, ltb, leb, eqb, ◌&&◌, ◌||◌, List, [], ◌∷◌, ◌++◌, length, refl, sym, ap, ap₂, subst, ◌∙◌, ◌⊎◌, inl, inr, arith}
 use Rattle.std.specs.Prelude.{filter, fold, flat_map}
 use Rattle.std.specs.List.{list_any}
 use Rattle.std.proofs.lemmas.Bool.{cases_lt, lt-ltb, le-ltb, le-leb, lt-leb, leb-true, eqb-true}
 use Rattle.sim_base.specs.declared.config.Config.{Config}
+use Rattle.sim_base.specs.Counts.{is_in_flight, in_flight}
 use Rattle.sim_base.specs.History.{below, is_unit, is_to, receiver, messages, insert_by_age, by_age}
 use Rattle.sim_base.specs.Machine.{run}
 use Rattle.sim_base.specs.declared.message.Message.{Message}
@@ -13,6 +14,7 @@ use Rattle.sim_base.specs.declared.trace.Entry.{Entry}
 use Rattle.sim_base.proofs.Arrived.{puts, by_age-puts, fold-puts, NotBefore, Each-by_age}
 use Rattle.sim_base.proofs.Each.{Each-all, Each-append, Each-flat_map_below}
 use Rattle.sim_base.proofs.Ordered.{Each-weaker, filter-by_age, filter-puts, Sorted-puts}
+use Rattle.sim_base.proofs.Spans.{length-run}
 use Rattle.laws.proofs.Receivers.{Each-filter_passes}
 use Rattle.laws.proofs.Sent.{messages-none}
 use Rattle.channel_step.proofs.Requests.{filter-both, filter-each, filter-agree}
@@ -22,10 +24,6 @@ use Rattle.span_laws.specs.Mail.{mail_in}
 use Rattle.span_laws.proofs.Arrivals.{mail-sent}
 use Rattle.span_laws.proofs.Later.{IsOfMachine, IsReceived, messages-received, core-sent_late, channel-sent_late, messages-more}
 
-pub links-start : (s : Config) (traces : List (List Entry)) → LinksStart s traces
-unfolding run by_age
-links-start s traces = record { channels_are = refl; messages_are = sym (ap (λ ms. by_age (filter (λ (m : Message). leb 0 m.arrival) ms)) (messages-none s traces)) }
-
 -- a message arrives in a span
 abbrev in_span : ℕ → ℕ → Message → Bool
 in_span from until m = leb from m.arrival && ltb m.arrival until
@@ -33,6 +31,28 @@ in_span from until m = leb from m.arrival && ltb m.arrival until
 -- what has not arrived before a cycle
 abbrev not_before : ℕ → Message → Bool
 not_before cycle m = leb cycle m.arrival
+
+not-lt : (a b : ℕ) → not (ltb a b) ≡ leb b a
+not-lt a b = go (cases_lt a b)
+  where
+    go : (a < b) ⊎ (b ≤ a) → not (ltb a b) ≡ leb b a
+    go (inl h) = ap not (lt-ltb a b h) ∙ sym (lt-leb b a h)
+    go (inr h) = ap not (le-ltb a b h) ∙ sym (le-leb b a h)
+
+-- what is in flight has not arrived
+in_flight-late : (s : Config) (traces : List (List Entry)) (now : ℕ) → in_flight s traces (run s traces now) ≡ by_age (filter (not_before now) (messages s traces (run s traces now)))
+unfolding in_flight
+in_flight-late s traces now =
+    let history = run s traces now in
+    let sent = messages s traces history in
+    let long : length history ≡ now = length-run s traces now in
+    let same : (m : Message) → is_in_flight history m ≡ not_before now m = λ m. ap (λ i. not (ltb m.arrival i)) long ∙ not-lt m.arrival now in
+    ap by_age (filter-agree (is_in_flight history) (not_before now) sent (Each-all (λ (m : Message). is_in_flight history m ≡ not_before now m) same sent))
+
+pub links-start : (s : Config) (traces : List (List Entry)) → LinksStart s traces
+unfolding run by_age
+links-start s traces =
+    record { channels_are = refl; messages_are = sym (in_flight-late s traces 0 ∙ ap (λ ms. by_age (filter (λ (m : Message). leb 0 m.arrival) ms)) (messages-none s traces)) }
 
 and-swap : (a b c : Bool) → (a && (b && c)) ≡ (b && (a && (b && c)))
 and-swap true true c = refl
@@ -94,7 +114,7 @@ due-left channels from until unit (u ∷ units) ms h =
 pub links-bring : (s : Config) (traces : List (List Entry)) (from until : ℕ) → LinksBring s traces from until
 links-bring s traces from until flight units unit h k =
     due-left flight.channels from until unit units flight.messages k
-    ∙ ap₂ (λ c ms. filter (is_due c unit from until) ms) h.channels_are h.messages_are
+    ∙ ap₂ (λ c ms. filter (is_due c unit from until) ms) h.channels_are (h.messages_are ∙ in_flight-late s traces from)
     ∙ due-mail s traces from until unit
 
 not-or : (a b : Bool) → not (a || b) ≡ (not a && not b)
@@ -121,13 +141,6 @@ left-all channels from until (u ∷ units) ms =
     let rest = λ (m : Message). not (list_any (λ v. is_due channels v from until m) units) in
     left-all channels from until units (filter stays ms)
     ∙ sym (filter-both rest stays (λ m. not (list_any (λ v. is_due channels v from until m) (u ∷ units))) (λ m. not-or (is_due channels u from until m) (list_any (λ v. is_due channels v from until m) units)) ms)
-
-not-lt : (a b : ℕ) → not (ltb a b) ≡ leb b a
-not-lt a b = go (cases_lt a b)
-  where
-    go : (a < b) ⊎ (b ≤ a) → not (ltb a b) ≡ leb b a
-    go (inl h) = ap not (lt-ltb a b h) ∙ sym (lt-leb b a h)
-    go (inr h) = ap not (le-ltb a b h) ∙ sym (le-leb b a h)
 
 has-receiver : (s : Config) (units : List MachineUnit) → ((core : ℕ) → core < s.cores → has_unit units (Core core) ≡ true) → ((channel : ℕ) → channel < s.channels → has_unit units (Channel channel) ≡ true)
     → (unit : MachineUnit) → IsOfMachine s unit → has_unit units unit ≡ true
@@ -198,7 +211,8 @@ links-go_on s traces from until flight units core_sent channel_sent l t h cores 
     record {
       channels_are = h.channels_are;
       messages_are =
-          ap₂ (λ c ms. fold insert_by_age (left_after c from until units ms) new) h.channels_are h.messages_are
+          ap₂ (λ c ms. fold insert_by_age (left_after c from until units ms) new) h.channels_are (h.messages_are ∙ in_flight-late s traces from)
           ∙ ap (λ ms. fold insert_by_age ms new) (left-late s traces from until units (has-receiver s units cores channels))
-          ∙ flight-more s traces from until new l late (messages-more s traces from until core_sent channel_sent by_cores by_channels);
+          ∙ flight-more s traces from until new l late (messages-more s traces from until core_sent channel_sent by_cores by_channels)
+          ∙ sym (in_flight-late s traces until);
     }

@@ -5,10 +5,11 @@
 --     LinksStart s traces      before the first cycle nothing is in flight
 --     LinksBring s traces from until      what is due at a unit is what arrives at it in the run
 --     LinksGoOn s traces from until      with what the units sent in the span, the links hold what is in flight at its end
-use Rattle.std.specs.Prelude.{◌≡◌, ℕ, ◌-◌, ◌<◌, ◌≤◌, nat_le, not, Bool, true, false, List, [], ◌++◌, filter, fold, flat_map}
+use Rattle.std.specs.Prelude.{◌≡◌, ℕ, ◌-◌, ◌<◌, ◌≤◌, not, Bool, true, false, List, [], ◌++◌, filter, fold, flat_map}
 use Rattle.std.specs.List.{list_any}
 use Rattle.sim_base.specs.declared.config.Config.{Config}
-use Rattle.sim_base.specs.History.{below, is_unit, messages_of_core, messages_of_channel, messages, insert_by_age, by_age}
+use Rattle.sim_base.specs.Counts.{in_flight}
+use Rattle.sim_base.specs.History.{below, is_unit, messages_of_core, messages_of_channel, insert_by_age}
 use Rattle.sim_base.specs.Locality.{TravelsFor}
 use Rattle.sim_base.specs.Machine.{run}
 use Rattle.sim_base.specs.declared.message.Message.{Message}
@@ -18,10 +19,10 @@ use Rattle.sim_base.specs.declared.trace.Entry.{Entry}
 use Rattle.links.specs.InFlight.{InFlight, is_due}
 use Rattle.span_laws.specs.Mail.{mail_in}
 
--- The links hold what is in flight at a cycle of a run: by age, what was sent before the cycle and arrives in it or later.
+-- The links hold what is in flight at a cycle of a run: what was sent before the cycle and arrives in it or later, by age.
 pub record IsFlightAt (s : Config) (traces : List (List Entry)) (now : ℕ) (flight : InFlight) : Type 0 where
   pub channels_are : flight.channels ≡ s.channels
-  pub messages_are : flight.messages ≡ by_age (filter (λ m. nat_le now m.arrival) (messages s traces (run s traces now)))
+  pub messages_are : flight.messages ≡ in_flight s traces (run s traces now)
 
 -- a unit is one of these
 abbrev pub has_unit : List MachineUnit → MachineUnit → Bool
