@@ -8,3 +8,4 @@ pub mod ChannelsOn
 pub mod CoresOn
 pub mod Later
 pub mod Flights
+pub mod Merged

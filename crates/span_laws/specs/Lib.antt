@@ -2,3 +2,4 @@ pub mod Mail
 pub mod Channels
 pub mod Cores
 pub mod Flight
+pub mod Tables

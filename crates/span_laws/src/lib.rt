@@ -6,3 +6,4 @@ pub mod channels;
 pub mod cores;
 pub mod flight;
 pub mod mail;
+pub mod tables;
