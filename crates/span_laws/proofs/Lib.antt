@@ -9,3 +9,4 @@ pub mod CoresOn
 pub mod Later
 pub mod Flights
 pub mod Merged
+pub mod Over

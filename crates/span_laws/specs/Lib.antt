@@ -3,3 +3,4 @@ pub mod Channels
 pub mod Cores
 pub mod Flight
 pub mod Tables
+pub mod Ends
