@@ -29,7 +29,7 @@ abbrev in_span : ℕ → ℕ → Message → Bool
 in_span from until m = leb from m.arrival && ltb m.arrival until
 
 -- what has not arrived before a cycle
-abbrev not_before : ℕ → Message → Bool
+abbrev pub not_before : ℕ → Message → Bool
 not_before cycle m = leb cycle m.arrival
 
 not-lt : (a b : ℕ) → not (ltb a b) ≡ leb b a
@@ -40,7 +40,7 @@ not-lt a b = go (cases_lt a b)
     go (inr h) = ap not (le-ltb a b h) ∙ sym (le-leb b a h)
 
 -- what is in flight has not arrived
-in_flight-late : (s : Config) (traces : List (List Entry)) (now : ℕ) → in_flight s traces (run s traces now) ≡ by_age (filter (not_before now) (messages s traces (run s traces now)))
+pub in_flight-late : (s : Config) (traces : List (List Entry)) (now : ℕ) → in_flight s traces (run s traces now) ≡ by_age (filter (not_before now) (messages s traces (run s traces now)))
 unfolding in_flight
 in_flight-late s traces now =
     let history = run s traces now in

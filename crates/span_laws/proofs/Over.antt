@@ -39,7 +39,18 @@ use Rattle.channel_step.specs.Past.{requests_of}
 use Rattle.channel_step.proofs.Requests.{requests-arrived, ArrivedBefore, waiting-until, waiting-command, unserved_by}
 use Rattle.channel_step.proofs.Spans.{queue-next}
 use Rattle.span_laws.specs.Cores.{core_rows_of}
-use Rattle.span_laws.specs.Ends.{ends_before, RunsStayOver, CyclesAreCounted}
+use Rattle.span_laws.specs.Ends.{ends_before, RunsStayOver, OverIsSeen, CyclesAreCounted}
+use Rattle.span_laws.specs.Mail.{mail_before}
+use Rattle.span_laws.proofs.ChannelsOn.{queue-alike}
+use Rattle.span_laws.proofs.Flights.{not_before, in_flight-late}
+use Rattle.span_laws.proofs.Lists.{each-none}
+use Rattle.sim_base.specs.Counts.{in_flight}
+use Rattle.sim_base.specs.Final.{queue_left}
+use Rattle.sim_base.proofs.Spans.{inbox-stamped}
+use Rattle.laws.proofs.Counting.{count-filter}
+use Rattle.laws.proofs.Sent.{count-by_age}
+use Rattle.std.specs.Prelude.{count_by}
+use Rattle.std.proofs.lemmas.Bool.{cond-false, lt-leb, leb-false}
 use Rattle.span_laws.proofs.Requests.{all-carry}
 
 -- a test of each number below n
@@ -258,3 +269,49 @@ cycles-are_counted s traces limit n l h k = go (cases_lt n limit)
         let e : n + (limit - n) ≡ limit = omega arith in
         sym (ap (cycles_run s traces) e) ∙ cycles-stay s traces n far (k a) (limit - n)
     go (inr a) = let e : limit ≡ n = omega arith in ap (cycles_run s traces) e ∙ far
+
+and-self : (b : Bool) → (b && b) ≡ false → b ≡ false
+and-self false h = refl
+and-self true h = cc
+
+-- nothing is in flight where each message has arrived
+flight-empty : (s : Config) (traces : List (List Entry)) (n : ℕ) → Each (λ (m : Message). m.arrival < n) (messages s traces (run s traces n)) → in_flight s traces (run s traces n) ≡ []
+unfolding by_age
+flight-empty s traces n h =
+    let sent = messages s traces (run s traces n) in
+    in_flight-late s traces n ∙ ap by_age (filter-none (not_before n) sent (Each-weaker (λ (m : Message). m.arrival < n) (λ (m : Message). not_before n m ≡ false) (λ m a. lt-leb n m.arrival a) sent h))
+  where
+    filter-none : (p : Message → Bool) (ms : List Message) → Each (λ m. p m ≡ false) ms → filter p ms ≡ []
+    filter-none p [] k = refl
+    filter-none p (m ∷ ms) k = cond-false _ _ _ k.0 ∙ filter-none p ms k.1
+
+-- and only there
+flight-arrived : (s : Config) (traces : List (List Entry)) (n : ℕ) → in_flight s traces (run s traces n) ≡ [] → Each (λ (m : Message). m.arrival < n) (messages s traces (run s traces n))
+flight-arrived s traces n e =
+    let sent = messages s traces (run s traces n) in
+    let p = not_before n in
+    let a : count_by p (by_age (filter p sent)) ≡ count_by p (filter p sent) = count-by_age p (filter p sent) in
+    let b : count_by p (filter p sent) ≡ count_by (λ m. p m && p m) sent = count-filter p p sent in
+    let c : by_age (filter p sent) ≡ [] = sym (in_flight-late s traces n) ∙ e in
+    let none : count_by (λ m. p m && p m) sent ≡ 0 = sym b ∙ sym a ∙ ap (count_by p) c in
+    Each-weaker (λ (m : Message). (p m && p m) ≡ false) (λ (m : Message). m.arrival < n) (λ m h. leb-false n m.arrival (and-self (p m) h)) sent (each-none (λ m. p m && p m) sent none)
+
+-- the queue that is left
+queue-left_is : (s : Config) (traces : List (List Entry)) (n channel : ℕ)
+    → queue_left channel (rows_of s traces n channel) (mail_before s traces n (Channel channel) n) ≡ waiting (history_of s traces n channel) (inbox s traces (run s traces n) (Channel channel)) n
+unfolding queue_left
+queue-left_is s traces n channel =
+    let rows = rows_of s traces n channel in
+    let mail = inbox s traces (run s traces n) (Channel channel) in
+    let long : length rows ≡ n = length-rows_of s traces n channel in
+    queue-alike channel n rows mail long (inbox-stamped s traces (run s traces n) (Channel channel)) ∙ ap (waiting (history_of s traces n channel) mail) long
+
+pub over-is_seen : (s : Config) (traces : List (List Entry)) (now : ℕ) → OverIsSeen s traces now
+over-is_seen s traces now = (
+  λ h.
+      let over = over-parts s traces now h in
+      (over.retired, flight-empty s traces now over.delivered, λ channel l. queue-left_is s traces now channel ∙ over.served channel l),
+  λ h.
+      over-from s traces now
+      (record { retired = h.0; delivered = flight-arrived s traces now h.1; served = λ channel l. sym (queue-left_is s traces now channel) ∙ h.2 channel l }),
+)
