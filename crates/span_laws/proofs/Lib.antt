@@ -10,3 +10,4 @@ pub mod Later
 pub mod Flights
 pub mod Merged
 pub mod Over
+pub mod Localities
