@@ -3,6 +3,7 @@ use Rattle.std.proofs.Common.{◌≡◌, ℕ, ◌<◌, ◌≤◌, Bool, true, fa
 use Rattle.std.specs.Prelude.{filter, fold, flat_map}
 use Rattle.std.specs.List.{list_any}
 use Rattle.std.proofs.lemmas.Bool.{cases_lt, lt-ltb, le-ltb, le-leb, lt-leb, leb-true, eqb-true}
+use Rattle.std.proofs.lemmas.List.Elements.{recursion_from_All, All-from_recursion}
 use Rattle.sim_base.specs.declared.config.Config.{Config}
 use Rattle.sim_base.specs.Counts.{is_in_flight, in_flight}
 use Rattle.sim_base.specs.History.{below, is_unit, is_to, receiver, messages, insert_by_age, by_age}
@@ -19,7 +20,7 @@ use Rattle.laws.proofs.Receivers.{Each-filter_passes}
 use Rattle.laws.proofs.Sent.{messages-none}
 use Rattle.channel_step.proofs.Requests.{filter-both, filter-each, filter-agree}
 use Rattle.links.specs.InFlight.{is_due, receiver_of}
-use Rattle.span_laws.specs.Flight.{has_unit, left_after, LinksStart, LinksBring, LinksGoOn}
+use Rattle.span_laws.specs.Flight.{has_unit, left_after, LinksStart, LinksBring, SentIsLate, LinksGoOn}
 use Rattle.span_laws.specs.Mail.{mail_in}
 use Rattle.span_laws.proofs.Arrivals.{mail-sent}
 use Rattle.span_laws.proofs.Later.{IsOfMachine, IsReceived, messages-received, core-sent_late, channel-sent_late, messages-more}
@@ -200,14 +201,20 @@ flight-more s traces from until new l late e =
     ∙ filter-puts p [] all tt
     ∙ sym (by_age-puts (filter p all))
 
+pub sent-is_late : (s : Config) (traces : List (List Entry)) (from until : ℕ) → SentIsLate s traces from until
+sent-is_late s traces from until sent l t = (
+  λ core k e. All-from_recursion (λ (m : Message). until ≤ m.arrival) sent (core-sent_late s traces from until core sent k l t e),
+  λ channel k e. All-from_recursion (λ (m : Message). until ≤ m.arrival) sent (channel-sent_late s traces from until channel sent k l t e),
+)
+
 pub links-go_on : (s : Config) (traces : List (List Entry)) (from until : ℕ) → LinksGoOn s traces from until
-links-go_on s traces from until flight units core_sent channel_sent l t h cores channels by_cores by_channels =
+links-go_on s traces from until flight units core_sent channel_sent l h cores channels by_cores by_channels late_cores late_channels =
     let new = flat_map core_sent (below s.cores) ++ flat_map channel_sent (below s.channels) in
     let old = by_age (filter (not_before from) (messages s traces (run s traces from))) in
     let late : NotBefore until new =
     Each-append (λ (m : Message). until ≤ m.arrival) (flat_map core_sent (below s.cores)) (flat_map channel_sent (below s.channels))
-    (Each-flat_map_below (λ (m : Message). until ≤ m.arrival) core_sent s.cores (λ i k. core-sent_late s traces from until i (core_sent i) k l t (by_cores i k)))
-    (Each-flat_map_below (λ (m : Message). until ≤ m.arrival) channel_sent s.channels (λ i k. channel-sent_late s traces from until i (channel_sent i) k l t (by_channels i k))) in
+    (Each-flat_map_below (λ (m : Message). until ≤ m.arrival) core_sent s.cores (λ i k. recursion_from_All (λ (m : Message). until ≤ m.arrival) (core_sent i) (late_cores i k)))
+    (Each-flat_map_below (λ (m : Message). until ≤ m.arrival) channel_sent s.channels (λ i k. recursion_from_All (λ (m : Message). until ≤ m.arrival) (channel_sent i) (late_channels i k))) in
     record {
       channels_are = h.channels_are;
       messages_are =

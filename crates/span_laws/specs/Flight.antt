@@ -4,8 +4,9 @@
 --     left_after channels from until units ms      what stays when what is due at these units in a span is taken out
 --     LinksStart s traces      before the first cycle nothing is in flight
 --     LinksBring s traces from until      what is due at a unit is what arrives at it in the run
+--     SentIsLate s traces from until      what a unit sends in a span that is no longer than each message travels arrives after it
 --     LinksGoOn s traces from until      with what the units sent in the span, the links hold what is in flight at its end
-use Rattle.std.specs.Prelude.{◌≡◌, ℕ, ◌-◌, ◌<◌, ◌≤◌, not, Bool, true, false, List, [], ◌++◌, filter, fold, flat_map}
+use Rattle.std.specs.Prelude.{◌≡◌, ℕ, ◌-◌, ◌<◌, ◌≤◌, not, Bool, true, false, List, [], ◌++◌, filter, fold, flat_map, All}
 use Rattle.std.specs.List.{list_any}
 use Rattle.sim_base.specs.declared.config.Config.{Config}
 use Rattle.sim_base.specs.Counts.{in_flight}
@@ -43,16 +44,24 @@ LinksBring s traces from until =
     (flight : InFlight) (units : List MachineUnit) (unit : MachineUnit) → IsFlightAt s traces from flight → has_unit units unit ≡ false
     → filter (is_due flight.channels unit from until) (left_after flight.channels from until units flight.messages) ≡ mail_in s traces from unit from until
 
--- Where no message travels for less than a span, what is due in it is taken out for each unit, and what the units send in it is
--- taken up: then the links hold what is in flight at its end.
+-- where no message travels for less than a span, what a core or a channel sends in it arrives at its end or later
+abbrev pub SentIsLate : Config → List (List Entry) → ℕ → ℕ → Type 0
+SentIsLate s traces from until =
+    (sent : List Message) → from ≤ until → TravelsFor s (until - from)
+    → ((core : ℕ) → core < s.cores → messages_of_core s traces (run s traces until) core ≡ messages_of_core s traces (run s traces from) core ++ sent → All (λ m. until ≤ m.arrival) sent)
+    × ((channel : ℕ) → channel < s.channels → messages_of_channel s (run s traces until) channel ≡ messages_of_channel s (run s traces from) channel ++ sent → All (λ m. until ≤ m.arrival) sent)
+
+-- Where what is due in a span is taken out for each unit, and what the units send in it is taken up, which arrives at its end or
+-- later, the links hold what is in flight at its end.
 abbrev pub LinksGoOn : Config → List (List Entry) → ℕ → ℕ → Type 0
 LinksGoOn s traces from until =
-    (flight : InFlight) (units : List MachineUnit) (core_sent channel_sent : ℕ → List Message) → from ≤ until → TravelsFor s (until - from)
-    → IsFlightAt s traces from flight
+    (flight : InFlight) (units : List MachineUnit) (core_sent channel_sent : ℕ → List Message) → from ≤ until → IsFlightAt s traces from flight
     → ((core : ℕ) → core < s.cores → has_unit units (Core core) ≡ true)
     → ((channel : ℕ) → channel < s.channels → has_unit units (Channel channel) ≡ true)
     → ((core : ℕ) → core < s.cores → messages_of_core s traces (run s traces until) core ≡ messages_of_core s traces (run s traces from) core ++ core_sent core)
     → ((channel : ℕ) → channel < s.channels → messages_of_channel s (run s traces until) channel ≡ messages_of_channel s (run s traces from) channel ++ channel_sent channel)
+    → ((core : ℕ) → core < s.cores → All (λ m. until ≤ m.arrival) (core_sent core))
+    → ((channel : ℕ) → channel < s.channels → All (λ m. until ≤ m.arrival) (channel_sent channel))
     → IsFlightAt s traces until
     (record {
       channels = flight.channels;
