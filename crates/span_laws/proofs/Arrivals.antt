@@ -43,7 +43,7 @@ arrived-then s traces now until unit u l h =
 pub mail-settled : (s : Config) (traces : List (List Entry)) (from until : ℕ) → MailIsSettled s traces from until
 mail-settled s traces from until unit l = arrived-then s traces from until unit from l (omega arith)
 
-arriving-arrived : (from until : ℕ) (ms : List Message) → arriving from until (arrived ms until) ≡ arriving from until ms
+pub arriving-arrived : (from until : ℕ) (ms : List Message) → arriving from until (arrived ms until) ≡ arriving from until ms
 arriving-arrived from until ms = filter-arrived (λ (m : Message). leb from m.arrival && ltb m.arrival until) until (λ m h. and_right (leb from m.arrival) _ (le-ltb m.arrival until h)) ms
 
 pub mail-known : (s : Config) (traces : List (List Entry)) (from until : ℕ) → MailIsKnown s traces from until

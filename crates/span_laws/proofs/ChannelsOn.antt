@@ -93,7 +93,7 @@ waiting-arrived p until (m ∷ ms) h =
     (λ e. waiting_all p until (request_in m.load) _ _ (waiting-arrived p until ms h.1))
     (λ e. waiting-arrived p until ms h.1 ∙ sym (waiting_in p until m.arrival e (request_in m.load) h.0 (filter_map (λ m. request_in m.load) ms)))
 
-queue-alike : (channel now : ℕ) (rows : List (Option Command)) (ms : List Message) → length rows ≡ now → Each Stamped ms → queue_left channel rows (arrived ms now) ≡ queue_left channel rows ms
+pub queue-alike : (channel now : ℕ) (rows : List (Option Command)) (ms : List Message) → length rows ≡ now → Each Stamped ms → queue_left channel rows (arrived ms now) ≡ queue_left channel rows ms
 unfolding queue_left waiting
 queue-alike channel now rows ms e h =
     subst (λ u. filter (is_waiting (issued_commands channel rows) (length rows)) (filter_map (λ m. request_in m.load) (arrived ms u)) ≡ filter (is_waiting (issued_commands channel rows) (length rows)) (filter_map (λ m. request_in m.load) ms)) e

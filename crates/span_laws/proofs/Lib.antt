@@ -6,3 +6,8 @@ pub mod Dues
 pub mod CoreSpans
 pub mod ChannelsOn
 pub mod CoresOn
+pub mod Later
+pub mod Flights
+pub mod Merged
+pub mod Over
+pub mod Localities

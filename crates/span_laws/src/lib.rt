@@ -4,4 +4,7 @@
 
 pub mod channels;
 pub mod cores;
+pub mod ends;
+pub mod flight;
 pub mod mail;
+pub mod tables;
