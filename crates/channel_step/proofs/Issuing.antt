@@ -362,8 +362,8 @@ served-among c s channel rows mail slot o h is =
     got [] k all = tt
     got (x ∷ xs) zero all = all 0 x (omega arith)
     got (x ∷ xs) (suc k) all = got xs k (λ j d within. all (suc j) d (omega arith))
+
     at : (k : Option ℕ) → IfSome (option_and_then (slice_get c.waiting.queue.requests) k) (λ r. bank_number r.place < bank_count c.heads)
     at None = tt
     at (Some k) = got c.waiting.queue.requests k (below-count s.ranks (bank_count c.heads) c.waiting.queue.requests h.made_for.banks_are
         (queue-in_banks s channel s.ranks (issued_commands channel rows) mail (length rows + 1) c.waiting.queue.requests refl h.joined.requests h.joined.queue_is))
-

@@ -1,5 +1,5 @@
 -- One request more, and then all.
-use Rattle.std.proofs.Common.{◌≡◌, ◌+◌, ◌<◌, length, take, sym, ap, subst, ◌∙◌, arith}
+use Rattle.std.proofs.Common.{◌<◌, length, take, sym, ap, subst, ◌∙◌, arith}
 use Rattle.std.proofs.lemmas.List.{length-take-le, take_all}
 use Rattle.queue.proofs.Eligible.{length-eligible}
 use Rattle.heads.specs.Stands.{StandsFor}

@@ -1,11 +1,11 @@
 -- The heads of the request's bank take it in, if it may be served.
-use Rattle.std.proofs.Common.{◌≡◌, ◌<◌, Bool, true, false, not, set, refl, sym, ap, subst, ◌∙◌}
+use Rattle.std.proofs.Common.{◌≡◌, Bool, true, false, not, set, refl, sym, ap, subst, ◌∙◌}
 use Rattle.std.proofs.lemmas.List.{get_or_default}
 use Rattle.std.specs.Vec.{with_item}
 use Rattle.queue.specs.Columns.{bank_number}
 use Rattle.sim_base.specs.Scheduling.{asks_for_line}
 use Rattle.heads.specs.declared.heads.Heads.{Heads}
-use Rattle.heads.specs.Stands.{bank_count, heads_of}
+use Rattle.heads.specs.Stands.{heads_of}
 use Rattle.heads.specs.Heads.{AreHeads}
 use Rattle.heads.proofs.Stood.{joined_stand, unjoined_stand}
 use Rattle.heads.proofs.heads.Heads.join.Goals as goal
