@@ -1,6 +1,6 @@
 -- What a bank and a rank keep of a history.
 --     words_until t cycle earlier relation      from which cycle on a command no longer holds back those of a bank
---     all_untils t cycle earlier, until_at untils relation      the same for each relation
+--     all_untils t cycle earlier      the same for each relation
 --     later_of a b      the later of two such cycles, kind by kind
 --     state_from t history bank, rank_words_from t history rank      what the commands of a history make of a bank and of a rank
 --     state_after t cycle command bank state, rank_words_after t cycle command rank words      what one command more makes of them
@@ -17,7 +17,7 @@ use Rattle.sim_base.specs.declared.command.Kind.TheVariants.{Act, Rd, Wr, Pre, P
 use Rattle.sim_base.specs.declared.command.Relation.{Relation}
 use Rattle.sim_base.specs.declared.command.Relation.TheVariants.{SameBank, SameGroup, OtherGroup, OtherRank}
 use Rattle.sim_base.specs.declared.command.CommandRow.{CommandRow}
-use Rattle.sim_base.specs.Rules.{kind_of, row_after, open_row}
+use Rattle.sim_base.specs.Rules.{is_kind, kind_of, row_after, open_row}
 use Rattle.timing.specs.Relation.{relation_to}
 use Rattle.bank_ready.specs.Ready.{held_until, ready_from}
 use Rattle.bank_ready.specs.declared.words.BankWords.{BankWords}
@@ -45,16 +45,29 @@ all_untils t cycle earlier =
       other_rank = words_until t cycle earlier OtherRank;
     }
 
--- the one for this way
-abbrev pub until_at : Untils → Relation → BankWords
-until_at untils SameBank = untils.same_bank
-until_at untils SameGroup = untils.same_group
-until_at untils OtherGroup = untils.other_group
-until_at untils OtherRank = untils.other_rank
-
 -- the later of two cycles, kind by kind
 abbrev pub later_of : BankWords → BankWords → BankWords
 later_of a b = record { act = max a.act b.act; rd = max a.rd b.rd; wr = max a.wr b.wr; pre = max a.pre b.pre }
+
+-- a bank whose words for ACT and PRE, those for RD and WR, or all of them are raised to these, and one that is closed
+abbrev pub rows_raised : BankWords → BankState → BankState
+rows_raised words state = record state { ready = record state.ready { act = max state.ready.act words.act; pre = max state.ready.pre words.pre } }
+
+abbrev pub columns_raised : BankWords → BankState → BankState
+columns_raised words state = record state { ready = record state.ready { rd = max state.ready.rd words.rd; wr = max state.ready.wr words.wr } }
+
+abbrev pub raised : BankWords → BankState → BankState
+raised words state = record { ready = later_of state.ready words; row = state.row }
+
+abbrev pub closed : BankState → BankState
+closed state = record { ready = state.ready; row = None }
+
+-- what a command of this bank makes of that bank itself, and one that names no bank of each bank of its rank
+abbrev pub raised_in_bank : BankId → Command → BankWords → BankState → BankState
+raised_in_bank bank command words state = record { ready = later_of state.ready words; row = row_after bank state.row command }
+
+abbrev pub raised_in_rank : Command → BankWords → BankState → BankState
+raised_in_rank command words state = if is_kind (kind_of command) Prea then closed (raised words state) else raised words state
 
 -- from which cycle on no command of a history holds back those of a bank
 abbrev pub words_from : Timing → List CommandRow → BankId → BankWords

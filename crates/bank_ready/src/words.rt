@@ -2,11 +2,11 @@
 
 ghost use Rattle.std.specs.Prelude.{◌≡◌, ◌+◌, ◌*◌, ◌^◌, ◌<◌, ◌≤◌, ℕ, length, slice_index_or};
 ghost use Rattle.sim_base.specs.Places.{is_bank};
-ghost use Rattle.sim_base.specs.Rules.{row_after};
+ghost use Rattle.sim_base.specs.Rules.{rank_of, row_after};
 ghost use Rattle.bank_ready.specs.Ready.{held_until};
 ghost use Rattle.bank_ready.specs.declared.words.BankState.{BankState};
 ghost use Rattle.bank_ready.specs.declared.words.RankWords.{RankWords};
-ghost use Rattle.bank_ready.specs.Words.{words_until, later_of, all_untils, until_at, state_after, rank_words_after, bank_at, number_of};
+ghost use Rattle.bank_ready.specs.Words.{words_until, later_of, all_untils, rows_raised, columns_raised, raised, closed, raised_in_rank, raised_in_bank, state_after, rank_words_after, bank_at, number_of};
 
 use sim_base::command::{Command, Kind, Relation};
 use sim_base::message::Cycle;
@@ -111,18 +111,6 @@ fn row_after(bank: BankId, row_before: Option<u32>, command: Command) -> Option<
     }
 }
 
-fn bank_at(number: usize) -> BankId
-    requires { number < 64 }
-    ensures { result ≡ bank_at number }
-{
-    let number = number as u32;
-    BankId {
-        rank: number / 16,
-        group: number / 4 % 4,
-        bank: number % 4,
-    }
-}
-
 /// The number of a bank among those of all ranks.
 pub(crate) fn number_of(bank: BankId) -> usize
     requires rank { bank.rank < 4 }
@@ -154,14 +142,143 @@ fn all_untils(gaps: &GapTable, cycle: Cycle, earlier: Kind) -> Untils
     }
 }
 
-fn until_at(untils: &Untils, relation: Relation) -> BankWords
-    ensures { result ≡ until_at untils.now relation }
+/// Raises the words for ACT and PRE of the banks from one number up to another, as far as these hold them back.
+fn raise_rows(banks: &mut [BankState], first: usize, end: usize, words: BankWords)
+    requires inside { end ≤ length banks.old }
+    requires ascending { first ≤ end }
+    ensures inside { (k : ℕ) (d : BankState) → first ≤ k → k < end
+        → slice_index_or banks.new k d ≡ rows_raised words (slice_index_or banks.old k d) }
+    ensures below { (k : ℕ) (d : BankState) → k < first → slice_index_or banks.new k d ≡ slice_index_or banks.old k d }
+    ensures above { (k : ℕ) (d : BankState) → end ≤ k → slice_index_or banks.new k d ≡ slice_index_or banks.old k d }
 {
-    match relation {
-        Relation::SameBank => untils.same_bank,
-        Relation::SameGroup => untils.same_group,
-        Relation::OtherGroup => untils.other_group,
-        Relation::OtherRank => untils.other_rank,
+    if words.act > 0 || words.pre > 0 {
+        for number in first..end {
+            let ready = &mut banks[number].ready;
+            ready.act = ready.act.max(words.act);
+            ready.pre = ready.pre.max(words.pre);
+        }
+    }
+}
+
+/// Raises the words for RD and WR of the banks from one number up to another, as far as these hold them back.
+fn raise_columns(banks: &mut [BankState], first: usize, end: usize, words: BankWords)
+    requires inside { end ≤ length banks.old }
+    requires ascending { first ≤ end }
+    ensures inside { (k : ℕ) (d : BankState) → first ≤ k → k < end
+        → slice_index_or banks.new k d ≡ columns_raised words (slice_index_or banks.old k d) }
+    ensures below { (k : ℕ) (d : BankState) → k < first → slice_index_or banks.new k d ≡ slice_index_or banks.old k d }
+    ensures above { (k : ℕ) (d : BankState) → end ≤ k → slice_index_or banks.new k d ≡ slice_index_or banks.old k d }
+{
+    if words.rd > 0 || words.wr > 0 {
+        for number in first..end {
+            let ready = &mut banks[number].ready;
+            ready.rd = ready.rd.max(words.rd);
+            ready.wr = ready.wr.max(words.wr);
+        }
+    }
+}
+
+/// Raises the words of the banks from one number up to another.
+fn raise_between(banks: &mut [BankState], first: usize, end: usize, words: BankWords)
+    requires inside { end ≤ length banks.old }
+    requires ascending { first ≤ end }
+    ensures inside { (k : ℕ) (d : BankState) → first ≤ k → k < end
+        → slice_index_or banks.new k d ≡ raised words (slice_index_or banks.old k d) }
+    ensures below { (k : ℕ) (d : BankState) → k < first → slice_index_or banks.new k d ≡ slice_index_or banks.old k d }
+    ensures above { (k : ℕ) (d : BankState) → end ≤ k → slice_index_or banks.new k d ≡ slice_index_or banks.old k d }
+{
+    raise_rows(banks, first, end, words);
+    raise_columns(banks, first, end, words);
+}
+
+/// Closes the rows of the banks from one number up to another.
+fn close_between(banks: &mut [BankState], first: usize, end: usize)
+    requires inside { end ≤ length banks.old }
+    requires ascending { first ≤ end }
+    ensures inside { (k : ℕ) (d : BankState) → first ≤ k → k < end
+        → slice_index_or banks.new k d ≡ closed (slice_index_or banks.old k d) }
+    ensures below { (k : ℕ) (d : BankState) → k < first → slice_index_or banks.new k d ≡ slice_index_or banks.old k d }
+    ensures above { (k : ℕ) (d : BankState) → end ≤ k → slice_index_or banks.new k d ≡ slice_index_or banks.old k d }
+{
+    for number in first..end {
+        banks[number].row = None;
+    }
+}
+
+/// Notes a command that names no bank in the banks of its rank, which have the numbers from `first` on.
+fn note_in_rank(banks: &mut [BankState], first: usize, command: Command, untils: &Untils)
+    requires inside { first + 16 ≤ length banks.old }
+    ensures inside { (k : ℕ) (d : BankState) → first ≤ k → k < first + 16
+        → slice_index_or banks.new k d ≡ raised_in_rank command untils.now.same_bank (slice_index_or banks.old k d) }
+    ensures below { (k : ℕ) (d : BankState) → k < first → slice_index_or banks.new k d ≡ slice_index_or banks.old k d }
+    ensures above { (k : ℕ) (d : BankState) → first + 16 ≤ k → slice_index_or banks.new k d ≡ slice_index_or banks.old k d }
+{
+    raise_between(banks, first, first + 16, untils.same_bank);
+    if let Command::Prea { .. } = command {
+        close_between(banks, first, first + 16);
+    }
+}
+
+/// Notes a command of a bank in the banks of its group, which have the numbers from `first` up to `end`.
+fn note_in_group(
+    banks: &mut [BankState],
+    first: usize,
+    end: usize,
+    bank: BankId,
+    command: Command,
+    untils: &Untils,
+)
+    requires inside { end ≤ length banks.old }
+    requires ascending { first ≤ end }
+    requires few { end ≤ 64 }
+    ensures same_bank { (k : ℕ) (d : BankState) → first ≤ k → k < end → k ≡ first + bank.bank
+        → slice_index_or banks.new k d ≡ raised_in_bank bank command untils.now.same_bank (slice_index_or banks.old k d) }
+    ensures others { (k : ℕ) (d : BankState) → first ≤ k → k < end → (k ≡ first + bank.bank → ⊥)
+        → slice_index_or banks.new k d ≡ raised untils.now.same_group (slice_index_or banks.old k d) }
+    ensures below { (k : ℕ) (d : BankState) → k < first → slice_index_or banks.new k d ≡ slice_index_or banks.old k d }
+    ensures above { (k : ℕ) (d : BankState) → end ≤ k → slice_index_or banks.new k d ≡ slice_index_or banks.old k d }
+{
+    let place = bank.bank as usize;
+    if place < end - first {
+        let own = first + place;
+        raise_between(banks, first, own, untils.same_group);
+        raise_between(banks, own + 1, end, untils.same_group);
+        let state = &mut banks[own];
+        state.ready = later_of(state.ready, untils.same_bank);
+        state.row = row_after(bank, state.row, command);
+    } else {
+        raise_between(banks, first, end, untils.same_group);
+    }
+}
+
+/// Notes a command of a bank in the banks of its rank, which have the numbers from `first` on.
+fn note_in_groups(
+    banks: &mut [BankState],
+    first: usize,
+    bank: BankId,
+    command: Command,
+    untils: &Untils,
+)
+    requires inside { first + 16 ≤ length banks.old }
+    requires few { first + 16 ≤ 64 }
+    ensures same_bank { (k : ℕ) (d : BankState) → first ≤ k → k < first + 16 → k ≡ first + 4 * bank.group + bank.bank → bank.bank < 4
+        → slice_index_or banks.new k d ≡ raised_in_bank bank command untils.now.same_bank (slice_index_or banks.old k d) }
+    ensures same_group { (k : ℕ) (d : BankState) → first ≤ k → k < first + 16 → first + 4 * bank.group ≤ k
+        → k < first + 4 * bank.group + 4 → (k ≡ first + 4 * bank.group + bank.bank → ⊥)
+        → slice_index_or banks.new k d ≡ raised untils.now.same_group (slice_index_or banks.old k d) }
+    ensures other_group { (k : ℕ) (d : BankState) → first ≤ k → k < first + 16
+        → (first + 4 * bank.group ≤ k → k < first + 4 * bank.group + 4 → ⊥)
+        → slice_index_or banks.new k d ≡ raised untils.now.other_group (slice_index_or banks.old k d) }
+    ensures below { (k : ℕ) (d : BankState) → k < first → slice_index_or banks.new k d ≡ slice_index_or banks.old k d }
+    ensures above { (k : ℕ) (d : BankState) → first + 16 ≤ k → slice_index_or banks.new k d ≡ slice_index_or banks.old k d }
+{
+    if bank.group < 4 {
+        let start = first + 4 * bank.group as usize;
+        raise_between(banks, first, start, untils.other_group);
+        note_in_group(banks, start, start + 4, bank, command, untils);
+        raise_between(banks, start + 4, first + 16, untils.other_group);
+    } else {
+        raise_between(banks, first, first + 16, untils.other_group);
     }
 }
 
@@ -173,18 +290,21 @@ pub(crate) fn note_in_banks(
     cycle: Cycle,
 )
     requires few { length banks.old ≤ 64 }
+    requires rank { 16 * rank_of command + 16 ≤ length banks.old }
     requires cycle { cycle < 2 ^ 62 }
     ensures each { (k : ℕ) (d : BankState) → k < length banks.old
         → slice_index_or banks.new k d
         ≡ state_after gaps.now cycle command (bank_at k) (slice_index_or banks.old k d) }
 {
     let untils = all_untils(gaps, cycle, command.kind());
-    for (number, state) in banks.iter_mut().enumerate() {
-        let bank = bank_at(number);
-        let relation = relation_to(command, bank.rank, Some(bank));
-        state.ready = later_of(state.ready, until_at(&untils, relation));
-        state.row = row_after(bank, state.row, command);
+    let first = 16 * command.rank() as usize;
+    let count = banks.len();
+    raise_between(banks, 0, first, untils.other_rank);
+    match command.bank() {
+        Some(bank) => note_in_groups(banks, first, bank, command, &untils),
+        None => note_in_rank(banks, first, command, &untils),
     }
+    raise_between(banks, first + 16, count, untils.other_rank);
 }
 
 /// Notes a command in each rank.
