@@ -1,5 +1,6 @@
 //! Each unit that is run alone does what it does in the plain machine.
 
+mod alone;
 mod rows;
 
 use crate::machines::{machine, traces};

@@ -38,7 +38,7 @@ fn push_line(text: &mut String, line: &str, changes: &[&str]) -> Result<(), Allo
 }
 
 /// Profile S with other lines for some keys, and more lines at its end.
-fn profile_s(alloc: Global, changes: &[&str], more: &str) -> Result<Config, Fail> {
+pub(super) fn profile_s(alloc: Global, changes: &[&str], more: &str) -> Result<Config, Fail> {
     let mut text = String::new(alloc);
     for line in PROFILE_S.lines() {
         push_line(&mut text, line, changes)?;
@@ -47,7 +47,7 @@ fn profile_s(alloc: Global, changes: &[&str], more: &str) -> Result<Config, Fail
     Ok(read_config(alloc, text.as_bytes())?)
 }
 
-fn traces_of(alloc: Global, texts: &[&str]) -> Result<Vec<Trace>, Fail> {
+pub(super) fn traces_of(alloc: Global, texts: &[&str]) -> Result<Vec<Trace>, Fail> {
     let mut traces = Vec::new(alloc);
     let mut core: CoreId = 0;
     for text in texts {
@@ -69,7 +69,7 @@ fn word(kind: Kind) -> &'static str {
 }
 
 /// The kinds of commands, with their cycles.
-fn summary(alloc: Global, commands: &[CommandRow]) -> Result<String, Fail> {
+pub(super) fn summary(alloc: Global, commands: &[CommandRow]) -> Result<String, Fail> {
     let mut text = String::new(alloc);
     for row in commands {
         let word = word(row.command.kind());

@@ -1,0 +1,121 @@
+//! A channel and a core of the small machine alone, with messages, commands and counts that were worked out by hand.
+
+use super::rows::{profile_s, summary, traces_of};
+use channel_feed::fed::FedChannel;
+use core_feed::fed::FedCore;
+use sim_base::command::CommandRow;
+use sim_base::message::{Cycle, LinkId, Load, Message, Request};
+use sim_base::place::Place;
+use statistics::cores::CoreStats;
+use std::alloc::{AllocError, Global};
+use std::test::Fail;
+
+/// The Read of one of the first lines of row 0, as core 0 sends it.
+fn read(entry: u64, line: u32, arrival: Cycle) -> Message {
+    let request = Request {
+        core: 0,
+        entry,
+        write: false,
+        address: 64 * u64::from(line),
+        place: Place {
+            channel: 0,
+            rank: 0,
+            group: 0,
+            bank: 0,
+            row: 0,
+            column: line,
+        },
+        arrival,
+        link: 0,
+    };
+    Message {
+        link: 0,
+        arrival,
+        load: Load::Request(request),
+    }
+}
+
+/// On which links messages arrive, and when.
+fn arrivals(alloc: Global, messages: &[Message]) -> Result<Vec<(LinkId, Cycle)>, AllocError> {
+    messages
+        .iter()
+        .map(|message| (message.link, message.arrival))
+        .collect(alloc)
+}
+
+/// What a channel does in spans with these ends, where a Read of line 0 arrives in cycle 2 and one of line 1 in cycle 3.
+fn two_reads(alloc: Global, ends: &[Cycle]) -> Result<(Vec<CommandRow>, Vec<Message>), Fail> {
+    let config = profile_s(alloc, &[], "")?;
+    let reads = [read(0, 0, 2), read(1, 1, 3)];
+    let mut fed = FedChannel::start(alloc, &config, 0)?;
+    let mut commands = Vec::new(alloc);
+    let mut messages = Vec::new(alloc);
+    for (index, until) in ends.iter().enumerate() {
+        let inbox = if index == 0 { reads.as_slice() } else { &[] };
+        let done = fed.run(alloc, inbox, *until)?;
+        commands.extend_from_slice(&done.commands)?;
+        messages.extend_from_slice(&done.messages)?;
+        fed = done.channel;
+    }
+    Ok((commands, messages))
+}
+
+#[test]
+fn a_channel_alone_whole_and_cut(rt: HostRuntime) -> Result<(), Fail> {
+    let alloc = rt.alloc();
+    let (whole, sent) = two_reads(alloc, &[16])?;
+    assert_eq!(rt; summary(alloc, &whole)?.as_str(), "ACT 2, RD 5, RD 10, ");
+    let wanted: [(LinkId, Cycle); 4] = [(1, 15), (2, 7), (1, 20), (2, 12)];
+    assert_eq!(rt; arrivals(alloc, &sent)?.as_slice(), wanted.as_slice());
+    let (cut, sent_cut) = two_reads(alloc, &[5, 6, 16])?;
+    assert_eq!(rt; cut, whole);
+    assert_eq!(rt; sent_cut, sent);
+    Ok(())
+}
+
+#[test]
+fn a_core_alone_with_one_credit(rt: HostRuntime) -> Result<(), Fail> {
+    let alloc = rt.alloc();
+    let config = profile_s(alloc, &["read_credits = 1"], "")?;
+    let mut traces = traces_of(alloc, &["0 0\n0 64\n"])?;
+    let trace = traces.pop().ok_or("no trace")?;
+    let credit = Message {
+        link: 2,
+        arrival: 7,
+        load: Load::Credit {
+            write: false,
+            entry: 0,
+        },
+    };
+    let reply = Message {
+        link: 1,
+        arrival: 15,
+        load: Load::Reply(0),
+    };
+    let core = FedCore::start(alloc, &config, 0, trace)?;
+    let first = core.run(alloc, &[], 7)?;
+    let second = first.core.run(alloc, &[credit, reply], 16)?;
+    let did = CoreStats {
+        issued: 2,
+        retired: 1,
+        reads: 2,
+        replies: 1,
+        read_latency: 15,
+        stop_end: 9,
+        stop_memory: 1,
+        stop_credit: 6,
+        ..CoreStats::new()
+    };
+    assert_eq!(rt; second.core.stats(), did);
+    let requests: [(LinkId, Cycle); 1] = [(0, 2)];
+    assert_eq!(rt;
+        arrivals(alloc, &first.messages)?.as_slice(),
+        requests.as_slice()
+    );
+    let later: [(LinkId, Cycle); 1] = [(0, 9)];
+    assert_eq!(rt;
+        arrivals(alloc, &second.messages)?.as_slice(),
+        later.as_slice()
+    );
+    Ok(())
+}
