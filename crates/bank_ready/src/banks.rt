@@ -4,7 +4,9 @@ ghost use Rattle.std.specs.Prelude.{◌≡◌, ◌+◌, ◌*◌, ◌^◌, ◌<�
 ghost use Rattle.circular_buffer.specs.Buffer.{buffer};
 ghost use Rattle.bank_ready.specs.Words.{window_end};
 
-use crate::words::{BankState, BankWords, RankWords, note_in_banks, note_in_ranks, number_of};
+use crate::words::{
+    BankState, BankWords, RankWords, later_of, note_in_banks, note_in_ranks, number_of,
+};
 use circular_buffer::HeapCircularBuffer;
 use sim_base::command::{Command, Kind};
 use sim_base::config::Config;
@@ -62,18 +64,17 @@ impl Banks {
         ensures ranks { IfOk result (λ banks. rank_count banks ≡ config.now.ranks) }
     {
         let ranks = config.ranks as usize;
-        let state = BankState {
-            ready: BankWords {
-                act: 0,
-                rd: 0,
-                wr: 0,
-                pre: 0,
-            },
-            row: None,
+        let ready = BankWords {
+            act: 0,
+            rd: 0,
+            wr: 0,
+            pre: 0,
         };
+        let state = BankState { ready, row: None };
         let words = RankWords {
             prea: 0,
             refresh: 0,
+            others: ready,
         };
         Ok(Banks {
             gaps: GapTable::of(config),
@@ -94,7 +95,8 @@ impl Banks {
             → StandsFor self.now s history → kind_of command ≡ kind → bank_of command ≡ Some bank
             → IsAllowedFrom s history command result }
     {
-        let ready = self.banks[number_of(bank)].ready;
+        let own = self.banks[number_of(bank)].ready;
+        let ready = later_of(own, self.ranks[bank.rank as usize].others);
         match kind {
             Kind::Act => ready.act.max(window_end(&self.windows[bank.rank as usize])),
             Kind::Rd => ready.rd,

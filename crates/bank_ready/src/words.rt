@@ -12,7 +12,6 @@ use sim_base::command::{Command, Kind, Relation};
 use sim_base::message::Cycle;
 use sim_base::place::BankId;
 use timing::gap_table::GapTable;
-use timing::rules::relation_to;
 
 /// The least cycle from which on each command that names a bank is held back no more.
 #[derive(Clone, Copy)]
@@ -23,19 +22,29 @@ pub(crate) struct BankWords {
     pub(crate) pre: Cycle,
 }
 
-/// A bank: from which cycle on its commands are held back no more, and its open row.
+/// A bank: from which cycle on its commands are held back no more by those of its rank, and its open row.
 #[derive(Clone, Copy)]
 pub(crate) struct BankState {
     pub(crate) ready: BankWords,
     pub(crate) row: Option<u32>,
 }
 
-/// The least cycle from which on each command of a whole rank is held back no more.
+/// The least cycle from which on each command of a whole rank is held back no more, and from which on those of its banks are
+/// held back no more by the commands of other ranks.
 #[derive(Clone, Copy)]
 pub(crate) struct RankWords {
     pub(crate) prea: Cycle,
     pub(crate) refresh: Cycle,
+    pub(crate) others: BankWords,
 }
+
+/// Words that hold nothing back.
+const NO_WORDS: BankWords = BankWords {
+    act: 0,
+    rd: 0,
+    wr: 0,
+    pre: 0,
+};
 
 /// From which cycle on a command holds back a later one no more; 0 where no rule binds them.
 #[tactic(auto, unfolding(crate::specs::Ready::held_until))]
@@ -67,7 +76,7 @@ fn words_until(gaps: &GapTable, cycle: Cycle, earlier: Kind, relation: Relation)
     }
 }
 
-fn later_of(a: BankWords, b: BankWords) -> BankWords
+pub(crate) fn later_of(a: BankWords, b: BankWords) -> BankWords
     ensures { result ≡ later_of a b }
 {
     BankWords {
@@ -121,13 +130,12 @@ pub(crate) fn number_of(bank: BankId) -> usize
     (bank.rank * 16 + bank.group * 4 + bank.bank) as usize
 }
 
-/// From which cycle on a command holds back those of a bank no more, by how that bank lies to its own.
+/// From which cycle on a command holds back those of a bank of its rank no more, by how that bank lies to its own.
 #[derive(Clone, Copy)]
 struct Untils {
     same_bank: BankWords,
     same_group: BankWords,
     other_group: BankWords,
-    other_rank: BankWords,
 }
 
 fn all_untils(gaps: &GapTable, cycle: Cycle, earlier: Kind) -> Untils
@@ -138,7 +146,6 @@ fn all_untils(gaps: &GapTable, cycle: Cycle, earlier: Kind) -> Untils
         same_bank: words_until(gaps, cycle, earlier, Relation::SameBank),
         same_group: words_until(gaps, cycle, earlier, Relation::SameGroup),
         other_group: words_until(gaps, cycle, earlier, Relation::OtherGroup),
-        other_rank: words_until(gaps, cycle, earlier, Relation::OtherRank),
     }
 }
 
@@ -298,13 +305,10 @@ pub(crate) fn note_in_banks(
 {
     let untils = all_untils(gaps, cycle, command.kind());
     let first = 16 * command.rank() as usize;
-    let count = banks.len();
-    raise_between(banks, 0, first, untils.other_rank);
     match command.bank() {
         Some(bank) => note_in_groups(banks, first, bank, command, &untils),
         None => note_in_rank(banks, first, command, &untils),
     }
-    raise_between(banks, first + 16, count, untils.other_rank);
 }
 
 /// Notes a command in each rank.
@@ -320,11 +324,25 @@ pub(crate) fn note_in_ranks(
         → slice_index_or ranks.new k d
         ≡ rank_words_after gaps.now cycle command k (slice_index_or ranks.old k d) }
 {
+    let earlier = command.kind();
+    let own = RankWords {
+        prea: held_until(gaps, cycle, earlier, Kind::Prea, Relation::SameBank),
+        refresh: held_until(gaps, cycle, earlier, Kind::Ref, Relation::SameBank),
+        others: NO_WORDS,
+    };
+    let other = RankWords {
+        prea: held_until(gaps, cycle, earlier, Kind::Prea, Relation::OtherRank),
+        refresh: held_until(gaps, cycle, earlier, Kind::Ref, Relation::OtherRank),
+        others: words_until(gaps, cycle, earlier, Relation::OtherRank),
+    };
     for (rank, words) in ranks.iter_mut().enumerate() {
-        let relation = relation_to(command, rank as u32, None);
-        let prea = held_until(gaps, cycle, command.kind(), Kind::Prea, relation);
-        let refresh = held_until(gaps, cycle, command.kind(), Kind::Ref, relation);
-        words.prea = words.prea.max(prea);
-        words.refresh = words.refresh.max(refresh);
+        let until = if command.rank() as usize == rank {
+            own
+        } else {
+            other
+        };
+        words.prea = words.prea.max(until.prea);
+        words.refresh = words.refresh.max(until.refresh);
+        words.others = later_of(words.others, until.others);
     }
 }
