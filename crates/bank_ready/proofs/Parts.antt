@@ -1,5 +1,5 @@
 -- What holds a command back: those of its rank, and those of the others.
-use Rattle.std.proofs.Common.{◌≡◌, ◌∙◌, ℕ, ◌++◌, true, false, not, max, cond, List, [], ◌∷◌, map, Option, None, refl, ap, arith, inl, inr, append-nil}
+use Rattle.std.proofs.Common.{◌≡◌, ◌∙◌, ℕ, ◌++◌, max, List, [], ◌∷◌, map, Option, None, refl, ap, arith, inl, inr, append-nil}
 use Rattle.std.specs.Prelude.{fold}
 use Rattle.std.proofs.lemmas.Bool.{eq-eqb, ne_eqb, cases_eq}
 use Rattle.std.proofs.lemmas.List.Elements.{filter-append}

@@ -116,6 +116,11 @@ abbrev pub rank_words_from : Timing → List CommandRow → ℕ → RankWords
 rank_words_from t history rank =
     record { prea = ready_from t history Prea rank None; refresh = ready_from t history Ref rank None; others = others_from t history rank }
 
+-- a rank whose words are raised to these
+abbrev pub rank_raised : RankWords → RankWords → RankWords
+rank_raised words rank =
+    record { prea = max rank.prea words.prea; refresh = max rank.refresh words.refresh; others = later_of rank.others words.others }
+
 -- the same after one command more
 abbrev pub rank_words_after : Timing → ℕ → Command → ℕ → RankWords → RankWords
 rank_words_after t cycle command rank words =

@@ -1,12 +1,12 @@
 //! What a bank and a rank keep of the commands that were issued.
 
-ghost use Rattle.std.specs.Prelude.{◌≡◌, ◌+◌, ◌*◌, ◌^◌, ◌<◌, ◌≤◌, ℕ, length, slice_index_or};
+ghost use Rattle.std.specs.Prelude.{◌≡◌, ◌+◌, ◌*◌, ◌^◌, ◌<◌, ◌≤◌, ℕ, IsTrue, length, slice_index_or};
 ghost use Rattle.sim_base.specs.Places.{is_bank};
 ghost use Rattle.sim_base.specs.Rules.{rank_of, row_after};
 ghost use Rattle.bank_ready.specs.Ready.{held_until};
 ghost use Rattle.bank_ready.specs.declared.words.BankState.{BankState};
 ghost use Rattle.bank_ready.specs.declared.words.RankWords.{RankWords};
-ghost use Rattle.bank_ready.specs.Words.{words_until, later_of, all_untils, rows_raised, columns_raised, raised, closed, raised_in_rank, raised_in_bank, state_after, rank_words_after, bank_at, number_of};
+ghost use Rattle.bank_ready.specs.Words.{words_until, later_of, all_untils, rows_raised, columns_raised, raised, closed, raised_in_rank, raised_in_bank, rank_raised, state_after, rank_words_after, bank_at, number_of};
 
 use sim_base::command::{Command, Kind, Relation};
 use sim_base::message::Cycle;
@@ -37,14 +37,6 @@ pub(crate) struct RankWords {
     pub(crate) refresh: Cycle,
     pub(crate) others: BankWords,
 }
-
-/// Words that hold nothing back.
-const NO_WORDS: BankWords = BankWords {
-    act: 0,
-    rd: 0,
-    wr: 0,
-    pre: 0,
-};
 
 /// From which cycle on a command holds back a later one no more; 0 where no rule binds them.
 #[tactic(auto, unfolding(crate::specs::Ready::held_until))]
@@ -311,6 +303,36 @@ pub(crate) fn note_in_banks(
     }
 }
 
+/// Raises the words of the ranks from one up to another.
+fn raise_ranks(ranks: &mut [RankWords], first: usize, end: usize, words: RankWords)
+    requires inside { end ≤ length ranks.old }
+    requires ascending { first ≤ end }
+    ensures inside { (k : ℕ) (d : RankWords) → first ≤ k → k < end
+        → slice_index_or ranks.new k d ≡ rank_raised words (slice_index_or ranks.old k d) }
+    ensures below { (k : ℕ) (d : RankWords) → k < first → slice_index_or ranks.new k d ≡ slice_index_or ranks.old k d }
+    ensures above { (k : ℕ) (d : RankWords) → end ≤ k → slice_index_or ranks.new k d ≡ slice_index_or ranks.old k d }
+{
+    for number in first..end {
+        let rank = &mut ranks[number];
+        rank.prea = rank.prea.max(words.prea);
+        rank.refresh = rank.refresh.max(words.refresh);
+        rank.others = later_of(rank.others, words.others);
+    }
+}
+
+/// Whether words hold back no command at all.
+fn is_nothing(words: RankWords) -> bool
+    ensures { IsTrue result → (rank : RankWords) → rank_raised words rank ≡ rank }
+{
+    let others = words.others;
+    words.prea == 0
+        && words.refresh == 0
+        && others.act == 0
+        && others.rd == 0
+        && others.wr == 0
+        && others.pre == 0
+}
+
 /// Notes a command in each rank.
 pub(crate) fn note_in_ranks(
     gaps: &GapTable,
@@ -319,30 +341,27 @@ pub(crate) fn note_in_ranks(
     cycle: Cycle,
 )
     requires few { length ranks.old ≤ 4 }
+    requires rank { rank_of command < length ranks.old }
     requires cycle { cycle < 2 ^ 62 }
     ensures each { (k : ℕ) (d : RankWords) → k < length ranks.old
         → slice_index_or ranks.new k d
         ≡ rank_words_after gaps.now cycle command k (slice_index_or ranks.old k d) }
 {
     let earlier = command.kind();
-    let own = RankWords {
-        prea: held_until(gaps, cycle, earlier, Kind::Prea, Relation::SameBank),
-        refresh: held_until(gaps, cycle, earlier, Kind::Ref, Relation::SameBank),
-        others: NO_WORDS,
-    };
+    let own = command.rank() as usize;
+    let prea = held_until(gaps, cycle, earlier, Kind::Prea, Relation::SameBank);
+    let refresh = held_until(gaps, cycle, earlier, Kind::Ref, Relation::SameBank);
+    let rank = &mut ranks[own];
+    rank.prea = rank.prea.max(prea);
+    rank.refresh = rank.refresh.max(refresh);
     let other = RankWords {
         prea: held_until(gaps, cycle, earlier, Kind::Prea, Relation::OtherRank),
         refresh: held_until(gaps, cycle, earlier, Kind::Ref, Relation::OtherRank),
         others: words_until(gaps, cycle, earlier, Relation::OtherRank),
     };
-    for (rank, words) in ranks.iter_mut().enumerate() {
-        let until = if command.rank() as usize == rank {
-            own
-        } else {
-            other
-        };
-        words.prea = words.prea.max(until.prea);
-        words.refresh = words.refresh.max(until.refresh);
-        words.others = later_of(words.others, until.others);
+    if !is_nothing(other) {
+        let count = ranks.len();
+        raise_ranks(ranks, 0, own, other);
+        raise_ranks(ranks, own + 1, count, other);
     }
 }
