@@ -4,9 +4,7 @@ ghost use Rattle.std.specs.Prelude.{◌≡◌, ◌+◌, ◌*◌, ◌^◌, ◌<�
 ghost use Rattle.circular_buffer.specs.Buffer.{buffer};
 ghost use Rattle.bank_ready.specs.Words.{window_end};
 
-use crate::words::{
-    BankState, BankWords, RankWords, later_of, note_in_banks, note_in_ranks, number_of,
-};
+use crate::words::{BankState, BankWords, RankWords, note_in_banks, note_in_ranks, number_of};
 use circular_buffer::HeapCircularBuffer;
 use sim_base::command::{Command, Kind};
 use sim_base::config::Config;
@@ -96,12 +94,15 @@ impl Banks {
             → IsAllowedFrom s history command result }
     {
         let own = self.banks[number_of(bank)].ready;
-        let ready = later_of(own, self.ranks[bank.rank as usize].others);
+        let others = self.ranks[bank.rank as usize].others;
         match kind {
-            Kind::Act => ready.act.max(window_end(&self.windows[bank.rank as usize])),
-            Kind::Rd => ready.rd,
-            Kind::Wr => ready.wr,
-            Kind::Pre => ready.pre,
+            Kind::Act => {
+                let ready = own.act.max(others.act);
+                ready.max(window_end(&self.windows[bank.rank as usize]))
+            }
+            Kind::Rd => own.rd.max(others.rd),
+            Kind::Wr => own.wr.max(others.wr),
+            Kind::Pre => own.pre.max(others.pre),
             Kind::Prea | Kind::Ref => unreachable!(),
         }
     }

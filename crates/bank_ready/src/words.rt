@@ -68,7 +68,7 @@ fn words_until(gaps: &GapTable, cycle: Cycle, earlier: Kind, relation: Relation)
     }
 }
 
-pub(crate) fn later_of(a: BankWords, b: BankWords) -> BankWords
+fn later_of(a: BankWords, b: BankWords) -> BankWords
     ensures { result ≡ later_of a b }
 {
     BankWords {
