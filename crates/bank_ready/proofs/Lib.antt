@@ -1,5 +1,4 @@
 pub mod Readiness
-pub mod Parts
 pub mod Window
 pub mod Allowed
 pub mod Stood

@@ -1,7 +1,7 @@
 -- What a `Banks` keeps, word by word, and how one command more changes it.
-use Rattle.std.proofs.Common.{◌≡◌, ◌==◌, ℕ, ◌+◌, ◌*◌, ◌/◌, ◌%◌, ◌<◌, ◌++◌, ◌∙◌, true, false, List, [], ◌∷◌, length, map, get_or, set, replicate, Some, None, sym, ap, arith, inl, inr}
+use Rattle.std.proofs.Common.{◌≡◌, ℕ, ◌+◌, ◌*◌, ◌/◌, ◌%◌, ◌<◌, ◌++◌, ◌∙◌, true, false, List, [], ◌∷◌, length, map, get_or, set, replicate, Some, None, sym, ap, arith, inl, inr}
 use Rattle.std.specs.List.{All, AllByRecursion as Each}
-use Rattle.std.proofs.lemmas.Bool.{and_from, and_left, and_right, eq-eqb, ne_eqb, cases_eq, cond-true, cond-false}
+use Rattle.std.proofs.lemmas.Bool.{and_from, and_left, and_right, eq-eqb, ne_eqb, cases_eq}
 use Rattle.std.specs.Vec.{with_items}
 use Rattle.std.proofs.lemmas.List.{with_items_is, length-replicate, get_or-replicate, length-set, get_or-set_same, get_or-set_other}
 use Rattle.std.proofs.lemmas.List.Elements.{All-head, All-tail}
@@ -10,23 +10,17 @@ use Rattle.circular_buffer.specs.Buffer.{Buffer, buffer, keep_last}
 use Rattle.sim_base.specs.declared.config.Config.{Config}
 use Rattle.sim_base.specs.declared.timing.Timing.{Timing}
 use Rattle.sim_base.specs.declared.place.BankId.{BankId}
-use Rattle.sim_base.specs.declared.command.Kind.{Kind}
 use Rattle.sim_base.specs.declared.command.Kind.TheVariants as kind
-use Rattle.sim_base.specs.declared.command.Relation.{Relation}
-use Rattle.sim_base.specs.declared.command.Relation.TheVariants.{OtherRank}
 use Rattle.sim_base.specs.declared.command.CommandRow.{CommandRow}
 use Rattle.sim_base.specs.History.{below}
 use Rattle.sim_base.specs.Rules.{is_kind, kind_of, rank_of, open_row}
-use Rattle.timing.specs.Relation.{relation_to}
 use Rattle.bank_ready.specs.Ready.{ready_from, is_act_in, window_ends}
-use Rattle.bank_ready.specs.Words.{words_until, later_of, words_from, of_rank, of_others, others_from, state_from, state_after, rank_words_from, rank_words_after, bank_at, number_of}
+use Rattle.bank_ready.specs.Words.{state_from, state_after, rank_words_from, rank_words_after, bank_at, number_of}
 use Rattle.bank_ready.specs.Stands.{rank_count, StandsFor, Ascends}
-use Rattle.bank_ready.specs.declared.words.BankWords.{BankWords}
 use Rattle.bank_ready.specs.declared.words.BankState.{BankState}
 use Rattle.bank_ready.specs.declared.words.RankWords.{RankWords}
 use Rattle.bank_ready.specs.declared.banks.Banks.{Banks}
 use Rattle.bank_ready.proofs.Readiness.{ready_from-more, open_row-more}
-use Rattle.bank_ready.proofs.Parts.{ready_from-parts, of_rank-more-own, of_rank-more-other, of_others-more-own, of_others-more-other}
 use Rattle.bank_ready.proofs.Window.{window_ends-act, window_ends-other}
 
 bank_at-number_of : (bank : BankId) → bank.group < 4 → bank.bank < 4 → bank_at (number_of bank) ≡ bank
@@ -55,17 +49,6 @@ rank_words-read banks s history rank words h r read =
     read ∙ ap (λ (xs : List RankWords). get_or xs rank words) h.rank_words
     ∙ get_or-map-range_with_len (rank_words_from s.timing history) 0 s.ranks rank rank words inside (omega arith)
 
--- the later of what is read at a bank and what is read at its rank
-pub ready-read : (banks : Banks) (s : Config) (history : List CommandRow) (bank : BankId) (k : ℕ) (state : BankState) (words : RankWords) → StandsFor banks s history
-    → bank.rank < rank_count banks → bank.group < 4 → bank.bank < 4 → k ≡ number_of bank → state ≡ get_or banks.banks.items k state
-    → words ≡ get_or banks.ranks.items bank.rank words → later_of state.ready words.others ≡ words_from s.timing history bank
-ready-read banks s history bank k state words h r g b e read read_words =
-    let own = state-read banks s history bank k state h r g b e read in
-    let others = rank_words-read banks s history bank.rank words h r read_words in
-    let parts = λ (later : Kind). ready_from-parts s.timing history later bank.rank (Some bank) in
-    (λ x. later_of (own x).ready (others x).others)
-    ∙ (λ x. record { act = parts kind.Act x; rd = parts kind.Rd x; wr = parts kind.Wr x; pre = parts kind.Pre x })
-
 pub window-read : (banks : Banks) (s : Config) (history : List CommandRow) (rank : ℕ) (window : Buffer ℕ) → StandsFor banks s history
     → rank < rank_count banks → window ≡ get_or banks.windows.items rank window → window ≡ buffer (keep_last 4 (window_ends s.timing rank history)) 4
 window-read banks s history rank window h r read =
@@ -73,81 +56,24 @@ window-read banks s history rank window h r read =
     read ∙ ap (λ (xs : List (Buffer ℕ)). get_or xs rank window) h.windows
     ∙ get_or-map-range_with_len (λ r. buffer (keep_last 4 (window_ends s.timing r history)) 4) 0 s.ranks rank rank window inside (omega arith)
 
-words-more : (t : Timing) (history : List CommandRow) (i : CommandRow) (bank : BankId)
-    → later_of (words_from t history bank) (words_until t i.cycle (kind_of i.command) (relation_to i.command bank.rank (Some bank))) ≡ words_from t (history ++ i ∷ []) bank
-words-more t history i bank =
-    λ x. record {
-      act = sym (ready_from-more t history i kind.Act bank.rank (Some bank)) x;
-      rd = sym (ready_from-more t history i kind.Rd bank.rank (Some bank)) x;
-      wr = sym (ready_from-more t history i kind.Wr bank.rank (Some bank)) x;
-      pre = sym (ready_from-more t history i kind.Pre bank.rank (Some bank)) x;
-    }
-
-ready-after : (t : Timing) (history : List CommandRow) (i : CommandRow) (bank : BankId)
-    → (state_after t i.cycle i.command bank (state_from t history bank)).ready ≡ words_from t (of_rank bank.rank (history ++ i ∷ [])) bank
-ready-after t history i bank =
-    let before = words_from t (of_rank bank.rank history) bank in
-    let until = words_until t i.cycle (kind_of i.command) (relation_to i.command bank.rank (Some bank)) in
-    elim (cases_eq (rank_of i.command) bank.rank) [
-      | inl e ↦
-          cond-true (rank_of i.command == bank.rank) (later_of before until) before (eq-eqb _ _ e)
-          ∙ words-more t (of_rank bank.rank history) i bank
-          ∙ ap (λ (h : List CommandRow). words_from t h bank) (sym (of_rank-more-own bank.rank history i e))
-      | inr e ↦
-          cond-false (rank_of i.command == bank.rank) (later_of before until) before (ne_eqb _ _ e)
-          ∙ ap (λ (h : List CommandRow). words_from t h bank) (sym (of_rank-more-other bank.rank history i e))
-    ]
-
 -- one command more makes of a bank what it makes of its state
 state_after-from : (t : Timing) (history : List CommandRow) (i : CommandRow) (bank : BankId)
     → state_after t i.cycle i.command bank (state_from t history bank) ≡ state_from t (history ++ i ∷ []) bank
-state_after-from t history i bank = λ x. record { ready = ready-after t history i bank x; row = sym (open_row-more bank history i) x }
-
--- from which cycle on no command of a history holds back those of the banks of a rank to which it belongs not
-abbrev others_of : Timing → List CommandRow → ℕ → BankWords
-others_of t history rank =
-    record {
-      act = ready_from t history kind.Act rank None;
-      rd = ready_from t history kind.Rd rank None;
-      wr = ready_from t history kind.Wr rank None;
-      pre = ready_from t history kind.Pre rank None;
-    }
-
-others-more : (t : Timing) (history : List CommandRow) (i : CommandRow) (rank : ℕ)
-    → later_of (others_of t history rank) (words_until t i.cycle (kind_of i.command) (relation_to i.command rank None)) ≡ others_of t (history ++ i ∷ []) rank
-others-more t history i rank =
+state_after-from t history i bank =
     λ x. record {
-      act = sym (ready_from-more t history i kind.Act rank None) x;
-      rd = sym (ready_from-more t history i kind.Rd rank None) x;
-      wr = sym (ready_from-more t history i kind.Wr rank None) x;
-      pre = sym (ready_from-more t history i kind.Pre rank None) x;
+      ready = record {
+        act = sym (ready_from-more t history i kind.Act bank.rank (Some bank)) x;
+        rd = sym (ready_from-more t history i kind.Rd bank.rank (Some bank)) x;
+        wr = sym (ready_from-more t history i kind.Wr bank.rank (Some bank)) x;
+        pre = sym (ready_from-more t history i kind.Pre bank.rank (Some bank)) x;
+      };
+      row = sym (open_row-more bank history i) x;
     }
-
-others-after : (t : Timing) (history : List CommandRow) (i : CommandRow) (rank : ℕ)
-    → (rank_words_after t i.cycle i.command rank (rank_words_from t history rank)).others ≡ others_from t (history ++ i ∷ []) rank
-others-after t history i rank =
-    let before = others_from t history rank in
-    let until = λ (r : Relation). words_until t i.cycle (kind_of i.command) r in
-    elim (cases_eq (rank_of i.command) rank) [
-      | inl e ↦
-          cond-true (rank_of i.command == rank) before (later_of before (until OtherRank)) (eq-eqb _ _ e)
-          ∙ ap (λ (h : List CommandRow). others_of t h rank) (sym (of_others-more-own rank history i e))
-      | inr e ↦
-          let lies : relation_to i.command rank None ≡ OtherRank = cond-false (rank_of i.command == rank) _ OtherRank (ne_eqb _ _ e) in
-          cond-false (rank_of i.command == rank) before (later_of before (until OtherRank)) (ne_eqb _ _ e)
-          ∙ ap (λ (r : Relation). later_of before (until r)) (sym lies)
-          ∙ others-more t (of_others rank history) i rank
-          ∙ ap (λ (h : List CommandRow). others_of t h rank) (sym (of_others-more-other rank history i e))
-    ]
 
 rank_words_after-from : (t : Timing) (history : List CommandRow) (i : CommandRow) (rank : ℕ)
     → rank_words_after t i.cycle i.command rank (rank_words_from t history rank) ≡ rank_words_from t (history ++ i ∷ []) rank
 rank_words_after-from t history i rank =
-    λ x. record {
-      prea = sym (ready_from-more t history i kind.Prea rank None) x;
-      refresh = sym (ready_from-more t history i kind.Ref rank None) x;
-      others = others-after t history i rank x;
-    }
+    λ x. record { prea = sym (ready_from-more t history i kind.Prea rank None) x; refresh = sym (ready_from-more t history i kind.Ref rank None) x }
 
 -- each element of a list that was made by number is changed by number
 changed : {X : Type 0} (f g : ℕ → X) (after : ℕ → X → X) (n : ℕ) (xs ys : List X) (d : X) → xs ≡ map f (below n) → length ys ≡ length xs
@@ -282,9 +208,9 @@ noted-act banks after s history i rank window window' h later e act here inside 
 -- where no command was noted, nothing holds back
 pub stands-first : (banks : Banks) (s : Config) → banks.gaps ≡ s.timing
     → banks.banks.items ≡ replicate (16 * s.ranks) (record { ready = record { act = 0; rd = 0; wr = 0; pre = 0 }; row = None })
-    → banks.ranks.items ≡ replicate s.ranks (record { prea = 0; refresh = 0; others = record { act = 0; rd = 0; wr = 0; pre = 0 } })
+    → banks.ranks.items ≡ replicate s.ranks (record { prea = 0; refresh = 0 })
     → banks.windows.items ≡ replicate s.ranks (buffer [] 4) → StandsFor banks s []
-unfolding ready_from open_row window_ends of_rank of_others
+unfolding ready_from open_row window_ends
 stands-first banks s t b r w =
     record {
       timing = t;

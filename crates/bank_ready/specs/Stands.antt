@@ -28,10 +28,9 @@ abbrev pub Ascends : List CommandRow → Type 0
 Ascends [] = Unit {0}
 Ascends (i ∷ history) = Each (λ (j : CommandRow). i.cycle < j.cycle) history × Ascends history
 
--- Commands whose cycles ascend made each word the least cycle from which on none of them holds back such a command: for a command
--- of a bank the later of two words, one of the bank for those of its rank, and one of the rank for those of the others. They made
--- each row the one that is open, and each ring the last four ACTs of its rank, by the cycle from which on each no longer counts
--- for the four-activate window.
+-- Commands whose cycles ascend made each word the least cycle from which on none of them holds back such a command, each row
+-- the one that is open, and each ring the last four ACTs of its rank, by the cycle from which on each no longer counts for the
+-- four-activate window.
 pub record StandsFor (banks : Banks) (s : Config) (history : List CommandRow) : Type 0 where
   pub timing : banks.gaps ≡ s.timing
   pub ranks : rank_count banks ≡ s.ranks

@@ -1,14 +1,13 @@
 -- What a bank and a rank keep of a history.
 --     words_until t cycle earlier relation      from which cycle on a command no longer holds back those of a bank
 --     all_untils t cycle earlier      the same for each relation
---     of_rank rank history, of_others rank history      the commands of a rank, and those of the other ranks
 --     later_of a b      the later of two such cycles, kind by kind
 --     state_from t history bank, rank_words_from t history rank      what the commands of a history make of a bank and of a rank
 --     state_after t cycle command bank state, rank_words_after t cycle command rank words      what one command more makes of them
 --     window_end window      from which cycle on the four-activate window allows one ACT more
 --     bank_at k, number_of bank      the bank with a number, and the number of a bank
 --     names_bank kind, names_rank kind      a command of this kind names a bank, or a rank alone
-use Rattle.std.specs.Prelude.{ℕ, ◌+◌, ◌*◌, ◌/◌, ◌%◌, ◌==◌, max, Bool, true, false, not, List, filter, length, slice_index, Some, None, if◌then◌else◌}
+use Rattle.std.specs.Prelude.{ℕ, ◌+◌, ◌*◌, ◌/◌, ◌%◌, ◌==◌, max, Bool, true, false, List, length, slice_index, Some, None, if◌then◌else◌}
 use Rattle.circular_buffer.specs.Buffer.{Buffer}
 use Rattle.sim_base.specs.declared.timing.Timing.{Timing}
 use Rattle.sim_base.specs.declared.place.BankId.{BankId}
@@ -18,7 +17,7 @@ use Rattle.sim_base.specs.declared.command.Kind.TheVariants.{Act, Rd, Wr, Pre, P
 use Rattle.sim_base.specs.declared.command.Relation.{Relation}
 use Rattle.sim_base.specs.declared.command.Relation.TheVariants.{SameBank, SameGroup, OtherGroup, OtherRank}
 use Rattle.sim_base.specs.declared.command.CommandRow.{CommandRow}
-use Rattle.sim_base.specs.Rules.{is_kind, kind_of, rank_of, row_after, open_row}
+use Rattle.sim_base.specs.Rules.{is_kind, kind_of, row_after, open_row}
 use Rattle.timing.specs.Relation.{relation_to}
 use Rattle.bank_ready.specs.Ready.{held_until, ready_from}
 use Rattle.bank_ready.specs.declared.words.BankWords.{BankWords}
@@ -36,13 +35,14 @@ words_until t cycle earlier relation =
       pre = held_until t cycle earlier Pre relation;
     }
 
--- the same for each way in which a bank of the command's rank may lie to its own
+-- the same for each way in which a bank may lie to those of the command
 abbrev pub all_untils : Timing → ℕ → Kind → Untils
 all_untils t cycle earlier =
     record {
       same_bank = words_until t cycle earlier SameBank;
       same_group = words_until t cycle earlier SameGroup;
       other_group = words_until t cycle earlier OtherGroup;
+      other_rank = words_until t cycle earlier OtherRank;
     }
 
 -- the later of two cycles, kind by kind
@@ -79,47 +79,21 @@ words_from t history bank =
       pre = ready_from t history Pre bank.rank (Some bank);
     }
 
--- the commands of a rank, and those of the others
-unfoldable pub of_rank : ℕ → List CommandRow → List CommandRow
-of_rank rank history = filter (λ i. rank_of i.command == rank) history
-
-unfoldable pub of_others : ℕ → List CommandRow → List CommandRow
-of_others rank history = filter (λ i. not (rank_of i.command == rank)) history
-
--- what the commands of a history make of a bank: by those of its rank
+-- what the commands of a history make of a bank
 abbrev pub state_from : Timing → List CommandRow → BankId → BankState
-state_from t history bank = record { ready = words_from t (of_rank bank.rank history) bank; row = open_row bank history }
+state_from t history bank = record { ready = words_from t history bank; row = open_row bank history }
 
 -- what one command more makes of it
 abbrev pub state_after : Timing → ℕ → Command → BankId → BankState → BankState
 state_after t cycle command bank state =
     record {
-      ready =
-          if rank_of command == bank.rank
-          then later_of state.ready (words_until t cycle (kind_of command) (relation_to command bank.rank (Some bank)))
-          else state.ready;
+      ready = later_of state.ready (words_until t cycle (kind_of command) (relation_to command bank.rank (Some bank)));
       row = row_after bank state.row command;
     }
 
--- from which cycle on no command of other ranks holds back those of the banks of a rank
-abbrev pub others_from : Timing → List CommandRow → ℕ → BankWords
-others_from t history rank =
-    record {
-      act = ready_from t (of_others rank history) Act rank None;
-      rd = ready_from t (of_others rank history) Rd rank None;
-      wr = ready_from t (of_others rank history) Wr rank None;
-      pre = ready_from t (of_others rank history) Pre rank None;
-    }
-
--- from which cycle on no command of a history holds back those of a whole rank, and none of other ranks those of its banks
+-- from which cycle on no command of a history holds back those of a whole rank
 abbrev pub rank_words_from : Timing → List CommandRow → ℕ → RankWords
-rank_words_from t history rank =
-    record { prea = ready_from t history Prea rank None; refresh = ready_from t history Ref rank None; others = others_from t history rank }
-
--- a rank whose words are raised to these
-abbrev pub rank_raised : RankWords → RankWords → RankWords
-rank_raised words rank =
-    record { prea = max rank.prea words.prea; refresh = max rank.refresh words.refresh; others = later_of rank.others words.others }
+rank_words_from t history rank = record { prea = ready_from t history Prea rank None; refresh = ready_from t history Ref rank None }
 
 -- the same after one command more
 abbrev pub rank_words_after : Timing → ℕ → Command → ℕ → RankWords → RankWords
@@ -127,7 +101,6 @@ rank_words_after t cycle command rank words =
     record {
       prea = max words.prea (held_until t cycle (kind_of command) Prea (relation_to command rank None));
       refresh = max words.refresh (held_until t cycle (kind_of command) Ref (relation_to command rank None));
-      others = if rank_of command == rank then words.others else later_of words.others (words_until t cycle (kind_of command) OtherRank);
     }
 
 -- From which cycle on one ACT more does not make five within the four-activate window: from the end of the oldest of the last

@@ -62,17 +62,18 @@ impl Banks {
         ensures ranks { IfOk result (λ banks. rank_count banks ≡ config.now.ranks) }
     {
         let ranks = config.ranks as usize;
-        let ready = BankWords {
-            act: 0,
-            rd: 0,
-            wr: 0,
-            pre: 0,
+        let state = BankState {
+            ready: BankWords {
+                act: 0,
+                rd: 0,
+                wr: 0,
+                pre: 0,
+            },
+            row: None,
         };
-        let state = BankState { ready, row: None };
         let words = RankWords {
             prea: 0,
             refresh: 0,
-            others: ready,
         };
         Ok(Banks {
             gaps: GapTable::of(config),
@@ -93,16 +94,12 @@ impl Banks {
             → StandsFor self.now s history → kind_of command ≡ kind → bank_of command ≡ Some bank
             → IsAllowedFrom s history command result }
     {
-        let own = self.banks[number_of(bank)].ready;
-        let others = self.ranks[bank.rank as usize].others;
+        let ready = self.banks[number_of(bank)].ready;
         match kind {
-            Kind::Act => {
-                let ready = own.act.max(others.act);
-                ready.max(window_end(&self.windows[bank.rank as usize]))
-            }
-            Kind::Rd => own.rd.max(others.rd),
-            Kind::Wr => own.wr.max(others.wr),
-            Kind::Pre => own.pre.max(others.pre),
+            Kind::Act => ready.act.max(window_end(&self.windows[bank.rank as usize])),
+            Kind::Rd => ready.rd,
+            Kind::Wr => ready.wr,
+            Kind::Pre => ready.pre,
             Kind::Prea | Kind::Ref => unreachable!(),
         }
     }

@@ -1,17 +1,18 @@
 //! What a bank and a rank keep of the commands that were issued.
 
-ghost use Rattle.std.specs.Prelude.{◌≡◌, ◌+◌, ◌*◌, ◌^◌, ◌<◌, ◌≤◌, ℕ, IsTrue, length, slice_index_or};
+ghost use Rattle.std.specs.Prelude.{◌≡◌, ◌+◌, ◌*◌, ◌^◌, ◌<◌, ◌≤◌, ℕ, length, slice_index_or};
 ghost use Rattle.sim_base.specs.Places.{is_bank};
 ghost use Rattle.sim_base.specs.Rules.{rank_of, row_after};
 ghost use Rattle.bank_ready.specs.Ready.{held_until};
 ghost use Rattle.bank_ready.specs.declared.words.BankState.{BankState};
 ghost use Rattle.bank_ready.specs.declared.words.RankWords.{RankWords};
-ghost use Rattle.bank_ready.specs.Words.{words_until, later_of, all_untils, rows_raised, columns_raised, raised, closed, raised_in_rank, raised_in_bank, rank_raised, state_after, rank_words_after, bank_at, number_of};
+ghost use Rattle.bank_ready.specs.Words.{words_until, later_of, all_untils, rows_raised, columns_raised, raised, closed, raised_in_rank, raised_in_bank, state_after, rank_words_after, bank_at, number_of};
 
 use sim_base::command::{Command, Kind, Relation};
 use sim_base::message::Cycle;
 use sim_base::place::BankId;
 use timing::gap_table::GapTable;
+use timing::rules::relation_to;
 
 /// The least cycle from which on each command that names a bank is held back no more.
 #[derive(Clone, Copy)]
@@ -22,20 +23,18 @@ pub(crate) struct BankWords {
     pub(crate) pre: Cycle,
 }
 
-/// A bank: from which cycle on its commands are held back no more by those of its rank, and its open row.
+/// A bank: from which cycle on its commands are held back no more, and its open row.
 #[derive(Clone, Copy)]
 pub(crate) struct BankState {
     pub(crate) ready: BankWords,
     pub(crate) row: Option<u32>,
 }
 
-/// The least cycle from which on each command of a whole rank is held back no more, and from which on those of its banks are
-/// held back no more by the commands of other ranks.
+/// The least cycle from which on each command of a whole rank is held back no more.
 #[derive(Clone, Copy)]
 pub(crate) struct RankWords {
     pub(crate) prea: Cycle,
     pub(crate) refresh: Cycle,
-    pub(crate) others: BankWords,
 }
 
 /// From which cycle on a command holds back a later one no more; 0 where no rule binds them.
@@ -122,12 +121,13 @@ pub(crate) fn number_of(bank: BankId) -> usize
     (bank.rank * 16 + bank.group * 4 + bank.bank) as usize
 }
 
-/// From which cycle on a command holds back those of a bank of its rank no more, by how that bank lies to its own.
+/// From which cycle on a command holds back those of a bank no more, by how that bank lies to its own.
 #[derive(Clone, Copy)]
 struct Untils {
     same_bank: BankWords,
     same_group: BankWords,
     other_group: BankWords,
+    other_rank: BankWords,
 }
 
 fn all_untils(gaps: &GapTable, cycle: Cycle, earlier: Kind) -> Untils
@@ -138,6 +138,7 @@ fn all_untils(gaps: &GapTable, cycle: Cycle, earlier: Kind) -> Untils
         same_bank: words_until(gaps, cycle, earlier, Relation::SameBank),
         same_group: words_until(gaps, cycle, earlier, Relation::SameGroup),
         other_group: words_until(gaps, cycle, earlier, Relation::OtherGroup),
+        other_rank: words_until(gaps, cycle, earlier, Relation::OtherRank),
     }
 }
 
@@ -297,40 +298,13 @@ pub(crate) fn note_in_banks(
 {
     let untils = all_untils(gaps, cycle, command.kind());
     let first = 16 * command.rank() as usize;
+    let count = banks.len();
+    raise_between(banks, 0, first, untils.other_rank);
     match command.bank() {
         Some(bank) => note_in_groups(banks, first, bank, command, &untils),
         None => note_in_rank(banks, first, command, &untils),
     }
-}
-
-/// Raises the words of the ranks from one up to another.
-fn raise_ranks(ranks: &mut [RankWords], first: usize, end: usize, words: RankWords)
-    requires inside { end ≤ length ranks.old }
-    requires ascending { first ≤ end }
-    ensures inside { (k : ℕ) (d : RankWords) → first ≤ k → k < end
-        → slice_index_or ranks.new k d ≡ rank_raised words (slice_index_or ranks.old k d) }
-    ensures below { (k : ℕ) (d : RankWords) → k < first → slice_index_or ranks.new k d ≡ slice_index_or ranks.old k d }
-    ensures above { (k : ℕ) (d : RankWords) → end ≤ k → slice_index_or ranks.new k d ≡ slice_index_or ranks.old k d }
-{
-    for number in first..end {
-        let rank = &mut ranks[number];
-        rank.prea = rank.prea.max(words.prea);
-        rank.refresh = rank.refresh.max(words.refresh);
-        rank.others = later_of(rank.others, words.others);
-    }
-}
-
-/// Whether words hold back no command at all.
-fn is_nothing(words: RankWords) -> bool
-    ensures { IsTrue result → (rank : RankWords) → rank_raised words rank ≡ rank }
-{
-    let others = words.others;
-    words.prea == 0
-        && words.refresh == 0
-        && others.act == 0
-        && others.rd == 0
-        && others.wr == 0
-        && others.pre == 0
+    raise_between(banks, first + 16, count, untils.other_rank);
 }
 
 /// Notes a command in each rank.
@@ -341,27 +315,16 @@ pub(crate) fn note_in_ranks(
     cycle: Cycle,
 )
     requires few { length ranks.old ≤ 4 }
-    requires rank { rank_of command < length ranks.old }
     requires cycle { cycle < 2 ^ 62 }
     ensures each { (k : ℕ) (d : RankWords) → k < length ranks.old
         → slice_index_or ranks.new k d
         ≡ rank_words_after gaps.now cycle command k (slice_index_or ranks.old k d) }
 {
-    let earlier = command.kind();
-    let own = command.rank() as usize;
-    let prea = held_until(gaps, cycle, earlier, Kind::Prea, Relation::SameBank);
-    let refresh = held_until(gaps, cycle, earlier, Kind::Ref, Relation::SameBank);
-    let rank = &mut ranks[own];
-    rank.prea = rank.prea.max(prea);
-    rank.refresh = rank.refresh.max(refresh);
-    let other = RankWords {
-        prea: held_until(gaps, cycle, earlier, Kind::Prea, Relation::OtherRank),
-        refresh: held_until(gaps, cycle, earlier, Kind::Ref, Relation::OtherRank),
-        others: words_until(gaps, cycle, earlier, Relation::OtherRank),
-    };
-    if !is_nothing(other) {
-        let count = ranks.len();
-        raise_ranks(ranks, 0, own, other);
-        raise_ranks(ranks, own + 1, count, other);
+    for (rank, words) in ranks.iter_mut().enumerate() {
+        let relation = relation_to(command, rank as u32, None);
+        let prea = held_until(gaps, cycle, command.kind(), Kind::Prea, relation);
+        let refresh = held_until(gaps, cycle, command.kind(), Kind::Ref, relation);
+        words.prea = words.prea.max(prea);
+        words.refresh = words.refresh.max(refresh);
     }
 }
