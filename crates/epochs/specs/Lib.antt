@@ -1,0 +1,3 @@
+pub mod Units
+pub mod Views
+pub mod Parts
