@@ -1,1 +1,5 @@
 pub mod Running
+pub mod Standing
+pub mod Filters
+pub mod Travelling
+pub mod Due

@@ -1,3 +1,5 @@
 pub mod Units
 pub mod Views
 pub mod Parts
+pub mod Planning
+pub mod Flight

@@ -6,9 +6,10 @@
 --     jobs_of phase      all jobs of a phase, in the order of the units
 use Rattle.std.specs.Prelude.{ℕ, List, map}
 use Rattle.sim_base.specs.declared.config.Config.{Config}
+use Rattle.sim_base.specs.History.{below}
 use Rattle.sim_base.specs.declared.message.Unit.{Unit as MachineUnit}
 use Rattle.sim_base.specs.declared.trace.Entry.{Entry}
-use Rattle.epochs.specs.Units.{units}
+use Rattle.epochs.specs.Units.{unit_at, unit_count}
 use Rattle.epochs.specs.declared.job.JobName.{JobName}
 
 -- the run of a machine over these traces, of which so many cycles are over; they were gone over in so many phases
@@ -40,6 +41,13 @@ name_of p unit = record { phase = p.number; unit = unit; from = p.from; until = 
 abbrev pub job_of : PhaseView → MachineUnit → JobView
 job_of p unit = record { machine = p.machine; traces = p.traces; name = name_of p unit }
 
+-- the job of the unit at a place, and its name
+abbrev pub name_at : PhaseView → ℕ → JobName
+name_at p place = name_of p (unit_at p.machine place)
+
+abbrev pub job_at : PhaseView → ℕ → JobView
+job_at p place = job_of p (unit_at p.machine place)
+
 -- the jobs of a phase
 abbrev pub jobs_of : PhaseView → List JobView
-jobs_of p = map (job_of p) (units p.machine)
+jobs_of p = map (job_at p) (below (unit_count p.machine))

@@ -7,4 +7,5 @@ mod machine;
 pub mod merging;
 mod part;
 pub mod phase;
+pub mod planning;
 pub mod sim;

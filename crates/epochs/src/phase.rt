@@ -12,11 +12,11 @@ use std::sync::Arc;
 /// messages that arrive later.
 #[derive(Drop)]
 pub struct Phase {
-    machine: Arc<Machine>,
-    number: u64,
-    from: Cycle,
-    until: Cycle,
-    links: Links,
+    pub(crate) machine: Arc<Machine>,
+    pub(crate) number: u64,
+    pub(crate) from: Cycle,
+    pub(crate) until: Cycle,
+    pub(crate) links: Links,
 }
 
 impl Model for Phase {

@@ -20,11 +20,11 @@ use std::sync::Arc;
 /// All units of a machine, and the messages in flight between them, when some cycles of its run are over.
 #[derive(Drop)]
 pub struct Sim {
-    machine: Arc<Machine>,
-    now: Cycle,
-    phase: u64,
-    parts: Vec<Part>,
-    links: Links,
+    pub(crate) machine: Arc<Machine>,
+    pub(crate) now: Cycle,
+    pub(crate) phase: u64,
+    pub(crate) parts: Vec<Part>,
+    pub(crate) links: Links,
 }
 
 impl Model for Sim {
@@ -93,7 +93,7 @@ impl Sim {
 
     /// How many cycles are over.
     pub fn now(&self) -> Cycle
-        ensures { result ≡ self.now.now }
+        ensures { result ≡ self.entry.now.now }
     {
         self.now
     }
