@@ -58,13 +58,13 @@ left-spared s from until zero ms = sym (filter-all _ ms (Each-all _ (λ m. refl)
 left-spared s from until (suc k) ms =
     ap (filter _) (left-spared s from until k ms) ∙ filter-filter _ (spared s from until k) ms
 
-same_unit : (a b : MachineUnit) → is_unit a b ≡ true → a ≡ b
+pub same_unit : (a b : MachineUnit) → is_unit a b ≡ true → a ≡ b
 same_unit (Core a) (Core b) e = let f : a ≡ b = grind (arith, nat_tests) in ap Core f
 same_unit (Channel a) (Channel b) e = let f : a ≡ b = grind (arith, nat_tests) in ap Channel f
 same_unit (Core a) (Channel b) e = cc
 same_unit (Channel a) (Core b) e = cc
 
-unit_is : (a : MachineUnit) → is_unit a a ≡ true
+pub unit_is : (a : MachineUnit) → is_unit a a ≡ true
 unit_is (Core a) = grind (arith, nat_tests)
 unit_is (Channel a) = grind (arith, nat_tests)
 

@@ -3,3 +3,5 @@ pub mod Standing
 pub mod Filters
 pub mod Travelling
 pub mod Due
+pub mod Joining
+pub mod Seating

@@ -3,3 +3,5 @@ pub mod Views
 pub mod Parts
 pub mod Planning
 pub mod Flight
+pub mod Merging
+pub mod Seats
