@@ -1,20 +1,24 @@
 -- Results in the places of their units.
-use Rattle.std.proofs.Common.{◌≡◌, ℕ, zero, suc, ◌+◌, ◌-◌, ◌<◌, ◌≤◌, Bool, true, false, cond, eqb, not, ◌&&◌, ◌||◌, List, [], ◌∷◌, ◌++◌, length, map, Option, Some, None, refl, sym, ap, ap₂, subst, ◌∙◌, add-zero, arith}
+use Rattle.std.proofs.Common.{◌≡◌, ℕ, zero, suc, ◌+◌, ◌-◌, ◌<◌, ◌≤◌, Bool, true, false, cond, eqb, not, ◌&&◌, ◌||◌, List, [], ◌∷◌, ◌++◌, length, map, get_or, Option, Some, None, refl, sym, ap, ap₂, subst, ◌∙◌, add-zero, zero-add, arith}
 use Rattle.std.specs.Prelude.{find, option_map, is_some}
+use Rattle.std.specs.Option.{IfNone}
 use Rattle.std.specs.List.{list_any, range_with_len}
 use Rattle.std.proofs.Math.ListN.{set}
 use Rattle.std.proofs.lemmas.Bool.{cond-true, cond-false, and_parts}
 use Rattle.std.proofs.lemmas.Bool.Decides.{nat_tests}
 use Rattle.std.proofs.lemmas.List.Folds.{list_any-append}
+use Rattle.std.proofs.lemmas.List.FromFn.{get_or-map-range_with_len}
 use Rattle.sim_base.specs.History.{below, is_unit}
 use Rattle.sim_base.specs.declared.message.Unit.{Unit as MachineUnit}
-use Rattle.epochs.specs.Merging.{same_name, is_among, names_of, fault_at, missing}
+use Rattle.epochs.specs.Merging.{same_name, is_among, names_of, fault_at, first_of, first_fault, missing}
 use Rattle.epochs.specs.Seats.{seat_at, seats_of}
 use Rattle.epochs.specs.Units.{unit_at, unit_count, Exists}
 use Rattle.epochs.specs.Views.{PhaseView, JobView, name_at, job_at, jobs_of}
 use Rattle.epochs.specs.declared.job.JobName.{JobName}
+use Rattle.epochs.specs.declared.merging.MergeFault.{MergeFault}
 use Rattle.epochs.specs.declared.merging.MergeFault.TheVariants.{Missing, Double, Stranger}
 use Rattle.epochs.proofs.Due.{place-at, place_of_unit, place-within, at-place, exists-at, same_unit, unit_is}
+use Rattle.epochs.proofs.Standing.{length-places}
 
 map-range_same : {X : Type 0} (f g : ℕ → X) (a n : ℕ) → ((i : ℕ) → i < n → f (a + i) ≡ g (a + i)) → map f (range_with_len a n) ≡ map g (range_with_len a n)
 map-range_same f g a zero h = refl
@@ -194,3 +198,71 @@ unfolding seats_of missing
 seats-all p names xs e =
     let r = none-missing (λ i. is_among names (name_at p i)) (job_at p) 0 (unit_count p.machine) xs e in
     (ap (option_map (λ place. Missing (unit_at p.machine place))) r.0, r.1)
+
+-- a name of a unit that the machine does not have is of no job
+pub not_unit : (p : PhaseView) (name : JobName) → (Exists p.machine name.unit → ⊥) → is_among (names_of p) name ≡ false
+not_unit p name h = by (is_among (names_of p) name) refl
+  where
+    by : (b : Bool) → is_among (names_of p) name ≡ b → is_among (names_of p) name ≡ false
+    by false e = e
+    by true e =
+        let r = among-place p name e in
+        absurd (h (subst (λ (n : JobName). Exists p.machine n.unit) r.2 (exists-at p.machine r.0 r.1)))
+
+differ : true ≡ false → ⊥
+differ e = cc
+
+-- nor is one of another phase, or of other cycles
+pub not_phase : (p : PhaseView) (name : JobName) → (eqb name.phase p.number && (eqb name.from p.from && eqb name.until p.until)) ≡ false → is_among (names_of p) name ≡ false
+not_phase p name h = by (is_among (names_of p) name) refl
+  where
+    by : (b : Bool) → is_among (names_of p) name ≡ b → is_among (names_of p) name ≡ false
+    by false e = e
+    by true e =
+        let r = among-place p name e in
+        let n = name_at p r.0 in
+        let f : eqb n.phase p.number ≡ true = grind (arith, nat_tests) in
+        let g : eqb n.from p.from ≡ true = grind (arith, nat_tests) in
+        let k : eqb n.until p.until ≡ true = grind (arith, nat_tests) in
+        let all : (eqb n.phase p.number && (eqb n.from p.from && eqb n.until p.until)) ≡ true = ap₂ (λ a b. a && (b && eqb n.until p.until)) f g ∙ k in
+        absurd (differ (sym (subst (λ (m : JobName). (eqb m.phase p.number && (eqb m.from p.from && eqb m.until p.until)) ≡ true) r.2 all) ∙ h))
+
+pub seats-none : (p : PhaseView) → map (seat_at p []) (below (unit_count p.machine)) ≡ seats_of p []
+unfolding seats_of
+seats-none p = refl
+
+-- what stands in a place
+pub seat-is : (p : PhaseView) (names : List JobName) (seats : List (Option JobView)) (place : ℕ) (d : Option JobView) → seats ≡ seats_of p names → place < unit_count p.machine
+    → get_or seats place d ≡ seat_at p names place
+unfolding seats_of
+seat-is p names seats place d e l =
+    ap (λ z. get_or z place d) e ∙ get_or-map-range_with_len (seat_at p names) 0 (unit_count p.machine) place place d l (zero-add place)
+
+pub length-seats : (p : PhaseView) (names : List JobName) → length (seats_of p names) ≡ unit_count p.machine
+unfolding seats_of
+length-seats p names = length-places (seat_at p names) (unit_count p.machine)
+
+pub first-none_yet : (p : PhaseView) (earlier names : List JobName) (name : JobName) → fault_at p earlier name ≡ None
+    → first_fault p earlier (name ∷ names) ≡ first_fault p (earlier ++ name ∷ []) names
+unfolding first_fault
+first-none_yet p earlier names name e = ap (λ f. first_of f (first_fault p (earlier ++ name ∷ []) names)) e
+
+pub first-found : (p : PhaseView) (earlier names : List JobName) (name : JobName) (fault : MergeFault) → fault_at p earlier name ≡ Some fault
+    → first_fault p earlier (name ∷ names) ≡ Some fault
+unfolding first_fault
+first-found p earlier names name fault e = ap (λ f. first_of f (first_fault p (earlier ++ name ∷ []) names)) e
+
+pub first-end : (p : PhaseView) (earlier : List JobName) → first_fault p earlier [] ≡ None
+unfolding first_fault
+first-end p earlier = refl
+
+pub none-weaker : {X P Q : Type 0} (o : Option X) → (P → Q) → IfNone o P → IfNone o Q
+none-weaker None f h = f h
+none-weaker (Some x) f h = h
+
+-- a result of the phase's run is that of the job whose name it has
+pub job-is : (p : PhaseView) (place : ℕ) (d : JobView) → d.machine ≡ p.machine → d.traces ≡ p.traces → name_at p place ≡ d.name → d ≡ job_at p place
+job-is p place d h k l =
+    ap₂ {C = JobView} (λ m t. record { machine = m; traces = t; name = d.name }) h k
+    ∙ ap {B = JobView} (λ n. record { machine = p.machine; traces = p.traces; name = n }) (sym l)
+

@@ -99,7 +99,7 @@ length-places f n = length-map (below n) f ∙ length-range_with_len 0 n
 pub places-more : {X : Type 0} (f : ℕ → X) (n : ℕ) → map f (below n) ++ f n ∷ [] ≡ map f (below (suc n))
 places-more f n = sym (map-range_with_len_more f 0 n n (zero-add n)) ∙ ap (λ i. map f (below i)) (add-one n)
 
-nothing_left : {X : Type 0} (xs : List X) → length xs ≡ 0 → xs ≡ []
+pub nothing_left : {X : Type 0} (xs : List X) → length xs ≡ 0 → xs ≡ []
 nothing_left [] h = refl
 nothing_left (x ∷ xs) h = absurd (omega arith)
 
