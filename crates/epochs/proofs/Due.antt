@@ -105,9 +105,9 @@ due-one s from until i j m l e = by (is_unit (receiver s m.link) (unit_at s i)) 
     by : (b : Bool) → is_unit (receiver s m.link) (unit_at s i) ≡ b → is_due s.channels (unit_at s i) from until m ≡ false
     by false f = ap (λ b. b && (leb from m.arrival && ltb m.arrival until)) f
     by true f =
-        let same = sym (same_unit _ _ f) ∙ same_unit _ _ (and_parts (is_unit (receiver s m.link) (unit_at s j)) _ e).0 in
+        let same : unit_at s i ≡ unit_at s j = sym (same_unit _ _ f) ∙ same_unit _ _ (and_parts (is_unit (receiver s m.link) (unit_at s j)) _ e).0 in
         let p : i ≡ j = sym (place-at s i) ∙ ap (place_of_unit s) same ∙ place-at s j in
-        absurd (omega arith)
+        absurd (omega (arith, p, l))
 
 spared-before : (s : Config) (from until k : ℕ) (m : Message) → is_due s.channels (unit_at s k) from until m ≡ true → (j : ℕ) → j ≤ k → spared s from until j m ≡ true
 unfolding spared

@@ -5,3 +5,4 @@ pub mod Travelling
 pub mod Due
 pub mod Joining
 pub mod Seating
+pub mod Arranged

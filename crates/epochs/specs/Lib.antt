@@ -5,3 +5,4 @@ pub mod Planning
 pub mod Flight
 pub mod Merging
 pub mod Seats
+pub mod Ordered

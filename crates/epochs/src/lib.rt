@@ -6,6 +6,7 @@ pub mod job;
 mod machine;
 pub mod merging;
 mod part;
+pub mod ordered;
 pub mod phase;
 pub mod planning;
 pub mod sim;
