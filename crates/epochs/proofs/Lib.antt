@@ -6,3 +6,4 @@ pub mod Due
 pub mod Joining
 pub mod Seating
 pub mod Arranged
+pub mod Counted

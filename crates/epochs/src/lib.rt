@@ -2,6 +2,7 @@
 //! one-clock machine does, in whatever order their results come back.
 #![tactic(auto)]
 
+mod counts;
 pub mod job;
 mod machine;
 pub mod merging;

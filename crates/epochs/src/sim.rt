@@ -2,9 +2,12 @@
 
 ghost use Rattle.std.specs.Prelude.{◌≡◌, ◌<◌, ◌≤◌, ◌^◌, ◌+◌, ℕ, List, [], length, IfOk, OnOk};
 ghost use Rattle.sim_base.specs.declared.trace.Entry.{Entry};
+ghost use Rattle.sim_base.specs.Machine.{run};
+ghost use Rattle.statistics.specs.Runs.{stats_of};
 ghost use Rattle.epochs.specs.Units.{unit_count};
 ghost use Rattle.epochs.specs.Parts.{StandAt};
 
+use crate::counts::{stats_of_channels, stats_of_cores};
 use crate::machine::Machine;
 use crate::part::Part;
 use channel_step::channel::Channel;
@@ -13,6 +16,7 @@ use cpu_trace::trace::Trace;
 use links::flight::Links;
 use sim_base::config::Config;
 use sim_base::message::Cycle;
+use statistics::stats::Stats;
 use std::alloc::{AllocError, Global};
 use std::marker::Model;
 use std::sync::Arc;
@@ -96,5 +100,16 @@ impl Sim {
         ensures { result ≡ self.entry.now.now }
     {
         self.now
+    }
+
+    /// The statistics of the cycles that are over. Only memory can be refused.
+    pub fn stats(&self, alloc: Global) -> Result<Stats, AllocError>
+        ensures { IfOk result (λ stats. stats ≡ stats_of self.entry.now.machine self.entry.now.traces (run self.entry.now.machine self.entry.now.traces self.entry.now.now)) }
+    {
+        let config = &self.machine.config;
+        let cores = stats_of_cores(alloc, config, &self.parts)?;
+        let channels = stats_of_channels(alloc, config, &self.parts)?;
+        let stats = Stats::of_parts(alloc, self.now, &cores, &channels)?;
+        Ok(stats)
     }
 }
