@@ -11,3 +11,5 @@ pub mod ordered;
 pub mod phase;
 pub mod planning;
 pub mod sim;
+#[cfg(test)]
+mod tests;
