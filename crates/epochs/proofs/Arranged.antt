@@ -1,0 +1,37 @@
+-- Results of a phase that are arranged, and where the next phase ends.
+use Rattle.std.proofs.Common.{◌≡◌, ℕ, zero, suc, ◌+◌, ◌<◌, ◌≤◌, min, List, [], ◌∷◌, ◌++◌, map, length, get_or, refl, sym, ap, subst, ◌∙◌, zero-add, arith}
+use Rattle.std.specs.Prelude.{Any}
+use Rattle.std.proofs.lemmas.List.FromFn.{get_or-map-range_with_len}
+use Rattle.sim_base.specs.declared.config.Config.{Config}
+use Rattle.statistics.proofs.RunSteps.{travels}
+use Rattle.epochs.specs.Merging.{IsOf, after}
+use Rattle.epochs.specs.Ordered.{IsFurther}
+use Rattle.epochs.specs.Planning.{EndsAt, IsNext}
+use Rattle.epochs.specs.Units.{unit_count}
+use Rattle.epochs.proofs.Standing.{length-places}
+use Rattle.epochs.specs.Views.{SimView, PhaseView, JobView, job_at, jobs_of}
+
+-- the end of a phase is after its beginning, and not past the limit
+pub ends-within : (s : Config) (now limit until : ℕ) → now < limit → EndsAt s now limit until → (now < until) × (until ≤ limit)
+ends-within s now limit until l e =
+    let some = travels s e.shortest.link e.shortest.exists in
+    let span : 1 ≤ e.span = subst (λ n. 1 ≤ n) e.shortest.attained some in
+    (subst (λ n. now < n) (sym e.until_is) (less (now + e.span) (omega arith)), subst (λ n. n ≤ limit) (sym e.until_is) (more (now + e.span)))
+  where
+    less : (n : ℕ) → now < n → now < min n limit
+    less n k = omega arith
+    more : (n : ℕ) → min n limit ≤ limit
+    more n = omega arith
+
+pub further-after : (sim : SimView) (limit : ℕ) (phase : PhaseView) → sim.now < limit → IsNext sim limit phase → IsFurther sim limit (after phase)
+further-after sim limit phase l next =
+    let e = ends-within sim.machine sim.now limit phase.until l next.ends in
+    record { machine_is = next.machine_is; traces_are = next.traces_are; further = e.0; within = e.1 }
+
+-- what is among the results of a phase is of its run
+pub given-of : (p : PhaseView) (given : List JobView) → given ≡ jobs_of p → (d : JobView) → Any (λ r. r ≡ d) given → (d.machine ≡ p.machine) × (d.traces ≡ p.traces)
+given-of p given e d h =
+    let l : h.0 < unit_count p.machine = subst (λ n. h.0 < n) (ap length e ∙ length-places (job_at p) (unit_count p.machine)) h.2 in
+    let is : h.1 ≡ job_at p h.0 =
+    sym h.3 ∙ ap (λ z. get_or z h.0 h.1) e ∙ get_or-map-range_with_len (job_at p) 0 (unit_count p.machine) h.0 h.0 h.1 l (zero-add h.0) in
+    (sym (ap (λ (x : JobView). x.machine) h.4) ∙ ap (λ (x : JobView). x.machine) is, sym (ap (λ (x : JobView). x.traces) h.4) ∙ ap (λ (x : JobView). x.traces) is)

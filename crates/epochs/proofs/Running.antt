@@ -1,0 +1,62 @@
+-- A unit that is run over a span.
+use Rattle.std.proofs.Common.{◌≡◌, ℕ, ◌≤◌, ◌<◌, ◌^◌, List, ◌++◌, length, sym, ap, subst, ◌∙◌, arith}
+use Rattle.sim_base.specs.declared.config.Config.{Config}
+use Rattle.sim_base.specs.Machine.{run}
+use Rattle.sim_base.specs.declared.message.Message.{Message}
+use Rattle.sim_base.specs.declared.message.Unit.{Unit as MachineUnit}
+use Rattle.sim_base.specs.declared.message.Unit.TheVariants as unit
+use Rattle.sim_base.specs.declared.trace.Entry.{Entry}
+use Rattle.sim_base.specs.declared.command.CommandRow.{CommandRow}
+use Rattle.sim_base.proofs.Spans.{length-run}
+use Rattle.std.specs.declared.vec.Vec.{Vec}
+use Rattle.std.specs.declared.alloc.Global.{Global}
+use Rattle.statistics.proofs.Replies.{length-core_rows}
+use Rattle.channel_step.specs.Runs.{CanRun}
+use Rattle.channel_step.specs.declared.channel.Channel.{Channel}
+use Rattle.channel_step.specs.declared.done.ChannelDone.{ChannelDone}
+use Rattle.core_window.specs.CoreViews.{view_of}
+use Rattle.core_window.specs.Fit.{MayRun, Runs}
+use Rattle.core_window.specs.declared.core_unit.Core.{Core}
+use Rattle.span_laws.specs.Channels.{Gives}
+use Rattle.span_laws.proofs.ChannelsOn.{channels-may_run, channels-go_on}
+use Rattle.span_laws.proofs.CoresOn.{cores-may_run, cores-go_on}
+use Rattle.epochs.specs.Parts.{IsReadyFor, HasRun}
+use Rattle.epochs.specs.declared.part.Part.TheVariants as part
+
+pub core-at : (s : Config) (traces : List (List Entry)) (unit : MachineUnit) (c : Core) (inbox : List Message) (from until : ℕ)
+    → IsReadyFor s traces unit (part.Core c) inbox from until → c.cycle ≡ from
+core-at s traces (unit.Core core) c inbox from until h = h.stands.now ∙ length-core_rows core (run s traces from) ∙ length-run s traces from
+core-at s traces (unit.Channel channel) c inbox from until h = absurd h.stands
+
+pub core-may_run : (s : Config) (traces : List (List Entry)) (unit : MachineUnit) (c : Core) (inbox : List Message) (from until : ℕ)
+    → IsReadyFor s traces unit (part.Core c) inbox from until → MayRun (view_of c) from until inbox
+core-may_run s traces (unit.Core core) c inbox from until h =
+    subst (MayRun (view_of c) from until) (sym h.mail) (cores-may_run s traces from until core (view_of c) h.exists h.order h.stands)
+core-may_run s traces (unit.Channel channel) c inbox from until h = absurd h.stands
+
+pub core-has_run : (s : Config) (traces : List (List Entry)) (unit : MachineUnit) (c d : Core) (inbox sent : List Message) (from until : ℕ)
+    → IsReadyFor s traces unit (part.Core c) inbox from until → Runs (view_of c) from until inbox (view_of d) sent
+    → HasRun s traces unit from until (part.Core d) sent
+core-has_run s traces (unit.Core core) c d inbox sent from until h runs =
+    let goes = cores-go_on s traces from until core (view_of c) (view_of d) sent h.exists h.order h.stands
+    (subst (λ mail. Runs (view_of c) from until mail (view_of d) sent) h.mail runs) in
+    record { exists = h.exists; stands = goes.0; sent = goes.1 }
+core-has_run s traces (unit.Channel channel) c d inbox sent from until h runs = absurd h.stands
+
+pub channel-can_run : (s : Config) (traces : List (List Entry)) (unit : MachineUnit) (c : Channel) (rows : Vec CommandRow Global) (inbox : List Message) (from until : ℕ)
+    → IsReadyFor s traces unit (part.Channel c rows) inbox from until → CanRun c inbox from until
+channel-can_run s traces (unit.Channel channel) c rows inbox from until h =
+    subst (λ mail. CanRun c mail from until) (sym h.mail) (channels-may_run s traces from until channel c h.exists h.order h.stands.0)
+channel-can_run s traces (unit.Core core) c rows inbox from until h = absurd h.stands
+
+pub channel-has_run : (s : Config) (traces : List (List Entry)) (unit : MachineUnit) (c : Channel) (rows more : Vec CommandRow Global) (done : ChannelDone) (inbox : List Message) (from until : ℕ)
+    → IsReadyFor s traces unit (part.Channel c rows) inbox from until → Gives c inbox from until done → more.items ≡ rows.items ++ done.commands.items
+    → HasRun s traces unit from until (part.Channel done.channel more) done.messages.items
+channel-has_run s traces (unit.Channel channel) c rows more done inbox from until h gives e =
+    let goes = channels-go_on s traces from until channel c done h.exists h.order h.stands.0 (subst (λ mail. Gives c mail from until done) h.mail gives) in
+    record {
+      exists = h.exists;
+      stands = (goes.stands, e ∙ ap (λ x. x ++ done.commands.items) h.stands.1 ∙ sym goes.commands_are);
+      sent = goes.messages_are;
+    }
+channel-has_run s traces (unit.Core core) c rows more done inbox from until h gives e = absurd h.stands

@@ -1,0 +1,15 @@
+//! All units of a machine, span by span: each runs alone from what was sent to it before, and together they do what the
+//! one-clock machine does, in whatever order their results come back.
+#![tactic(auto)]
+
+mod counts;
+pub mod job;
+mod machine;
+pub mod merging;
+mod part;
+pub mod ordered;
+pub mod phase;
+pub mod planning;
+pub mod sim;
+#[cfg(test)]
+mod tests;

@@ -1,0 +1,28 @@
+//! What is simulated.
+
+ghost use Rattle.std.specs.Prelude.{◌≡◌, ◌+◌, ◌<◌};
+ghost use Rattle.epochs.specs.Units.{unit_at, unit_count};
+
+use cpu_trace::trace::Trace;
+use sim_base::config::Config;
+use sim_base::message::{ChannelId, CoreId, Unit};
+
+/// A machine, with the trace of each core by number.
+#[derive(Drop)]
+pub(crate) struct Machine {
+    pub config: Config,
+    pub traces: Vec<Trace>,
+}
+
+/// The unit at a place: the cores come first, and then the channels, each by number.
+pub(crate) fn unit_at(config: &Config, place: usize) -> Unit
+    requires { place < unit_count config.now }
+    ensures { result ≡ unit_at config.now place }
+{
+    let cores = usize::from(config.cores);
+    if place < cores {
+        Unit::Core(place as CoreId)
+    } else {
+        Unit::Channel((place - cores) as ChannelId)
+    }
+}

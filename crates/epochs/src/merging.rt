@@ -1,0 +1,251 @@
+//! How the results of a phase are put together, in whatever order they come.
+
+ghost use Rattle.std.specs.Prelude.{◌≡◌, ◌==◌, ◌&&◌, ◌<◌, ◌≤◌, ◌^◌, ◌+◌, ◌-◌, ◌∷◌, ◌++◌, [], fold, flat_map, length, map, false, is_some, slice_index_or, List, Some, None, All, ◌⊎◌, IfOk, IfErr, OnOk, IfSome, IfNone};
+ghost use Rattle.std.specs.Arc.{arc_value};
+ghost use Rattle.sim_base.specs.History.{below, insert_by_age};
+ghost use Rattle.epochs.specs.Units.{unit_at, unit_count, Exists};
+ghost use Rattle.epochs.specs.Views.{name_at, job_at, jobs_of};
+ghost use Rattle.epochs.specs.Parts.{StandAt};
+ghost use Rattle.epochs.specs.Flight.{fresh};
+ghost use Rattle.epochs.specs.Merging.{names_of, is_among, fault_at, first_fault, missing, merge_fault, after, IsOf};
+ghost use Rattle.epochs.specs.Seats.{seats_of};
+ghost use Rattle.epochs.specs.declared.job.JobName.{JobName};
+
+use crate::job::{Done, JobName, Sent};
+use crate::machine::{Machine, unit_at};
+use crate::part::Part;
+use crate::phase::Phase;
+use crate::sim::Sim;
+use links::flight::Links;
+use sim_base::config::Config;
+use sim_base::message::{Cycle, Unit};
+use std::alloc::{AllocError, Global};
+use std::sync::Arc;
+
+/// Why results were not put together.
+#[derive(Clone, Copy, PartialEq, Eq, Debug)]
+pub enum MergeFault {
+    /// A unit has no result.
+    Missing(Unit),
+    /// The result at this place of the list, from 0 on, has the name of an earlier one.
+    Double(usize),
+    /// The result at this place of the list is of no job of the phase.
+    Stranger(usize),
+    /// There is no memory.
+    Memory,
+}
+
+/// The units of the results of a phase, which stand by their places. Their messages go into the links.
+fn parts_of(
+    alloc: Global,
+    machine: &Arc<Machine>,
+    links: &mut Links,
+    number: u64,
+    from: Cycle,
+    until: Cycle,
+    results: Vec<Done>,
+) -> Result<Vec<Part>, AllocError>
+    requires all { results.items ≡ map (job_at (record { machine = (arc_value machine.now).config; traces = (arc_value machine.now).traces.items; number = number; from = from; until = until })) (below (unit_count (arc_value machine.now).config)) }
+    ensures count { IfOk result (λ parts. length parts.items ≡ unit_count (arc_value machine.now).config) }
+    ensures stand { IfOk result (λ parts. StandAt (arc_value machine.now).config (arc_value machine.now).traces.items until parts.items) }
+    ensures flight { OnOk result (links.new ≡ record links.old { messages = fold insert_by_age links.old.messages
+        (flat_map (fresh (arc_value machine.now).config (arc_value machine.now).traces.items from until) (below (unit_count (arc_value machine.now).config))) }) }
+{
+    let mut parts = Vec::new(alloc);
+    for done in results {
+        let Sent { part, messages } = done.into_sent();
+        links.accept(&messages)?;
+        parts.push(part)?;
+    }
+    Ok(parts)
+}
+
+/// The simulator at the end of a phase, from the results of all units in their order.
+fn joined(phase: Phase, alloc: Global, results: Vec<Done>) -> Result<Sim, AllocError>
+    requires all { results.items ≡ map (job_at phase) (below (unit_count phase.machine)) }
+    ensures { IfOk result (λ sim. sim ≡ after phase) }
+{
+    let Phase {
+        machine,
+        number,
+        from,
+        until,
+        mut links,
+    } = phase;
+    let parts = parts_of(alloc, &machine, &mut links, number, from, until, results)?;
+    Ok(Sim {
+        machine,
+        now: until,
+        phase: number + 1,
+        parts,
+        links,
+    })
+}
+
+/// The place of a unit, if the machine has it.
+fn place_of(config: &Config, unit: Unit) -> Option<usize>
+    ensures some { IfSome result (λ place. (place < unit_count config.now) × (unit_at config.now place ≡ unit)) }
+    ensures none { IfNone result (Exists config.now unit → ⊥) }
+{
+    let cores = usize::from(config.cores);
+    match unit {
+        Unit::Core(core) => {
+            if core < config.cores {
+                Some(usize::from(core))
+            } else {
+                None
+            }
+        }
+        Unit::Channel(channel) => {
+            if channel < u32::from(config.channels) {
+                Some(cores + channel as usize)
+            } else {
+                None
+            }
+        }
+    }
+}
+
+/// Whether a name is of this phase.
+fn is_of_phase(phase: &Phase, name: JobName) -> bool
+    ensures { result ≡ ((name.phase == phase.now.number) && ((name.from == phase.now.from) && (name.until == phase.now.until))) }
+{
+    name.phase == phase.number && (name.from == phase.from && name.until == phase.until)
+}
+
+/// The place of the unit that a name is of, if it is that of a job of the phase.
+fn seat_of(phase: &Phase, name: JobName) -> Option<usize>
+    ensures some { IfSome result (λ place. (place < unit_count phase.now.machine) × (name_at phase.now place ≡ name)) }
+    ensures none { IfNone result (is_among (names_of phase.now) name ≡ false) }
+{
+    if is_of_phase(phase, name) {
+        place_of(&phase.machine.config, name.unit)
+    } else {
+        None
+    }
+}
+
+/// A place for each unit, with no result in it.
+fn no_results(alloc: Global, phase: &Phase) -> Result<Vec<Option<Done>>, AllocError>
+    ensures { IfOk result (λ seats. seats.items ≡ seats_of phase.now []) }
+{
+    let config = &phase.machine.config;
+    let count = usize::from(config.cores) + usize::from(config.channels);
+    let mut seats = Vec::new(alloc);
+    for _ in 0..count {
+        seats.push(None)?;
+    }
+    Ok(seats)
+}
+
+/// Whether there is a result in a place.
+fn is_taken(seats: &[Option<Done>], place: usize) -> bool
+    requires { place < length seats.now }
+    ensures { result ≡ is_some (slice_index_or seats.now place None) }
+{
+    seats[place].is_some()
+}
+
+/// Puts a result, which comes after so many others, in the place of its unit.
+fn put(
+    phase: &Phase,
+    seats: &mut Vec<Option<Done>>,
+    result_of: Done,
+    index: usize,
+) -> Result<(), MergeFault>
+    requires count { length seats.old.items ≡ unit_count phase.now.machine }
+    requires of { IsOf phase.now result_of }
+    ensures count { length seats.new.items ≡ unit_count phase.now.machine }
+    ensures ok { OnOk result ((names : List JobName) → seats.old.items ≡ seats_of phase.now names → length names ≡ index
+        → (fault_at phase.now names result_of.name ≡ None) × (seats.new.items ≡ seats_of phase.now (names ++ result_of.name ∷ []))) }
+    ensures err { IfErr result (λ fault. (names : List JobName) → seats.old.items ≡ seats_of phase.now names → length names ≡ index
+        → fault_at phase.now names result_of.name ≡ Some fault) }
+{
+    match seat_of(phase, result_of.name()) {
+        None => Err(MergeFault::Stranger(index)),
+        Some(place) => {
+            if is_taken(seats, place) {
+                return Err(MergeFault::Double(index));
+            }
+            seats[place] = Some(result_of);
+            Ok(())
+        }
+    }
+}
+
+/// The results of a phase, each in the place of its unit. The first result that is of no job of the phase, or whose name stood
+/// earlier, is a fault; only memory is another.
+fn seated(
+    alloc: Global,
+    phase: &Phase,
+    results: Vec<Done>,
+) -> Result<Vec<Option<Done>>, MergeFault>
+    requires of { All (IsOf phase.now) results.items }
+    ensures ok { IfOk result (λ seats. (first_fault phase.now [] (map (λ d. d.name) results.items) ≡ None)
+        × (seats.items ≡ seats_of phase.now (map (λ d. d.name) results.items))) }
+    ensures count { IfOk result (λ seats. length seats.items ≡ unit_count phase.now.machine) }
+    ensures err { IfErr result (λ fault. (fault ≡ MergeFault.Memory) ⊎ (first_fault phase.now [] (map (λ d. d.name) results.items) ≡ Some fault)) }
+{
+    let mut seats = match no_results(alloc, phase) {
+        Ok(seats) => seats,
+        Err(_) => return Err(MergeFault::Memory),
+    };
+    let mut read = 0;
+    for done in results {
+        put(phase, &mut seats, done, read)?;
+        read += 1;
+    }
+    Ok(seats)
+}
+
+/// Puts a result at the end of a list.
+fn add(all: &mut Vec<Done>, done: Done) -> Result<(), MergeFault>
+    ensures ok { OnOk result (all.new.items ≡ all.old.items ++ done ∷ []) }
+    ensures err { IfErr result (λ fault. fault ≡ MergeFault.Memory) }
+{
+    match all.push(done) {
+        Ok(_) => Ok(()),
+        Err(_) => Err(MergeFault::Memory),
+    }
+}
+
+/// The results of all units, in their order. The first unit without one is a fault; only memory is another.
+fn all_there(
+    alloc: Global,
+    phase: &Phase,
+    seats: Vec<Option<Done>>,
+) -> Result<Vec<Done>, MergeFault>
+    requires count { length seats.items ≡ unit_count phase.now.machine }
+    ensures ok { IfOk result (λ all. (names : List JobName) → seats.items ≡ seats_of phase.now names
+        → (missing phase.now names ≡ None) × (all.items ≡ jobs_of phase.now)) }
+    ensures err { IfErr result (λ fault. (names : List JobName) → seats.items ≡ seats_of phase.now names
+        → (fault ≡ MergeFault.Memory) ⊎ (missing phase.now names ≡ Some fault)) }
+{
+    let mut all = Vec::new(alloc);
+    for seat in seats {
+        match seat {
+            None => {
+                let unit = unit_at(&phase.machine.config, all.len());
+                return Err(MergeFault::Missing(unit));
+            }
+            Some(done) => add(&mut all, done)?,
+        }
+    }
+    Ok(all)
+}
+
+/// Puts the results of a phase together, in whatever order they come: the simulator then stands at the end of the phase. The
+/// first result of the list that is of no job of the phase, or whose name stood earlier, is a fault; then the first unit without
+/// a result, cores before channels; and want of memory.
+pub fn merge(phase: Phase, alloc: Global, results: Vec<Done>) -> Result<Sim, MergeFault>
+    requires of { All (IsOf phase) results.items }
+    ensures ok { IfOk result (λ sim. (merge_fault phase (map (λ d. d.name) results.items) ≡ None) × (sim ≡ after phase)) }
+    ensures err { IfErr result (λ fault. (fault ≡ MergeFault.Memory) ⊎ (merge_fault phase (map (λ d. d.name) results.items) ≡ Some fault)) }
+{
+    let seats = seated(alloc, &phase, results)?;
+    let all = all_there(alloc, &phase, seats)?;
+    match joined(phase, alloc, all) {
+        Ok(sim) => Ok(sim),
+        Err(_) => Err(MergeFault::Memory),
+    }
+}

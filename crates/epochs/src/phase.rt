@@ -1,0 +1,38 @@
+//! A span of cycles in which all units run, each alone.
+
+ghost use Rattle.std.specs.Prelude.{◌≡◌};
+
+use crate::machine::Machine;
+use links::flight::Links;
+use sim_base::message::Cycle;
+use std::marker::Model;
+use std::sync::Arc;
+
+/// A span of cycles in which all units run, each by a job: from one on and before another. What is kept meanwhile are the
+/// messages that arrive later.
+#[derive(Drop)]
+pub struct Phase {
+    pub(crate) machine: Arc<Machine>,
+    pub(crate) number: u64,
+    pub(crate) from: Cycle,
+    pub(crate) until: Cycle,
+    pub(crate) links: Links,
+}
+
+impl Model for Phase {
+    ghost use Rattle.std.specs.Arc.{arc_value};
+    ghost use Rattle.epochs.specs.Views.{PhaseView};
+
+    ghost Value = { PhaseView };
+
+    ghost use Rattle.sim_base.specs.contracts.config.Config as config;
+    ghost use Rattle.std.specs.Coded.{codes};
+
+    ghost coded = { Prim.hlevel (codes, config.the_row.coded) };
+
+    ghost use Rattle.epochs.specs.Parts.{IsPhase};
+
+    ghost view = { λ p. record { machine = (arc_value p.machine).config; traces = (arc_value p.machine).traces.items; number = p.number; from = p.from; until = p.until } };
+
+    ghost invariant = { λ p. IsPhase (arc_value p.machine).config (arc_value p.machine).traces.items p.number p.from p.until p.links };
+}

@@ -1,0 +1,124 @@
+//! What is to be done next.
+
+ghost use Rattle.std.specs.Prelude.{◌≡◌, ◌<◌, ◌≤◌, ◌^◌, ◌-◌, not, filter, map, IfOk, OnOk};
+ghost use Rattle.std.specs.Arc.{arc_value};
+ghost use Rattle.sim_base.specs.Counts.{in_flight};
+ghost use Rattle.sim_base.specs.History.{below};
+ghost use Rattle.sim_base.specs.Locality.{TravelsFor};
+ghost use Rattle.sim_base.specs.Machine.{run};
+ghost use Rattle.links.specs.InFlight.{is_due};
+ghost use Rattle.span_laws.specs.Mail.{mail_in};
+ghost use Rattle.epochs.specs.Units.{unit_count, Exists};
+ghost use Rattle.epochs.specs.Views.{job_at};
+ghost use Rattle.epochs.specs.Parts.{IsPart, IsSim, late};
+ghost use Rattle.epochs.specs.Planning.{EndsAt, IsPlanned};
+
+use crate::job::{Job, JobName};
+use crate::machine::{Machine, unit_at};
+use crate::part::Part;
+use crate::phase::Phase;
+use crate::sim::Sim;
+use links::flight::Links;
+use links::latency::shortest;
+use sim_base::config::Config;
+use sim_base::message::Cycle;
+use std::alloc::{AllocError, Global};
+use std::sync::Arc;
+
+/// What is to be done next.
+#[derive(Drop)]
+pub enum Planned {
+    /// Nothing: in the cycles that the simulator has gone over nothing happens.
+    Quiet(Sim),
+    /// All units are to run, each by a job, and their results to be merged with the phase.
+    Work(Phase, Vec<Job>),
+}
+
+/// Before which cycle a phase ends that begins in this one.
+fn end_of_phase(config: &Config, now: Cycle, limit: Cycle) -> Cycle
+    requires { now < limit }
+    ensures ends { EndsAt config.now now limit result }
+    ensures some { now < result }
+    ensures within { result ≤ limit }
+    ensures travels { TravelsFor config.now (result - now) }
+{
+    now + shortest(config).min(limit - now)
+}
+
+/// The job of a unit, which takes what arrives at it out of the links.
+fn job_for(
+    alloc: Global,
+    machine: &Arc<Machine>,
+    links: &mut Links,
+    name: JobName,
+    part: Part,
+) -> Result<Job, AllocError>
+    requires exists { Exists (arc_value machine.now).config name.unit }
+    requires order { name.from ≤ name.until }
+    requires early { name.until ≤ 10 ^ 12 }
+    requires stands { IsPart (arc_value machine.now).config (arc_value machine.now).traces.items name.unit name.from part }
+    requires mail { filter (is_due links.old.channels name.unit name.from name.until) links.old.messages
+        ≡ mail_in (arc_value machine.now).config (arc_value machine.now).traces.items name.until name.unit name.from name.until }
+    ensures job { IfOk result (λ job. job ≡ record { machine = (arc_value machine.now).config; traces = (arc_value machine.now).traces.items; name = name }) }
+    ensures left { OnOk result (links.new ≡ record links.old { messages = filter (λ m. not (is_due links.old.channels name.unit name.from name.until m)) links.old.messages }) }
+{
+    let inbox = links.take_due(alloc, name.unit, name.from, name.until)?;
+    Ok(Job::new(machine.clone()?, name, part, inbox))
+}
+
+/// The jobs of all units, which take what arrives at them out of the links.
+fn jobs(
+    alloc: Global,
+    machine: &Arc<Machine>,
+    links: &mut Links,
+    phase: u64,
+    from: Cycle,
+    until: Cycle,
+    parts: Vec<Part>,
+) -> Result<Vec<Job>, AllocError>
+    requires sim { IsSim (arc_value machine.now).config (arc_value machine.now).traces.items from phase parts.items links.old }
+    requires order { from < until }
+    requires early { until ≤ 10 ^ 12 }
+    requires travels { TravelsFor (arc_value machine.now).config (until - from) }
+    ensures jobs { IfOk result (λ jobs. jobs.items ≡ map (job_at (record { machine = (arc_value machine.now).config; traces = (arc_value machine.now).traces.items; number = phase; from = from; until = until })) (below (unit_count (arc_value machine.now).config))) }
+    ensures flight { OnOk result (links.new ≡ record { channels = (arc_value machine.now).config.channels;
+        messages = late until (in_flight (arc_value machine.now).config (arc_value machine.now).traces.items (run (arc_value machine.now).config (arc_value machine.now).traces.items from)) }) }
+{
+    let mut jobs = Vec::new(alloc);
+    for part in parts {
+        let name = JobName {
+            phase,
+            unit: unit_at(&machine.config, jobs.len()),
+            from,
+            until,
+        };
+        jobs.push(job_for(alloc, machine, links, name, part)?)?;
+    }
+    Ok(jobs)
+}
+
+/// What is to be done next by a simulator that stands before a limit, at most 10^12 cycles. Only memory can be refused; the
+/// simulator is then gone.
+pub fn plan(sim: Sim, alloc: Global, limit: Cycle) -> Result<Planned, AllocError>
+    requires before { sim.now < limit }
+    requires early { limit ≤ 10 ^ 12 }
+    ensures { IfOk result (IsPlanned sim limit) }
+{
+    let Sim {
+        machine,
+        now,
+        phase,
+        parts,
+        mut links,
+    } = sim;
+    let until = end_of_phase(&machine.config, now, limit);
+    let jobs = jobs(alloc, &machine, &mut links, phase, now, until, parts)?;
+    let phase = Phase {
+        machine,
+        number: phase,
+        from: now,
+        until,
+        links,
+    };
+    Ok(Planned::Work(phase, jobs))
+}

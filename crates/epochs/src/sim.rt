@@ -1,0 +1,115 @@
+//! All units of a machine between two spans.
+
+ghost use Rattle.std.specs.Prelude.{◌≡◌, ◌<◌, ◌≤◌, ◌^◌, ◌+◌, ℕ, List, [], length, IfOk, OnOk};
+ghost use Rattle.sim_base.specs.declared.trace.Entry.{Entry};
+ghost use Rattle.sim_base.specs.Machine.{run};
+ghost use Rattle.statistics.specs.Runs.{stats_of};
+ghost use Rattle.epochs.specs.Units.{unit_count};
+ghost use Rattle.epochs.specs.Parts.{StandAt};
+
+use crate::counts::{stats_of_channels, stats_of_cores};
+use crate::machine::Machine;
+use crate::part::Part;
+use channel_step::channel::Channel;
+use core_window::core_unit::Core;
+use cpu_trace::trace::Trace;
+use links::flight::Links;
+use sim_base::config::Config;
+use sim_base::message::Cycle;
+use statistics::stats::Stats;
+use std::alloc::{AllocError, Global};
+use std::marker::Model;
+use std::sync::Arc;
+
+/// All units of a machine, and the messages in flight between them, when some cycles of its run are over.
+#[derive(Drop)]
+pub struct Sim {
+    pub(crate) machine: Arc<Machine>,
+    pub(crate) now: Cycle,
+    pub(crate) phase: u64,
+    pub(crate) parts: Vec<Part>,
+    pub(crate) links: Links,
+}
+
+impl Model for Sim {
+    ghost use Rattle.std.specs.Arc.{arc_value};
+    ghost use Rattle.epochs.specs.Views.{SimView};
+
+    ghost Value = { SimView };
+
+    ghost use Rattle.sim_base.specs.contracts.config.Config as config;
+    ghost use Rattle.std.specs.Coded.{codes};
+
+    ghost coded = { Prim.hlevel (codes, config.the_row.coded) };
+
+    ghost use Rattle.epochs.specs.Parts.{IsSim};
+
+    ghost view = { λ m. record { machine = (arc_value m.machine).config; traces = (arc_value m.machine).traces.items; now = m.now; phase = m.phase } };
+
+    ghost invariant = { λ m. IsSim (arc_value m.machine).config (arc_value m.machine).traces.items m.now m.phase m.parts.items m.links };
+}
+
+/// The cores of a machine before the first cycle.
+fn first_cores(alloc: Global, config: &Config, traces: &[Trace]) -> Result<Vec<Part>, AllocError>
+    requires one_each { length traces.now ≡ config.now.cores }
+    ensures count { IfOk result (λ parts. length parts.items ≡ config.now.cores) }
+    ensures stand { IfOk result (λ parts. StandAt config.now traces.now 0 parts.items) }
+{
+    let mut parts = Vec::new(alloc);
+    for core in 0..config.cores {
+        let trace = traces[core as usize].copy()?;
+        parts.push(Part::Core(Core::start(alloc, config, core, trace)?))?;
+    }
+    Ok(parts)
+}
+
+/// Puts the channels of a machine before the first cycle behind its cores.
+fn add_channels(alloc: Global, config: &Config, parts: &mut Vec<Part>) -> Result<(), AllocError>
+    requires cores { length parts.old.items ≡ config.now.cores }
+    ensures count { OnOk result (length parts.new.items ≡ unit_count config.now) }
+    ensures stand { OnOk result ((traces : List (List Entry)) → StandAt config.now traces 0 parts.old.items → StandAt config.now traces 0 parts.new.items) }
+{
+    for number in 0..u32::from(config.channels) {
+        let channel = Channel::start(alloc, config, number)?;
+        parts.push(Part::Channel(channel, Vec::new(alloc)))?;
+    }
+    Ok(())
+}
+
+impl Sim {
+    /// A machine before its first cycle, with a trace for each core. Only memory can be refused.
+    pub fn start(alloc: Global, config: &Config, traces: Vec<Trace>) -> Result<Sim, AllocError>
+        requires one_each { length traces.items ≡ config.now.cores }
+        ensures { IfOk result (λ sim. sim ≡ record { machine = config.now; traces = traces.items; now = 0; phase = 0 }) }
+    {
+        let mut parts = first_cores(alloc, config, &traces)?;
+        add_channels(alloc, config, &mut parts)?;
+        let links = Links::start(alloc, config)?;
+        let config = config.copy(alloc)?;
+        Ok(Sim {
+            machine: Arc::new(alloc, Machine { config, traces })?,
+            now: 0,
+            phase: 0,
+            parts,
+            links,
+        })
+    }
+
+    /// How many cycles are over.
+    pub fn now(&self) -> Cycle
+        ensures { result ≡ self.entry.now.now }
+    {
+        self.now
+    }
+
+    /// The statistics of the cycles that are over. Only memory can be refused.
+    pub fn stats(&self, alloc: Global) -> Result<Stats, AllocError>
+        ensures { IfOk result (λ stats. stats ≡ stats_of self.entry.now.machine self.entry.now.traces (run self.entry.now.machine self.entry.now.traces self.entry.now.now)) }
+    {
+        let config = &self.machine.config;
+        let cores = stats_of_cores(alloc, config, &self.parts)?;
+        let channels = stats_of_channels(alloc, config, &self.parts)?;
+        let stats = Stats::of_parts(alloc, self.now, &cores, &channels)?;
+        Ok(stats)
+    }
+}

@@ -1,0 +1,109 @@
+//! A core that reads one line, as it is worked out by hand.
+
+ghost use Rattle.std.specs.Prelude.{◌≡◌, IfOk};
+
+use crate::job::Done;
+use crate::ordered::{Order, run_in_order};
+use crate::part::Part;
+use crate::sim::Sim;
+use cpu_trace::trace::Trace;
+use sim_base::config::Config;
+use sim_base::overrides::Overrides;
+use sim_base::place::{Field, FieldOrder};
+use sim_base::timing::Timing;
+use sim_base::trace::Entry;
+use std::alloc::{AllocError, Global};
+use std::test::Fail;
+
+/// The results as they come.
+#[derive(Drop)]
+struct AsTheyCome;
+
+impl Order for AsTheyCome {
+    fn arrange(&mut self, _phase: u64, results: Vec<Done>) -> Vec<Done> {
+        results
+    }
+}
+
+fn config(alloc: Global) -> Result<Config, AllocError>
+    ensures { IfOk result (λ config. config.cores ≡ 1) }
+{
+    let fields = Vec::from_array(
+        alloc,
+        [
+            Field::Channel,
+            Field::Column,
+            Field::Rank,
+            Field::Group,
+            Field::Bank,
+            Field::Row,
+        ],
+    )?;
+    Ok(Config {
+        cores: 1,
+        channels: 1,
+        ranks: 1,
+        groups: 2,
+        columns: 128,
+        rows: 65536,
+        fields: FieldOrder::new(fields),
+        window: 8,
+        width: 2,
+        read_credits: 4,
+        write_credits: 4,
+        request_latency: 2,
+        reply_latency: 2,
+        credit_latency: 2,
+        timing: Timing {
+            n_rcd: 3,
+            n_rp: 3,
+            n_ras: 8,
+            n_rc: 11,
+            n_cl: 4,
+            n_cwl: 3,
+            n_ccd_s: 4,
+            n_ccd_l: 5,
+            n_rrd_s: 2,
+            n_rrd_l: 3,
+            n_faw: 12,
+            n_rtp: 2,
+            n_wr: 4,
+            n_wtr_s: 1,
+            n_wtr_l: 2,
+            n_rtw: 7,
+            n_rfc: 20,
+            n_rtrs: 0,
+            n_refi: 0,
+        },
+        write_high: 0,
+        write_low: 0,
+        overrides: Overrides::new(Vec::new(alloc)),
+        ends_drained: false,
+    })
+}
+
+/// One read, which is sent in cycle 0 and in the queue from cycle 2 on: ACT 2, RD 5.
+#[test]
+fn one_line_is_read(rt: HostRuntime) -> Result<(), Fail> {
+    let config = config(rt.alloc())?;
+    let trace = Trace::from_entries(rt.alloc(), &[Entry::Read(0)])?;
+    let traces = Vec::from_array(rt.alloc(), [trace])?;
+    let sim = Sim::start(rt.alloc(), &config, traces)?;
+    let Ok(sim) = run_in_order(sim, rt.alloc(), 16, &mut AsTheyCome) else {
+        assert!(rt; false);
+        return Ok(());
+    };
+    let cycles = match sim.parts.last() {
+        Some(Part::Channel(_, rows)) => (
+            rows.first().map(|row| row.cycle),
+            rows.last().map(|row| row.cycle),
+        ),
+        _ => (None, None),
+    };
+    let stats = sim.stats(rt.alloc())?;
+    let counts = stats.channels.first().map(|c| (c.act, c.rd, c.hits));
+    assert_eq!(rt; (sim.now(), stats.cycles), (16, 16));
+    assert_eq!(rt; cycles, (Some(2), Some(5)));
+    assert_eq!(rt; counts, Some((1, 1, 0)));
+    Ok(())
+}
