@@ -1,10 +1,10 @@
 -- Results of a phase that are arranged, and where the next phase ends.
-use Rattle.std.proofs.Common.{◌≡◌, ℕ, zero, suc, ◌+◌, ◌<◌, ◌≤◌, min, List, [], ◌∷◌, ◌++◌, map, length, get_or, refl, sym, ap, subst, ◌∙◌, zero-add, arith}
+use Rattle.std.proofs.Common.{◌≡◌, ℕ, ◌+◌, ◌<◌, ◌≤◌, min, List, length, get_or, sym, ap, subst, ◌∙◌, zero-add, arith}
 use Rattle.std.specs.Prelude.{Any}
 use Rattle.std.proofs.lemmas.List.FromFn.{get_or-map-range_with_len}
 use Rattle.sim_base.specs.declared.config.Config.{Config}
 use Rattle.statistics.proofs.RunSteps.{travels}
-use Rattle.epochs.specs.Merging.{IsOf, after}
+use Rattle.epochs.specs.Merging.{after}
 use Rattle.epochs.specs.Ordered.{IsFurther}
 use Rattle.epochs.specs.Planning.{EndsAt, IsNext}
 use Rattle.epochs.specs.Units.{unit_count}
@@ -20,6 +20,7 @@ ends-within s now limit until l e =
   where
     less : (n : ℕ) → now < n → now < min n limit
     less n k = omega arith
+
     more : (n : ℕ) → min n limit ≤ limit
     more n = omega arith
 

@@ -1,6 +1,5 @@
 -- The statistics of units that stand for their parts of a run.
-use Rattle.std.proofs.Common.{◌≡◌, ℕ, suc, ◌+◌, ◌<◌, List, [], ◌∷◌, ◌++◌, length, map, get_or, Some, refl, sym, ap, ap₂, subst, ◌∙◌, add-one, arith}
-use Rattle.std.specs.Prelude.{slice_get}
+use Rattle.std.proofs.Common.{◌≡◌, ℕ, ◌+◌, ◌<◌, List, [], ◌∷◌, ◌++◌, length, map, get_or, refl, sym, ap, ap₂, subst, ◌∙◌, add-one, arith}
 use Rattle.std.proofs.lemmas.Option.{slice_get-get_or}
 use Rattle.sim_base.specs.declared.config.Config.{Config}
 use Rattle.sim_base.specs.declared.message.Unit.TheVariants as unit
@@ -10,7 +9,7 @@ use Rattle.sim_base.specs.Machine.{run}
 use Rattle.sim_base.proofs.Spans.{length-run}
 use Rattle.statistics.specs.Runs.{stats_of_core, stats_of_channel, stats_of}
 use Rattle.statistics.specs.Values.{RunStats}
-use Rattle.epochs.specs.Units.{unit_at, unit_count}
+use Rattle.epochs.specs.Units.{unit_count}
 use Rattle.epochs.specs.Parts.{IsPart, StandAt}
 use Rattle.epochs.specs.declared.part.Part.{Part}
 use Rattle.epochs.proofs.Standing.{core-at_place, channel-at_place, places-more}

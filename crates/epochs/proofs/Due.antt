@@ -1,5 +1,5 @@
 -- The messages that units take out of the links when a phase begins, and those that are left.
-use Rattle.std.proofs.Common.{◌≡◌, ℕ, zero, suc, ◌+◌, ◌-◌, ◌<◌, ◌≤◌, Bool, true, false, eqb, ltb, leb, not, ◌&&◌, List, [], length, refl, sym, ap, subst, ◌∙◌, arith}
+use Rattle.std.proofs.Common.{◌≡◌, ℕ, zero, suc, ◌+◌, ◌-◌, ◌<◌, ◌≤◌, Bool, true, false, eqb, ltb, leb, not, ◌&&◌, List, refl, sym, ap, subst, ◌∙◌, arith}
 use Rattle.std.specs.Prelude.{filter}
 use Rattle.std.specs.List.{AllByRecursion as Each}
 use Rattle.std.proofs.lemmas.Bool.{cond-true, cond-false, and_parts}
@@ -18,7 +18,7 @@ use Rattle.sim_base.proofs.Each.{Each-all, Each-filter}
 use Rattle.sim_base.proofs.Ordered.{filter-by_age, Each-weaker}
 use Rattle.sim_base.proofs.Spans.{length-run}
 use Rattle.links.specs.InFlight.{is_due}
-use Rattle.span_laws.specs.Mail.{arriving, mail_in}
+use Rattle.span_laws.specs.Mail.{mail_in}
 use Rattle.span_laws.proofs.Arrivals.{mail-known, mail-sent}
 use Rattle.epochs.specs.Units.{unit_count, unit_at, Exists}
 use Rattle.epochs.specs.Parts.{late}
@@ -98,6 +98,9 @@ exists-at s place l = by (ltb place s.cores) refl
     by true e = subst (Exists s) (sym (cond-true _ _ _ e)) (grind (arith, nat_tests))
     by false e = subst (Exists s) (sym (cond-false _ _ _ e)) (grind (arith, nat_tests))
 
+not_less : (i j : ℕ) → i ≡ j → i < j → ⊥
+not_less i j e l = omega (arith, e, l)
+
 -- a message is due at one unit alone
 due-one : (s : Config) (from until i j : ℕ) (m : Message) → i < j → is_due s.channels (unit_at s j) from until m ≡ true → is_due s.channels (unit_at s i) from until m ≡ false
 due-one s from until i j m l e = by (is_unit (receiver s m.link) (unit_at s i)) refl
@@ -107,7 +110,7 @@ due-one s from until i j m l e = by (is_unit (receiver s m.link) (unit_at s i)) 
     by true f =
         let same : unit_at s i ≡ unit_at s j = sym (same_unit _ _ f) ∙ same_unit _ _ (and_parts (is_unit (receiver s m.link) (unit_at s j)) _ e).0 in
         let p : i ≡ j = sym (place-at s i) ∙ ap (place_of_unit s) same ∙ place-at s j in
-        absurd (omega (arith, p, l))
+        absurd (not_less i j p l)
 
 spared-before : (s : Config) (from until k : ℕ) (m : Message) → is_due s.channels (unit_at s k) from until m ≡ true → (j : ℕ) → j ≤ k → spared s from until j m ≡ true
 unfolding spared
@@ -132,6 +135,7 @@ spared-none s from until q m e (suc k) l = by (eqb q k) refl (spared-none s from
     both : (a : Bool) → (a && false) ≡ false
     both true = refl
     both false = refl
+
     by : (b : Bool) → eqb q k ≡ b → (q < k → spared s from until k m ≡ false) → (spared s from until k m && not (is_due s.channels (unit_at s k) from until m)) ≡ false
     by true f h =
         let g : q ≡ k = grind (arith, nat_tests) in

@@ -1,11 +1,11 @@
 -- The messages in flight at the end of a phase: those that were left at its beginning, and what all units sent in it.
-use Rattle.std.proofs.Common.{◌≡◌, ℕ, zero, suc, ◌+◌, ◌-◌, ◌<◌, ◌≤◌, Bool, true, false, eqb, ltb, not, ◌&&◌, List, [], ◌∷◌, ◌++◌, length, drop, refl, sym, ap, ap₂, subst, ◌∙◌, append_assoc, append-nil, add-suc, add-zero, arith}
+use Rattle.std.proofs.Common.{◌≡◌, ℕ, zero, suc, ◌+◌, ◌-◌, ◌<◌, ◌≤◌, true, false, eqb, ltb, not, List, [], ◌∷◌, ◌++◌, length, drop, refl, sym, ap, ap₂, subst, ◌∙◌, append_assoc, append-nil, add-suc, add-zero, arith}
 use Rattle.std.specs.Prelude.{filter, flat_map, fold}
 use Rattle.std.specs.List.{AllByRecursion as Each}
 use Rattle.std.proofs.lemmas.Bool.Decides.{nat_tests}
 use Rattle.std.proofs.lemmas.List.Sums.{fold-append}
 use Rattle.sim_base.specs.declared.config.Config.{Config}
-use Rattle.sim_base.specs.Counts.{is_in_flight, in_flight}
+use Rattle.sim_base.specs.Counts.{in_flight}
 use Rattle.sim_base.specs.History.{below, insert_by_age, by_age, messages, messages_of_core, messages_of_channel}
 use Rattle.sim_base.specs.Locality.{TravelsFor}
 use Rattle.sim_base.specs.Machine.{run}
@@ -25,7 +25,7 @@ use Rattle.epochs.specs.Units.{unit_at, unit_count, Exists}
 use Rattle.epochs.proofs.Due.{place-at, place_of_unit, exists-at}
 use Rattle.epochs.proofs.Filters.{filter-filter, filter-same, filter-all, implied}
 use Rattle.epochs.proofs.Standing.{core-at_place, channel-at_place}
-use Rattle.epochs.proofs.Travelling.{Added, late-added}
+use Rattle.epochs.proofs.Travelling.{late-added}
 
 drop-append : {X : Type 0} (xs ys : List X) → drop (length xs) (xs ++ ys) ≡ ys
 drop-append [] ys = refl

@@ -1,5 +1,5 @@
 -- Results in the places of their units.
-use Rattle.std.proofs.Common.{◌≡◌, ℕ, zero, suc, ◌+◌, ◌-◌, ◌<◌, ◌≤◌, Bool, true, false, cond, eqb, not, ◌&&◌, ◌||◌, List, [], ◌∷◌, ◌++◌, length, map, get_or, Option, Some, None, refl, sym, ap, ap₂, subst, ◌∙◌, add-zero, zero-add, arith}
+use Rattle.std.proofs.Common.{◌≡◌, ℕ, zero, suc, ◌+◌, ◌<◌, Bool, true, false, cond, eqb, not, ◌&&◌, ◌||◌, List, [], ◌∷◌, ◌++◌, length, map, get_or, Option, Some, None, refl, sym, ap, ap₂, subst, ◌∙◌, add-zero, zero-add, arith}
 use Rattle.std.specs.Prelude.{find, option_map, is_some}
 use Rattle.std.specs.Option.{IfNone}
 use Rattle.std.specs.List.{list_any, range_with_len}
@@ -9,7 +9,6 @@ use Rattle.std.proofs.lemmas.Bool.Decides.{nat_tests}
 use Rattle.std.proofs.lemmas.List.Folds.{list_any-append}
 use Rattle.std.proofs.lemmas.List.FromFn.{get_or-map-range_with_len}
 use Rattle.sim_base.specs.History.{below, is_unit}
-use Rattle.sim_base.specs.declared.message.Unit.{Unit as MachineUnit}
 use Rattle.epochs.specs.Merging.{same_name, is_among, names_of, fault_at, first_of, first_fault, missing}
 use Rattle.epochs.specs.Seats.{seat_at, seats_of}
 use Rattle.epochs.specs.Units.{unit_at, unit_count, Exists}
@@ -17,7 +16,7 @@ use Rattle.epochs.specs.Views.{PhaseView, JobView, name_at, job_at, jobs_of}
 use Rattle.epochs.specs.declared.job.JobName.{JobName}
 use Rattle.epochs.specs.declared.merging.MergeFault.{MergeFault}
 use Rattle.epochs.specs.declared.merging.MergeFault.TheVariants.{Missing, Double, Stranger}
-use Rattle.epochs.proofs.Due.{place-at, place_of_unit, place-within, at-place, exists-at, same_unit, unit_is}
+use Rattle.epochs.proofs.Due.{place-at, place_of_unit, exists-at, same_unit, unit_is}
 use Rattle.epochs.proofs.Standing.{length-places}
 
 map-range_same : {X : Type 0} (f g : ℕ → X) (a n : ℕ) → ((i : ℕ) → i < n → f (a + i) ≡ g (a + i)) → map f (range_with_len a n) ≡ map g (range_with_len a n)
@@ -46,6 +45,7 @@ any-range q f a (suc n) e = by (q (f a)) refl (any-range q f (a + 1) n)
   where
     further : (i : ℕ) × (i < a + 1 + n) × (q (f i) ≡ true) → (i : ℕ) × (i < a + suc n) × (q (f i) ≡ true)
     further r = (r.0, omega (arith, r.1), r.2)
+
     by : (b : Bool) → q (f a) ≡ b → (list_any q (map f (range_with_len (a + 1) n)) ≡ true → (i : ℕ) × (i < a + 1 + n) × (q (f i) ≡ true)) → (i : ℕ) × (i < a + suc n) × (q (f i) ≡ true)
     by true g h = (a, omega arith, g)
     by false g h = further (h (sym (ap (λ b. b || list_any q (map f (range_with_len (a + 1) n))) g) ∙ e))
@@ -122,6 +122,7 @@ seats-put p names place l =
   where
     z : place ≡ 0 + place
     z = omega arith
+
     other : (i : ℕ) → (i ≡ place → ⊥) → seat_at p names i ≡ seat_at p (names ++ name_at p place ∷ []) i
     other i d = by (same_name (name_at p place) (name_at p i)) refl
       where
@@ -265,4 +266,3 @@ pub job-is : (p : PhaseView) (place : ℕ) (d : JobView) → d.machine ≡ p.mac
 job-is p place d h k l =
     ap₂ {C = JobView} (λ m t. record { machine = m; traces = t; name = d.name }) h k
     ∙ ap {B = JobView} (λ n. record { machine = p.machine; traces = p.traces; name = n }) (sym l)
-

@@ -1,12 +1,12 @@
 -- What units send in the cycles of a run from one on.
-use Rattle.std.proofs.Common.{◌≡◌, ℕ, zero, suc, ◌+◌, ◌-◌, ◌<◌, ◌≤◌, Bool, List, [], ◌∷◌, ◌++◌, length, Option, Some, None, refl, sym, ap, subst, ◌∙◌, append_assoc, append-nil, add-suc, add-zero, arith}
+use Rattle.std.proofs.Common.{◌≡◌, ℕ, zero, suc, ◌+◌, ◌-◌, ◌<◌, ◌≤◌, Bool, List, [], ◌∷◌, ◌++◌, length, Option, Some, None, sym, ap, subst, ◌∙◌, append_assoc, append-nil, add-suc, add-zero, arith}
 use Rattle.std.specs.Option.{IfSome}
 use Rattle.std.specs.List.{AllByRecursion as Each}
-use Rattle.std.proofs.lemmas.List.{map-append, length-map}
+use Rattle.std.proofs.lemmas.List.{map-append}
 use Rattle.sim_base.specs.declared.config.Config.{Config}
 use Rattle.std.specs.Prelude.{filter}
 use Rattle.sim_base.specs.Counts.{is_in_flight, in_flight}
-use Rattle.sim_base.specs.History.{receiver, trace_of, core_rows, channel_rows, request, reply, credit, core_messages, requests_in, channel_messages, messages_of, messages_at, messages_of_core, messages_of_channel, messages, by_age, below}
+use Rattle.sim_base.specs.History.{receiver, trace_of, core_rows, channel_rows, request, reply, credit, core_messages, requests_in, channel_messages, messages_of, messages_at, messages_of_core, messages_of_channel, messages, by_age}
 use Rattle.sim_base.specs.Locality.{TravelsFor}
 use Rattle.sim_base.specs.Machine.{run, next_row}
 use Rattle.sim_base.specs.Places.{place_of}
@@ -19,7 +19,6 @@ use Rattle.sim_base.specs.declared.message.Unit.TheVariants as unit
 use Rattle.sim_base.specs.declared.message.Unit.{Unit as MachineUnit}
 use Rattle.sim_base.specs.declared.trace.Entry.{Entry}
 use Rattle.sim_base.proofs.Added.{core_messages-push, channel_messages-push, requests_late, channel_late, ServesCoreBelow}
-use Rattle.sim_base.proofs.Arrived.{NotBefore}
 use Rattle.sim_base.proofs.Each.{Each-append, Each-flat_map_below}
 use Rattle.sim_base.proofs.Made.{requests-each}
 use Rattle.sim_base.proofs.Served.{choice-below, inbox-below}

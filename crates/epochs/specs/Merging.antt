@@ -7,11 +7,11 @@
 --     merge_fault p names      what is wrong with the results of a phase, if something is
 --     after p      the simulator at the end of a phase
 --     IsOf p result      a result that carries the name of a job of a phase is of the phase's run
-use Rattle.std.specs.Prelude.{◌≡◌, ℕ, ◌+◌, ◌==◌, Bool, true, not, ◌&&◌, List, [], ◌∷◌, ◌++◌, length, map, find, option_map, Option, Some, None, if◌then◌else◌}
+use Rattle.std.specs.Prelude.{◌≡◌, ◌+◌, ◌==◌, Bool, true, not, ◌&&◌, List, [], ◌∷◌, ◌++◌, length, map, find, option_map, Option, Some, None, if◌then◌else◌}
 use Rattle.std.specs.List.{list_any}
 use Rattle.sim_base.specs.History.{below, is_unit}
 use Rattle.epochs.specs.Units.{unit_at, unit_count}
-use Rattle.epochs.specs.Views.{SimView, PhaseView, JobView, name_at, job_at}
+use Rattle.epochs.specs.Views.{SimView, PhaseView, JobView, name_at}
 use Rattle.epochs.specs.declared.job.JobName.{JobName}
 use Rattle.epochs.specs.declared.merging.MergeFault.{MergeFault}
 use Rattle.epochs.specs.declared.merging.MergeFault.TheVariants.{Missing, Double, Stranger}

@@ -1,7 +1,7 @@
 -- The results of a phase, each in the place of its unit.
 --     seats_of p names      the results with these names in their places
 --     Sits p names seats      the same, of seats
-use Rattle.std.specs.Prelude.{◌≡◌, ℕ, List, map, Option, Some, None, if◌then◌else◌}
+use Rattle.std.specs.Prelude.{ℕ, List, map, Option, Some, None, if◌then◌else◌}
 use Rattle.sim_base.specs.History.{below}
 use Rattle.epochs.specs.Units.{unit_count}
 use Rattle.epochs.specs.Views.{PhaseView, JobView, name_at, job_at}

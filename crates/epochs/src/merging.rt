@@ -48,8 +48,10 @@ fn parts_of(
     requires all { results.items ≡ map (job_at (record { machine = (arc_value machine.now).config; traces = (arc_value machine.now).traces.items; number = number; from = from; until = until })) (below (unit_count (arc_value machine.now).config)) }
     ensures count { IfOk result (λ parts. length parts.items ≡ unit_count (arc_value machine.now).config) }
     ensures stand { IfOk result (λ parts. StandAt (arc_value machine.now).config (arc_value machine.now).traces.items until parts.items) }
-    ensures flight { OnOk result (links.new ≡ record links.old { messages = fold insert_by_age links.old.messages
-        (flat_map (fresh (arc_value machine.now).config (arc_value machine.now).traces.items from until) (below (unit_count (arc_value machine.now).config))) }) }
+    ensures flight { OnOk result (links.new ≡ record links.old {
+      messages = fold insert_by_age links.old.messages
+          (flat_map (fresh (arc_value machine.now).config (arc_value machine.now).traces.items from until) (below (unit_count (arc_value machine.now).config)));
+    }) }
 {
     let mut parts = Vec::new(alloc);
     for done in results {
@@ -175,11 +177,7 @@ fn put(
 
 /// The results of a phase, each in the place of its unit. The first result that is of no job of the phase, or whose name stood
 /// earlier, is a fault; only memory is another.
-fn seated(
-    alloc: Global,
-    phase: &Phase,
-    results: Vec<Done>,
-) -> Result<Vec<Option<Done>>, MergeFault>
+fn seated(alloc: Global, phase: &Phase, results: Vec<Done>) -> Result<Vec<Option<Done>>, MergeFault>
     requires of { All (IsOf phase.now) results.items }
     ensures ok { IfOk result (λ seats. (first_fault phase.now [] (map (λ d. d.name) results.items) ≡ None)
         × (seats.items ≡ seats_of phase.now (map (λ d. d.name) results.items))) }

@@ -81,8 +81,10 @@ fn jobs(
     requires early { until ≤ 10 ^ 12 }
     requires travels { TravelsFor (arc_value machine.now).config (until - from) }
     ensures jobs { IfOk result (λ jobs. jobs.items ≡ map (job_at (record { machine = (arc_value machine.now).config; traces = (arc_value machine.now).traces.items; number = phase; from = from; until = until })) (below (unit_count (arc_value machine.now).config))) }
-    ensures flight { OnOk result (links.new ≡ record { channels = (arc_value machine.now).config.channels;
-        messages = late until (in_flight (arc_value machine.now).config (arc_value machine.now).traces.items (run (arc_value machine.now).config (arc_value machine.now).traces.items from)) }) }
+    ensures flight { OnOk result (links.new ≡ record {
+      channels = (arc_value machine.now).config.channels;
+      messages = late until (in_flight (arc_value machine.now).config (arc_value machine.now).traces.items (run (arc_value machine.now).config (arc_value machine.now).traces.items from));
+    }) }
 {
     let mut jobs = Vec::new(alloc);
     for part in parts {

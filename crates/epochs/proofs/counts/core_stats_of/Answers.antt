@@ -1,4 +1,4 @@
-use Rattle.std.proofs.Common.{◌≡◌, sym, ap, subst, ◌∙◌}
+use Rattle.std.proofs.Common.{subst, ◌∙◌}
 use Rattle.sim_base.specs.declared.message.Unit.TheVariants as unit
 use Rattle.span_laws.proofs.CoresOn.{cores-end_alike}
 use Rattle.epochs.specs.Parts.{IsPart}

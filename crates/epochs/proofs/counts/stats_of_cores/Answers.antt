@@ -1,4 +1,4 @@
-use Rattle.std.proofs.Common.{◌≡◌, ◌∙◌, ap, sym, subst, get_or, arith}
+use Rattle.std.proofs.Common.{◌∙◌, ap, sym, subst, get_or, arith}
 use Rattle.sim_base.specs.Machine.{run}
 use Rattle.sim_base.specs.declared.message.Unit.TheVariants as unit
 use Rattle.statistics.specs.Runs.{stats_of_core}

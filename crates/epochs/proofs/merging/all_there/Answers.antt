@@ -1,4 +1,4 @@
-use Rattle.std.proofs.Common.{◌≡◌, Some, None, ◌∷◌, [], ◌++◌, map, length, rules, inr, ap, ap₂, sym, subst, ◌∙◌, arith}
+use Rattle.std.proofs.Common.{◌≡◌, Some, None, ◌∷◌, ◌++◌, map, length, rules, inr, ap, ap₂, sym, ◌∙◌}
 use Rattle.std.specs.Vec.Iter.{into_iter_items}
 use Rattle.epochs.specs.Units.{unit_at}
 use Rattle.epochs.specs.Views.{PhaseView}

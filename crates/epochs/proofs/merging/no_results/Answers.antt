@@ -1,4 +1,4 @@
-use Rattle.std.proofs.Common.{◌≡◌, [], ◌∷◌, ◌++◌, ◌+◌, map, rules, ap, ap₂, sym, ◌∙◌, add-one, arith}
+use Rattle.std.proofs.Common.{◌≡◌, [], ◌∷◌, ◌++◌, ◌+◌, map, ap, ap₂, sym, ◌∙◌, add-one, arith}
 use Rattle.sim_base.specs.History.{below}
 use Rattle.epochs.specs.Units.{unit_count}
 use Rattle.epochs.specs.Views.{PhaseView}

@@ -1,4 +1,4 @@
-use Rattle.std.proofs.Common.{◌≡◌, rules, ap, sym, subst, ◌∙◌, arith}
+use Rattle.std.proofs.Common.{ap, sym, subst, ◌∙◌}
 use Rattle.epochs.specs.Units.{Exists}
 use Rattle.epochs.specs.Views.{PhaseView}
 use Rattle.epochs.specs.declared.machine.Machine.{Machine}

@@ -1,6 +1,6 @@
-use Rattle.std.proofs.Common.{◌≡◌, sym, subst, ◌∙◌, rules}
+use Rattle.std.proofs.Common.{subst, ◌∙◌}
 use Rattle.epochs.specs.Planning.{IsPlanned}
-use Rattle.epochs.proofs.Arranged.{given-of, further-after}
+use Rattle.epochs.proofs.Arranged.{given-of}
 use Rattle.epochs.proofs.ordered.one_phase.Goals as goal
 
 pub merge-requires : goal.merge-requires

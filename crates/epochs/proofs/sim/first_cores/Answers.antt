@@ -1,6 +1,5 @@
-use Rattle.std.proofs.Common.{◌≡◌, ◌+◌, [], ◌∷◌, ◌++◌, length, sym, ap, subst, ◌∙◌, rules, arith}
+use Rattle.std.proofs.Common.{◌+◌, [], length, sym, ap, subst, ◌∙◌, arith}
 use Rattle.std.proofs.lemmas.List.{length_push}
-use Rattle.sim_base.specs.History.{trace_of}
 use Rattle.core_window.specs.CoreViews.{view_of}
 use Rattle.core_window.specs.Stands.{StandsFor}
 use Rattle.epochs.specs.Parts.{StandAt}

@@ -1,6 +1,6 @@
-use Rattle.std.proofs.Common.{◌≡◌, ℕ, List, subst, sym, ◌∙◌, ap}
+use Rattle.std.proofs.Common.{subst, sym}
 use Rattle.std.specs.Arc.{arc_value}
-use Rattle.epochs.specs.Parts.{IsReady, IsJob}
+use Rattle.epochs.specs.Parts.{IsJob}
 use Rattle.epochs.proofs.job.Job.run.Goals as goal
 
 pub run-requires : goal.run-requires

@@ -1,4 +1,4 @@
-use Rattle.std.proofs.Common.{◌≡◌, ◌++◌, subst, ◌∙◌, ap}
+use Rattle.std.proofs.Common.{◌++◌, subst, ◌∙◌, ap}
 use Rattle.epochs.specs.Parts.{IsReadyFor}
 use Rattle.epochs.proofs.Running.{core-at, core-may_run, core-has_run, channel-can_run, channel-has_run}
 use Rattle.epochs.proofs.part.Part.run.Goals as goal

@@ -1,4 +1,4 @@
-use Rattle.std.proofs.Common.{◌≡◌, [], sym, ap, subst, ◌∙◌, arith}
+use Rattle.std.proofs.Common.{sym, ap, subst, ◌∙◌, arith}
 use Rattle.epochs.specs.Parts.{StandAt, IsSim}
 use Rattle.epochs.proofs.Travelling.{none_in_flight}
 use Rattle.epochs.proofs.sim.Sim.start.Goals as goal

@@ -1,4 +1,4 @@
-use Rattle.std.proofs.Common.{◌≡◌, ◌∙◌, map, sym, ap, ap₂, subst}
+use Rattle.std.proofs.Common.{◌∙◌, map, sym, ap, ap₂, subst}
 use Rattle.std.specs.Arc.{arc_value}
 use Rattle.sim_base.specs.History.{below}
 use Rattle.sim_base.specs.Machine.{run}
