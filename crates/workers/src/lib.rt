@@ -1,0 +1,12 @@
+//! The phases of a run, each by one worker or by several threads.
+#![tactic(auto)]
+
+pub mod claims;
+pub mod gate;
+pub mod missing;
+pub mod open;
+pub mod phase;
+pub mod rule;
+pub mod runner;
+pub mod seats;
+pub mod work;
