@@ -6,7 +6,7 @@ use Rattle.std.specs.List.Sorted.{IsPermutation}
 use Rattle.std.proofs.lemmas.List.Sorted.{IsPermutation-refl, IsPermutation-cons, IsPermutation-sym, IsPermutation-trans, IsPermutation-remove}
 use base.Stored.{Gv, gnil, gnum, gcons}
 use Rattle.sim_base.specs.contracts.config.Config as config
-use Rattle.workers.specs.Views.{JobView}
+use Rattle.epochs.specs.Views.{JobView}
 use Rattle.workers.specs.Rule.{total}
 use Rattle.workers.proofs.Keeps.{total_ones}
 

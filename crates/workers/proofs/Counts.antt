@@ -1,7 +1,7 @@
 -- How many jobs no seat has taken.
 use Rattle.std.proofs.Common.{◌≡◌, ℕ, zero, suc, ◌+◌, ◌<◌, ◌≤◌, List, [], ◌∷◌, length, drop, get_or, set, sym, refl, ap, ◌∙◌, arith, add-one, drop-cons}
 use Rattle.crossbeam_queue.specs.Passes.{view}
-use Rattle.workers.specs.Views.{JobView}
+use Rattle.epochs.specs.Views.{JobView}
 use Rattle.workers.specs.declared.rule.View.{View}
 use Rattle.workers.specs.declared.seats.TakeSeat.{TakeSeat}
 use Rattle.workers.specs.Rule.{total, claimed, view_of, Balances}

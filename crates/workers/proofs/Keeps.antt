@@ -7,7 +7,7 @@ use mathlib.Core.Option.{some, some-injective, some-ne-none}
 use lib.ListN.{get_elem?}
 use Rattle.crossbeam_queue.specs.Fifo.{Pushes, Pops, Forks, Merges, Learns}
 use Rattle.crossbeam_queue.proofs.Lists.{at_set, at_snoc, set_again}
-use Rattle.workers.specs.Views.{JobView}
+use Rattle.epochs.specs.Views.{JobView}
 use Rattle.workers.specs.declared.rule.View.{View}
 use Rattle.workers.specs.Rule.{total, view_of, spent, claimed, Fits, Kept, Balances}
 

@@ -1,7 +1,7 @@
 -- What comes home in a phase.
 use Rattle.std.proofs.Common.{◌≡◌, ℕ, ◌+◌, List, [], ◌∷◌, ◌++◌, length, take, sym, ap, ◌∙◌, subst, arith}
 use lib.Seq.{take-append-add}
-use Rattle.workers.specs.Views.{JobView}
+use Rattle.epochs.specs.Views.{JobView}
 use Rattle.workers.specs.declared.rule.View.{View}
 use Rattle.workers.specs.Rule.{total, view_of, claimed, Balances}
 use Rattle.workers.proofs.Keeps.{total_snoc, total_append}

@@ -1,6 +1,6 @@
-pub mod Views
 pub mod Rule
 pub mod Seats
 pub mod Missing
 pub mod Runs
 pub mod Phase
+pub mod Shares

@@ -4,7 +4,7 @@
 --     taken_from i seats      how many jobs the seats from the i-th on have taken
 use Rattle.std.specs.Prelude.{◌≡◌, ℕ, ◌<◌, ◌≤◌, List, [], length, drop, get_or}
 use Rattle.crossbeam_queue.specs.Passes.{view, IsPassOf}
-use Rattle.workers.specs.Views.{JobView}
+use Rattle.epochs.specs.Views.{JobView}
 use Rattle.workers.specs.declared.seats.Board.{Board}
 use Rattle.workers.specs.declared.seats.TakeSeat.{TakeSeat}
 use Rattle.workers.specs.Rule.{total, view_of}

@@ -4,7 +4,7 @@
 --     IsOf board jobs p      what a started worker promises is of a seat of this board
 use Rattle.std.specs.Prelude.{◌≡◌, ℕ, List}
 use Rattle.crossbeam_queue.specs.Passes.{view, IsPassOf}
-use Rattle.workers.specs.Views.{JobView}
+use Rattle.epochs.specs.Views.{JobView}
 use Rattle.workers.specs.declared.seats.Board.{Board}
 use Rattle.workers.specs.declared.seats.PutSeat.{PutSeat}
 use Rattle.workers.specs.declared.phase.Worked.{Worked}

@@ -3,7 +3,7 @@
 --     IsTaker board jobs taken s      a seat that takes
 use Rattle.std.specs.Prelude.{◌≡◌, ℕ, List, []}
 use Rattle.crossbeam_queue.specs.Passes.{view, IsPassOf}
-use Rattle.workers.specs.Views.{JobView}
+use Rattle.epochs.specs.Views.{JobView}
 use Rattle.workers.specs.declared.seats.Board.{Board}
 use Rattle.workers.specs.declared.seats.PutSeat.{PutSeat}
 use Rattle.workers.specs.declared.seats.TakeSeat.{TakeSeat}

@@ -8,9 +8,8 @@ ghost use Rattle.workers.specs.Runs.{IsOfHost};
 
 use crate::gate::{Gate, run_all};
 use crate::phase::{Brings, Worked, put_all, settle, work};
-use crate::runner::Runner;
 use crate::seats::{Board, PutSeat, TakeSeat};
-use crate::work::{Done, Job};
+use epochs::job::{Done, Job};
 use sim_base::fault::Fault;
 use std::alloc::{AllocError, Global};
 use std::snapshot::Snapshot;
@@ -117,10 +116,12 @@ impl<'a, R: Threads + Wait + Sync, G: Gate + Sync> Claims<'a, R, G> {
         let results = settle(self.rt, self.alloc, self.gate, &board, &mut put, worked)?;
         Ok(results)
     }
-}
 
-impl<'a, R: Threads + Wait + Sync, G: Gate + Sync> Runner for Claims<'a, R, G> {
-    fn run_phase(&mut self, jobs: Vec<Job>) -> Result<Vec<Done>, Fault> {
+    /// Runs the jobs of a phase, as a `Runner` does. All workers have ended when this returns, also where it fails.
+    pub fn run_phase(&self, jobs: Vec<Job>) -> Result<Vec<Done>, Fault>
+        ensures each { IfOk result (λ results. IsPermutation jobs.items results.items) }
+        ensures refused { IfErr result IsOfHost }
+    {
         if self.workers == 1 || jobs.is_empty() {
             let results = run_all(self.gate, self.alloc, 0, jobs)?;
             return Ok(results);

@@ -2,7 +2,7 @@
 
 ghost use Rattle.std.specs.Prelude.{◌≡◌, IfOk};
 
-use crate::work::{Done, Job, JobName};
+use epochs::job::{Done, Job, JobName};
 use std::alloc::{AllocError, Global};
 
 /// What a worker passes before it runs a job, and after it. Several threads use one gate. Workers are numbered from 0 in each

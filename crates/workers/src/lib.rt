@@ -9,4 +9,3 @@ pub mod phase;
 pub mod rule;
 pub mod runner;
 pub mod seats;
-pub mod work;

@@ -7,7 +7,7 @@ ghost use Rattle.workers.specs.Seats.{IsPutter, IsTaker};
 
 use crate::rule::{Batch, Deal, Named, Queue, Seat};
 use crate::seats::{Board, PutSeat, TakeSeat};
-use crate::work::Job;
+use epochs::job::Job;
 use std::alloc::{AllocError, Global};
 use std::marker::Brand;
 

@@ -8,7 +8,7 @@ ghost use Rattle.workers.specs.Phase.{IsWorked, Holds};
 use crate::gate::{Gate, run_at};
 use crate::rule::{Drains, Home};
 use crate::seats::{Board, PutSeat, TakeSeat};
-use crate::work::{Done, Job};
+use epochs::job::{Done, Job};
 use std::alloc::{AllocError, Global};
 use std::snapshot::Snapshot;
 use std::sync::Wait;

@@ -1,10 +1,10 @@
 //! The rule of a board: what the queue holds, and what each seat knows.
 
 ghost use Rattle.std.specs.Prelude.{◌≡◌, ℕ, ◌+◌, ◌-◌, ◌≤◌, List, [], ◌∷◌, ◌++◌, length, drop, get_or, Contains};
-ghost use Rattle.workers.specs.Views.{JobView};
+ghost use Rattle.epochs.specs.Views.{JobView};
 ghost use Rattle.workers.specs.Rule.{view_of, spent, Balances};
 
-use crate::work::Job;
+use epochs::job::Job;
 use crossbeam_queue::protocol::{Join, Lesson, Outcome, Protocol, Split};
 use crossbeam_queue::{Pass, RuledArrayQueue};
 use std::collections::LinkedList;

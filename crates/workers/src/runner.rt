@@ -4,7 +4,7 @@ ghost use Rattle.std.specs.Prelude.{IsPermutation, IfOk, IfErr};
 ghost use Rattle.workers.specs.Runs.{IsOfHost};
 
 use crate::gate::{Gate, run_all};
-use crate::work::{Done, Job};
+use epochs::job::{Done, Job};
 use sim_base::fault::Fault;
 use std::alloc::Global;
 

@@ -5,7 +5,7 @@ ghost use Rattle.crossbeam_queue.specs.Passes.{view, IsPassOf, ruled_capacity};
 ghost use Rattle.workers.specs.Rule.{view_of};
 
 use crate::rule::{Puts, Queue, Seat, Takes};
-use crate::work::Job;
+use epochs::job::Job;
 use std::sync::Wait;
 
 /// The seat that puts.

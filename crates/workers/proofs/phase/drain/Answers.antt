@@ -1,7 +1,7 @@
 use Rattle.std.proofs.Common.{rules, ◌≡◌, ◌∙◌, List, IsPermutation, ap, sym, subst, arith}
 use Rattle.crossbeam_queue.specs.Passes.{view}
 use Rattle.workers.specs.declared.rule.View.{View}
-use Rattle.workers.specs.Views.{JobView}
+use Rattle.epochs.specs.Views.{JobView}
 use Rattle.workers.proofs.Bags.{same_bag}
 use Rattle.workers.proofs.Keeps.{takes, settles}
 use Rattle.workers.proofs.Phases.{drain_claims, drain_knows, all_done}

@@ -1,7 +1,7 @@
 use Rattle.std.proofs.Common.{ℕ, List, IfOk, ap, sym, subst, arith}
 use Rattle.std.proofs.lemmas.List.Elements.{All-rest}
 use Rattle.crossbeam_queue.specs.Passes.{view}
-use Rattle.workers.specs.Views.{JobView}
+use Rattle.epochs.specs.Views.{JobView}
 use Rattle.workers.specs.declared.rule.View.{View}
 use Rattle.workers.specs.Phase.{Holds, IsWorked}
 use Rattle.workers.proofs.phase.settle.Goals as goal
