@@ -8,4 +8,5 @@ pub mod open;
 pub mod phase;
 pub mod rule;
 pub mod runner;
+pub mod running;
 pub mod seats;
