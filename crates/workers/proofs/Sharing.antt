@@ -84,7 +84,7 @@ unfolding share_from
 weigh_shares h count position [] some = total_zero (below count)
 weigh_shares h count position (x ∷ xs) some =
     total_same _ (picked (position % count) (h x) (λ w. total h (share_from count w (suc position) xs)))
-        (λ w. weigh_if h (eqb (position % count) w) x (share_from count w (suc position) xs)) (below count)
+    (λ w. weigh_if h (eqb (position % count) w) x (share_from count w (suc position) xs)) (below count)
     ∙ total_picked count (position % count) (h x) (λ w. total h (share_from count w (suc position) xs)) (mod_below position count some)
     ∙ ap (λ n. h x + n) (weigh_shares h count (suc position) xs some)
 
@@ -92,7 +92,7 @@ weigh_shares h count position (x ∷ xs) some =
 pub shares_are_all : (count : ℕ) (jobs : List JobView) → 0 < count → IsPermutation jobs (flat_map (λ w. share count w jobs) (below count))
 shares_are_all count jobs some =
     same_bag jobs (flat_map (λ w. share count w jobs) (below count))
-        (λ h. total_flat h (λ w. share count w jobs) (below count) ∙ weigh_shares h count 0 jobs some)
+    (λ h. total_flat h (λ w. share count w jobs) (below count) ∙ weigh_shares h count 0 jobs some)
 
 share_snoc_from : (count w position : ℕ) (ys : List JobView) (x : JobView)
     → share_from count w position (ys ++ x ∷ []) ≡ share_from count w position ys ++ cond (eqb ((position + length ys) % count) w) (x ∷ []) []

@@ -39,8 +39,10 @@ fn start_all<'s, 'e: 's, R: Threads + Wait + Sync, G: Gate + Sync>(
             seat: Snapshot::of(&seat),
         };
         let worker = handles.len();
-        let Ok(handle) = scope.spawn_with(promise, move || work(rt, alloc, gate, worker, board, seat))
-        else {
+        let Ok(handle) = scope.spawn_with(
+            promise,
+            move || work(rt, alloc, gate, worker, board, seat),
+        ) else {
             return Err(Fault::WorkerStart);
         };
         let Ok(()) = handles.push(handle) else {

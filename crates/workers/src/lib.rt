@@ -10,3 +10,6 @@ pub mod rule;
 pub mod runner;
 pub mod running;
 pub mod seats;
+pub mod shares;
+#[cfg(test)]
+mod tests;

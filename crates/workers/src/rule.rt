@@ -4,9 +4,9 @@ ghost use Rattle.std.specs.Prelude.{◌≡◌, ℕ, ◌+◌, ◌-◌, ◌≤◌,
 ghost use Rattle.epochs.specs.Views.{JobView};
 ghost use Rattle.workers.specs.Rule.{view_of, spent, Balances};
 
-use epochs::job::Job;
 use crossbeam_queue::protocol::{Join, Lesson, Outcome, Protocol, Split};
 use crossbeam_queue::{Pass, RuledArrayQueue};
+use epochs::job::Job;
 use std::collections::LinkedList;
 use std::marker::{Brand, PhantomData};
 

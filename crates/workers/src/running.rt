@@ -29,12 +29,7 @@ fn merged(phase: Phase, alloc: Global, results: Vec<Done>) -> Result<Sim, Fault>
 }
 
 /// A simulator one phase further, by a runner.
-fn one_phase<N: Runner>(
-    sim: Sim,
-    alloc: Global,
-    limit: Cycle,
-    runner: &mut N,
-) -> Result<Sim, Fault>
+fn one_phase<N: Runner>(sim: Sim, alloc: Global, limit: Cycle, runner: &mut N) -> Result<Sim, Fault>
     requires before { sim.now < limit }
     requires early { limit ≤ 10 ^ 12 }
     ensures ok { IfOk result (IsFurther sim limit) }

@@ -29,4 +29,4 @@ returns-in_default g c =
     let jobs = ap (λ (v : View). v.jobs) kept.knows in
     let whole = ap (λ (v : View). v.pushed) kept.knows ∙ sym jobs in
     subst (λ (l : List JobView). IsPermutation l c.loop.dones.items) jobs
-        (same_bag _ _ (all_done (view c.loop.put.pass) _ held.0 kept.claims whole held.1 held.2))
+    (same_bag _ _ (all_done (view c.loop.put.pass) _ held.0 kept.claims whole held.1 held.2))

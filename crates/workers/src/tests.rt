@@ -1,0 +1,190 @@
+//! Phases of a small machine, run by one thread and by several.
+
+ghost use Rattle.std.specs.Prelude.{◌≡◌, IfOk};
+
+use crate::claims::Claims;
+use crate::gate::{Gate, Open};
+use crate::phase::put_all;
+use crate::runner::Serial;
+use crate::running::run_with;
+use crate::seats::Board;
+use crate::shares::Shares;
+use cpu_trace::trace::Trace;
+use epochs::job::{Job, JobName};
+use epochs::planning::{Planned, plan};
+use epochs::sim::Sim;
+use sim_base::config::Config;
+use sim_base::overrides::Overrides;
+use sim_base::place::{Field, FieldOrder};
+use sim_base::timing::Timing;
+use sim_base::trace::Entry;
+use std::alloc::{AllocError, Global};
+use std::sync::atomic::{AtomicU64, Ordering};
+use std::test::Fail;
+use std::thread;
+
+/// Holds the first job that enters until five others have left, for at most 1,000,000 turns.
+#[derive(Drop)]
+struct Holding {
+    entered: AtomicU64,
+    left: AtomicU64,
+    released: AtomicU64,
+}
+
+impl Gate for Holding {
+    fn enter(&self, _worker: usize, _job: JobName) {
+        if self.entered.fetch_add(1, Ordering::SeqCst) != 0 {
+            return;
+        }
+        for _ in 0..1_000_000 {
+            if self.left.load(Ordering::SeqCst) == 5 {
+                self.released.store(1, Ordering::SeqCst);
+                return;
+            }
+            thread::yield_now();
+        }
+    }
+
+    fn leave(&self, _worker: usize, _job: JobName) {
+        self.left.fetch_add(1, Ordering::SeqCst);
+    }
+}
+
+fn config(alloc: Global) -> Result<Config, AllocError>
+    ensures { IfOk result (λ config. config.cores ≡ 4) }
+{
+    let fields = Vec::from_array(
+        alloc,
+        [
+            Field::Channel,
+            Field::Column,
+            Field::Rank,
+            Field::Group,
+            Field::Bank,
+            Field::Row,
+        ],
+    )?;
+    Ok(Config {
+        cores: 4,
+        channels: 2,
+        ranks: 1,
+        groups: 2,
+        columns: 128,
+        rows: 65536,
+        fields: FieldOrder::new(fields),
+        window: 8,
+        width: 2,
+        read_credits: 4,
+        write_credits: 4,
+        request_latency: 2,
+        reply_latency: 2,
+        credit_latency: 2,
+        timing: Timing {
+            n_rcd: 3,
+            n_rp: 3,
+            n_ras: 8,
+            n_rc: 11,
+            n_cl: 4,
+            n_cwl: 3,
+            n_ccd_s: 4,
+            n_ccd_l: 5,
+            n_rrd_s: 2,
+            n_rrd_l: 3,
+            n_faw: 12,
+            n_rtp: 2,
+            n_wr: 4,
+            n_wtr_s: 1,
+            n_wtr_l: 2,
+            n_rtw: 7,
+            n_rfc: 20,
+            n_rtrs: 0,
+            n_refi: 0,
+        },
+        write_high: 0,
+        write_low: 0,
+        overrides: Overrides::new(Vec::new(alloc)),
+        ends_drained: false,
+    })
+}
+
+/// Four cores that read one line each, before their first cycle.
+fn machine(alloc: Global) -> Result<Sim, AllocError>
+    ensures { IfOk result (λ sim. sim.now ≡ 0) }
+{
+    let config = config(alloc)?;
+    let line = [Entry::Read(0)];
+    let traces = Vec::from_array(
+        alloc,
+        [
+            Trace::from_entries(alloc, &line)?,
+            Trace::from_entries(alloc, &line)?,
+            Trace::from_entries(alloc, &line)?,
+            Trace::from_entries(alloc, &line)?,
+        ],
+    )?;
+    Sim::start(alloc, &config, traces)
+}
+
+/// The six jobs of the first phase.
+fn first_jobs(alloc: Global) -> Result<Vec<Job>, AllocError> {
+    match plan(machine(alloc)?, alloc, 16)? {
+        Planned::Quiet(_) => Ok(Vec::new(alloc)),
+        Planned::Work(_, jobs) => Ok(jobs),
+    }
+}
+
+fn closed_gate() -> Holding {
+    Holding {
+        entered: AtomicU64::new(0),
+        left: AtomicU64::new(0),
+        released: AtomicU64::new(0),
+    }
+}
+
+/// While one worker holds its first job, the other takes all others: jobs are not shared out in advance.
+#[test]
+fn jobs_are_claimed(rt: HostRuntime) -> Result<(), Fail> {
+    let gate = closed_gate();
+    let claims = Claims::new(&rt, rt.alloc(), &gate, 2);
+    let results = claims
+        .run_phase(first_jobs(rt.alloc())?)
+        .expect(&rt, "a phase");
+    assert_eq!(rt; results.len(), 6);
+    assert_eq!(rt; gate.released.load(Ordering::SeqCst), 1);
+    assert_eq!(rt; gate.left.load(Ordering::SeqCst), 6);
+    Ok(())
+}
+
+#[test]
+fn jobs_are_shared_out(rt: HostRuntime) -> Result<(), Fail> {
+    for workers in [1, 2, 5, 64] {
+        let shares = Shares::new(&rt, rt.alloc(), &Open, workers);
+        let results = shares
+            .run_phase(first_jobs(rt.alloc())?)
+            .expect(&rt, "a phase");
+        assert_eq!(rt; results.len(), 6);
+    }
+    Ok(())
+}
+
+#[test]
+fn a_machine_comes_to_its_limit(rt: HostRuntime) -> Result<(), Fail> {
+    let mut serial = Serial::new(rt.alloc(), &Open);
+    let sim = run_with(machine(rt.alloc())?, rt.alloc(), 16, &mut serial).expect(&rt, "a run");
+    assert_eq!(rt; sim.now(), 16);
+    Ok(())
+}
+
+/// Two seats take the jobs in turn, in their order, and then find nothing.
+#[test]
+fn a_board_gives_each_job_once(rt: HostRuntime) -> Result<(), Fail> {
+    let jobs = first_jobs(rt.alloc())?;
+    if jobs.is_empty() {
+        assert!(rt; false);
+        return Ok(());
+    }
+    let (board, mut put, mut takes) = Board::open(rt.alloc(), jobs.as_slice(), 2)?;
+    put_all(&rt, &board, &mut put, jobs);
+    assert_eq!(rt; board.missing(&rt, &mut put, takes.as_mut_slice()), 6);
+    Ok(())
+}
