@@ -1,5 +1,7 @@
 -- What the table of rules says of each pair of kinds, as far as commands are noted without a look at it.
-use Rattle.std.proofs.Common.{◌≡◌, ℕ, ◌≤◌, true, refl, arith}
+use Rattle.std.proofs.Common.{◌≡◌, ℕ, ◌+◌, ◌≤◌, true, Option, Some, None, refl, ap, arith}
+use Rattle.std.specs.Prelude.{option_map, unwrap_or}
+use Rattle.std.proofs.lemmas.Bool.{cond-true}
 use Rattle.sim_base.specs.declared.timing.Timing.{Timing}
 use Rattle.sim_base.specs.declared.command.Kind.{Kind}
 use Rattle.sim_base.specs.declared.command.Kind.TheVariants.{Act, Rd, Wr, Pre, Prea, Ref}
@@ -9,6 +11,58 @@ use Rattle.sim_base.specs.Rules.{is_bound, gap}
 use Rattle.timing.specs.Holds.{hold}
 use Rattle.bank_ready.specs.Ready.{held_until}
 use Rattle.bank_ready.specs.Words.{moves_data}
+
+-- what a rule binds is held back by the gap, and nothing that one binds is free
+pub held_if_bound : (t : Timing) (cycle : ℕ) (earlier later : Kind) (relation : Relation) (gap_is : ℕ) → Some gap_is ≡ hold t earlier later relation
+    → cycle + gap_is ≡ held_until t cycle earlier later relation
+unfolding held_until
+held_if_bound t cycle earlier later relation gap_is e = ap (λ (o : Option ℕ). unwrap_or (option_map (λ g. cycle + g) o) 0) e
+
+pub not_free : (t : Timing) (earlier later : Kind) (relation : Relation) → is_bound t earlier later relation ≡ true → None ≡ hold t earlier later relation → ⊥
+unfolding hold
+not_free t earlier later relation b e =
+    let some = cond-true (is_bound t earlier later relation) (Some (gap t earlier later relation)) None b in cc
+
+-- commands that move data are bound to one another, wherever their banks lie
+pub data_bound : (t : Timing) (earlier later : Kind) (relation : Relation) → moves_data earlier ≡ true → moves_data later ≡ true → is_bound t earlier later relation ≡ true
+unfolding is_bound
+data_bound t Rd Rd SameBank e l = refl
+data_bound t Rd Rd SameGroup e l = refl
+data_bound t Rd Rd OtherGroup e l = refl
+data_bound t Rd Rd OtherRank e l = refl
+data_bound t Rd Wr SameBank e l = refl
+data_bound t Rd Wr SameGroup e l = refl
+data_bound t Rd Wr OtherGroup e l = refl
+data_bound t Rd Wr OtherRank e l = refl
+data_bound t Wr Rd SameBank e l = refl
+data_bound t Wr Rd SameGroup e l = refl
+data_bound t Wr Rd OtherGroup e l = refl
+data_bound t Wr Rd OtherRank e l = refl
+data_bound t Wr Wr SameBank e l = refl
+data_bound t Wr Wr SameGroup e l = refl
+data_bound t Wr Wr OtherGroup e l = refl
+data_bound t Wr Wr OtherRank e l = refl
+data_bound t Act later relation e l = cc
+data_bound t Pre later relation e l = cc
+data_bound t Prea later relation e l = cc
+data_bound t Ref later relation e l = cc
+data_bound t Rd Act relation e l = cc
+data_bound t Rd Pre relation e l = cc
+data_bound t Rd Prea relation e l = cc
+data_bound t Rd Ref relation e l = cc
+data_bound t Wr Act relation e l = cc
+data_bound t Wr Pre relation e l = cc
+data_bound t Wr Prea relation e l = cc
+data_bound t Wr Ref relation e l = cc
+
+pub data_pre_bound : (t : Timing) (earlier : Kind) → moves_data earlier ≡ true → is_bound t earlier Pre SameBank ≡ true
+unfolding is_bound
+data_pre_bound t Rd m = refl
+data_pre_bound t Wr m = refl
+data_pre_bound t Act m = cc
+data_pre_bound t Pre m = cc
+data_pre_bound t Prea m = cc
+data_pre_bound t Ref m = cc
 
 -- a command that moves data holds back another in its bank as in its group
 pub data_same : (t : Timing) (cycle : ℕ) (earlier later : Kind) → moves_data earlier ≡ true → moves_data later ≡ true
@@ -130,3 +184,42 @@ refresh_nothing t cycle SameBank = (refl, refl)
 refresh_nothing t cycle SameGroup = (refl, refl)
 refresh_nothing t cycle OtherGroup = (refl, refl)
 refresh_nothing t cycle OtherRank = (refl, refl)
+
+-- a PREA waits for each command in its rank but a PRE and a PREA, and a REF for a PRE, a PREA and a REF
+pub prea_bound : (t : Timing) (earlier : Kind) → (earlier ≡ Pre → ⊥) → (earlier ≡ Prea → ⊥) → is_bound t earlier Prea SameBank ≡ true
+unfolding is_bound
+prea_bound t Act a b = refl
+prea_bound t Rd a b = refl
+prea_bound t Wr a b = refl
+prea_bound t Ref a b = refl
+prea_bound t Pre a b = absurd (a refl)
+prea_bound t Prea a b = absurd (b refl)
+
+pub refresh_bound : (t : Timing) (earlier : Kind) → (earlier ≡ Act → ⊥) → (earlier ≡ Rd → ⊥) → (earlier ≡ Wr → ⊥) → is_bound t earlier Ref SameBank ≡ true
+unfolding is_bound
+refresh_bound t Pre a b c = refl
+refresh_bound t Prea a b c = refl
+refresh_bound t Ref a b c = refl
+refresh_bound t Act a b c = absurd (a refl)
+refresh_bound t Rd a b c = absurd (b refl)
+refresh_bound t Wr a b c = absurd (c refl)
+
+pub pre_to_prea : (t : Timing) (cycle : ℕ) → 0 ≡ held_until t cycle Pre Prea SameBank
+unfolding held_until hold is_bound gap
+pre_to_prea t cycle = refl
+
+pub prea_to_prea : (t : Timing) (cycle : ℕ) → 0 ≡ held_until t cycle Prea Prea SameBank
+unfolding held_until hold is_bound gap
+prea_to_prea t cycle = refl
+
+pub act_to_refresh : (t : Timing) (cycle : ℕ) → 0 ≡ held_until t cycle Act Ref SameBank
+unfolding held_until hold is_bound gap
+act_to_refresh t cycle = refl
+
+pub rd_to_refresh : (t : Timing) (cycle : ℕ) → 0 ≡ held_until t cycle Rd Ref SameBank
+unfolding held_until hold is_bound gap
+rd_to_refresh t cycle = refl
+
+pub wr_to_refresh : (t : Timing) (cycle : ℕ) → 0 ≡ held_until t cycle Wr Ref SameBank
+unfolding held_until hold is_bound gap
+wr_to_refresh t cycle = refl

@@ -3,7 +3,7 @@
 ghost use Rattle.std.specs.Prelude.{◌≡◌, ◌+◌, ◌*◌, ◌^◌, ◌<◌, ◌≤◌, length};
 
 use crate::words::{
-    RankState, Window, close_rank, held_until, note_act_in_rank, note_row, number_of, own_number,
+    RankState, Window, bound_until, close_rank, note_act_in_rank, note_row, number_of, own_number,
     raise_acts, raise_data, raise_own, raise_rank, raise_rank_words,
 };
 use sim_base::command::{Command, Kind, Relation};
@@ -153,6 +153,8 @@ impl Banks {
     }
 
     /// Notes an ACT, in its bank, in the words of ACTs of its rank and in those of the whole rank.
+    #[inline(never)]
+    #[tactic(auto, unfolding(sim_base::specs::Rules::is_bound))]
     fn note_act(&mut self, bank: BankId, row: u32, cycle: Cycle)
         requires rank { bank.rank < rank_count self.old }
         requires cycle { cycle < 2 ^ 62 }
@@ -161,9 +163,9 @@ impl Banks {
         let gaps = &*self.gaps;
         let own = own_number(bank);
         let end = self.ranks[bank.rank as usize].window.second;
-        let to_rd = held_until(gaps, cycle, Kind::Act, Kind::Rd, Relation::SameBank);
-        let to_wr = held_until(gaps, cycle, Kind::Act, Kind::Wr, Relation::SameBank);
-        let to_pre = held_until(gaps, cycle, Kind::Act, Kind::Pre, Relation::SameBank);
+        let to_rd = bound_until(gaps, cycle, Kind::Act, Kind::Rd, Relation::SameBank);
+        let to_wr = bound_until(gaps, cycle, Kind::Act, Kind::Wr, Relation::SameBank);
+        let to_pre = bound_until(gaps, cycle, Kind::Act, Kind::Pre, Relation::SameBank);
         raise_acts(gaps, &mut self.act, bank, own, cycle, end);
         raise_own(&mut self.rd, own, to_rd);
         raise_own(&mut self.wr, own, to_wr);
@@ -174,7 +176,8 @@ impl Banks {
     }
 
     /// Notes a RD or a WR, in its bank, in the words of RDs and WRs of each rank and in those of the whole rank.
-    #[inline(always)]
+    #[inline(never)]
+    #[tactic(auto, using(crate::proofs::Bounds::data_pre_bound))]
     fn note_data(&mut self, kind: Kind, bank: BankId, cycle: Cycle)
         requires kind { IsTrue (moves_data kind) }
         requires rank { bank.rank < rank_count self.old }
@@ -183,7 +186,7 @@ impl Banks {
     {
         let gaps = &*self.gaps;
         let own = own_number(bank);
-        let to_pre = held_until(gaps, cycle, kind, Kind::Pre, Relation::SameBank);
+        let to_pre = bound_until(gaps, cycle, kind, Kind::Pre, Relation::SameBank);
         raise_data(gaps, &mut self.rd, bank, cycle, kind, Kind::Rd);
         raise_data(gaps, &mut self.wr, bank, cycle, kind, Kind::Wr);
         raise_own(&mut self.pre, own, to_pre);
@@ -191,6 +194,8 @@ impl Banks {
     }
 
     /// Notes a PRE, in its bank and in the words of its rank.
+    #[inline(never)]
+    #[tactic(auto, unfolding(sim_base::specs::Rules::is_bound))]
     fn note_pre(&mut self, bank: BankId, cycle: Cycle)
         requires rank { bank.rank < rank_count self.old }
         requires cycle { cycle < 2 ^ 62 }
@@ -198,40 +203,45 @@ impl Banks {
     {
         let gaps = &*self.gaps;
         let own = own_number(bank);
-        let to_act = held_until(gaps, cycle, Kind::Pre, Kind::Act, Relation::SameBank);
+        let to_act = bound_until(gaps, cycle, Kind::Pre, Kind::Act, Relation::SameBank);
         raise_own(&mut self.act, own, to_act);
         note_row(&mut self.rows, own, None);
         raise_rank_words(gaps, &mut self.ranks, bank.rank, cycle, Kind::Pre);
     }
 
     /// Notes a PREA, in each bank of its rank and in the words of the whole rank.
+    #[inline(never)]
+    #[tactic(auto, unfolding(sim_base::specs::Rules::is_bound))]
     fn note_prea(&mut self, rank: u32, cycle: Cycle)
         requires rank { rank < rank_count self.old }
         requires cycle { cycle < 2 ^ 62 }
         ensures { IsNoted self.old self.new self.old.gaps.value cycle (Command.Prea rank) }
     {
         let gaps = &*self.gaps;
-        let to_act = held_until(gaps, cycle, Kind::Prea, Kind::Act, Relation::SameBank);
+        let to_act = bound_until(gaps, cycle, Kind::Prea, Kind::Act, Relation::SameBank);
         raise_rank(&mut self.act, rank, to_act);
         close_rank(&mut self.rows, rank);
         raise_rank_words(gaps, &mut self.ranks, rank, cycle, Kind::Prea);
     }
 
     /// Notes a REF, in each bank of its rank and in the words of the whole rank.
+    #[inline(never)]
+    #[tactic(auto, unfolding(sim_base::specs::Rules::is_bound))]
     fn note_refresh(&mut self, rank: u32, cycle: Cycle)
         requires rank { rank < rank_count self.old }
         requires cycle { cycle < 2 ^ 62 }
         ensures { IsNoted self.old self.new self.old.gaps.value cycle (Command.Ref rank) }
     {
         let gaps = &*self.gaps;
-        let to_act = held_until(gaps, cycle, Kind::Ref, Kind::Act, Relation::SameBank);
-        let to_pre = held_until(gaps, cycle, Kind::Ref, Kind::Pre, Relation::SameBank);
+        let to_act = bound_until(gaps, cycle, Kind::Ref, Kind::Act, Relation::SameBank);
+        let to_pre = bound_until(gaps, cycle, Kind::Ref, Kind::Pre, Relation::SameBank);
         raise_rank(&mut self.act, rank, to_act);
         raise_rank(&mut self.pre, rank, to_pre);
         raise_rank_words(gaps, &mut self.ranks, rank, cycle, Kind::Ref);
     }
 
     /// Notes a command that is issued in a cycle, which is later than all that were noted before.
+    #[inline(always)]
     pub fn note(&mut self, command: Command, cycle: Cycle)
         requires rank { rank_of command < rank_count self.old }
         requires cycle { cycle < 2 ^ 62 }

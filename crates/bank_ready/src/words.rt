@@ -2,6 +2,7 @@
 
 ghost use Rattle.std.specs.Prelude.{◌≡◌, ◌+◌, ◌*◌, ◌/◌, ◌%◌, ◌^◌, ◌<◌, ◌≤◌, ◌==◌, max, ℕ, IsTrue, IfSome, None, Option, length, slice_index_or, if◌then◌else◌};
 ghost use Rattle.sim_base.specs.Places.{is_bank};
+ghost use Rattle.sim_base.specs.Rules.{is_bound};
 ghost use Rattle.bank_ready.specs.Ready.{held_until};
 ghost use Rattle.bank_ready.specs.declared.words.RankState.{RankState};
 ghost use Rattle.bank_ready.specs.Words.{moves_data, relation_from, is_own, bank_at, number_of, act_pushed, rank_raised};
@@ -29,22 +30,23 @@ pub(crate) struct RankState {
     pub(crate) window: Window,
 }
 
-/// From which cycle on a command holds back a later one no more; 0 where no rule binds them.
+/// From which cycle on a command holds back a later one no more, which a rule binds to it.
 #[inline(always)]
-#[tactic(auto, unfolding(crate::specs::Ready::held_until))]
-pub(crate) fn held_until(
+#[tactic(auto, using(crate::proofs::Bounds::held_if_bound, crate::proofs::Bounds::not_free))]
+pub(crate) fn bound_until(
     gaps: &GapTable,
     cycle: Cycle,
     earlier: Kind,
     later: Kind,
     relation: Relation,
 ) -> Cycle
-    requires { cycle < 2 ^ 62 }
+    requires cycle { cycle < 2 ^ 62 }
+    requires bound { IsTrue (is_bound gaps.now earlier later relation) }
     ensures { result ≡ held_until gaps.now cycle earlier later relation }
 {
     match gaps.hold(earlier, later, relation) {
         Some(gap) => cycle + gap,
-        None => 0,
+        None => unreachable!(),
     }
 }
 
@@ -113,6 +115,10 @@ pub(crate) fn raise_groups(
     ensures { (k d : ℕ) → slice_index_or words.new k d
         ≡ max (slice_index_or words.old k d) (if rank == k / 16 then (if group == k / 4 % 4 then same_group else other_group) else 0) }
 {
+    if same_group == other_group {
+        raise_rank(words, rank, same_group);
+        return;
+    }
     let first = 16 * rank as usize;
     for other in 0..4 {
         let until = if other == group {
@@ -130,9 +136,7 @@ pub(crate) fn raise_rank(words: &mut [Cycle], rank: u32, until: Cycle)
     requires { 16 * rank + 16 ≤ length words.old }
     ensures { (k d : ℕ) → slice_index_or words.new k d ≡ max (slice_index_or words.old k d) (if rank == k / 16 then until else 0) }
 {
-    if until > 0 {
-        raise::<16>(words, 16 * rank as usize, until);
-    }
+    raise::<16>(words, 16 * rank as usize, until);
 }
 
 /// Raises the words of all banks of the other ranks to a cycle.
@@ -142,18 +146,16 @@ pub(crate) fn raise_other_ranks(words: &mut [Cycle], rank: u32, until: Cycle)
     ensures { (k d : ℕ) → k < length words.old
         → slice_index_or words.new k d ≡ max (slice_index_or words.old k d) (if rank == k / 16 then 0 else until) }
 {
-    if until > 0 {
-        for other in 0..words.len() / 16 {
-            if other != rank as usize {
-                raise::<16>(words, 16 * other, until);
-            }
+    for other in 0..words.len() / 16 {
+        if other != rank as usize {
+            raise::<16>(words, 16 * other, until);
         }
     }
 }
 
 /// Raises the words of a kind of command that moves data after another one, which was issued to a bank.
 #[inline(always)]
-#[tactic(auto, using(crate::proofs::Bounds::data_same, crate::proofs::Places::data_raised))]
+#[tactic(auto, using(crate::proofs::Bounds::data_bound, crate::proofs::Bounds::data_same, crate::proofs::Places::data_raised))]
 pub(crate) fn raise_data(
     gaps: &GapTable,
     words: &mut [Cycle],
@@ -170,16 +172,16 @@ pub(crate) fn raise_data(
     ensures { (k d : ℕ) → k < length words.old → slice_index_or words.new k d
         ≡ max (slice_index_or words.old k d) (held_until gaps.now cycle earlier later (relation_from bank k)) }
 {
-    let same_group = held_until(gaps, cycle, earlier, later, Relation::SameGroup);
-    let other_group = held_until(gaps, cycle, earlier, later, Relation::OtherGroup);
-    let other_rank = held_until(gaps, cycle, earlier, later, Relation::OtherRank);
+    let same_group = bound_until(gaps, cycle, earlier, later, Relation::SameGroup);
+    let other_group = bound_until(gaps, cycle, earlier, later, Relation::OtherGroup);
+    let other_rank = bound_until(gaps, cycle, earlier, later, Relation::OtherRank);
     raise_groups(words, bank.rank, bank.group, same_group, other_group);
     raise_other_ranks(words, bank.rank, other_rank);
 }
 
 /// Raises the words of ACTs after an ACT of a bank, and those of its rank to the end of a four-activate window as well.
 #[inline(always)]
-#[tactic(auto, using(crate::proofs::Bounds::act_grows, crate::proofs::Bounds::act_other_rank, crate::proofs::Places::act_raised))]
+#[tactic(auto, unfolding(sim_base::specs::Rules::is_bound), using(crate::proofs::Bounds::act_grows, crate::proofs::Bounds::act_other_rank, crate::proofs::Places::act_raised))]
 pub(crate) fn raise_acts(
     gaps: &GapTable,
     words: &mut [Cycle],
@@ -196,9 +198,9 @@ pub(crate) fn raise_acts(
         ≡ max (slice_index_or words.old k d)
         (max (held_until gaps.now cycle Kind.Act Kind.Act (relation_from bank k)) (if bank.rank == k / 16 then end else 0)) }
 {
-    let same_bank = held_until(gaps, cycle, Kind::Act, Kind::Act, Relation::SameBank);
-    let same_group = held_until(gaps, cycle, Kind::Act, Kind::Act, Relation::SameGroup);
-    let other_group = held_until(gaps, cycle, Kind::Act, Kind::Act, Relation::OtherGroup);
+    let same_bank = bound_until(gaps, cycle, Kind::Act, Kind::Act, Relation::SameBank);
+    let same_group = bound_until(gaps, cycle, Kind::Act, Kind::Act, Relation::SameGroup);
+    let other_group = bound_until(gaps, cycle, Kind::Act, Kind::Act, Relation::OtherGroup);
     raise_groups(
         words,
         bank.rank,
@@ -231,7 +233,36 @@ pub(crate) fn close_rank(rows: &mut [Option<u32>], rank: u32)
     }
 }
 
-/// Raises the words of the commands of a whole rank.
+/// From which cycle on a command in a rank holds back a PREA of it no more; 0 where no rule binds them.
+#[inline(always)]
+#[tactic(auto, using(crate::proofs::Bounds::prea_bound, crate::proofs::Bounds::pre_to_prea, crate::proofs::Bounds::prea_to_prea))]
+fn prea_until(gaps: &GapTable, cycle: Cycle, earlier: Kind) -> Cycle
+    requires { cycle < 2 ^ 62 }
+    ensures { result ≡ held_until gaps.now cycle earlier Kind.Prea Relation.SameBank }
+{
+    match earlier {
+        Kind::Pre => 0,
+        Kind::Prea => 0,
+        _ => bound_until(gaps, cycle, earlier, Kind::Prea, Relation::SameBank),
+    }
+}
+
+/// From which cycle on a command in a rank holds back a REF of it no more; 0 where no rule binds them.
+#[inline(always)]
+#[tactic(auto, using(crate::proofs::Bounds::refresh_bound, crate::proofs::Bounds::act_to_refresh, crate::proofs::Bounds::rd_to_refresh, crate::proofs::Bounds::wr_to_refresh))]
+fn refresh_until(gaps: &GapTable, cycle: Cycle, earlier: Kind) -> Cycle
+    requires { cycle < 2 ^ 62 }
+    ensures { result ≡ held_until gaps.now cycle earlier Kind.Ref Relation.SameBank }
+{
+    match earlier {
+        Kind::Act => 0,
+        Kind::Rd => 0,
+        Kind::Wr => 0,
+        _ => bound_until(gaps, cycle, earlier, Kind::Ref, Relation::SameBank),
+    }
+}
+
+/// Raises the words of the commands of a whole rank, as far as a command of this kind in the rank holds them back.
 #[inline(always)]
 pub(crate) fn raise_rank_words(
     gaps: &GapTable,
@@ -246,10 +277,8 @@ pub(crate) fn raise_rank_words(
         ≡ (if rank == k then rank_raised gaps.now cycle earlier (slice_index_or ranks.old k d) else slice_index_or ranks.old k d) }
 {
     let state = &mut ranks[rank as usize];
-    let prea = held_until(gaps, cycle, earlier, Kind::Prea, Relation::SameBank);
-    let refresh = held_until(gaps, cycle, earlier, Kind::Ref, Relation::SameBank);
-    state.prea = state.prea.max(prea);
-    state.refresh = state.refresh.max(refresh);
+    state.prea = state.prea.max(prea_until(gaps, cycle, earlier));
+    state.refresh = state.refresh.max(refresh_until(gaps, cycle, earlier));
 }
 
 /// Notes an ACT in the words and the window of its rank, for which it counts no longer from a cycle on.

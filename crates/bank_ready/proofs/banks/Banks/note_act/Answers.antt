@@ -51,14 +51,14 @@ returns c source =
           ∙ ap (λ n. max (get_or lent k d) (max (held_until t cycle kind.Act kind.Act (relation_from bank k)) n))
           (window-of-act banks bank c.args.row source k _ c.index.result.now c.requires.rank c.index.ensures refl));
       rd =
-          raised-own banks.rd c.deref_mut-2.result.now c.raise_own.new.words t cycle command kind.Rd bank own c.held_until-to_rd.result c.deref_mut-2.ensures.value c.raise_own.auto.words c.raise_own.ensures
-          refl number c.held_until-to_rd.ensures (act_to_rd t cycle);
+          raised-own banks.rd c.deref_mut-2.result.now c.raise_own.new.words t cycle command kind.Rd bank own c.bound_until-to_rd.result c.deref_mut-2.ensures.value c.raise_own.auto.words c.raise_own.ensures
+          refl number c.bound_until-to_rd.ensures (act_to_rd t cycle);
       wr =
-          raised-own banks.wr c.deref_mut-3.result.now c.raise_own-2.new.words t cycle command kind.Wr bank own c.held_until-to_wr.result c.deref_mut-3.ensures.value c.raise_own-2.auto.words c.raise_own-2.ensures
-          refl number c.held_until-to_wr.ensures (act_to_wr t cycle);
+          raised-own banks.wr c.deref_mut-3.result.now c.raise_own-2.new.words t cycle command kind.Wr bank own c.bound_until-to_wr.result c.deref_mut-3.ensures.value c.raise_own-2.auto.words c.raise_own-2.ensures
+          refl number c.bound_until-to_wr.ensures (act_to_wr t cycle);
       pre =
-          raised-own banks.pre c.deref_mut-4.result.now c.raise_own-3.new.words t cycle command kind.Pre bank own c.held_until-to_pre.result c.deref_mut-4.ensures.value c.raise_own-3.auto.words c.raise_own-3.ensures
-          refl number c.held_until-to_pre.ensures (act_to_pre t cycle);
+          raised-own banks.pre c.deref_mut-4.result.now c.raise_own-3.new.words t cycle command kind.Pre bank own c.bound_until-to_pre.result c.deref_mut-4.ensures.value c.raise_own-3.auto.words c.raise_own-3.ensures
+          refl number c.bound_until-to_pre.ensures (act_to_pre t cycle);
       row_count = rows.count;
       rows = rows.each;
       rank_count = ranks.count;

@@ -30,8 +30,8 @@ returns c command of names =
       rd = raised-data banks.rd c.deref_mut.result.now c.raise_data.new.words t cycle command later kind.Rd bank c.deref_mut.ensures.value c.raise_data.auto.words c.raise_data.ensures of names;
       wr = raised-data banks.wr c.deref_mut-2.result.now c.raise_data-2.new.words t cycle command later kind.Wr bank c.deref_mut-2.ensures.value c.raise_data-2.auto.words c.raise_data-2.ensures of names;
       pre =
-          raised-own banks.pre c.deref_mut-3.result.now c.raise_own.new.words t cycle command kind.Pre bank own c.held_until-to_pre.result c.deref_mut-3.ensures.value c.raise_own.auto.words c.raise_own.ensures
-          names number (rw of c.held_until-to_pre.ensures) (rw of (data_to_pre t cycle later c.requires.kind));
+          raised-own banks.pre c.deref_mut-3.result.now c.raise_own.new.words t cycle command kind.Pre bank own c.bound_until-to_pre.result c.deref_mut-3.ensures.value c.raise_own.auto.words c.raise_own.ensures
+          names number (rw of c.bound_until-to_pre.ensures) (rw of (data_to_pre t cycle later c.requires.kind));
       row_count = refl;
       rows = λ k d l. kept-row command k _ (rw of c.requires.kind);
       rank_count = ranks.count;

@@ -29,8 +29,8 @@ returns c source =
       gaps = refl;
       act =
           widened _ _ _ _
-          (raised-own banks.act c.deref_mut.result.now c.raise_own.new.words t cycle command kind.Act bank own c.held_until-to_act.result c.deref_mut.ensures.value c.raise_own.auto.words c.raise_own.ensures
-          refl number c.held_until-to_act.ensures (pre_to_act t cycle))
+          (raised-own banks.act c.deref_mut.result.now c.raise_own.new.words t cycle command kind.Act bank own c.bound_until-to_act.result c.deref_mut.ensures.value c.raise_own.auto.words c.raise_own.ensures
+          refl number c.bound_until-to_act.ensures (pre_to_act t cycle))
           (λ k. omega arith);
       rd = left banks.rd.items _ (λ k. (pre_nothing t cycle (relation_from bank k)).0);
       wr = left banks.wr.items _ (λ k. (pre_nothing t cycle (relation_from bank k)).1);

@@ -23,8 +23,8 @@ returns c =
     (record {
       gaps = refl;
       act =
-          raised-rank banks.act c.deref_mut.result.now c.raise_rank.new.words (λ (r : Relation). held_until t cycle kind.Prea kind.Act r) rank c.held_until-to_act.result _ c.deref_mut.ensures.value c.raise_rank.auto.words
-          c.raise_rank.ensures c.held_until-to_act.ensures (prea_rank t cycle) (λ k. omega arith);
+          raised-rank banks.act c.deref_mut.result.now c.raise_rank.new.words (λ (r : Relation). held_until t cycle kind.Prea kind.Act r) rank c.bound_until-to_act.result _ c.deref_mut.ensures.value c.raise_rank.auto.words
+          c.raise_rank.ensures c.bound_until-to_act.ensures (prea_rank t cycle) (λ k. omega arith);
       rd = left banks.rd.items _ (λ k. (prea_nothing t cycle (at k)).0);
       wr = left banks.wr.items _ (λ k. (prea_nothing t cycle (at k)).1);
       pre = left banks.pre.items _ (λ k. (prea_nothing t cycle (at k)).2);

@@ -22,13 +22,13 @@ returns c =
     (record {
       gaps = refl;
       act =
-          raised-rank banks.act c.deref_mut.result.now c.raise_rank.new.words (λ (r : Relation). held_until t cycle kind.Ref kind.Act r) rank c.held_until-to_act.result _ c.deref_mut.ensures.value c.raise_rank.auto.words
-          c.raise_rank.ensures c.held_until-to_act.ensures (refresh_rank t cycle).0 (λ k. omega arith);
+          raised-rank banks.act c.deref_mut.result.now c.raise_rank.new.words (λ (r : Relation). held_until t cycle kind.Ref kind.Act r) rank c.bound_until-to_act.result _ c.deref_mut.ensures.value c.raise_rank.auto.words
+          c.raise_rank.ensures c.bound_until-to_act.ensures (refresh_rank t cycle).0 (λ k. omega arith);
       rd = left banks.rd.items _ (λ k. (refresh_nothing t cycle (at k)).0);
       wr = left banks.wr.items _ (λ k. (refresh_nothing t cycle (at k)).1);
       pre =
-          raised-rank banks.pre c.deref_mut-2.result.now c.raise_rank-2.new.words (λ (r : Relation). held_until t cycle kind.Ref kind.Pre r) rank c.held_until-to_pre.result _ c.deref_mut-2.ensures.value c.raise_rank-2.auto.words
-          c.raise_rank-2.ensures c.held_until-to_pre.ensures (refresh_rank t cycle).1 (λ k. refl);
+          raised-rank banks.pre c.deref_mut-2.result.now c.raise_rank-2.new.words (λ (r : Relation). held_until t cycle kind.Ref kind.Pre r) rank c.bound_until-to_pre.result _ c.deref_mut-2.ensures.value c.raise_rank-2.auto.words
+          c.raise_rank-2.ensures c.bound_until-to_pre.ensures (refresh_rank t cycle).1 (λ k. refl);
       row_count = refl;
       rows = λ k d l. refl;
       rank_count = ranks.count;
