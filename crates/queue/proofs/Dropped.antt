@@ -1,7 +1,9 @@
 -- A list without its first items.
-use Rattle.std.proofs.Common.{◌≡◌, ℕ, zero, suc, ◌+◌, ◌-◌, ◌<◌, ◌≤◌, List, [], ◌∷◌, ◌++◌, length, get_or, take, drop, set, refl, sym, ap, ◌∙◌, append_assoc, arith}
-use Rattle.std.proofs.lemmas.List.{append-nil, drop_at, drop_more, drop-append-le, get_or-take, get_or_append_left, length-take-le, length-drop, set-append_right, take_all, take_more, take-take, drop-drop}
+use Rattle.std.proofs.Common.{◌≡◌, ℕ, zero, suc, ◌+◌, ◌-◌, ◌<◌, ◌≤◌, List, [], ◌∷◌, ◌++◌, length, length-append, get_or, take, drop, set, refl, sym, ap, ◌∙◌, append_assoc, arith}
+use Rattle.std.proofs.lemmas.List.{append-nil, length_push, drop_at, drop_more, drop-append-le, get_or-take, get_or_append_left, get_or_default, length-take-le, length-drop, set-append_right, take_all, take_more, take-take, drop-drop}
+use Rattle.std.proofs.lemmas.List.Edits.{length-remove}
 use Rattle.std.specs.List.{remove}
+use Rattle.queue.specs.Aged.{IsMovedUp}
 
 remove_none : {X : Type 0} (at : ℕ) → remove {X = X} [] at ≡ []
 remove_none zero = refl
@@ -26,6 +28,10 @@ pub drop-push : {X : Type 0} (start : ℕ) (xs : List X) (x : X) → start ≤ l
 drop-push zero xs x begun = refl
 drop-push (suc start) [] x begun = absurd (omega arith)
 drop-push (suc start) (y ∷ xs) x begun = drop-push start xs x (omega arith)
+
+-- the items from a place on have moved up by one place, and the others are as they were
+abbrev pub HaveMoved : {X : Type 0} → List X → List X → ℕ → Type 0
+HaveMoved xs items at = items ≡ take (at + 1) xs ++ take (length xs - 1 - at) (drop at xs)
 
 -- no item has moved up yet
 pub moved_none : {X : Type 0} (xs : List X) (at : ℕ) → at + 1 ≡ length xs → xs ≡ take (at + 1) xs ++ take (length xs - 1 - at) (drop at xs)
@@ -55,6 +61,12 @@ moved_more xs items at x some within items_are read =
     ∙ (λ i. take (sym next i) xs ++ (read_first i ∷ take n (drop (sym next i) xs)))
     ∙ (λ i. take (below + 1) xs ++ take (sym one_more i) (sym (drop_more xs below x (omega arith)) i))
 
+pub moved_next : {X : Type 0} (xs items : List X) (at : ℕ) (d : X) → 0 < at → at < length xs → length items ≡ length xs → HaveMoved xs items at
+    → HaveMoved xs (set items at (get_or items (at - 1) d)) (at - 1)
+moved_next xs items at d some within same items_are =
+    let x = get_or items (at - 1) d in
+    moved_more xs items at x some within items_are (get_or_default items (at - 1) d x (omega arith))
+
 -- all items but the last have moved up
 pub moved_all : {X : Type 0} (xs items : List X) (at : ℕ) → at ≡ 0 → 0 < length xs → items ≡ take (at + 1) xs ++ take (length xs - 1 - at) (drop at xs)
     → drop 1 items ≡ take (length xs - 1) xs
@@ -80,3 +92,44 @@ moved start at n xs turn post one exists turn_len turn_is post_is =
     ∙ ap (drop 1) (drop_at (take start xs) (turn ++ post) start front)
     ∙ drop-append-le 1 turn post (omega arith)
     ∙ (λ i. (turn_is ∙ others) i ++ behind i)
+
+-- an item more stands behind the free places, too
+pub dropped_push : {X : Type 0} (start : ℕ) (xs longer : List X) (x : X) → longer ≡ xs ++ x ∷ [] → start ≤ length xs
+    → (length longer ≡ length xs + 1) × (drop start longer ≡ drop start xs ++ x ∷ [])
+dropped_push start xs longer x is begun = (ap length is ∙ length_push xs x, ap (drop start) is ∙ drop-push start xs x begun)
+
+-- an item less stands behind them, where the younger ones have moved
+pub dropped_younger : {X : Type 0} (start at : ℕ) (xs shorter : List X) → shorter ≡ remove xs (start + at) → start + at < length xs
+    → (length shorter + 1 ≡ length xs) × (drop start shorter ≡ remove (drop start xs) at)
+dropped_younger start at xs shorter is exists =
+    (omega (arith, ap length is, length-remove xs (start + at) exists), ap (drop start) is ∙ drop-remove start at (start + at) xs refl)
+
+-- the items of a list of which a part has turned
+abbrev pub turned_part : {X : Type 0} → ℕ → ℕ → List X → List X → List X
+turned_part start n xs turn = take start xs ++ (turn ++ drop n (drop start xs))
+
+pub length-turned : {X : Type 0} (start n : ℕ) (xs turn : List X) → start + n ≤ length xs → length turn ≡ length (take n (drop start xs)) → length (turned_part start n xs turn) ≡ length xs
+length-turned start n xs turn within long =
+    let chunk : length (take n (drop start xs)) ≡ n = length-take-le n (drop start xs) (omega (arith, length-drop start xs)) in
+    omega (
+      arith,
+      chunk,
+      long,
+      length-take-le start xs (omega arith),
+      length-append (take start xs) (turn ++ drop n (drop start xs)),
+      length-append turn (drop n (drop start xs)),
+      length-drop n (drop start xs),
+      length-drop start xs,
+    )
+
+-- an item less stands behind them, where the older ones have moved
+pub dropped_older : {X : Type 0} (start at n : ℕ) (xs now turn shorter : List X) → now ≡ xs → n ≡ at + 1 → start + at < length xs → IsMovedUp (take n (drop start now)) turn
+    → (length (turned_part start n now turn) ≡ length xs → shorter ≡ turned_part start n now turn)
+    → (length shorter ≡ length xs) × (drop (start + 1) shorter ≡ remove (drop start xs) at)
+dropped_older start at n xs now turn shorter same one exists up written =
+    let there : start + at < length now = omega (arith, ap length same) in
+    let long : length (turned_part start n now turn) ≡ length xs = length-turned start n now turn (omega arith) up.0 ∙ ap length same in
+    let is = written long in (
+      ap length is ∙ long,
+      ap (drop (start + 1)) is ∙ moved start at n now turn (drop n (drop start now)) one there up.0 up.1 refl ∙ ap (λ ys. remove (drop start ys) at) same,
+    )
