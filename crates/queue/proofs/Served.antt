@@ -6,7 +6,7 @@ use mir.Val.{bool_byte}
 use Rattle.sim_base.specs.Places.{is_line}
 use Rattle.sim_base.specs.declared.message.Request.{Request}
 use Rattle.queue.specs.declared.Queue.TheInside.{Inside}
-use Rattle.queue.specs.Columns.{eligible_column, waiting_count}
+use Rattle.queue.specs.Columns.{eligible_column, waiting_count, slot_count, AreCounted}
 use Rattle.queue.specs.Kept.{AreKept}
 use Rattle.queue.proofs.Eligible.{served}
 use Rattle.queue.proofs.Kept.{writes_removed}
@@ -22,6 +22,9 @@ pub record IsServed (q s : Inside) (n : ℕ) (r : Request) (word done : ℕ) : T
   pub requests : s.aged.requests ≡ remove q.aged.requests n
   pub turn : eqb word 1 ≡ true → s.aged.marks ≡ set (remove q.aged.marks n) (n + position_or_len (λ x. is_line x.place r.place) (drop n (remove q.aged.requests n))) 1
   pub no_turn : eqb word 1 ≡ false → s.aged.marks ≡ remove q.aged.marks n
+  pub mask : s.mask ≡ q.mask
+  pub long : length s.lines.items ≡ length q.lines.items
+  pub counted : AreCounted q.mask s.lines.items (remove q.aged.requests n)
   pub waited : waiting_count s.aged.marks + done ≡ s.waiting
 
 eligible_left : (q s : Inside) (n : ℕ) (r : Request) (word done : ℕ) → AreKept q → IsServed q s n r word done → s.aged.marks ≡ eligible_column s.aged.requests
@@ -38,6 +41,8 @@ pub served_kept : (q s : Inside) (n : ℕ) (r : Request) (word done byte : ℕ) 
 served_kept q s n r word done byte kept left byte_is = record {
   eligible_are = eligible_left q s n r word done kept left;
   waiting_are = omega (arith, left.waited);
+  masked = omega (arith, kept.masked, left.mask, left.long);
+  lines_are = λ slot below. left.counted slot below ∙ (λ i. slot_count (sym left.mask i) (sym left.requests i) slot);
   writes_are =
       let counted = writes_removed q.aged.requests s.aged.requests r n q.writes byte left.exists left.request kept.writes_are byte_is left.requests in
       omega (arith, counted, left.writes);

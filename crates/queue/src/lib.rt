@@ -14,7 +14,8 @@ ghost use Rattle.queue.specs.View.{QueueView, drains_by, is_draining};
 
 use crate::aged::Aged;
 pub use crate::columns::key_word;
-use crate::lines::{give_turn, is_line_asked};
+use crate::columns::line_slot;
+use crate::lines::{counters, give_turn, is_line_asked};
 use sim_base::message::Request;
 use std::alloc::{AllocError, Global};
 use std::marker::Model;
@@ -34,6 +35,10 @@ pub struct Queue {
     /// Requests that wait for an older one of the same line.
     waiting: usize,
     aged: Aged,
+    /// How many requests are for the lines of each counter.
+    lines: Vec<usize>,
+    /// The highest counter.
+    mask: usize,
 }
 
 impl Model for Queue {
@@ -55,6 +60,7 @@ impl Queue {
     pub fn with_room(alloc: Global, room: usize, high: u32, low: u32) -> Result<Self, AllocError>
         ensures { IfOk result (λ queue. queue ≡ record { room = room; high = high; low = low; requests = []; settled = false }) }
     {
+        let (lines, mask) = counters(alloc, room)?;
         Ok(Queue {
             room,
             high,
@@ -63,6 +69,8 @@ impl Queue {
             writes: 0,
             waiting: 0,
             aged: Aged::with_room(alloc, room)?,
+            lines,
+            mask,
         })
     }
 
@@ -86,8 +94,12 @@ impl Queue {
         requires { length self.old.requests < self.old.room }
         ensures { self.new ≡ record self.old { requests = self.old.requests ++ request ∷ [] } }
     {
-        let asked = is_line_asked(request.place, self.aged.requests(), self.aged.prints());
+        let line = line_slot(request.place, self.mask);
+        let alike = self.lines[line];
+        let (requests, prints) = (self.aged.requests(), self.aged.prints());
+        let asked = is_line_asked(request.place, alike, requests, prints);
         self.aged.push(request, !asked);
+        self.lines[line] = alike + 1;
         self.waiting += usize::from(asked);
         self.writes += usize::from(request.write);
     }
@@ -101,8 +113,11 @@ impl Queue {
         let request = self.aged.requests()[slot];
         let was_first = self.aged.eligible()[slot] == 1;
         self.aged.remove(slot);
+        let line = line_slot(request.place, self.mask);
+        let alike = self.lines[line] - 1;
+        self.lines[line] = alike;
         let waited = if was_first {
-            give_turn(request.place, slot, self.waiting, &mut self.aged)
+            give_turn(request.place, slot, self.waiting, alike, &mut self.aged)
         } else {
             true
         };

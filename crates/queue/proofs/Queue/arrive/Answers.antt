@@ -1,12 +1,33 @@
 -- The mark of the request says whether it waits.
-use Rattle.std.proofs.Common.{◌≡◌, ◌<◌, ◌≤◌, length, not, refl, ap, ◌∙◌, arith}
-use Rattle.std.proofs.lemmas.List.{length_push}
+use Rattle.std.proofs.Common.{◌≡◌, ◌+◌, get_or, sym, ◌<◌, ◌≤◌, length, not, refl, ap, ◌∙◌, arith}
+use Rattle.std.proofs.lemmas.List.{length_push, length-set, get_or_default}
+use Rattle.queue.proofs.Counted.{none_asks, few_counted, counted_push}
 use Rattle.std.proofs.lemmas.List.Sums.{count_by-le-length}
 use Rattle.sim_base.specs.Scheduling.{asks_for_line}
 use Rattle.lane_scan.specs.Marks.{mark, is_marked}
 use Rattle.queue.proofs.Eligible.{length-eligible}
 use Rattle.queue.proofs.Kept.{eligible_pushed, waiting_pushed, writes_pushed, byte_is, mark_le}
 use Rattle.queue.proofs.Queue.arrive.Goals as goal
+
+pub is_line_asked-asked-requires-clause-alike : goal.is_line_asked-asked-requires-clause-alike
+is_line_asked-asked-requires-clause-alike c none =
+    let q = c.self.inside in
+    let slot = c.line_slot-line.result in
+    let below : slot < length q.lines.items = omega (arith, c.line_slot-line.ensures.within, c.self.invariant.masked) in
+    let slot_is = c.line_slot-line.ensures.value in
+    let count_is : c.index-alike.result.now ≡ get_or q.lines.items slot 0 = c.index-alike.ensures ∙ get_or_default q.lines.items slot c.index-alike.result.now 0 below in
+    ap (asks_for_line c.args.request.place) c.requests-requests.ensures
+    ∙ none_asks q.mask q.lines.items q.aged.requests c.args.request.place c.self.invariant.lines_are (omega (arith, below, slot_is))
+    (ap (λ k. get_or q.lines.items k 0) (sym slot_is) ∙ sym count_is ∙ none)
+
+pub overflow_add-alike : goal.overflow_add-alike
+overflow_add-alike c =
+    let q = c.self.inside in
+    let slot = c.line_slot-line.result in
+    let below : slot < length q.lines.items = omega (arith, c.line_slot-line.ensures.within, c.self.invariant.masked) in
+    let free : length q.aged.requests < q.room = omega (arith, ap (λ v. length v.requests) c.self.view_is, ap (λ v. v.room) c.self.view_is, c.requires) in
+    let count_is : c.index-alike.result.now ≡ get_or q.lines.items slot 0 = c.index-alike.ensures ∙ get_or_default q.lines.items slot c.index-alike.result.now 0 below in
+    omega (arith, free, count_is, few_counted q.mask q.lines.items q.aged.requests slot c.self.invariant.lines_are below)
 
 pub overflow_add-self : goal.overflow_add-self
 overflow_add-self c =
@@ -23,12 +44,19 @@ invariant_of-self c =
     let kept = c.self.invariant in
     let more = c.push.ensures.requests in
     let free : length q.aged.requests < q.room = omega (arith, ap (λ v. length v.requests) c.self.view_is, ap (λ v. v.room) c.self.view_is, c.requires) in
-    let asked = c.is_line_asked-asked.ensures ∙ ap (asks_for_line c.args.request.place) c.requests.ensures in
+    let slot = c.line_slot-line.result in
+    let below : slot < length q.lines.items = omega (arith, c.line_slot-line.ensures.within, kept.masked) in
+    let count_is : c.index-alike.result.now ≡ get_or q.lines.items slot 0 = c.index-alike.ensures ∙ get_or_default q.lines.items slot c.index-alike.result.now 0 below in
+    let asked = c.is_line_asked-asked.ensures ∙ ap (asks_for_line c.args.request.place) c.requests-requests.ensures in
     record {
       eligible_are =
           eligible_pushed q.aged.marks _ q.aged.requests _ c.args.request (mark (not c.is_line_asked-asked.result)) c.is_line_asked-asked.result kept.eligible_are c.push.ensures.marks refl asked more;
       waiting_are =
           waiting_pushed q.aged.marks _ q.waiting c.from.result (mark (not c.is_line_asked-asked.result)) c.is_line_asked-asked.result kept.waiting_are c.push.ensures.marks refl c.from.ensures;
+      masked = omega (arith, kept.masked, length-set q.lines.items slot (c.index-alike.result.now + 1));
+      lines_are =
+          counted_push q.mask q.lines.items q.aged.requests _ c.args.request slot (c.index-alike.result.now + 1) kept.lines_are c.line_slot-line.ensures.value below more
+          (ap (λ k. k + 1) count_is);
       writes_are = writes_pushed q.aged.requests _ c.args.request q.writes c.from-2.result kept.writes_are c.from-2.ensures more;
       within = omega (arith, ap length more, length_push q.aged.requests c.args.request, free);
       enough = omega (arith, kept.enough, c.push.ensures.room);

@@ -1,15 +1,16 @@
 -- The request is gone, and the next one for its line is marked.
-use Rattle.std.proofs.Common.{◌≡◌, ℕ, ◌+◌, ◌<◌, length, drop, set, false, not, cond, eqb, get_or, ap, ◌∙◌, ne_eqb, eq-eqb, arith}
+use Rattle.std.proofs.Common.{◌≡◌, ℕ, ◌+◌, ◌-◌, ◌<◌, refl, length, drop, set, false, not, cond, eqb, get_or, ap, ◌∙◌, ne_eqb, eq-eqb, arith, sym}
 use Rattle.std.proofs.lemmas.Bool.{eqb-true, eqb-false}
-use Rattle.std.proofs.lemmas.List.{get_or_default}
+use Rattle.std.proofs.lemmas.List.{get_or_default, get_or-set_same, length-set}
 use Rattle.std.proofs.lemmas.List.Edits.{length-remove}
-use Rattle.std.specs.List.{position_or_len}
+use Rattle.std.specs.List.{remove, position_or_len}
 use mir.Val.{bool_byte}
 use Rattle.sim_base.specs.Places.{is_line}
 use Rattle.sim_base.specs.declared.message.Request.{Request}
-use Rattle.queue.specs.Columns.{waiting_count}
+use Rattle.queue.specs.Columns.{waiting_count, AreCounted}
+use Rattle.queue.proofs.Counted.{none_asks, some_counted, counted_removed}
 use Rattle.queue.proofs.Eligible.{length-eligible}
-use Rattle.queue.proofs.Kept.{waiting_removed, byte_is}
+use Rattle.queue.proofs.Kept.{writes_removed, waiting_removed, byte_is}
 use Rattle.queue.proofs.Served.{IsServed, served_kept}
 use Rattle.queue.proofs.Queue.serve.Goals as goal
 use Rattle.queue.proofs.Queue.serve.Goals.{then-was_first, else-was_first}
@@ -31,6 +32,62 @@ bounds-eligible-slot c =
     let q = c.self.inside in
     let long : length q.aged.marks ≡ length q.aged.requests = ap length c.self.invariant.eligible_are ∙ length-eligible q.aged.requests in
     omega (arith, long, ap length c.eligible.ensures, ap (λ v. length v.requests) c.self.view_is, c.requires)
+
+pub overflow_sub-alike : goal.overflow_sub-alike
+overflow_sub-alike c =
+    let q = c.self.inside in
+    let n = c.args.slot in
+    let r = get_or c.requests.result.now n absent in
+    let exists : n < length q.aged.requests = omega (arith, ap (λ v. length v.requests) c.self.view_is, c.requires) in
+    let request : r ≡ get_or q.aged.requests n r = ap (λ xs. get_or xs n absent) c.requests.ensures ∙ get_or_default q.aged.requests n absent r exists in
+    let slot = c.line_slot-line.result in
+    let below : slot < length q.lines.items = omega (arith, c.line_slot-line.ensures.within, c.self.invariant.masked) in
+    let count_is : c.index.result.now ≡ get_or q.lines.items slot 0 = c.index.ensures ∙ get_or_default q.lines.items slot c.index.result.now 0 below in
+    omega (arith, count_is, some_counted q.mask n q.lines.items q.aged.requests r slot c.self.invariant.lines_are c.line_slot-line.ensures.value below exists request)
+
+pub give_turn-waited-requires-clause-waiting : goal.give_turn-waited-requires-clause-waiting
+give_turn-waited-requires-clause-waiting c =
+    let q = c.self.inside in
+    let n = c.args.slot in
+    let word = get_or c.eligible.result.now n 0 in
+    let exists : n < length q.aged.requests = omega (arith, ap (λ v. length v.requests) c.self.view_is, c.requires) in
+    let long : length q.aged.marks ≡ length q.aged.requests = ap length c.self.invariant.eligible_are ∙ length-eligible q.aged.requests in
+    let marked : n < length q.aged.marks = omega (arith, long, exists) in
+    let word_is : word ≡ get_or q.aged.marks n word = ap (λ xs. get_or xs n 0) c.eligible.ensures ∙ get_or_default q.aged.marks n 0 word marked in
+    let left = waiting_removed q.aged.marks _ n word marked word_is c.remove.ensures.marks in
+    let none : cond {A = ℕ} (not (eqb word 1)) 1 0 ≡ 0 = ap (λ b. cond {A = ℕ} (not b) 1 0) (eq-eqb word 1 c.if-was_first.true) in
+    omega (arith, left, none, c.self.invariant.waiting_are)
+
+pub give_turn-waited-requires-clause-alike : goal.give_turn-waited-requires-clause-alike
+give_turn-waited-requires-clause-alike c none =
+    let q = c.self.inside in
+    let n = c.args.slot in
+    let r = get_or c.requests.result.now n absent in
+    let exists : n < length q.aged.requests = omega (arith, ap (λ v. length v.requests) c.self.view_is, c.requires) in
+    let request : r ≡ get_or q.aged.requests n r = ap (λ xs. get_or xs n absent) c.requests.ensures ∙ get_or_default q.aged.requests n absent r exists in
+    let slot = c.line_slot-line.result in
+    let slot_is = c.line_slot-line.ensures.value in
+    let below : slot < length q.lines.items = omega (arith, c.line_slot-line.ensures.within, c.self.invariant.masked) in
+    let count_is : c.index.result.now ≡ get_or q.lines.items slot 0 = c.index.ensures ∙ get_or_default q.lines.items slot c.index.result.now 0 below in
+    let left = c.index.result.now - 1 in
+    let counted = counted_removed q.mask n q.lines.items q.aged.requests _ r slot left c.self.invariant.lines_are slot_is below exists request c.remove.ensures.requests (ap (λ k. k - 1) count_is) in
+    none_asks q.mask (set q.lines.items slot left) c.remove.new.self.requests r.place counted (omega (arith, below, slot_is, length-set q.lines.items slot left))
+    (ap (λ k. get_or (set q.lines.items slot left) k 0) (sym slot_is) ∙ get_or-set_same q.lines.items slot left 0 below ∙ none)
+
+pub overflow_sub-self-2 : goal.overflow_sub-self-2
+overflow_sub-self-2 c =
+    let q = c.self.inside in
+    let n = c.args.slot in
+    let r = get_or c.requests.result.now n absent in
+    let exists : n < length q.aged.requests = omega (arith, ap (λ v. length v.requests) c.self.view_is, c.requires) in
+    let request : r ≡ get_or q.aged.requests n r = ap (λ xs. get_or xs n absent) c.requests.ensures ∙ get_or_default q.aged.requests n absent r exists in
+    let counted = writes_removed q.aged.requests _ r n q.writes c.from-2.result exists request c.self.invariant.writes_are c.from-2.ensures c.remove.ensures.requests in
+    let same : c.if-was_first.self-inside.writes ≡ q.writes =
+    elim c.if-was_first.branch [
+      | then-was_first w ↦ ap (λ s. s.writes) w.self-inside-is
+      | else-was_first w ↦ ap (λ s. s.writes) w.self-inside-is
+    ] in
+    omega (arith, counted, same)
 
 pub give_turn-waited-requires-clause-same_length : goal.give_turn-waited-requires-clause-same_length
 give_turn-waited-requires-clause-same_length c =
@@ -75,6 +132,13 @@ invariant_of-self c =
     let request : r ≡ get_or q.aged.requests n r = ap (λ xs. get_or xs n absent) c.requests.ensures ∙ get_or_default q.aged.requests n absent r exists in
     let fewer = c.remove.ensures.requests in
     let counted = waiting_removed q.aged.marks _ n word marked word_is c.remove.ensures.marks in
+    let slot = c.line_slot-line.result in
+    let below : slot < length q.lines.items = omega (arith, c.line_slot-line.ensures.within, kept.masked) in
+    let count_is : c.index.result.now ≡ get_or q.lines.items slot 0 = c.index.ensures ∙ get_or_default q.lines.items slot c.index.result.now 0 below in
+    let now = set q.lines.items slot (c.index.result.now - 1) in
+    let one_less : AreCounted q.mask now (remove q.aged.requests n) =
+    counted_removed q.mask n q.lines.items q.aged.requests (remove q.aged.requests n) r slot (c.index.result.now - 1) kept.lines_are c.line_slot-line.ensures.value below exists request refl
+    (ap (λ k. k - 1) count_is) in
     let left : IsServed q c.if-was_first.self-inside n r word c.from.result =
     elim c.if-was_first.branch [
       | then-was_first w ↦
@@ -96,6 +160,9 @@ invariant_of-self c =
                 ∙ turned.marks
                 ∙ (λ i. set (c.remove.ensures.marks i) (n + position_or_len (λ (x : Request). is_line x.place r.place) (drop n (fewer i))) 1);
             no_turn = λ no. absurd (eqb-false word 1 no w.if-was_first.true);
+            mask = ap (λ s. s.mask) h;
+            long = ap (λ s. length s.lines.items) h ∙ length-set q.lines.items slot (c.index.result.now - 1);
+            counted = λ k within. ap (λ s. get_or s.lines.items k 0) h ∙ one_less k (omega (arith, within, ap (λ s. length s.lines.items) h));
             waited = omega (arith, done, none, counts, turned.waited, counted, kept.waiting_are, ap (λ s. s.waiting) h);
           }
       | else-was_first w ↦
@@ -113,6 +180,9 @@ invariant_of-self c =
             requests = ap (λ s. s.aged.requests) h ∙ fewer;
             turn = λ yes. absurd (w.if-was_first.false (eqb-true word 1 yes));
             no_turn = λ _. ap (λ s. s.aged.marks) h ∙ c.remove.ensures.marks;
+            mask = ap (λ s. s.mask) h;
+            long = ap (λ s. length s.lines.items) h ∙ length-set q.lines.items slot (c.index.result.now - 1);
+            counted = λ k within. ap (λ s. get_or s.lines.items k 0) h ∙ one_less k (omega (arith, within, ap (λ s. length s.lines.items) h));
             waited = omega (arith, done, one, counts, counted, kept.waiting_are, ap (λ s. s.waiting) h);
           }
     ] in
