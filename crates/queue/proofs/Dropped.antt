@@ -1,9 +1,10 @@
 -- A list without its first items.
 use Rattle.std.proofs.Common.{◌≡◌, ℕ, zero, suc, ◌+◌, ◌-◌, ◌<◌, ◌≤◌, List, [], ◌∷◌, ◌++◌, length, length-append, get_or, take, drop, set, refl, sym, ap, ◌∙◌, append_assoc, arith}
-use Rattle.std.proofs.lemmas.List.{append-nil, length_push, drop_at, drop_more, drop-append-le, get_or-take, get_or_append_left, get_or_default, length-take-le, length-drop, set-append_right, take_all, take_more, take-take, drop-drop}
+use Rattle.std.proofs.lemmas.List.{append-nil, length_push, drop_at, drop_more, drop-append-le, get_or-take, get_or_append_left, get_or_default, length-take-le, length-drop, set-append_right, take_all, take_more, take-take, drop-drop, get_or-drop, take_at, take-append-le}
+use Rattle.std.proofs.Math.Seq.{get_or-append_right, take-append-add}
 use Rattle.std.proofs.lemmas.List.Edits.{length-remove}
 use Rattle.std.specs.List.{remove}
-use Rattle.queue.specs.Aged.{IsMovedUp}
+use Rattle.queue.specs.Aged.{IsMovedUp, IsMovedDown}
 
 remove_none : {X : Type 0} (at : ℕ) → remove {X = X} [] at ≡ []
 remove_none zero = refl
@@ -104,6 +105,42 @@ pub dropped_younger : {X : Type 0} (start at : ℕ) (xs shorter : List X) → sh
 dropped_younger start at xs shorter is exists =
     (omega (arith, ap length is, length-remove xs (start + at) exists), ap (drop start) is ∙ drop-remove start at (start + at) xs refl)
 
+-- the items up to a place have been written over by the next ones, and the others are as they were
+abbrev pub HaveComeDown : {X : Type 0} → List X → List X → ℕ → Type 0
+HaveComeDown xs items at = items ≡ take at (drop 1 xs) ++ drop at xs
+
+pub come_next : {X : Type 0} (xs items : List X) (at : ℕ) (d : X) → at + 1 < length xs → HaveComeDown xs items at → HaveComeDown xs (set items at (get_or items (at + 1) d)) (at + 1)
+come_next xs items at d within items_are =
+    let tail = drop 1 xs in
+    let front = take at tail in
+    let tail_long : length tail ≡ length xs - 1 = length-drop 1 xs in
+    let long : length front ≡ at = length-take-le at tail (omega (arith, tail_long)) in
+    let x = get_or items (at + 1) d in
+    let past : at + 1 - length front ≡ 1 = omega (arith, long) in
+    let here : at - at ≡ 0 = omega arith in
+    let read : x ≡ get_or tail at d =
+    ap (λ ys. get_or ys (at + 1) d) items_are
+    ∙ get_or-append_right front (drop at xs) (at + 1) d (omega (arith, long))
+    ∙ ap (λ k. get_or (drop at xs) k d) past
+    ∙ get_or-drop at xs 1 d
+    ∙ ap (λ k. get_or xs k d) (omega arith)
+    ∙ sym (get_or-drop 1 xs at d) in
+    ap (λ ys. set ys at x) (items_are ∙ ap (λ ys. front ++ ys) (drop_more xs at d (omega arith)))
+    ∙ set-append_right front (get_or xs at d ∷ drop (at + 1) xs) at at x long (omega arith)
+    ∙ ap (λ k. front ++ set (get_or xs at d ∷ drop (at + 1) xs) k x) here
+    ∙ ap (λ y. front ++ y ∷ drop (at + 1) xs) read
+    ∙ sym (append_assoc front (get_or tail at d ∷ []) (drop (at + 1) xs))
+    ∙ ap (λ ys. ys ++ drop (at + 1) xs) (sym (take_more tail at d (omega (arith, tail_long))))
+
+-- all items but the first have come down
+pub come_all : {X : Type 0} (xs items : List X) (at : ℕ) → at + 1 ≡ length xs → HaveComeDown xs items at → take (length xs - 1) items ≡ drop 1 xs
+come_all xs items at last items_are =
+    let tail = drop 1 xs in
+    let tail_long : length tail ≡ length xs - 1 = length-drop 1 xs in
+    let long : length (take at tail) ≡ at = length-take-le at tail (omega (arith, tail_long)) in
+    let n : length xs - 1 ≡ at = omega arith in
+    (λ i. take (n i) (items_are i)) ∙ take_at (take at tail) (drop at xs) at long ∙ take_all at tail (omega (arith, tail_long))
+
 -- the items of a list of which a part has turned
 abbrev pub turned_part : {X : Type 0} → ℕ → ℕ → List X → List X → List X
 turned_part start n xs turn = take start xs ++ (turn ++ drop n (drop start xs))
@@ -133,3 +170,26 @@ dropped_older start at n xs now turn shorter same one exists up written =
       ap length is ∙ long,
       ap (drop (start + 1)) is ∙ moved start at n now turn (drop n (drop start now)) one there up.0 up.1 refl ∙ ap (λ ys. remove (drop start ys) at) same,
     )
+
+-- an item less stands behind the free places, where the younger ones have moved
+pub dropped_down : {X : Type 0} (place n : ℕ) (xs now turn written shorter : List X) → now ≡ xs → place < length xs → n ≡ length xs - place
+    → IsMovedDown (take n (drop place now)) turn → (length (turned_part place n now turn) ≡ length xs → written ≡ turned_part place n now turn)
+    → shorter ≡ take (length xs - 1) written → shorter ≡ remove xs place
+dropped_down place n xs now turn written shorter same exists some down written_is shorter_is =
+    let left = drop place now in
+    let same_long : length now ≡ length xs = ap length same in
+    let left_long : length left ≡ n = omega (arith, length-drop place now, same_long, some) in
+    let whole : take n left ≡ left = take_all n left (omega (arith, left_long)) in
+    let turn_long : length turn ≡ n = omega (arith, down.0, ap length whole, left_long) in
+    let front_long : length (take place now) ≡ place = length-take-le place now (omega (arith, same_long)) in
+    let long : length (turned_part place n now turn) ≡ length xs = length-turned place n now turn (omega (arith, same_long)) down.0 ∙ same_long in
+    let fewer : length (take n left) - 1 ≡ n - 1 = omega (arith, ap length whole, left_long) in
+    let cut : length xs - 1 ≡ length (take place now) + (n - 1) = omega (arith, some, front_long) in
+    let next : place + 1 ≡ suc place = omega arith in
+    let turn_is : take (n - 1) turn ≡ drop (suc place) now =
+    ap (λ k. take k turn) (sym fewer) ∙ down.1 ∙ ap (drop 1) whole ∙ drop-drop 1 place now ∙ ap (λ k. drop k now) next in
+    shorter_is
+    ∙ (λ i. take (cut i) (written_is long i))
+    ∙ take-append-add (take place now) (turn ++ drop n left) (n - 1)
+    ∙ ap (λ ys. take place now ++ ys) (take-append-le (n - 1) turn (drop n left) (omega (arith, turn_long)) ∙ turn_is)
+    ∙ ap (λ ys. take place ys ++ drop (suc place) ys) same

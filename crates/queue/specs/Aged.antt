@@ -1,7 +1,7 @@
 -- Requests by age, and their marks.
 --     AgedRequests      some requests with a mark for each, and the room for them
 --     IsAged inside      the words kept beside the requests are those of them, and there is room in each list
---     IsMovedUp before after      all items but the last have moved up by a place
+--     IsMovedUp before after, IsMovedDown before after      all items but the last have moved up by a place, or all but the first down
 use Rattle.std.specs.Prelude.{◌≡◌, ◌-◌, ◌≤◌, ℕ, List, drop, take, length, vec_capacity}
 use Rattle.sim_base.specs.declared.message.Request.{Request}
 use Rattle.queue.specs.declared.aged.Aged.TheInside.{Inside}
@@ -41,3 +41,7 @@ pub record IsAged (a : Inside) : Type 0 where
 -- all items but the last stand a place further
 abbrev pub IsMovedUp : {X : Type 0} → List X → List X → Type 0
 IsMovedUp before after = (length after ≡ length before) × (drop 1 after ≡ take (length before - 1) before)
+
+-- all items but the first stand a place before
+abbrev pub IsMovedDown : {X : Type 0} → List X → List X → Type 0
+IsMovedDown before after = (length after ≡ length before) × (take (length before - 1) after ≡ drop 1 before)

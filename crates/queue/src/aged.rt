@@ -2,7 +2,7 @@
 
 ghost use Rattle.std.specs.Prelude.{◌≡◌, ◌+◌, ◌-◌, ◌<◌, ◌≤◌, ◌++◌, [], ◌∷◌, IfOk, drop, take, length, remove, slice_index_or, slice_set, vec_len, vec_capacity};
 ghost use Rattle.lane_scan.specs.Marks.{mark};
-ghost use Rattle.queue.specs.Aged.{AgedRequests, IsMovedUp};
+ghost use Rattle.queue.specs.Aged.{AgedRequests, IsMovedUp, IsMovedDown};
 ghost use Rattle.queue.specs.Columns.{bank_column, row_column, kind_column, keys_of, print_column};
 
 use crate::columns::{bank_number, key, line_print, mark};
@@ -36,6 +36,15 @@ fn move_up<T>(items: &mut [T])
     ensures { IsMovedUp items.old items.new }
 {
     items.rotate_right(1);
+}
+
+/// Moves all items but the first one down by a place, over it.
+#[inline(always)]
+fn move_down<T>(items: &mut [T])
+    requires { 0 < length items.old }
+    ensures { IsMovedDown items.old items.new }
+{
+    items.rotate_left(1);
 }
 
 /// Moves all items of each list but the last one up by a place, over it.
@@ -86,6 +95,67 @@ fn move_each_up(
         prints[at] = prints[below];
         at = below;
     }
+}
+
+/// Moves all items of each list but the first one down by a place, over it.
+#[inline(always)]
+fn move_each_down(
+    requests: &mut [Request],
+    banks: &mut [u64],
+    rows: &mut [u64],
+    kinds: &mut [u64],
+    eligible: &mut [u64],
+    keys: &mut [u64],
+    prints: &mut [u8],
+)
+    requires some { 0 < length requests.old }
+    requires banks_long { length banks.old ≡ length requests.old }
+    requires rows_long { length rows.old ≡ length requests.old }
+    requires kinds_long { length kinds.old ≡ length requests.old }
+    requires eligible_long { length eligible.old ≡ length requests.old }
+    requires keys_long { length keys.old ≡ length requests.old }
+    requires prints_long { length prints.old ≡ length requests.old }
+    ensures requests { IsMovedDown requests.old requests.new }
+    ensures banks { IsMovedDown banks.old banks.new }
+    ensures rows { IsMovedDown rows.old rows.new }
+    ensures kinds { IsMovedDown kinds.old kinds.new }
+    ensures eligible { IsMovedDown eligible.old eligible.new }
+    ensures keys { IsMovedDown keys.old keys.new }
+    ensures prints { IsMovedDown prints.old prints.new }
+{
+    if LONG_MOVE < requests.len() {
+        move_down(requests);
+        move_down(banks);
+        move_down(rows);
+        move_down(kinds);
+        move_down(eligible);
+        move_down(keys);
+        move_down(prints);
+        return;
+    }
+    let last = requests.len() - 1;
+    let mut at = 0;
+    while at < last {
+        let above = at + 1;
+        requests[at] = requests[above];
+        banks[at] = banks[above];
+        rows[at] = rows[above];
+        kinds[at] = kinds[above];
+        eligible[at] = eligible[above];
+        keys[at] = keys[above];
+        prints[at] = prints[above];
+        at = above;
+    }
+}
+
+/// Takes out the last item.
+#[inline(always)]
+fn drop_last<T: Drop>(items: &mut Vec<T>)
+    requires { 0 < vec_len items.old }
+    ensures items { items.new.items ≡ take (vec_len items.old - 1) items.old.items }
+    ensures room { vec_capacity items.new ≡ vec_capacity items.old }
+{
+    let _ = items.pop();
 }
 
 /// Requests by age with their columns, behind some free places that those left which went from the older half. Where a request
@@ -287,13 +357,23 @@ impl Aged {
         ensures room { self.new.room ≡ self.old.room }
     {
         let place = self.start + at;
-        let _request = self.requests.remove(place);
-        let _bank = self.banks.remove(place);
-        let _row = self.rows.remove(place);
-        let _kind = self.kinds.remove(place);
-        let _mark = self.eligible.remove(place);
-        let _key = self.keys.remove(place);
-        let _print = self.prints.remove(place);
+        let end = self.requests.len();
+        move_each_down(
+            &mut self.requests[place..end],
+            &mut self.banks[place..end],
+            &mut self.rows[place..end],
+            &mut self.kinds[place..end],
+            &mut self.eligible[place..end],
+            &mut self.keys[place..end],
+            &mut self.prints[place..end],
+        );
+        drop_last(&mut self.requests);
+        drop_last(&mut self.banks);
+        drop_last(&mut self.rows);
+        drop_last(&mut self.kinds);
+        drop_last(&mut self.eligible);
+        drop_last(&mut self.keys);
+        drop_last(&mut self.prints);
     }
 
     /// Takes out the request at a place. The others keep their order.
