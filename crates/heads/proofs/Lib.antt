@@ -1,5 +1,7 @@
 pub mod Positions
 pub mod Entries
 pub mod Searches
+pub mod Keyed
+pub mod Calm
 pub mod OneBank
 pub mod Stood

@@ -5,6 +5,7 @@ ghost use Rattle.heads.specs.declared.entry.BankHeads.{BankHeads};
 ghost use Rattle.heads.specs.Moves.{bank_past};
 
 use crate::entry::{BankHeads, KindHeads, bank_number, number_of};
+use crate::search::Gap;
 use queue::Queue;
 use sim_base::command::Command;
 use sim_base::message::Request;
@@ -15,6 +16,8 @@ use std::alloc::{AllocError, Global};
 #[derive(Drop)]
 pub struct Heads {
     banks: Vec<BankHeads>,
+    /// Of each bank, whether some request for it may wait for an older one of its line.
+    waits: Vec<bool>,
 }
 
 const NONE: BankHeads = BankHeads {
@@ -39,7 +42,7 @@ fn move_past(banks: &mut [BankHeads], slot: usize)
 }
 
 impl Heads {
-    ghost use Rattle.std.specs.Prelude.{ℕ, ◌≡◌, ◌<◌, ◌++◌, ◌∷◌, not, [], List, length, take, remove, slice_index_or, All, Option, None, Some, IfOk};
+    ghost use Rattle.std.specs.Prelude.{ℕ, ◌≡◌, ◌<◌, ◌++◌, ◌∷◌, not, true, [], List, length, take, remove, slice_index_or, slice_set, All, Option, None, Some, IfOk};
     ghost use Rattle.std.specs.Option.{ForSome};
     ghost use Rattle.sim_base.specs.Rules.{bank_of, row_after};
     ghost use Rattle.sim_base.specs.Scheduling.{asks_for_line};
@@ -56,6 +59,7 @@ impl Heads {
     {
         Ok(Heads {
             banks: vec![in alloc; NONE; banks]?,
+            waits: vec![in alloc; false; banks]?,
         })
     }
 
@@ -74,6 +78,37 @@ impl Heads {
         self.banks[bank]
     }
 
+    /// Whether it is known that no request for a bank waits for an older one of its line.
+    fn is_calm(&self, bank: usize) -> bool
+        ensures { result ≡ not (slice_index_or self.now.waits.items bank true) }
+    {
+        match self.waits.get(bank) {
+            Some(waits) => !*waits,
+            None => false,
+        }
+    }
+
+    /// Notes whether some request for a bank may wait for an older one of its line.
+    fn set_waits(&mut self, bank: usize, waits: bool)
+        ensures banks { self.new.banks ≡ self.old.banks }
+        ensures waits { self.new.waits.items ≡ slice_set self.old.waits.items bank waits }
+    {
+        if bank < self.waits.len() {
+            self.waits[bank] = waits;
+        }
+    }
+
+    /// Notes that no request for a bank waits, where none of the bank may be served.
+    fn note_empty(&mut self, bank: usize)
+        requires { bank < bank_count self.old }
+        ensures banks { bank_count self.new ≡ bank_count self.old }
+        ensures stands { (requests : List Request) (open_rows : ℕ → Option ℕ) → StandsFor self.old requests open_rows → StandsFor self.new requests open_rows }
+    {
+        if self.banks[bank].is_empty() {
+            self.set_waits(bank, false);
+        }
+    }
+
     /// Takes note of a request at a place behind all others, which may be served or not.
     fn join(&mut self, request: Request, slot: usize, first_of_line: bool)
         requires { bank_number request.place < bank_count self.old }
@@ -81,9 +116,11 @@ impl Heads {
         ensures stands { (older : List Request) (open_rows : ℕ → Option ℕ) → slot ≡ length older → first_of_line ≡ not (asks_for_line request.place older)
             → StandsFor self.old older open_rows → StandsFor self.new (older ++ request ∷ []) open_rows }
     {
+        let bank = bank_number(request.place);
         if first_of_line {
-            let bank = bank_number(request.place);
             self.banks[bank] = self.banks[bank].joined(request, slot);
+        } else {
+            self.set_waits(bank, true);
         }
     }
 
@@ -108,9 +145,11 @@ impl Heads {
             → queue.now.requests ≡ remove earlier slot → StandsFor self.old earlier open_rows → StandsFor self.new queue.now.requests open_rows }
     {
         let bank = bank_number(request.place);
-        let own = self.banks[bank].after(queue, slot, bank);
+        let calm = self.is_calm(bank);
+        let own = self.banks[bank].after(queue, Gap { slot, bank, calm });
         move_past(&mut self.banks, slot);
         self.banks[bank] = own;
+        self.note_empty(bank);
     }
 
     /// Takes note of a row that has been opened in a bank.
