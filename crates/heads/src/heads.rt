@@ -42,14 +42,14 @@ fn move_past(banks: &mut [BankHeads], slot: usize)
 }
 
 impl Heads {
-    ghost use Rattle.std.specs.Prelude.{ℕ, ◌≡◌, ◌<◌, ◌++◌, ◌∷◌, not, true, [], List, length, take, remove, slice_index_or, slice_set, All, Option, None, Some, IfOk};
+    ghost use Rattle.std.specs.Prelude.{ℕ, ◌≡◌, ◌<◌, ◌++◌, ◌∷◌, not, true, [], List, length, take, remove, slice_index_or, slice_set, All, Option, None, Some, is_some, IfOk, if◌then◌else◌};
     ghost use Rattle.std.specs.Option.{ForSome};
     ghost use Rattle.sim_base.specs.Rules.{bank_of, row_after};
-    ghost use Rattle.sim_base.specs.Scheduling.{asks_for_line};
+    ghost use Rattle.sim_base.specs.Scheduling.{asks_for_line, is_favoured};
     ghost use Rattle.sim_base.specs.declared.message.Request.{Request};
     ghost use Rattle.queue.specs.Columns.{bank_number};
     ghost use Rattle.heads.specs.declared.entry.BankHeads.{BankHeads};
-    ghost use Rattle.heads.specs.Heads.{bank_at, number_of};
+    ghost use Rattle.heads.specs.Heads.{bank_at, number_of, first_place};
     ghost use Rattle.heads.specs.Stands.{bank_count, heads_of, StandsFor, with_row, closed_in, IsAmong};
 
     /// The heads of an empty queue, of so many banks, which are all closed. Nothing else takes memory.
@@ -71,11 +71,44 @@ impl Heads {
     }
 
     /// The heads of a bank, by its number.
+    #[inline(always)]
     pub fn of_bank(&self, bank: usize) -> BankHeads
         requires { bank < bank_count self.now }
         ensures { (d : BankHeads) → result ≡ heads_of self.now bank d }
     {
         self.banks[bank]
+    }
+
+    /// The heads of a bank to write, or to read.
+    #[inline(always)]
+    pub fn of_kind(&self, bank: usize, write: bool) -> KindHeads
+        requires { bank < bank_count self.now }
+        ensures { (d : BankHeads) → result ≡ (if write then (heads_of self.now bank d).writes else (heads_of self.now bank d).reads) }
+    {
+        let heads = &self.banks[bank];
+        if write { heads.writes } else { heads.reads }
+    }
+
+    /// The row that is open in a bank, if one is.
+    #[inline(always)]
+    pub fn row_of(&self, bank: usize) -> Option<u32>
+        requires { bank < bank_count self.now }
+        ensures { (d : BankHeads) → result ≡ (heads_of self.now bank d).row }
+    {
+        self.banks[bank].row
+    }
+
+    /// Whether some request to write, or to read, may be served.
+    #[inline(always)]
+    pub fn has_kind(&self, write: bool) -> bool
+        ensures { (requests : List Request) (open_rows : ℕ → Option ℕ) → StandsFor self.now requests open_rows → result ≡ is_some (first_place (is_favoured write) requests) }
+    {
+        for bank in 0..self.bank_count() {
+            if self.of_kind(bank, write).oldest.is_some() {
+                return true;
+            }
+        }
+        false
     }
 
     /// Whether it is known that no request for a bank waits for an older one of its line.
