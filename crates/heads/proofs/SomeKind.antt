@@ -16,7 +16,7 @@ use Rattle.heads.proofs.Entries.{none_before}
 use Rattle.heads.proofs.Searches.{none_narrower_all, found_none}
 
 -- no heads
-pub no_heads : BankHeads
+abbrev pub no_heads : BankHeads
 no_heads = record { row = None; reads = record { oldest = None; hit = None }; writes = record { oldest = None; hit = None } }
 
 -- the oldest of a kind

@@ -6,7 +6,7 @@ ghost use Rattle.sim_base.specs.Scheduling.{asks_for_line, or_else};
 ghost use Rattle.sim_base.specs.declared.message.Request.{Request};
 ghost use Rattle.queue.specs.Columns.{bank_number};
 ghost use Rattle.heads.specs.Heads.{bank_at, number_of, RowsFit, NoneWaits, AreFirst, AreHeads};
-ghost use Rattle.heads.specs.Moves.{past, kind_past, bank_past};
+ghost use Rattle.heads.specs.Moves.{past};
 
 use crate::search::{Gap, first_from, next_place};
 use queue::Queue;
@@ -110,16 +110,6 @@ impl KindHeads {
         }
     }
 
-    /// Once a request of another bank has left.
-    fn past(self, slot: usize) -> KindHeads
-        ensures { result ≡ kind_past slot self }
-    {
-        KindHeads {
-            oldest: past(slot, self.oldest),
-            hit: past(slot, self.hit),
-        }
-    }
-
     /// Where no row is open.
     fn without_hit(self) -> KindHeads
         ensures { result ≡ record self { hit = None } }
@@ -176,17 +166,6 @@ impl BankHeads {
                 reads: self.reads.joined(slot, hit),
                 ..self
             }
-        }
-    }
-
-    /// Once a request of another bank has left its place in the queue.
-    pub(crate) fn past(self, slot: usize) -> BankHeads
-        ensures { result ≡ bank_past slot self }
-    {
-        BankHeads {
-            row: self.row,
-            reads: self.reads.past(slot),
-            writes: self.writes.past(slot),
         }
     }
 

@@ -2,7 +2,7 @@
 
 ghost use Rattle.std.specs.Prelude.{◌≡◌, ◌<◌, ℕ, length, slice_index_or};
 ghost use Rattle.heads.specs.declared.entry.BankHeads.{BankHeads};
-ghost use Rattle.heads.specs.Moves.{bank_past};
+ghost use Rattle.heads.specs.Moves.{past, kind_past, bank_past};
 
 use crate::entry::{BankHeads, KindHeads, bank_number, number_of};
 use crate::search::Gap;
@@ -32,12 +32,34 @@ const NONE: BankHeads = BankHeads {
     },
 };
 
+/// Moves a head past a place that a request has left.
+#[inline(always)]
+fn move_head(head: &mut Option<usize>, slot: usize)
+    ensures { head.new ≡ past slot head.old }
+{
+    if let Some(place) = head {
+        if slot < *place {
+            *place -= 1;
+        }
+    }
+}
+
+/// Moves the heads of a kind past a place that a request has left.
+#[inline(always)]
+fn move_kind(heads: &mut KindHeads, slot: usize)
+    ensures { heads.new ≡ kind_past slot heads.old }
+{
+    move_head(&mut heads.oldest, slot);
+    move_head(&mut heads.hit, slot);
+}
+
 /// Moves the heads past a place, once a request has left it.
 fn move_past(banks: &mut [BankHeads], slot: usize)
     ensures { (k : ℕ) (d : BankHeads) → k < length banks.old → slice_index_or banks.new k d ≡ bank_past slot (slice_index_or banks.old k d) }
 {
     for heads in banks.iter_mut() {
-        *heads = heads.past(slot);
+        move_kind(&mut heads.reads, slot);
+        move_kind(&mut heads.writes, slot);
     }
 }
 
