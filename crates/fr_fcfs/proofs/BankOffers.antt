@@ -43,7 +43,7 @@ bank_is ranks r bank places same =
     λ i. record { rank = rank i; group = group i; bank = number_in_group i }
 
 -- a request of a bank asks for its open row
-row_hit_is : (history : List CommandRow) (ranks : ℕ) (r : Request) (bank : ℕ) (row : Option ℕ) → IsInBanks ranks r → row ≡ open_row (bank_at bank) history
+pub row_hit_is : (history : List CommandRow) (ranks : ℕ) (r : Request) (bank : ℕ) (row : Option ℕ) → IsInBanks ranks r → row ≡ open_row (bank_at bank) history
     → eqb (bank_number r.place) bank ≡ true → is_hit history r ≡ is_row r.place.row row
 row_hit_is history ranks r bank row places row_is here =
     hit_is history r ∙ ap (λ b. is_row r.place.row (open_row b history)) (bank_is ranks r bank places here) ∙ ap (is_row r.place.row) (sym row_is)
@@ -52,7 +52,7 @@ column_kind : (w : Bool) (r : Request) → kind_of (cond w (Wr (bank_in r.place)
 column_kind true r = refl
 column_kind false r = refl
 
-hit_kind : (history : List CommandRow) (r : Request) → is_hit history r ≡ true → kind_of (needed history r) ≡ cond r.write kind.Wr kind.Rd
+pub hit_kind : (history : List CommandRow) (r : Request) → is_hit history r ≡ true → kind_of (needed history r) ≡ cond r.write kind.Wr kind.Rd
 unfolding needed
 hit_kind history r hit = ap kind_of (column_needed (open_row (bank_in r.place) history) r hit) ∙ column_kind r.write r
 
@@ -70,7 +70,7 @@ row_kind_at (Some row) r other = elim (cases_Bool (eqb row r.place.row)) [
     column_any false r = refl
 
 -- when what a request of a bank needs is legal
-legal_then : (s : Config) (history : List CommandRow) (ranks : ℕ) (r : Request) (bank : ℕ) (k : Kind) (ready : ℕ) → IsInBanks ranks r → IsReadyFrom s history (bank_at bank) k ready
+pub legal_then : (s : Config) (history : List CommandRow) (ranks : ℕ) (r : Request) (bank : ℕ) (k : Kind) (ready : ℕ) → IsInBanks ranks r → IsReadyFrom s history (bank_at bank) k ready
     → eqb (bank_number r.place) bank ≡ true → kind_of (needed history r) ≡ k → (cycle : ℕ) → is_legal s history cycle (needed history r) ≡ leb ready cycle
 unfolding needed
 legal_then s history ranks r bank k ready places from here kind_is =

@@ -83,7 +83,7 @@ bound p xs k is =
       | inr over ↦ let none : None ≡ Some k = sym (cond-false (ltb place (length xs)) (Some place) None (le-ltb place (length xs) over)) ∙ is in cc
     ]
 
-within : (test : Request → Bool) (requests : List Request) (o : Option ℕ) → o ≡ first_place test requests → IfSome o (λ k. k < length requests)
+pub within : (test : Request → Bool) (requests : List Request) (o : Option ℕ) → o ≡ first_place test requests → IfSome o (λ k. k < length requests)
 within test requests None is = tt
 within test requests (Some k) is = let inside = bound (passes test) (entries requests) k (sym is) in omega (arith, length-entries requests)
 

@@ -5,6 +5,7 @@ pub mod choice;
 mod kinds;
 mod needs;
 mod offers;
+mod one_kind;
 
 pub use heads::Heads as Scratch;
 

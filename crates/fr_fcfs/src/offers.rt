@@ -32,7 +32,8 @@ pub(crate) struct Offer {
 }
 
 /// Whether an offer goes before another: it is for an earlier cycle, or in the same one a row hit, or else an older request.
-fn goes_before(a: Offer, b: Offer) -> bool
+#[inline]
+pub(crate) fn goes_before(a: Offer, b: Offer) -> bool
     ensures { result ≡ goes_before a b }
 {
     if a.cycle != b.cycle {
@@ -77,7 +78,8 @@ fn earlier(a: Option<usize>, b: Option<usize>) -> Option<usize>
 }
 
 /// From which cycle on a command of a kind may be issued to a bank.
-fn ready(banks: &Banks, bank: usize, kind: Kind) -> Cycle
+#[inline]
+pub(crate) fn ready(banks: &Banks, bank: usize, kind: Kind) -> Cycle
     requires kind { IsTrue (names_bank kind) }
     requires bank { bank < 16 * rank_count banks.now }
     ensures { (s : Config) (history : List CommandRow) → BanksStandFor banks.now s history → IsReadyFrom s history (bank_at bank) kind result }
@@ -123,7 +125,8 @@ fn hit_offer(
 }
 
 /// What closes a bank in which a row is open, and opens one in which none is.
-fn row_kind(row: Option<u32>) -> Kind
+#[inline]
+pub(crate) fn row_kind(row: Option<u32>) -> Kind
     ensures kind { result ≡ row_kind row }
     ensures bank { IsTrue (names_bank result) }
 {

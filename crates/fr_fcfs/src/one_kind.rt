@@ -1,0 +1,128 @@
+//! The offer that goes first where only requests to write may be served, or only requests to read.
+
+ghost use Rattle.std.specs.Prelude.{◌≡◌, ◌<◌, ◌≤◌, ◌*◌, ℕ, List, Option, All, IsTrue, length, IfSome, if◌then◌else◌};
+ghost use Rattle.sim_base.specs.Rules.{open_row};
+ghost use Rattle.sim_base.specs.declared.config.Config.{Config};
+ghost use Rattle.sim_base.specs.declared.command.CommandRow.{CommandRow};
+ghost use Rattle.sim_base.specs.declared.message.Request.{Request};
+ghost use Rattle.bank_ready.specs.Words.{names_bank};
+ghost use Rattle.bank_ready.specs.Stands.{rank_count, StandsFor as BanksStandFor};
+ghost use Rattle.heads.specs.declared.entry.BankHeads.{BankHeads};
+ghost use Rattle.heads.specs.Heads.{bank_at};
+ghost use Rattle.heads.specs.Moves.{earlier};
+ghost use Rattle.heads.specs.Stands.{bank_count, heads_of, StandsFor as HeadsStandFor};
+ghost use Rattle.fr_fcfs.specs.Requests.{IsInBanks, candidates_of};
+ghost use Rattle.fr_fcfs.specs.Offers.{only, going, column_kind, goes_before, offer_from, hits_in, rows_in, IsBestSoFar, AreOf, IsFirstReady};
+
+use crate::offers::{Offer, goes_before, ready, row_kind};
+use bank_ready::banks::Banks;
+use heads::{Heads, KindHeads};
+use queue::Queue;
+use sim_base::command::Kind;
+use sim_base::message::Cycle;
+
+/// The heads of a bank to write, or to read.
+#[inline]
+fn heads_of_kind(heads: &Heads, bank: usize, write: bool) -> KindHeads
+    requires { bank < bank_count heads.now }
+    ensures { (d : BankHeads) → result ≡ (if write then (heads_of heads.now bank d).writes else (heads_of heads.now bank d).reads) }
+{
+    let heads = heads.of_bank(bank);
+    if write { heads.writes } else { heads.reads }
+}
+
+/// The row that is open in a bank.
+#[inline]
+fn row_of(heads: &Heads, bank: usize) -> Option<u32>
+    requires { bank < bank_count heads.now }
+    ensures { (d : BankHeads) → result ≡ (heads_of heads.now bank d).row }
+{
+    heads.of_bank(bank).row
+}
+
+/// The command that moves data.
+#[inline]
+fn column_kind(write: bool) -> Kind
+    ensures kind { result ≡ column_kind write }
+    ensures bank { IsTrue (names_bank result) }
+{
+    if write { Kind::Wr } else { Kind::Rd }
+}
+
+/// The better of the best offer so far and one of a request whose need may be issued from a cycle on.
+#[inline]
+fn improved(best: Offer, ready: Cycle, hit: bool, slot: usize, now: Cycle) -> Offer
+    ensures { result ≡ (if goes_before (offer_from now ready hit slot) best then offer_from now ready hit slot else best) }
+{
+    if best.cycle < ready {
+        return best;
+    }
+    let cycle = now.max(ready);
+    let offer = Offer { cycle, hit, slot };
+    if goes_before(offer, best) {
+        offer
+    } else {
+        best
+    }
+}
+
+/// The best offer so far, with one bank more. A row hit keeps the bank from being closed.
+#[inline]
+fn with_bank(
+    best: Offer,
+    heads: &Heads,
+    bank: usize,
+    write: bool,
+    banks: &Banks,
+    now: Cycle,
+) -> Offer
+    requires heads { bank < bank_count heads.now }
+    requires banks { bank < 16 * rank_count banks.now }
+    ensures { (s : Config) (history : List CommandRow) (requests : List Request) (hits rows : ℕ → Option ℕ) → BanksStandFor banks.now s history
+        → HeadsStandFor heads.now requests (λ bank. open_row (bank_at bank) history) → All (IsInBanks (rank_count banks.now)) requests
+        → IsBestSoFar (length requests) now hits rows best
+        → IsBestSoFar (length requests) now (λ cycle. earlier (hits cycle) (hits_in s history requests (only write) bank cycle))
+        (λ cycle. earlier (rows cycle) (rows_in s history requests (only write) bank cycle)) result }
+{
+    let heads_of_kind = heads_of_kind(heads, bank, write);
+    let Some(oldest) = heads_of_kind.oldest else {
+        return best;
+    };
+    match heads_of_kind.hit {
+        Some(slot) => {
+            let ready = ready(banks, bank, column_kind(write));
+            improved(best, ready, true, slot, now)
+        }
+        None => {
+            let ready = ready(banks, bank, row_kind(row_of(heads, bank)));
+            improved(best, ready, false, oldest, now)
+        }
+    }
+}
+
+/// The offer that goes first of all banks, from now on, where only requests to write may be served, or only requests to read.
+pub(crate) fn first_of_kind(
+    queue: &Queue,
+    heads: &Heads,
+    write: bool,
+    banks: &Banks,
+    now: Cycle,
+) -> Option<Offer>
+    requires places { All (IsInBanks (rank_count banks.now)) queue.now.requests }
+    requires banks { bank_count heads.now ≡ 16 * rank_count banks.now }
+    ensures within { IfSome result (λ o. o.slot < length queue.now.requests) }
+    ensures first { (s : Config) (history : List CommandRow) → BanksStandFor banks.now s history
+        → HeadsStandFor heads.now queue.now.requests (λ bank. open_row (bank_at bank) history) → candidates_of s queue.now ≡ going (only write) queue.now.requests
+        → IsFirstReady s history queue.now now result }
+{
+    let room = queue.len();
+    let mut best = Offer {
+        cycle: Cycle::MAX,
+        hit: false,
+        slot: room,
+    };
+    for bank in 0..heads.bank_count() {
+        best = with_bank(best, heads, bank, write, banks, now);
+    }
+    if best.slot < room { Some(best) } else { None }
+}
