@@ -13,10 +13,9 @@ use Rattle.heads.specs.declared.entry.BankHeads.{BankHeads}
 use Rattle.heads.specs.Heads.{first_place, asks, AreHeads}
 use Rattle.heads.specs.Moves.{earlier}
 use Rattle.heads.proofs.Searches.{none_everywhere, none_narrower_all}
-use Rattle.fr_fcfs.specs.declared.kinds.Kinds.{Kinds}
 use Rattle.fr_fcfs.specs.declared.offers.Offer.{Offer}
 use Rattle.fr_fcfs.specs.Requests.{candidates_of}
-use Rattle.fr_fcfs.specs.Offers.{going, hits_now, rows_now, head_of, IsAt, IsBest, IsFirstReady}
+use Rattle.fr_fcfs.specs.Offers.{Kinds, going, hits_now, rows_now, head_of, IsAt, IsBest, IsFirstReady}
 use Rattle.fr_fcfs.proofs.Firsts.{same_among, either_among, find_going}
 
 -- the first request of the banks below a number that passes a test

@@ -1,24 +1,23 @@
 -- What one bank offers where only requests to write may be served, or only requests to read.
-use Rattle.std.proofs.Common.{◌≡◌, ℕ, ◌<◌, Bool, true, false, not, cond, ◌&&◌, eqb, leb, List, length, Option, Some, None, refl, sym, ap, subst, ◌∙◌}
+use Rattle.std.proofs.Common.{◌≡◌, ℕ, Bool, true, false, not, cond, ◌&&◌, eqb, leb, List, Some, None, refl, sym, ap, ◌∙◌}
 use Rattle.std.specs.List.{All}
-use Rattle.std.specs.Option.{is_some, IfSome}
+use Rattle.std.specs.Option.{is_some}
 use Rattle.sim_base.specs.declared.config.Config.{Config}
 use Rattle.sim_base.specs.declared.command.CommandRow.{CommandRow}
-use Rattle.sim_base.specs.declared.command.Kind.TheVariants as kind
 use Rattle.sim_base.specs.declared.message.Request.{Request}
-use Rattle.sim_base.specs.Rules.{is_legal, open_row, is_row, kind_of}
+use Rattle.sim_base.specs.Rules.{is_legal, open_row, is_row}
 use Rattle.sim_base.specs.Scheduling.{needed, ready_hit}
 use Rattle.queue.specs.Columns.{bank_number}
 use Rattle.heads.specs.declared.entry.BankHeads.{BankHeads}
 use Rattle.heads.specs.declared.entry.KindHeads.{KindHeads}
 use Rattle.heads.specs.Heads.{bank_at, asks, hits, first_place, AreFirst, AreHeads}
-use Rattle.heads.proofs.Searches.{none_everywhere, none_narrower_all}
+use Rattle.heads.proofs.Searches.{none_narrower_all}
 use Rattle.fr_fcfs.specs.Requests.{IsInBanks, is_hit}
-use Rattle.fr_fcfs.specs.Offers.{is_of, only, column_kind, hit_head, oldest_head, hits_now, rows_now, hits_in, rows_in, offer_from, row_kind, IsReadyFrom, IsBestOffer}
+use Rattle.fr_fcfs.specs.Offers.{is_of, only, column_kind, hit_head, oldest_head, hits_now, hits_in, rows_in, offer_from, row_kind, IsReadyFrom, IsBestOffer}
 use Rattle.fr_fcfs.proofs.Booleans.{and_false, and_true}
-use Rattle.fr_fcfs.proofs.Firsts.{same_among, same_unless, place_if}
+use Rattle.fr_fcfs.proofs.Firsts.{same_among, place_if}
 use Rattle.fr_fcfs.proofs.Bests.{first_alone, hit_offer_is, row_offer_is, best_same}
-use Rattle.fr_fcfs.proofs.BankOffers.{row_hit_is, hit_kind, legal_then, rows_are, rows_withheld}
+use Rattle.fr_fcfs.proofs.BankOffers.{row_hit_is, hit_kind, legal_then, rows_are, rows_withheld, no_hits}
 
 -- the heads of a bank to write, or to read
 abbrev pub kind_heads : Bool → BankHeads → KindHeads
@@ -50,25 +49,6 @@ none_of_kind requests write bank h test first none =
     sym
     (none_narrower_all (λ r. eqb (bank_number r.place) bank && (is_of (only write) r && test r)) (asks bank write) requests
     (λ r off. none_test (eqb (bank_number r.place) bank) r.write write (test r) off) (sym (sym (kind_first write requests bank h first).oldest_is ∙ none)))
-
-no_hit_test : (b w k hit row_hit legal : Bool) → (b ≡ true → hit ≡ row_hit) → ((b && cond k w (not w)) && row_hit) ≡ false → (b && (cond w k (not k) && (hit && legal))) ≡ false
-no_hit_test false w k hit row_hit legal same off = refl
-no_hit_test true true true hit row_hit legal same off = ap (λ t. t && legal) (same refl ∙ off)
-no_hit_test true true false hit row_hit legal same off = refl
-no_hit_test true false true hit row_hit legal same off = refl
-no_hit_test true false false hit row_hit legal same off = ap (λ t. t && legal) (same refl ∙ off)
-
--- a bank where no request of the kind asks for the open row
-no_hits : (s : Config) (history : List CommandRow) (ranks : ℕ) (requests : List Request) (write : Bool) (bank : ℕ) (h : BankHeads) → All (IsInBanks ranks) requests → AreHeads requests bank h
-    → h.row ≡ open_row (bank_at bank) history → (kind_heads write h).hit ≡ None → (cycle : ℕ) → hits_in s history requests (only write) bank cycle ≡ None
-unfolding ready_hit
-no_hits s history ranks requests write bank h places first row_is none cycle =
-    same_unless (λ r. eqb (bank_number r.place) bank && hits_now s history (only write) cycle r) (λ r. false) (hits bank write h.row) (IsInBanks ranks) requests
-    (sym (kind_first write requests bank h first).hit_is ∙ none) places
-    (λ r in_banks off.
-    no_hit_test (eqb (bank_number r.place) bank) r.write write (is_hit history r) (is_row r.place.row h.row) (is_legal s history cycle (needed history r))
-    (row_hit_is history ranks r bank h.row in_banks row_is) off)
-    ∙ sym (none_everywhere (λ r. false) requests (λ r. refl))
 
 hit_test : (b w k ready hit row_hit legal : Bool) → (b ≡ true → hit ≡ row_hit) → (b ≡ true → w ≡ k → hit ≡ true → legal ≡ ready)
     → (b && (cond w k (not k) && (hit && legal))) ≡ (ready && ((b && cond k w (not w)) && row_hit))
@@ -122,7 +102,7 @@ pub kind_row : (s : Config) (history : List CommandRow) (ranks : ℕ) (requests 
     → IsBestOffer now (hits_in s history requests (only write) bank) (rows_in s history requests (only write) bank) (offer_from now ready false slot)
 kind_row s history ranks requests write bank h ready now slot places first row_is from none oldest =
     best_same now (λ c. None) (λ c. cond (leb ready c) (Some slot) None) (hits_in s history requests (only write) bank) (rows_in s history requests (only write) bank)
-    (Some (offer_from now ready false slot)) (λ c late. sym (no_hits s history ranks requests write bank h places first row_is none c))
+    (Some (offer_from now ready false slot)) (λ c late. sym (no_hits s history ranks requests (only write) bank h places first row_is (hit_only write h ∙ none) c))
     (λ c late.
     sym
     (rows_are s history ranks requests (only write) bank h ready places first row_is from (ap is_some (hit_only write h ∙ none)) c

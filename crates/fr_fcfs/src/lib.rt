@@ -1,6 +1,7 @@
 //! First ready, first come, first served: the command of the next cycle, and when there is one.
 #![tactic(auto)]
 
+mod all_kinds;
 pub mod choice;
 mod kinds;
 mod needs;

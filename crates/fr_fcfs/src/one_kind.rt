@@ -12,9 +12,9 @@ ghost use Rattle.heads.specs.Heads.{bank_at};
 ghost use Rattle.heads.specs.Moves.{earlier};
 ghost use Rattle.heads.specs.Stands.{bank_count, heads_of, StandsFor as HeadsStandFor};
 ghost use Rattle.fr_fcfs.specs.Requests.{IsInBanks, candidates_of};
-ghost use Rattle.fr_fcfs.specs.Offers.{only, going, column_kind, goes_before, offer_from, hits_in, rows_in, IsBestSoFar, AreOf, IsFirstReady};
+ghost use Rattle.fr_fcfs.specs.Offers.{only, going, column_kind, hits_in, rows_in, IsBestSoFar, IsFirstReady};
 
-use crate::offers::{Offer, goes_before, ready, row_kind};
+use crate::offers::{Offer, improved, ready, row_kind};
 use bank_ready::banks::Banks;
 use heads::{Heads, KindHeads};
 use queue::Queue;
@@ -47,23 +47,6 @@ fn column_kind(write: bool) -> Kind
     ensures bank { IsTrue (names_bank result) }
 {
     if write { Kind::Wr } else { Kind::Rd }
-}
-
-/// The better of the best offer so far and one of a request whose need may be issued from a cycle on.
-#[inline]
-fn improved(best: Offer, ready: Cycle, hit: bool, slot: usize, now: Cycle) -> Offer
-    ensures { result ≡ (if goes_before (offer_from now ready hit slot) best then offer_from now ready hit slot else best) }
-{
-    if best.cycle < ready {
-        return best;
-    }
-    let cycle = now.max(ready);
-    let offer = Offer { cycle, hit, slot };
-    if goes_before(offer, best) {
-        offer
-    } else {
-        best
-    }
 }
 
 /// The best offer so far, with one bank more. A row hit keeps the bank from being closed.

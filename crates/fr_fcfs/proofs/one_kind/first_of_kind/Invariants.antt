@@ -1,5 +1,4 @@
 use Rattle.std.proofs.Common.{length, List}
-use Rattle.std.specs.List.{All}
 use Rattle.sim_base.specs.Rules.{open_row}
 use Rattle.sim_base.specs.declared.config.Config.{Config}
 use Rattle.sim_base.specs.declared.command.CommandRow.{CommandRow}

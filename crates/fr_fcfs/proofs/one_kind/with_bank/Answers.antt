@@ -1,10 +1,8 @@
 -- One bank more.
-use Rattle.std.proofs.Common.{◌≡◌, ◌<◌, ◌≤◌, ℕ, true, false, length, List, Option, Some, None, sym, ap, subst, ◌∙◌, arith}
-use Rattle.std.specs.List.{All}
+use Rattle.std.proofs.Common.{◌≡◌, ◌<◌, true, false, length, Some, None, sym, ap, subst, ◌∙◌, arith}
 use Rattle.std.specs.Option.{IfSome}
-use Rattle.sim_base.specs.declared.message.Request.{Request}
 use Rattle.heads.specs.declared.entry.BankHeads.{BankHeads}
-use Rattle.heads.specs.Heads.{bank_at, AreHeads}
+use Rattle.heads.specs.Heads.{bank_at}
 use Rattle.heads.specs.Moves.{earlier}
 use Rattle.heads.specs.Stands.{heads_of}
 use Rattle.fr_fcfs.specs.Offers.{only, hits_in, rows_in, row_kind, offer_from, IsBestSoFar, IsReadyFrom}
