@@ -1,3 +1,4 @@
 pub mod Ready
 pub mod Words
+pub mod Noted
 pub mod Stands
