@@ -15,7 +15,7 @@ use crate::all_kinds::first_of_all;
 use crate::kinds::kind_that_goes;
 use crate::one_kind::first_of_kind;
 use bank_ready::banks::Banks;
-use heads::{Heads, bank_at};
+use heads::Heads;
 use queue::Queue;
 use sim_base::command::Kind;
 use sim_base::message::Cycle;
@@ -69,7 +69,7 @@ pub(crate) fn ready(banks: &Banks, bank: usize, kind: Kind) -> Cycle
     requires bank { bank < 16 * rank_count banks.now }
     ensures { (s : Config) (history : List CommandRow) → BanksStandFor banks.now s history → IsReadyFrom s history (bank_at bank) kind result }
 {
-    banks.earliest(kind, bank_at(bank))
+    banks.earliest_in(kind, bank)
 }
 
 /// What closes a bank in which a row is open, and opens one in which none is.
