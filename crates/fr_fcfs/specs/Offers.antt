@@ -1,5 +1,4 @@
 -- What banks offer for the heads of their queues.
---     head_of write read write      the head to write, or to read
 --     Kinds      the kinds that go
 --     is_of kinds r      a request is of the kinds that go
 --     only write      requests to write go alone, or requests to read
@@ -32,10 +31,6 @@ use Rattle.fr_fcfs.specs.Requests.{IsLegalFrom, candidates_of}
 pub record Kinds : Type 0 where
   pub reads : Bool
   pub writes : Bool
-
--- the head to write, or to read
-abbrev pub head_of : Bool → Option ℕ → Option ℕ → Option ℕ
-head_of write reads writes = if write then writes else reads
 
 -- a request is of the kinds that go
 abbrev pub is_of : Kinds → Request → Bool

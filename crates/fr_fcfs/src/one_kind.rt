@@ -7,38 +7,18 @@ ghost use Rattle.sim_base.specs.declared.command.CommandRow.{CommandRow};
 ghost use Rattle.sim_base.specs.declared.message.Request.{Request};
 ghost use Rattle.bank_ready.specs.Words.{names_bank};
 ghost use Rattle.bank_ready.specs.Stands.{rank_count, StandsFor as BanksStandFor};
-ghost use Rattle.heads.specs.declared.entry.BankHeads.{BankHeads};
 ghost use Rattle.heads.specs.Heads.{bank_at};
 ghost use Rattle.heads.specs.Moves.{earlier};
-ghost use Rattle.heads.specs.Stands.{bank_count, heads_of, StandsFor as HeadsStandFor};
+ghost use Rattle.heads.specs.Stands.{bank_count, StandsFor as HeadsStandFor};
 ghost use Rattle.fr_fcfs.specs.Requests.{IsInBanks, candidates_of};
 ghost use Rattle.fr_fcfs.specs.Offers.{only, going, column_kind, hits_in, rows_in, IsBestSoFar, IsFirstReady};
 
 use crate::offers::{Offer, improved, ready, row_kind};
 use bank_ready::banks::Banks;
-use heads::{Heads, KindHeads};
+use heads::Heads;
 use queue::Queue;
 use sim_base::command::Kind;
 use sim_base::message::Cycle;
-
-/// The heads of a bank to write, or to read.
-#[inline]
-fn heads_of_kind(heads: &Heads, bank: usize, write: bool) -> KindHeads
-    requires { bank < bank_count heads.now }
-    ensures { (d : BankHeads) → result ≡ (if write then (heads_of heads.now bank d).writes else (heads_of heads.now bank d).reads) }
-{
-    let heads = heads.of_bank(bank);
-    if write { heads.writes } else { heads.reads }
-}
-
-/// The row that is open in a bank.
-#[inline]
-fn row_of(heads: &Heads, bank: usize) -> Option<u32>
-    requires { bank < bank_count heads.now }
-    ensures { (d : BankHeads) → result ≡ (heads_of heads.now bank d).row }
-{
-    heads.of_bank(bank).row
-}
 
 /// The command that moves data.
 #[inline]
@@ -67,17 +47,17 @@ fn with_bank(
         → IsBestSoFar (length requests) now (λ cycle. earlier (hits cycle) (hits_in s history requests (only write) bank cycle))
         (λ cycle. earlier (rows cycle) (rows_in s history requests (only write) bank cycle)) result }
 {
-    let heads_of_kind = heads_of_kind(heads, bank, write);
-    let Some(oldest) = heads_of_kind.oldest else {
+    let own = heads.of_kind(bank, write);
+    let Some(oldest) = own.oldest else {
         return best;
     };
-    match heads_of_kind.hit {
+    match own.hit {
         Some(slot) => {
             let ready = ready(banks, bank, column_kind(write));
             improved(best, ready, true, slot, now)
         }
         None => {
-            let ready = ready(banks, bank, row_kind(row_of(heads, bank)));
+            let ready = ready(banks, bank, row_kind(heads.row_of(bank)));
             improved(best, ready, false, oldest, now)
         }
     }

@@ -19,7 +19,7 @@ pub returns-in_default : goal.returns-in_default
 returns-in_default c s history requests hits rows stands heads places so_far =
     let h = heads_of c.args.heads.now c.args.bank nowhere in
     let first = heads.heads_are c.args.bank nowhere c.requires.heads in
-    let none : (kind_heads c.args.write h).oldest ≡ None = sym (ap (λ x. x.oldest) (c.heads_of_kind-heads_of_kind.ensures nowhere)) ∙ c.in_default.is in
+    let none : (kind_heads c.args.write h).oldest ≡ None = sym (ap (λ x. x.oldest) (c.of_kind-own.ensures nowhere)) ∙ c.in_default.is in
     none_more (length requests) c.args.now hits rows (hits_in s history requests (only c.args.write) c.args.bank) (rows_in s history requests (only c.args.write) c.args.bank) c.args.best
     (λ cycle late. (kind_none s history requests c.args.write c.args.bank h first none cycle).0) (λ cycle late. (kind_none s history requests c.args.write c.args.bank h first none cycle).1) so_far
 
@@ -32,7 +32,7 @@ returns-in-Some-hit c s history requests hits rows stands heads places so_far =
     let slot = c.in-Some-hit.slot in
     let h = heads_of c.args.heads.now bank nowhere in
     let first = heads.heads_are bank nowhere c.requires.heads in
-    let hit : (kind_heads write h).hit ≡ Some slot = sym (ap (λ x. x.hit) (c.heads_of_kind-heads_of_kind.ensures nowhere)) ∙ c.in-Some-hit.is in
+    let hit : (kind_heads write h).hit ≡ Some slot = sym (ap (λ x. x.hit) (c.of_kind-own.ensures nowhere)) ∙ c.in-Some-hit.is in
     let inside : slot < length requests =
     subst (λ o. IfSome o (λ k. k < length requests)) hit (within _ requests (kind_heads write h).hit (kind_first write requests bank h first).hit_is) in
     let from = subst (λ k. IsReadyFrom s history (bank_at bank) k ready) c.column_kind.ensures.kind (c.ready-ready.ensures s history stands) in
@@ -49,8 +49,8 @@ returns-in-None c s history requests hits rows stands heads places so_far =
     let slot = c.in-Some.oldest in
     let h = heads_of c.args.heads.now bank nowhere in
     let first = heads.heads_are bank nowhere c.requires.heads in
-    let none : (kind_heads write h).hit ≡ None = sym (ap (λ x. x.hit) (c.heads_of_kind-heads_of_kind.ensures nowhere)) ∙ c.in-None.is in
-    let oldest : (kind_heads write h).oldest ≡ Some slot = sym (ap (λ x. x.oldest) (c.heads_of_kind-heads_of_kind.ensures nowhere)) ∙ c.in-Some.is in
+    let none : (kind_heads write h).hit ≡ None = sym (ap (λ x. x.hit) (c.of_kind-own.ensures nowhere)) ∙ c.in-None.is in
+    let oldest : (kind_heads write h).oldest ≡ Some slot = sym (ap (λ x. x.oldest) (c.of_kind-own.ensures nowhere)) ∙ c.in-Some.is in
     let inside : slot < length requests =
     subst (λ o. IfSome o (λ k. k < length requests)) oldest (within _ requests (kind_heads write h).oldest (kind_first write requests bank h first).oldest_is) in
     let from = subst (λ k. IsReadyFrom s history (bank_at bank) k ready) (c.row_kind.ensures.kind ∙ ap row_kind (c.row_of.ensures nowhere)) (c.ready-ready-in-None.ensures s history stands) in
