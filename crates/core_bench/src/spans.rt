@@ -1,4 +1,4 @@
-//! A core that is run span by span.
+//! A core that is run span by span, and then anew in one span.
 
 use crate::traces::sparse_trace;
 use anyhow::{Context, Result};
@@ -47,14 +47,18 @@ nREFI = 0
 /// Cycles of a span.
 const SPAN: u64 = 2000;
 
-/// What a core did, and how long the spans took.
+/// What a core did over a trace, span by span and then in one span.
 #[derive(Clone, Copy)]
 pub struct Did {
     pub retired: u64,
     pub cycles: Cycle,
     pub spans: u64,
-    /// Microseconds in the runs, the test of the messages included.
+    /// Microseconds in the spans, the test of the messages included.
     pub micros: u64,
+    /// What was retired in one span, in so many cycles and so many microseconds.
+    pub retired_at_once: u64,
+    pub cycles_at_once: Cycle,
+    pub micros_at_once: u64,
 }
 
 /// The reply and the credit to each request, all of which arrive in a cycle.
@@ -85,7 +89,11 @@ fn answers(
     Ok(answers)
 }
 
-/// Runs a core until it has retired a trace of so many lines.
+fn micros_since(rt: &impl Clock, start: Instant) -> Result<u64> {
+    Ok(u64::try_from(start.elapsed(rt)?.as_micros()).unwrap_or(u64::MAX))
+}
+
+/// Runs a core until it has retired a trace of so many lines, span by span, and then one anew over all these cycles, in one span.
 pub fn run_spans(rt: &impl Clock, alloc: Global, lines: u64) -> Result<Did> {
     let config = read_config(alloc, MACHINE.as_bytes())?;
     let trace = sparse_trace(alloc, lines)?;
@@ -111,11 +119,16 @@ pub fn run_spans(rt: &impl Clock, alloc: Global, lines: u64) -> Result<Did> {
         }
         inbox = answers(alloc, &config, &messages, until)?;
     }
-    let micros = u64::try_from(start.elapsed(rt)?.as_micros()).unwrap_or(u64::MAX);
+    let micros = micros_since(rt, start)?;
+    let start = Instant::now(rt)?;
+    let again = core.replay(alloc)?;
     Ok(Did {
         retired: core.stats().retired,
         cycles: core.now(),
         spans,
         micros,
+        retired_at_once: again.core.stats().retired,
+        cycles_at_once: again.core.now(),
+        micros_at_once: micros_since(rt, start)?,
     })
 }
