@@ -1,5 +1,5 @@
 -- What the table of rules says of each pair of kinds, as far as commands are noted without a look at it.
-use Rattle.std.proofs.Common.{◌≡◌, ℕ, ◌+◌, ◌≤◌, true, Option, Some, None, refl, ap, arith}
+use Rattle.std.proofs.Common.{◌≡◌, ℕ, ◌+◌, ◌≤◌, true, Option, Some, None, refl, sym, ap, arith}
 use Rattle.std.specs.Prelude.{option_map, unwrap_or}
 use Rattle.std.proofs.lemmas.Bool.{cond-true}
 use Rattle.sim_base.specs.declared.timing.Timing.{Timing}
@@ -12,16 +12,12 @@ use Rattle.timing.specs.Holds.{hold}
 use Rattle.bank_ready.specs.Ready.{held_until}
 use Rattle.bank_ready.specs.Words.{moves_data}
 
--- what a rule binds is held back by the gap, and nothing that one binds is free
-pub held_if_bound : (t : Timing) (cycle : ℕ) (earlier later : Kind) (relation : Relation) (gap_is : ℕ) → Some gap_is ≡ hold t earlier later relation
-    → cycle + gap_is ≡ held_until t cycle earlier later relation
-unfolding held_until
-held_if_bound t cycle earlier later relation gap_is e = ap (λ (o : Option ℕ). unwrap_or (option_map (λ g. cycle + g) o) 0) e
-
-pub not_free : (t : Timing) (earlier later : Kind) (relation : Relation) → is_bound t earlier later relation ≡ true → None ≡ hold t earlier later relation → ⊥
-unfolding hold
-not_free t earlier later relation b e =
-    let some = cond-true (is_bound t earlier later relation) (Some (gap t earlier later relation)) None b in cc
+-- what a rule binds is held back by the gap
+pub held_if_bound : (t : Timing) (cycle : ℕ) (earlier later : Kind) (relation : Relation) → is_bound t earlier later relation ≡ true
+    → cycle + gap t earlier later relation ≡ held_until t cycle earlier later relation
+unfolding held_until hold
+held_if_bound t cycle earlier later relation b =
+    ap (λ (o : Option ℕ). unwrap_or (option_map (λ g. cycle + g) o) 0) (sym (cond-true (is_bound t earlier later relation) (Some (gap t earlier later relation)) None b))
 
 -- commands that move data are bound to one another, wherever their banks lie
 pub data_bound : (t : Timing) (earlier later : Kind) (relation : Relation) → moves_data earlier ≡ true → moves_data later ≡ true → is_bound t earlier later relation ≡ true

@@ -78,14 +78,14 @@ act_word-more t history i k word up is =
 
 -- one command more
 pub noted : (banks after : Banks) (s : Config) (history : List CommandRow) (i : CommandRow) → StandsFor banks s history → All (λ (j : CommandRow). j.cycle < i.cycle) history
-    → IsNoted banks after banks.gaps.value i.cycle i.command → StandsFor after s (history ++ i ∷ [])
+    → IsNoted banks after banks.delays.value i.cycle i.command → StandsFor after s (history ++ i ∷ [])
 noted banks after s history i h later e =
     let t = s.timing in
     let n = 16 * s.ranks in
     let more = history ++ i ∷ [] in
     let unused : RankState = record { prea = 0; refresh = 0; window = no_acts } in
     record {
-      timing = ap (λ b. b.value) e.gaps ∙ h.timing;
+      timing = ap (λ b. b.value) e.delays ∙ h.timing;
       ranks = e.rank_count ∙ h.ranks;
       act_words =
           changed (act_word_from t history) (act_word_from t more) (λ k x. max x (max (word_until t i.cycle i.command kind.Act k) (window_word banks i.command k))) n banks.act.items after.act.items 0
@@ -123,13 +123,13 @@ noted banks after s history i h later e =
 
 -- the same, by the command that it is
 pub noted_is : (banks after : Banks) (s : Config) (history : List CommandRow) (cycle channel : ℕ) (command is : Command) → StandsFor banks s history
-    → All (λ (j : CommandRow). j.cycle < cycle) history → command ≡ is → IsNoted banks after banks.gaps.value cycle is
+    → All (λ (j : CommandRow). j.cycle < cycle) history → command ≡ is → IsNoted banks after banks.delays.value cycle is
     → StandsFor after s (history ++ record { cycle = cycle; channel = channel; command = command } ∷ [])
 noted_is banks after s history cycle channel command is h later e noted_so =
     noted banks after s history (record { cycle = cycle; channel = channel; command = command }) h later (rw e noted_so)
 
 -- where no command was noted, nothing holds back
-pub stands-first : (banks : Banks) (s : Config) → banks.gaps.value ≡ s.timing
+pub stands-first : (banks : Banks) (s : Config) → banks.delays.value ≡ s.timing
     → banks.act.items ≡ replicate (16 * s.ranks) 0 → banks.rd.items ≡ replicate (16 * s.ranks) 0
     → banks.wr.items ≡ replicate (16 * s.ranks) 0 → banks.pre.items ≡ replicate (16 * s.ranks) 0
     → banks.rows.items ≡ replicate (16 * s.ranks) None

@@ -24,7 +24,7 @@ window_word banks command k =
 
 -- one command more is noted in each column and each rank, by these distances
 pub record IsNoted (banks after : Banks) (t : Timing) (cycle : ℕ) (command : Command) : Type 0 where
-  pub gaps : after.gaps ≡ banks.gaps
+  pub delays : after.delays ≡ banks.delays
   pub act : IsRaised banks.act.items after.act.items (λ k. max (word_until t cycle command Act k) (window_word banks command k))
   pub rd : IsRaised banks.rd.items after.rd.items (word_until t cycle command Rd)
   pub wr : IsRaised banks.wr.items after.wr.items (word_until t cycle command Wr)

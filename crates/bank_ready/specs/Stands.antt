@@ -30,7 +30,7 @@ Ascends (i ∷ history) = Each (λ (j : CommandRow). i.cycle < j.cycle) history 
 -- Commands whose cycles ascend made each word the least cycle from which on none of them holds back such a command, an ACT's also
 -- by the four-activate window, each row the one that is open, and each window the last four ACTs of its rank.
 pub record StandsFor (banks : Banks) (s : Config) (history : List CommandRow) : Type 0 where
-  pub timing : banks.gaps.value ≡ s.timing
+  pub timing : banks.delays.value ≡ s.timing
   pub ranks : rank_count banks ≡ s.ranks
   pub act_words : banks.act.items ≡ map (act_word_from s.timing history) (below (16 * s.ranks))
   pub rd_words : banks.rd.items ≡ map (word_from s.timing history Rd) (below (16 * s.ranks))

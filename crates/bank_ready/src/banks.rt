@@ -2,6 +2,7 @@
 
 ghost use Rattle.std.specs.Prelude.{◌≡◌, ◌+◌, ◌*◌, ◌^◌, ◌<◌, ◌≤◌, length};
 
+use crate::delays::Delays;
 use crate::words::{
     RankState, Window, bound_until, close_rank, note_act_in_rank, note_row, number_of, own_number,
     raise_acts, raise_data, raise_own, raise_rank, raise_rank_words,
@@ -11,12 +12,11 @@ use sim_base::config::Config;
 use sim_base::message::Cycle;
 use sim_base::place::BankId;
 use std::alloc::{AllocError, Global};
-use timing::gap_table::GapTable;
 
 /// The banks of a channel. It stands for the list of commands that were noted, each with its cycle.
 #[derive(Drop)]
 pub struct Banks {
-    gaps: Box<GapTable>,
+    delays: Box<Delays>,
     /// The least cycle from which on each command of a bank is held back no more, by the bank's number.
     act: Vec<Cycle>,
     rd: Vec<Cycle>,
@@ -67,7 +67,7 @@ impl Banks {
     {
         let ranks = config.ranks as usize;
         Ok(Banks {
-            gaps: Box::new(alloc, GapTable::of(config))?,
+            delays: Box::new(alloc, Delays::of(config))?,
             act: vec![in alloc; 0; 16 * ranks]?,
             rd: vec![in alloc; 0; 16 * ranks]?,
             wr: vec![in alloc; 0; 16 * ranks]?,
@@ -158,21 +158,21 @@ impl Banks {
     fn note_act(&mut self, bank: BankId, row: u32, cycle: Cycle)
         requires rank { bank.rank < rank_count self.old }
         requires cycle { cycle < 2 ^ 62 }
-        ensures { (source : Source) → IsNoted self.old self.new self.old.gaps.value cycle (Command.Act bank row source) }
+        ensures { (source : Source) → IsNoted self.old self.new self.old.delays.value cycle (Command.Act bank row source) }
     {
-        let gaps = &*self.gaps;
+        let delays = &*self.delays;
         let own = own_number(bank);
         let end = self.ranks[bank.rank as usize].window.second;
-        let to_rd = bound_until(gaps, cycle, Kind::Act, Kind::Rd, Relation::SameBank);
-        let to_wr = bound_until(gaps, cycle, Kind::Act, Kind::Wr, Relation::SameBank);
-        let to_pre = bound_until(gaps, cycle, Kind::Act, Kind::Pre, Relation::SameBank);
-        raise_acts(gaps, &mut self.act, bank, own, cycle, end);
+        let to_rd = bound_until(delays, cycle, Kind::Act, Kind::Rd, Relation::SameBank);
+        let to_wr = bound_until(delays, cycle, Kind::Act, Kind::Wr, Relation::SameBank);
+        let to_pre = bound_until(delays, cycle, Kind::Act, Kind::Pre, Relation::SameBank);
+        raise_acts(delays, &mut self.act, bank, own, cycle, end);
         raise_own(&mut self.rd, own, to_rd);
         raise_own(&mut self.wr, own, to_wr);
         raise_own(&mut self.pre, own, to_pre);
         note_row(&mut self.rows, own, Some(row));
-        let last = cycle + u64::from(gaps.four_act_window());
-        note_act_in_rank(gaps, &mut self.ranks, bank.rank, cycle, last);
+        let last = cycle + u64::from(delays.four_act_window());
+        note_act_in_rank(delays, &mut self.ranks, bank.rank, cycle, last);
     }
 
     /// Notes a RD or a WR, in its bank, in the words of RDs and WRs of each rank and in those of the whole rank.
@@ -182,15 +182,15 @@ impl Banks {
         requires kind { IsTrue (moves_data kind) }
         requires rank { bank.rank < rank_count self.old }
         requires cycle { cycle < 2 ^ 62 }
-        ensures { (command : Command) → kind_of command ≡ kind → bank_of command ≡ Some bank → IsNoted self.old self.new self.old.gaps.value cycle command }
+        ensures { (command : Command) → kind_of command ≡ kind → bank_of command ≡ Some bank → IsNoted self.old self.new self.old.delays.value cycle command }
     {
-        let gaps = &*self.gaps;
+        let delays = &*self.delays;
         let own = own_number(bank);
-        let to_pre = bound_until(gaps, cycle, kind, Kind::Pre, Relation::SameBank);
-        raise_data(gaps, &mut self.rd, bank, cycle, kind, Kind::Rd);
-        raise_data(gaps, &mut self.wr, bank, cycle, kind, Kind::Wr);
+        let to_pre = bound_until(delays, cycle, kind, Kind::Pre, Relation::SameBank);
+        raise_data(delays, &mut self.rd, bank, cycle, kind, Kind::Rd);
+        raise_data(delays, &mut self.wr, bank, cycle, kind, Kind::Wr);
         raise_own(&mut self.pre, own, to_pre);
-        raise_rank_words(gaps, &mut self.ranks, bank.rank, cycle, kind);
+        raise_rank_words(delays, &mut self.ranks, bank.rank, cycle, kind);
     }
 
     /// Notes a PRE, in its bank and in the words of its rank.
@@ -199,14 +199,14 @@ impl Banks {
     fn note_pre(&mut self, bank: BankId, cycle: Cycle)
         requires rank { bank.rank < rank_count self.old }
         requires cycle { cycle < 2 ^ 62 }
-        ensures { (source : Source) → IsNoted self.old self.new self.old.gaps.value cycle (Command.Pre bank source) }
+        ensures { (source : Source) → IsNoted self.old self.new self.old.delays.value cycle (Command.Pre bank source) }
     {
-        let gaps = &*self.gaps;
+        let delays = &*self.delays;
         let own = own_number(bank);
-        let to_act = bound_until(gaps, cycle, Kind::Pre, Kind::Act, Relation::SameBank);
+        let to_act = bound_until(delays, cycle, Kind::Pre, Kind::Act, Relation::SameBank);
         raise_own(&mut self.act, own, to_act);
         note_row(&mut self.rows, own, None);
-        raise_rank_words(gaps, &mut self.ranks, bank.rank, cycle, Kind::Pre);
+        raise_rank_words(delays, &mut self.ranks, bank.rank, cycle, Kind::Pre);
     }
 
     /// Notes a PREA, in each bank of its rank and in the words of the whole rank.
@@ -215,13 +215,13 @@ impl Banks {
     fn note_prea(&mut self, rank: u32, cycle: Cycle)
         requires rank { rank < rank_count self.old }
         requires cycle { cycle < 2 ^ 62 }
-        ensures { IsNoted self.old self.new self.old.gaps.value cycle (Command.Prea rank) }
+        ensures { IsNoted self.old self.new self.old.delays.value cycle (Command.Prea rank) }
     {
-        let gaps = &*self.gaps;
-        let to_act = bound_until(gaps, cycle, Kind::Prea, Kind::Act, Relation::SameBank);
+        let delays = &*self.delays;
+        let to_act = bound_until(delays, cycle, Kind::Prea, Kind::Act, Relation::SameBank);
         raise_rank(&mut self.act, rank, to_act);
         close_rank(&mut self.rows, rank);
-        raise_rank_words(gaps, &mut self.ranks, rank, cycle, Kind::Prea);
+        raise_rank_words(delays, &mut self.ranks, rank, cycle, Kind::Prea);
     }
 
     /// Notes a REF, in each bank of its rank and in the words of the whole rank.
@@ -230,14 +230,14 @@ impl Banks {
     fn note_refresh(&mut self, rank: u32, cycle: Cycle)
         requires rank { rank < rank_count self.old }
         requires cycle { cycle < 2 ^ 62 }
-        ensures { IsNoted self.old self.new self.old.gaps.value cycle (Command.Ref rank) }
+        ensures { IsNoted self.old self.new self.old.delays.value cycle (Command.Ref rank) }
     {
-        let gaps = &*self.gaps;
-        let to_act = bound_until(gaps, cycle, Kind::Ref, Kind::Act, Relation::SameBank);
-        let to_pre = bound_until(gaps, cycle, Kind::Ref, Kind::Pre, Relation::SameBank);
+        let delays = &*self.delays;
+        let to_act = bound_until(delays, cycle, Kind::Ref, Kind::Act, Relation::SameBank);
+        let to_pre = bound_until(delays, cycle, Kind::Ref, Kind::Pre, Relation::SameBank);
         raise_rank(&mut self.act, rank, to_act);
         raise_rank(&mut self.pre, rank, to_pre);
-        raise_rank_words(gaps, &mut self.ranks, rank, cycle, Kind::Ref);
+        raise_rank_words(delays, &mut self.ranks, rank, cycle, Kind::Ref);
     }
 
     /// Notes a command that is issued in a cycle, which is later than all that were noted before.

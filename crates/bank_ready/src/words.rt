@@ -7,10 +7,10 @@ ghost use Rattle.bank_ready.specs.Ready.{held_until};
 ghost use Rattle.bank_ready.specs.declared.words.RankState.{RankState};
 ghost use Rattle.bank_ready.specs.Words.{moves_data, relation_from, is_own, bank_at, number_of, act_pushed, rank_raised};
 
+use crate::delays::Delays;
 use sim_base::command::{Kind, Relation};
 use sim_base::message::Cycle;
 use sim_base::place::BankId;
-use timing::gap_table::GapTable;
 
 /// The last four ACTs of a rank, by the cycle from which on each no longer counts for the four-activate window; 0 in the place
 /// of each that there was not.
@@ -32,22 +32,19 @@ pub(crate) struct RankState {
 
 /// From which cycle on a command holds back a later one no more, which a rule binds to it.
 #[inline(always)]
-#[tactic(auto, using(crate::proofs::Bounds::held_if_bound, crate::proofs::Bounds::not_free))]
+#[tactic(auto, using(crate::proofs::Bounds::held_if_bound))]
 pub(crate) fn bound_until(
-    gaps: &GapTable,
+    delays: &Delays,
     cycle: Cycle,
     earlier: Kind,
     later: Kind,
     relation: Relation,
 ) -> Cycle
     requires cycle { cycle < 2 ^ 62 }
-    requires bound { IsTrue (is_bound gaps.now earlier later relation) }
-    ensures { result ≡ held_until gaps.now cycle earlier later relation }
+    requires bound { IsTrue (is_bound delays.now earlier later relation) }
+    ensures { result ≡ held_until delays.now cycle earlier later relation }
 {
-    match gaps.hold(earlier, later, relation) {
-        Some(gap) => cycle + gap,
-        None => unreachable!(),
-    }
+    cycle + delays.delay(earlier, later, relation)
 }
 
 /// The number of a bank among those of all ranks.
@@ -157,7 +154,7 @@ pub(crate) fn raise_other_ranks(words: &mut [Cycle], rank: u32, until: Cycle)
 #[inline(always)]
 #[tactic(auto, using(crate::proofs::Bounds::data_bound, crate::proofs::Bounds::data_same, crate::proofs::Places::data_raised))]
 pub(crate) fn raise_data(
-    gaps: &GapTable,
+    delays: &Delays,
     words: &mut [Cycle],
     bank: BankId,
     cycle: Cycle,
@@ -170,11 +167,11 @@ pub(crate) fn raise_data(
     requires inside { 16 * bank.rank + 16 ≤ length words.old }
     requires whole { length words.old % 16 ≡ 0 }
     ensures { (k d : ℕ) → k < length words.old → slice_index_or words.new k d
-        ≡ max (slice_index_or words.old k d) (held_until gaps.now cycle earlier later (relation_from bank k)) }
+        ≡ max (slice_index_or words.old k d) (held_until delays.now cycle earlier later (relation_from bank k)) }
 {
-    let same_group = bound_until(gaps, cycle, earlier, later, Relation::SameGroup);
-    let other_group = bound_until(gaps, cycle, earlier, later, Relation::OtherGroup);
-    let other_rank = bound_until(gaps, cycle, earlier, later, Relation::OtherRank);
+    let same_group = bound_until(delays, cycle, earlier, later, Relation::SameGroup);
+    let other_group = bound_until(delays, cycle, earlier, later, Relation::OtherGroup);
+    let other_rank = bound_until(delays, cycle, earlier, later, Relation::OtherRank);
     raise_groups(words, bank.rank, bank.group, same_group, other_group);
     raise_other_ranks(words, bank.rank, other_rank);
 }
@@ -183,7 +180,7 @@ pub(crate) fn raise_data(
 #[inline(always)]
 #[tactic(auto, unfolding(sim_base::specs::Rules::is_bound), using(crate::proofs::Bounds::act_grows, crate::proofs::Bounds::act_other_rank, crate::proofs::Places::act_raised))]
 pub(crate) fn raise_acts(
-    gaps: &GapTable,
+    delays: &Delays,
     words: &mut [Cycle],
     bank: BankId,
     own: Option<usize>,
@@ -196,11 +193,11 @@ pub(crate) fn raise_acts(
     requires own_inside { IfSome own (λ k. k < length words.old) }
     ensures { (k d : ℕ) → slice_index_or words.new k d
         ≡ max (slice_index_or words.old k d)
-        (max (held_until gaps.now cycle Kind.Act Kind.Act (relation_from bank k)) (if bank.rank == k / 16 then end else 0)) }
+        (max (held_until delays.now cycle Kind.Act Kind.Act (relation_from bank k)) (if bank.rank == k / 16 then end else 0)) }
 {
-    let same_bank = bound_until(gaps, cycle, Kind::Act, Kind::Act, Relation::SameBank);
-    let same_group = bound_until(gaps, cycle, Kind::Act, Kind::Act, Relation::SameGroup);
-    let other_group = bound_until(gaps, cycle, Kind::Act, Kind::Act, Relation::OtherGroup);
+    let same_bank = bound_until(delays, cycle, Kind::Act, Kind::Act, Relation::SameBank);
+    let same_group = bound_until(delays, cycle, Kind::Act, Kind::Act, Relation::SameGroup);
+    let other_group = bound_until(delays, cycle, Kind::Act, Kind::Act, Relation::OtherGroup);
     raise_groups(
         words,
         bank.rank,
@@ -236,36 +233,36 @@ pub(crate) fn close_rank(rows: &mut [Option<u32>], rank: u32)
 /// From which cycle on a command in a rank holds back a PREA of it no more; 0 where no rule binds them.
 #[inline(always)]
 #[tactic(auto, using(crate::proofs::Bounds::prea_bound, crate::proofs::Bounds::pre_to_prea, crate::proofs::Bounds::prea_to_prea))]
-fn prea_until(gaps: &GapTable, cycle: Cycle, earlier: Kind) -> Cycle
+fn prea_until(delays: &Delays, cycle: Cycle, earlier: Kind) -> Cycle
     requires { cycle < 2 ^ 62 }
-    ensures { result ≡ held_until gaps.now cycle earlier Kind.Prea Relation.SameBank }
+    ensures { result ≡ held_until delays.now cycle earlier Kind.Prea Relation.SameBank }
 {
     match earlier {
         Kind::Pre => 0,
         Kind::Prea => 0,
-        _ => bound_until(gaps, cycle, earlier, Kind::Prea, Relation::SameBank),
+        _ => bound_until(delays, cycle, earlier, Kind::Prea, Relation::SameBank),
     }
 }
 
 /// From which cycle on a command in a rank holds back a REF of it no more; 0 where no rule binds them.
 #[inline(always)]
 #[tactic(auto, using(crate::proofs::Bounds::refresh_bound, crate::proofs::Bounds::act_to_refresh, crate::proofs::Bounds::rd_to_refresh, crate::proofs::Bounds::wr_to_refresh))]
-fn refresh_until(gaps: &GapTable, cycle: Cycle, earlier: Kind) -> Cycle
+fn refresh_until(delays: &Delays, cycle: Cycle, earlier: Kind) -> Cycle
     requires { cycle < 2 ^ 62 }
-    ensures { result ≡ held_until gaps.now cycle earlier Kind.Ref Relation.SameBank }
+    ensures { result ≡ held_until delays.now cycle earlier Kind.Ref Relation.SameBank }
 {
     match earlier {
         Kind::Act => 0,
         Kind::Rd => 0,
         Kind::Wr => 0,
-        _ => bound_until(gaps, cycle, earlier, Kind::Ref, Relation::SameBank),
+        _ => bound_until(delays, cycle, earlier, Kind::Ref, Relation::SameBank),
     }
 }
 
 /// Raises the words of the commands of a whole rank, as far as a command of this kind in the rank holds them back.
 #[inline(always)]
 pub(crate) fn raise_rank_words(
-    gaps: &GapTable,
+    delays: &Delays,
     ranks: &mut [RankState],
     rank: u32,
     cycle: Cycle,
@@ -274,17 +271,17 @@ pub(crate) fn raise_rank_words(
     requires cycle { cycle < 2 ^ 62 }
     requires inside { rank < length ranks.old }
     ensures { (k : ℕ) (d : RankState) → slice_index_or ranks.new k d
-        ≡ (if rank == k then rank_raised gaps.now cycle earlier (slice_index_or ranks.old k d) else slice_index_or ranks.old k d) }
+        ≡ (if rank == k then rank_raised delays.now cycle earlier (slice_index_or ranks.old k d) else slice_index_or ranks.old k d) }
 {
     let state = &mut ranks[rank as usize];
-    state.prea = state.prea.max(prea_until(gaps, cycle, earlier));
-    state.refresh = state.refresh.max(refresh_until(gaps, cycle, earlier));
+    state.prea = state.prea.max(prea_until(delays, cycle, earlier));
+    state.refresh = state.refresh.max(refresh_until(delays, cycle, earlier));
 }
 
 /// Notes an ACT in the words and the window of its rank, for which it counts no longer from a cycle on.
 #[inline(always)]
 pub(crate) fn note_act_in_rank(
-    gaps: &GapTable,
+    delays: &Delays,
     ranks: &mut [RankState],
     rank: u32,
     cycle: Cycle,
@@ -293,9 +290,9 @@ pub(crate) fn note_act_in_rank(
     requires cycle { cycle < 2 ^ 62 }
     requires inside { rank < length ranks.old }
     ensures { (k : ℕ) (d : RankState) → slice_index_or ranks.new k d
-        ≡ (if rank == k then act_pushed (rank_raised gaps.now cycle Kind.Act (slice_index_or ranks.old k d)) end else slice_index_or ranks.old k d) }
+        ≡ (if rank == k then act_pushed (rank_raised delays.now cycle Kind.Act (slice_index_or ranks.old k d)) end else slice_index_or ranks.old k d) }
 {
-    raise_rank_words(gaps, ranks, rank, cycle, Kind::Act);
+    raise_rank_words(delays, ranks, rank, cycle, Kind::Act);
     let window = &mut ranks[rank as usize].window;
     window.oldest = window.second;
     window.second = window.third;

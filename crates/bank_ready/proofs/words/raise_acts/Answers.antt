@@ -9,7 +9,7 @@ use Rattle.bank_ready.proofs.words.raise_acts.Goals as goal
 
 pub returns : goal.returns
 returns c k d =
-    let t = c.args.gaps.now in
+    let t = c.args.delays.now in
     let f = λ (r : Relation). held_until t c.args.cycle kind.Act kind.Act r in
     let own = c.raise_own.ensures k d in
     let groups = c.raise_groups.ensures k d in

@@ -26,7 +26,7 @@ note_row-requires c = own_inside _ _ _ c.own_number-own.ensures.inside (omega (a
 pub returns : goal.returns
 returns c source =
     let banks = c.args.self.now in
-    let t = c.deref-gaps.result.now in
+    let t = c.deref-delays.result.now in
     let cycle = c.args.cycle in
     let bank = c.args.bank in
     let command = Act bank c.args.row source in
@@ -41,9 +41,9 @@ returns c source =
     c.note_act_in_rank.ensures k d
     ∙ ap (λ n. cond (eqb bank.rank k) (act_pushed (rank_raised t cycle kind.Act state) (cycle + n)) state) (c.from.ensures ∙ c.four_act_window.ensures.value)
     ∙ act-tests t cycle (cycle + t.n_faw) (eqb bank.rank k) state) in
-    at_distances banks _ t banks.gaps.value cycle command c.deref-gaps.ensures
+    at_distances banks _ t banks.delays.value cycle command c.deref-delays.ensures
     (record {
-      gaps = refl;
+      delays = refl;
       act =
           raised banks.act lent c.raise_acts.new.words _ c.deref_mut.ensures.value c.raise_acts.auto.words
           (λ k d l.

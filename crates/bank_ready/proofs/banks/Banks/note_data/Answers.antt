@@ -13,7 +13,7 @@ raise_own-requires c = own_inside _ _ _ c.own_number-own.ensures.inside (omega (
 pub returns : goal.returns
 returns c command of names =
     let banks = c.args.self.now in
-    let t = c.deref-gaps.result.now in
+    let t = c.deref-delays.result.now in
     let cycle = c.args.cycle in
     let bank = c.args.bank in
     let later = c.args.kind in
@@ -23,9 +23,9 @@ returns c command of names =
     let ranks =
     put-rank banks.ranks c.deref_mut-4.result.now c.raise_rank_words.new.ranks t cycle bank.rank command c.deref_mut-4.ensures.value c.raise_rank_words.auto.ranks
     (rw of c.raise_rank_words.ensures) rank (no-act (kind_of command) (rw of c.requires.kind)) in
-    at_distances banks _ t banks.gaps.value cycle command c.deref-gaps.ensures
+    at_distances banks _ t banks.delays.value cycle command c.deref-delays.ensures
     (record {
-      gaps = refl;
+      delays = refl;
       act = left banks.act.items _ (λ k. data-acts banks t cycle command k (rw of c.requires.kind));
       rd = raised-data banks.rd c.deref_mut.result.now c.raise_data.new.words t cycle command later kind.Rd bank c.deref_mut.ensures.value c.raise_data.auto.words c.raise_data.ensures of names;
       wr = raised-data banks.wr c.deref_mut-2.result.now c.raise_data-2.new.words t cycle command later kind.Wr bank c.deref_mut-2.ensures.value c.raise_data-2.auto.words c.raise_data-2.ensures of names;

@@ -16,7 +16,7 @@ note_row-requires c = own_inside _ _ _ c.own_number-own.ensures.inside (omega (a
 pub returns : goal.returns
 returns c source =
     let banks = c.args.self.now in
-    let t = c.deref-gaps.result.now in
+    let t = c.deref-delays.result.now in
     let cycle = c.args.cycle in
     let bank = c.args.bank in
     let command = Pre bank source in
@@ -24,9 +24,9 @@ returns c source =
     let own = c.own_number-own.result in
     let rows = put-row banks.rows c.deref_mut-2.result.now c.note_row.new.rows bank own None c.deref_mut-2.ensures.value c.note_row.auto.rows c.note_row.ensures number in
     let ranks = put-rank banks.ranks c.deref_mut-3.result.now c.raise_rank_words.new.ranks t cycle bank.rank command c.deref_mut-3.ensures.value c.raise_rank_words.auto.ranks c.raise_rank_words.ensures refl refl in
-    at_distances banks _ t banks.gaps.value cycle command c.deref-gaps.ensures
+    at_distances banks _ t banks.delays.value cycle command c.deref-delays.ensures
     (record {
-      gaps = refl;
+      delays = refl;
       act =
           widened _ _ _ _
           (raised-own banks.act c.deref_mut.result.now c.raise_own.new.words t cycle command kind.Act bank own c.bound_until-to_act.result c.deref_mut.ensures.value c.raise_own.auto.words c.raise_own.ensures

@@ -12,16 +12,16 @@ use Rattle.bank_ready.proofs.banks.Banks.note_prea.Goals as goal
 pub returns : goal.returns
 returns c =
     let banks = c.args.self.now in
-    let t = c.deref-gaps.result.now in
+    let t = c.deref-delays.result.now in
     let cycle = c.args.cycle in
     let rank = c.args.rank in
     let command = Prea rank in
     let at = λ (k : ℕ). cond (eqb rank (k / 16)) SameBank OtherRank in
     let rows = put banks.rows c.deref_mut-2.result.now c.close_rank.new.rows (λ (k : ℕ) (row : Option ℕ). cond (eqb (k / 16) rank) None row) c.deref_mut-2.ensures.value c.close_rank.auto.rows (λ k d l. c.close_rank.ensures k d) in
     let ranks = put-rank banks.ranks c.deref_mut-3.result.now c.raise_rank_words.new.ranks t cycle rank command c.deref_mut-3.ensures.value c.raise_rank_words.auto.ranks c.raise_rank_words.ensures refl refl in
-    at_distances banks _ t banks.gaps.value cycle command c.deref-gaps.ensures
+    at_distances banks _ t banks.delays.value cycle command c.deref-delays.ensures
     (record {
-      gaps = refl;
+      delays = refl;
       act =
           raised-rank banks.act c.deref_mut.result.now c.raise_rank.new.words (λ (r : Relation). held_until t cycle kind.Prea kind.Act r) rank c.bound_until-to_act.result _ c.deref_mut.ensures.value c.raise_rank.auto.words
           c.raise_rank.ensures c.bound_until-to_act.ensures (prea_rank t cycle) (λ k. omega arith);
