@@ -11,7 +11,7 @@ use std::alloc::{AllocError, Global};
 use std::marker::Model;
 
 /// A move of this many places or more is left to the one that is fast on long ones.
-const LONG_MOVE: usize = 10;
+const LONG_MOVE: usize = 18;
 
 /// Takes out the first items.
 fn remove_front<T: Copy + Drop>(items: &mut Vec<T>, count: usize)
