@@ -32,7 +32,7 @@ pub(crate) struct Offer {
 }
 
 /// Whether an offer goes before another: it is for an earlier cycle, or in the same one a row hit, or else an older request.
-#[inline]
+#[inline(always)]
 fn goes_before(a: Offer, b: Offer) -> bool
     ensures { result ≡ goes_before a b }
 {
@@ -46,7 +46,7 @@ fn goes_before(a: Offer, b: Offer) -> bool
 }
 
 /// The better of the best offer so far and one of a request whose need may be issued from a cycle on.
-#[inline]
+#[inline(always)]
 pub(crate) fn improved(best: Offer, ready: Cycle, hit: bool, slot: usize, now: Cycle) -> Offer
     ensures { result ≡ (if goes_before (offer_from now ready hit slot) best then offer_from now ready hit slot else best) }
 {
@@ -55,15 +55,14 @@ pub(crate) fn improved(best: Offer, ready: Cycle, hit: bool, slot: usize, now: C
     }
     let cycle = now.max(ready);
     let offer = Offer { cycle, hit, slot };
-    if goes_before(offer, best) {
-        offer
-    } else {
-        best
+    if !goes_before(offer, best) {
+        return best;
     }
+    offer
 }
 
 /// From which cycle on a command of a kind may be issued to a bank.
-#[inline]
+#[inline(always)]
 pub(crate) fn ready(banks: &Banks, bank: usize, kind: Kind) -> Cycle
     requires kind { IsTrue (names_bank kind) }
     requires bank { bank < 16 * rank_count banks.now }
@@ -73,7 +72,7 @@ pub(crate) fn ready(banks: &Banks, bank: usize, kind: Kind) -> Cycle
 }
 
 /// What closes a bank in which a row is open, and opens one in which none is.
-#[inline]
+#[inline(always)]
 pub(crate) fn row_kind(row: Option<u32>) -> Kind
     ensures kind { result ≡ row_kind row }
     ensures bank { IsTrue (names_bank result) }
@@ -96,7 +95,9 @@ pub(crate) fn first_offer(queue: &Queue, heads: &Heads, banks: &Banks, now: Cycl
 {
     if queue.high() == 0 {
         first_of_all(queue, heads, banks, now)
+    } else if kind_that_goes(queue, heads) {
+        first_of_kind(queue, heads, true, banks, now)
     } else {
-        first_of_kind(queue, heads, kind_that_goes(queue, heads), banks, now)
+        first_of_kind(queue, heads, false, banks, now)
     }
 }

@@ -21,7 +21,7 @@ use sim_base::command::Kind;
 use sim_base::message::Cycle;
 
 /// The command that moves data.
-#[inline]
+#[inline(always)]
 fn column_kind(write: bool) -> Kind
     ensures kind { result ≡ column_kind write }
     ensures bank { IsTrue (names_bank result) }
@@ -30,7 +30,7 @@ fn column_kind(write: bool) -> Kind
 }
 
 /// The best offer so far, with one bank more. A row hit keeps the bank from being closed.
-#[inline]
+#[inline(always)]
 fn with_bank(
     best: Offer,
     heads: &Heads,
@@ -63,7 +63,9 @@ fn with_bank(
     }
 }
 
-/// The offer that goes first of all banks, from now on, where only requests to write may be served, or only requests to read.
+/// The offer that goes first of all banks, from now on, where only requests to write may be served, or only requests to read. It is
+/// inlined, so that each kind has a loop of its own.
+#[inline(always)]
 pub(crate) fn first_of_kind(
     queue: &Queue,
     heads: &Heads,
