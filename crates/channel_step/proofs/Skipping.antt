@@ -321,6 +321,47 @@ skips-in_cycle c s channel rows mail until due h =
     (pass-in_cycle (passed_to c due) s channel (rows ++ replicate n None) mail until second
     (there-before (passed_to c due) s channel (rows ++ replicate n None) mail second) (skips-alike_second c s channel rows mail until due h) within)
 
+-- the same where a refresh is due in none of them
+pub skips-not_due : (c : Channel) (s : Config) (channel : ℕ) (rows : List (Option Command)) (mail : List Message) (until due : ℕ) → Skips c s channel rows mail until due → until ≤ due
+    → IsInCycle (passed_to c due) s channel (rows ++ replicate (until - length rows) None) mail
+skips-not_due c s channel rows mail until due h l =
+    let within = h.within in
+    let is = h.in_cycle.cycle_is in
+    subst (λ n. IsInCycle (passed_to c due) s channel (rows ++ replicate n None) mail) (let e : due - c.cycle ≡ until - length rows = omega arith in e) (skips-second c s channel rows mail until due h)
+
+-- and where one is due in each
+skips-alike_due : (c : Channel) (s : Config) (channel : ℕ) (rows : List (Option Command)) (mail : List Message) (until due : ℕ) → Skips c s channel rows mail until due → due ≤ c.cycle
+    → IsDueThroughout s channel rows (until - c.cycle) (is_some (lowest_owed c.refresh c.cycle))
+skips-alike_due c s channel rows mail until due h l =
+    let within = h.within in
+    let from_now = h.from_now in
+    alike c s channel rows mail until due (until - c.cycle) h.in_cycle h.dues (omega arith)
+    (λ k m. le-leb due (c.cycle + k) (omega arith) ∙ sym (le-leb due c.cycle (omega arith)))
+
+pub skips-due : (c : Channel) (s : Config) (channel : ℕ) (rows : List (Option Command)) (mail : List Message) (until due : ℕ) → Skips c s channel rows mail until due → due ≤ c.cycle
+    → IsInCycle (passed_to c until) s channel (rows ++ replicate (until - length rows) None) mail
+skips-due c s channel rows mail until due h l =
+    let within = h.within in
+    let from_now = h.from_now in
+    let is = h.in_cycle.cycle_is in
+    subst (λ n. IsInCycle (passed_to c until) s channel (rows ++ replicate n None) mail) (let e : until - c.cycle ≡ until - length rows = omega arith in e)
+    (pass-in_cycle c s channel rows mail until h.in_cycle (there-before c s channel rows mail h.in_cycle) (skips-alike_due c s channel rows mail until due h l) (omega arith))
+
+pub skips-due_fits : (c : Channel) (s : Config) (channel : ℕ) (rows : List (Option Command)) (mail : List Message) (until due : ℕ) → Skips c s channel rows mail until due → due ≤ c.cycle
+    → ChannelFits (passed c until)
+skips-due_fits c s channel rows mail until due h l =
+    let within = h.within in
+    let from_now = h.from_now in
+    pass-fits c s channel rows mail until h.in_cycle (there-before c s channel rows mail h.in_cycle) (skips-alike_due c s channel rows mail until due h l) (omega arith) h.early
+
+-- and where there are none
+pub waited-none : (c : Channel) (s : Config) (channel : ℕ) (rows : List (Option Command)) (mail : List Message) (until : ℕ) → c.cycle ≡ until → IsInCycle c s channel rows mail
+    → IsInCycle c s channel (rows ++ replicate (until - length rows) None) mail
+waited-none c s channel rows mail until at h =
+    let is = h.cycle_is in
+    let none : until - length rows ≡ 0 = omega arith in
+    subst (λ r. IsInCycle c s channel r mail) (sym (ap (λ n. rows ++ replicate n None) none ∙ append-nil rows)) h
+
 -- the channel stands after them, where there are some
 pub waited-stands : (c d : Channel) (s : Config) (channel : ℕ) (rows : List (Option Command)) (mail : List Message) (n : ℕ) → IsInCycle c s channel rows mail
     → IsInCycle d s channel (rows ++ replicate n None) mail → 0 < n → StandsFor d s channel (rows ++ replicate n None) mail

@@ -8,6 +8,7 @@ ghost use Rattle.sim_base.specs.declared.config.Config.{Config};
 ghost use Rattle.sim_base.specs.declared.command.Command.{Command};
 ghost use Rattle.sim_base.specs.declared.message.Message.{Message};
 ghost use Rattle.refresh.specs.Refreshes.{lowest_owed};
+ghost use Rattle.queue.specs.View.{is_draining};
 ghost use Rattle.fr_fcfs.specs.Choices.{IsFor};
 ghost use Rattle.fr_fcfs.specs.Cycles.{IsFirstCycle};
 ghost use Rattle.statistics.specs.Channels.{channel_stats, channel_joined, ChannelFits};
@@ -157,13 +158,13 @@ impl Channel {
         }
     }
 
-    /// What is seen of the channel before it issues a command.
-    fn seen(&self, now: Cycle) -> Seen
-        ensures { result ≡ seen_of self.now now }
+    /// What is seen of the channel before it issues a command, where it is known whether a refresh is due.
+    fn seen(&self, refreshing: bool) -> Seen
+        ensures { result ≡ record { queued = length self.now.waiting.queue.requests; refreshing = refreshing; draining = is_draining self.now.waiting.queue } }
     {
         Seen {
             queued: self.waiting.queue().len(),
-            refreshing: self.refresh.lowest_due(now).is_some(),
+            refreshing,
             draining: self.waiting.queue().draining(),
         }
     }
@@ -191,12 +192,13 @@ impl Channel {
 
     /// Counts the cycles before `until`, in each of which is seen what is seen in the next one, and nothing is issued. They are
     /// then over.
-    fn pass(&mut self, until: Cycle)
+    fn pass(&mut self, refreshing: bool, until: Cycle)
         requires until { self.old.cycle ≤ until }
+        requires refreshing { refreshing ≡ is_some (lowest_owed self.old.refresh self.old.cycle) }
         requires fits { ChannelFits (passed self.old until) }
         ensures { self.new ≡ record self.old { cycle = until; stats = passed self.old until } }
     {
-        let seen = self.seen(self.cycle);
+        let seen = self.seen(refreshing);
         let each = cycle_stats(&self.config, seen, None, false);
         let cycles = until - self.cycle;
         self.add(each.times(cycles), until);
@@ -214,6 +216,14 @@ impl Channel {
             Some(due) => due.min(until),
             None => until,
         }
+    }
+
+    /// Whether a refresh of some rank is due in this cycle.
+    fn refreshing(&self) -> bool
+        requires { self.now.cycle < 2 ^ 62 }
+        ensures { result ≡ is_some (lowest_owed self.now.refresh self.now.cycle) }
+    {
+        self.due_from(self.cycle + 1) <= self.cycle
     }
 
     /// Settles whether the channel drains its writes in the next cycle, where nothing arrives in it.
@@ -234,9 +244,16 @@ impl Channel {
         ensures in_cycle { (s : Config) (channel : ℕ) (rows : List (Option Command)) (mail : List Message)
             → IsInCycle self.old s channel rows mail → IsInCycle self.new s channel (rows ++ replicate (until - length rows) None) mail }
     {
+        if self.cycle == until {
+            return;
+        }
         let due = self.due_from(until);
-        self.pass(due);
-        self.pass(until);
+        if self.cycle < due {
+            self.pass(false, due);
+        }
+        if due < until {
+            self.pass(true, until);
+        }
     }
 
     /// Moves on to the cycle `until`, at most 2^62, where nothing arrives and nothing is issued before that. A channel that stands
@@ -307,7 +324,7 @@ impl Channel {
         match self.look(now, end) {
             Some((cycle, chosen)) => {
                 self.wait(cycle);
-                let seen = self.seen(cycle);
+                let seen = self.seen(self.refreshing());
                 self.perform(chosen, seen, cycle);
                 Ok(Turn {
                     arrived,

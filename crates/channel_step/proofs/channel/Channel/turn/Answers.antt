@@ -1,7 +1,11 @@
-use Rattle.std.proofs.Common.{◌≡◌, ◌-◌, ◌++◌, length, take, None, sym, subst, arith}
-use Rattle.std.specs.Prelude.{replicate}
+use Rattle.std.proofs.Common.{Bool, ◌≡◌, ◌-◌, ◌++◌, length, take, None, sym, ap, subst, ◌∙◌, arith}
+use Rattle.std.specs.Prelude.{replicate, is_some}
+use Rattle.refresh.specs.Refreshes.{lowest_owed}
+use Rattle.queue.specs.View.{is_draining}
 use Rattle.fr_fcfs.specs.Choices.{IsFor}
 use Rattle.channel_step.specs.Queued.{Queued}
+use Rattle.channel_step.specs.declared.channel.Channel.{Channel}
+use Rattle.channel_step.specs.declared.counting.Seen.{Seen}
 use Rattle.channel_step.specs.Channels.{IsNextBefore}
 use Rattle.channel_step.proofs.Going.{goes, goes-end, waits, acts}
 use Rattle.channel_step.proofs.Skipping.{waited-stands}
@@ -36,6 +40,33 @@ wait-requires-clause-until c =
     let within = goes-end p.s p.channel p.rows p.mail c.args.inbox.now c.args.now c.args.until c.in_ok-arrived.arrived c.next_arrival-end.result g in
     let i = (c.in-Some.ensures {u = tt}).next p.s p.channel p.rows (p.mail ++ take c.in_ok-arrived.arrived c.args.inbox.now) h p.at in
     omega (arith, i.before_end, within.1, c.requires.until)
+
+pub refreshing-requires : goal.refreshing-requires
+refreshing-requires c =
+    let p = c.requires.can_run in
+    let arrived = c.in_ok-arrived.ensures {u = tt} in
+    let h = arrived.in_cycle p.s p.channel p.rows p.mail c.args.until p.stands p.at c.requires.span p.fit in
+    let there = p.mail ++ take c.in_ok-arrived.arrived c.args.inbox.now in
+    let g = goes c.arrive.new.self p.s p.channel p.rows p.mail c.args.inbox.now c.args.now c.args.until c.in_ok-arrived.arrived c.next_arrival-end.result h p.at p.fit c.requires.span arrived.some c.next_arrival-end.ensures in
+    let within = goes-end p.s p.channel p.rows p.mail c.args.inbox.now c.args.now c.args.until c.in_ok-arrived.arrived c.next_arrival-end.result g in
+    let i = (c.in-Some.ensures {u = tt}).next p.s p.channel p.rows there h p.at in
+    let k = c.wait.ensures.in_cycle p.s p.channel p.rows there h in
+    omega (arith, k.cycle_is, length-idle p.rows (c.in-Some.cycle - length p.rows), i.from_now, i.before_end, within.1, c.requires.until)
+
+-- what is seen, where it is known whether a refresh is due
+abbrev seen_with : Channel → Bool → Seen
+seen_with d refreshing = record { queued = length d.waiting.queue.requests; refreshing = refreshing; draining = is_draining d.waiting.queue }
+
+pub perform-requires-clause-seen : goal.perform-requires-clause-seen
+perform-requires-clause-seen c =
+    let p = c.requires.can_run in
+    let h = (c.in_ok-arrived.ensures {u = tt}).in_cycle p.s p.channel p.rows p.mail c.args.until p.stands p.at c.requires.span p.fit in
+    let there = p.mail ++ take c.in_ok-arrived.arrived c.args.inbox.now in
+    let i = (c.in-Some.ensures {u = tt}).next p.s p.channel p.rows there h p.at in
+    let d = c.wait.new.self in
+    let k = c.wait.ensures.in_cycle p.s p.channel p.rows there h in
+    let at : d.cycle ≡ c.in-Some.cycle = omega (arith, k.cycle_is, length-idle p.rows (c.in-Some.cycle - length p.rows), i.from_now) in
+    c.seen-seen.ensures ∙ ap (seen_with d) (c.refreshing.ensures ∙ ap (λ t. is_some (lowest_owed d.refresh t)) at)
 
 pub perform-requires-clause-chosen : goal.perform-requires-clause-chosen
 perform-requires-clause-chosen c =
