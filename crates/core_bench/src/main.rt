@@ -7,11 +7,9 @@
 mod spans;
 mod traces;
 
-use crate::spans::run_spans;
+use crate::spans::{Did, run_lines};
 use anyhow::Result;
-use std::alloc::Global;
 use std::env;
-use std::rt::Clock;
 
 /// Lines of a short trace.
 const FEW: u64 = 100;
@@ -22,27 +20,14 @@ const MANY: u64 = 100_000;
 /// Lines of the longest trace.
 const MOST: u64 = 1_000_000;
 
-/// Runs a core over so many lines, and prints what it did.
-fn show(rt: &(impl Print + Clock), alloc: Global, lines: u64, is_timed: bool) -> Result<()> {
-    let did = run_spans(rt, alloc, lines)?;
-    println!(rt;
-        "{} entries in {} cycles, in {} spans",
-        did.retired, did.cycles, did.spans
-    )?;
-    println!(rt;
-        "{} entries in {} cycles, in one span",
-        did.retired_at_once, did.cycles_at_once
-    )?;
+/// Prints what a core did over so many lines.
+fn show(rt: &impl Print, did: Did, how: &str, lines: u64, is_timed: bool) -> Result<()> {
+    println!(rt; "{} entries in {} cycles, {how}", did.retired, did.cycles)?;
     if is_timed {
         println!(rt;
-            "span by span {} us, {} ns a Read",
+            "{} us, {} ns a Read",
             did.micros,
             did.micros.wrapping_mul(1000) / lines.max(1)
-        )?;
-        println!(rt;
-            "in one span {} us, {} ns a Read",
-            did.micros_at_once,
-            did.micros_at_once.wrapping_mul(1000) / lines.max(1)
         )?;
     }
     Ok(())
@@ -51,9 +36,12 @@ fn show(rt: &(impl Print + Clock), alloc: Global, lines: u64, is_timed: bool) ->
 fn main(rt: HostRuntime) -> Result<()> {
     let mut words = env::args(&rt)?;
     let _program = words.next();
-    match words.next() {
-        Some(word) if word.as_str() == "time" => show(&rt, rt.alloc(), MANY, true),
-        Some(word) if word.as_str() == "span" => show(&rt, rt.alloc(), MOST, true),
-        _ => show(&rt, rt.alloc(), FEW, false),
-    }
+    let lines = match words.next() {
+        Some(word) if word.as_str() == "time" => MANY,
+        Some(word) if word.as_str() == "span" => MOST,
+        _ => FEW,
+    };
+    let runs = run_lines(&rt, rt.alloc(), lines)?;
+    show(&rt, runs.fed, "span by span", lines, lines > FEW)?;
+    show(&rt, runs.at_once, "in one span", lines, lines > FEW)
 }
