@@ -2,7 +2,6 @@
 use Rattle.std.proofs.Common.{◌≡◌, ℕ, ◌≤◌, ◌↔◌, true, false, leb, max, List, Some, None, refl, arith}
 use Rattle.std.specs.Prelude.{IsTrue}
 use Rattle.std.proofs.lemmas.Bool.{and_parts, and_from, leb-true, le-leb}
-use Rattle.circular_buffer.specs.Buffer.{buffer, keep_last}
 use Rattle.sim_base.specs.declared.timing.Timing.{Timing}
 use Rattle.sim_base.specs.declared.place.BankId.{BankId}
 use Rattle.sim_base.specs.declared.command.Kind.{Kind}
@@ -10,10 +9,9 @@ use Rattle.sim_base.specs.declared.command.Kind.TheVariants as kind
 use Rattle.sim_base.specs.declared.command.Command.{Command}
 use Rattle.sim_base.specs.declared.command.Command.TheVariants.{Act, Rd, Wr, Pre, Prea, Ref}
 use Rattle.sim_base.specs.declared.command.CommandRow.{CommandRow}
-use Rattle.sim_base.specs.declared.command.Source.{Source}
 use Rattle.sim_base.specs.Rules.{is_kind, kind_of, rank_of, bank_of, keeps_distances, recent_acts, is_allowed}
 use Rattle.bank_ready.specs.Ready.{ready_from, window_ends}
-use Rattle.bank_ready.specs.Words.{names_rank, window_end}
+use Rattle.bank_ready.specs.Words.{names_rank, window_from}
 use Rattle.bank_ready.specs.Stands.{Ascends}
 use Rattle.bank_ready.proofs.Readiness.{ready_from-keeps}
 use Rattle.bank_ready.proofs.Window.{three-ahead, recent_acts-ahead, window_ends-ascending}
@@ -36,14 +34,6 @@ bank_of-rank (Pre b source) h = cc
 bank_of-rank (Prea rank) h = refl
 bank_of-rank (Ref rank) h = refl
 
-pub is_kind-no_act : (command : Command) → ((bank : BankId) (row : ℕ) (source : Source) → command ≡ Act bank row source → ⊥) → is_kind (kind_of command) kind.Act ≡ false
-is_kind-no_act (Act bank row source) h = absurd (h bank row source refl)
-is_kind-no_act (Rd bank row column source) h = refl
-is_kind-no_act (Wr bank row column source) h = refl
-is_kind-no_act (Pre bank source) h = refl
-is_kind-no_act (Prea rank) h = refl
-is_kind-no_act (Ref rank) h = refl
-
 -- a command that is no ACT
 other : (t : Timing) (history : List CommandRow) (now : ℕ) (command : Command) → is_kind (kind_of command) kind.Act ≡ false
     → (ready_from t history (kind_of command) (rank_of command) (bank_of command) ≤ now) ↔ IsTrue (is_allowed t history now command)
@@ -57,9 +47,9 @@ other t history now command h =
 
 -- an ACT
 act : (t : Timing) (history : List CommandRow) (now : ℕ) (command : Command) → Ascends history → is_kind (kind_of command) kind.Act ≡ true
-    → (max (ready_from t history (kind_of command) (rank_of command) (bank_of command)) (window_end (buffer (keep_last 4 (window_ends t (rank_of command) history)) 4)) ≤ now)
+    → (max (ready_from t history (kind_of command) (rank_of command) (bank_of command)) (window_from t (rank_of command) history).oldest ≤ now)
     ↔ IsTrue (is_allowed t history now command)
-unfolding is_allowed
+unfolding is_allowed window_from
 act t history now command up h =
     let keeps = ready_from-keeps t history now command in
     let count = recent_acts t (rank_of command) now history in
@@ -83,7 +73,7 @@ allowed-other t history now command later bank e f h =
 
 pub allowed-act : (t : Timing) (history : List CommandRow) (now : ℕ) (command : Command) (bank : BankId)
     → Ascends history → kind_of command ≡ kind.Act → bank_of command ≡ Some bank
-    → (max (ready_from t history kind.Act bank.rank (Some bank)) (window_end (buffer (keep_last 4 (window_ends t bank.rank history)) 4)) ≤ now)
+    → (max (ready_from t history kind.Act bank.rank (Some bank)) (window_from t bank.rank history).oldest ≤ now)
     ↔ IsTrue (is_allowed t history now command)
 allowed-act t history now command bank up e f =
     rw (← f, ← rank_of-bank command bank f, ← e) (act t history now command up (rw e refl))

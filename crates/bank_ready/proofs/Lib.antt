@@ -1,3 +1,7 @@
+pub mod Found
+pub mod Places
+pub mod Bounds
+pub mod Noting
 pub mod Readiness
 pub mod Window
 pub mod Allowed

@@ -1,17 +1,17 @@
 -- The last four ACTs of a rank decide when one more is allowed.
-use Rattle.std.proofs.Common.{◌≡◌, ℕ, suc, ◌+◌, ◌-◌, ◌≤◌, ◌<◌, ◌↔◌, ◌++◌, ◌∙◌, ◌&&◌, true, false, cond, List, [], ◌∷◌, length, drop, map, refl, sym, ap, arith, inl, inr, length-append, length-drop, drop-drop, append-nil}
-use Rattle.std.specs.Prelude.{count_by, filter, nat_lt}
+use Rattle.std.proofs.Common.{◌≡◌, ℕ, ◌+◌, ◌≤◌, ◌<◌, ◌↔◌, ◌++◌, ◌∙◌, ◌&&◌, true, false, cond, List, [], ◌∷◌, length, map, refl, sym, ap, arith, inl, inr}
+use Rattle.std.specs.Prelude.{count_by, filter, fold, nat_lt}
 use Rattle.std.specs.List.{AllByRecursion as Each}
-use Rattle.std.proofs.lemmas.Bool.{cond_both, cases_lt, lt-ltb, le-ltb, cond-true, cond-false}
-use Rattle.std.proofs.lemmas.List.{map-append, drop-append-le}
+use Rattle.std.proofs.lemmas.Bool.{cond_both, cases_lt, cases_Bool, lt-ltb, le-ltb, cond-true, cond-false}
+use Rattle.std.proofs.lemmas.List.{map-append}
 use Rattle.std.proofs.lemmas.List.Elements.{filter-append}
-use Rattle.std.proofs.lemmas.List.Sums.{sum_by-cons, count_by-le-length}
-use Rattle.circular_buffer.specs.Buffer.{buffer, keep_last}
+use Rattle.std.proofs.lemmas.List.Sums.{sum_by-cons, count_by-le-length, fold-append}
 use Rattle.sim_base.specs.declared.timing.Timing.{Timing}
 use Rattle.sim_base.specs.declared.command.CommandRow.{CommandRow}
 use Rattle.sim_base.specs.Rules.{recent_acts}
 use Rattle.bank_ready.specs.Ready.{is_act_in, window_ends}
-use Rattle.bank_ready.specs.Words.{window_end}
+use Rattle.bank_ready.specs.Words.{no_acts, pushed, window_from}
+use Rattle.bank_ready.specs.declared.words.Window.{Window}
 use Rattle.bank_ready.specs.Stands.{Ascends}
 
 -- how many ends are still ahead
@@ -36,13 +36,8 @@ all-ahead now e (x ∷ es) h k = ahead-in now x es (omega (arith, k.0)) ∙ ap (
 few-ahead : (now : ℕ) (es : List ℕ) → length es ≤ 3 → ahead now es ≤ 3
 few-ahead now es h = omega (arith, count_by-le-length (λ e. nat_lt now e) es)
 
-keep_last-tail : (e : ℕ) (es : List ℕ) → 4 ≤ length es → keep_last 4 (e ∷ es) ≡ keep_last 4 es
-keep_last-tail e es h =
-    let one : length (e ∷ es) - 4 ≡ suc (length es - 4) = omega arith in
-    ap (λ n. drop n (e ∷ es)) one
-
 -- Where ends ascend, at most three are ahead just where the oldest of the last four is not.
-pub three-ahead : (now : ℕ) (es : List ℕ) → Ascending es → (ahead now es ≤ 3) ↔ (window_end (buffer (keep_last 4 es) 4) ≤ now)
+pub three-ahead : (now : ℕ) (es : List ℕ) → Ascending es → (ahead now es ≤ 3) ↔ ((fold pushed no_acts es).oldest ≤ now)
 three-ahead now [] h = (λ k. omega arith, λ k. few-ahead now [] (omega arith))
 three-ahead now (a ∷ []) h = (λ k. omega arith, λ k. few-ahead now (a ∷ []) (omega arith))
 three-ahead now (a ∷ b ∷ []) h = (λ k. omega arith, λ k. few-ahead now (a ∷ b ∷ []) (omega arith))
@@ -57,14 +52,12 @@ three-ahead now (a ∷ b ∷ c ∷ d ∷ []) h = (
 three-ahead now (a ∷ b ∷ c ∷ d ∷ e ∷ es) h =
     let tail = b ∷ c ∷ d ∷ e ∷ es in
     let rest = three-ahead now (b ∷ c ∷ d ∷ e ∷ es) h.1 in
-    let same = keep_last-tail a tail (omega arith) in
-    rw same
-    (elim (cases_lt now a) [
+    elim (cases_lt now a) [
       | inl lt ↦
           let all : ahead now tail ≡ length tail = all-ahead now a tail lt h.0 in
           (λ k. absurd (omega (arith, ahead-in now a tail lt)), λ k. absurd (omega (arith, rest.1 k)))
       | inr le ↦ (λ k. rest.0 (omega (arith, ahead-out now a tail le)), λ k. omega (arith, ahead-out now a tail le, rest.1 k))
-    ])
+    ]
 
 -- the ACTs that count are those whose ends are ahead
 pub recent_acts-ahead : (t : Timing) (rank now : ℕ) (history : List CommandRow) → recent_acts t rank now history ≡ ahead now (window_ends t rank history)
@@ -100,13 +93,6 @@ window_ends-ascending t rank (i ∷ history) h =
     (λ e. (ends-later t rank i.cycle history h.0, window_ends-ascending t rank history h.1))
     (λ e. window_ends-ascending t rank history h.1)
 
-keep_last-kept : (xs : List ℕ) (e : ℕ) → keep_last 4 (xs ++ e ∷ []) ≡ keep_last 4 (keep_last 4 xs ++ e ∷ [])
-keep_last-kept xs e =
-    let k = length xs - 4 in
-    let zs = xs ++ e ∷ [] in
-    let count : k + (length (drop k zs) - 4) ≡ length zs - 4 = omega (arith, length-drop k zs, length-append xs (e ∷ [])) in
-    ap (λ n. drop n zs) (sym count) ∙ sym (drop-drop (length (drop k zs) - 4) k zs) ∙ ap (keep_last 4) (drop-append-le k xs (e ∷ []) (omega arith))
-
 window_ends-more : (t : Timing) (rank : ℕ) (history : List CommandRow) (i : CommandRow)
     → window_ends t rank (history ++ i ∷ []) ≡ window_ends t rank history ++ window_ends t rank (i ∷ [])
 unfolding window_ends
@@ -122,15 +108,29 @@ end-of-other : (t : Timing) (rank : ℕ) (i : CommandRow) → is_act_in rank i �
 unfolding window_ends
 end-of-other t rank i h = ap (map (λ (k : CommandRow). k.cycle + t.n_faw)) (cond-false (is_act_in rank i) (i ∷ []) [] h)
 
--- one ACT more
-pub window_ends-act : (t : Timing) (rank : ℕ) (history : List CommandRow) (i : CommandRow) → is_act_in rank i ≡ true
-    → keep_last 4 (window_ends t rank (history ++ i ∷ [])) ≡ keep_last 4 (keep_last 4 (window_ends t rank history) ++ (i.cycle + t.n_faw) ∷ [])
-window_ends-act t rank history i h =
-    ap (keep_last 4) (window_ends-more t rank history i ∙ ap (λ es. window_ends t rank history ++ es) (end-of-act t rank i h))
-    ∙ keep_last-kept (window_ends t rank history) (i.cycle + t.n_faw)
+-- one command more
+pub window_from-more : (t : Timing) (rank : ℕ) (history : List CommandRow) (i : CommandRow)
+    → window_from t rank (history ++ i ∷ []) ≡ cond (is_act_in rank i) (pushed (window_from t rank history) (i.cycle + t.n_faw)) (window_from t rank history)
+unfolding window_from
+window_from-more t rank history i =
+    let whole = ap (fold pushed no_acts) (window_ends-more t rank history i) ∙ fold-append pushed no_acts (window_ends t rank history) (window_ends t rank (i ∷ [])) in
+    let before = fold pushed no_acts (window_ends t rank history) in
+    elim (cases_Bool (is_act_in rank i)) [
+      | inl h ↦ whole ∙ ap (fold pushed before) (end-of-act t rank i h) ∙ sym (cond-true (is_act_in rank i) (pushed before (i.cycle + t.n_faw)) before h)
+      | inr h ↦ whole ∙ ap (fold pushed before) (end-of-other t rank i h) ∙ sym (cond-false (is_act_in rank i) (pushed before (i.cycle + t.n_faw)) before h)
+    ]
 
--- one other command more
-pub window_ends-other : (t : Timing) (rank : ℕ) (history : List CommandRow) (i : CommandRow) → is_act_in rank i ≡ false
-    → window_ends t rank (history ++ i ∷ []) ≡ window_ends t rank history
-window_ends-other t rank history i h =
-    window_ends-more t rank history i ∙ ap (λ es. window_ends t rank history ++ es) (end-of-other t rank i h) ∙ append-nil (window_ends t rank history)
+-- the oldest of the last four is not after the second one
+folded-up : (es : List ℕ) (w : Window) → w.oldest ≤ w.second → w.second ≤ w.third → w.third ≤ w.last → Each (λ e. w.last ≤ e) es → Ascending es
+    → (fold pushed w es).oldest ≤ (fold pushed w es).second
+folded-up [] w a b c h up = a
+folded-up (e ∷ es) w a b c h up = folded-up es (pushed w e) b c h.0 up.0 up.1
+
+all-above : (es : List ℕ) → Each (λ e. 0 ≤ e) es
+all-above [] = tt
+all-above (e ∷ es) = (omega arith, all-above es)
+
+pub oldest-first : (t : Timing) (rank : ℕ) (history : List CommandRow) → Ascends history → (window_from t rank history).oldest ≤ (window_from t rank history).second
+unfolding window_from
+oldest-first t rank history up =
+    folded-up (window_ends t rank history) no_acts (omega arith) (omega arith) (omega arith) (all-above (window_ends t rank history)) (window_ends-ascending t rank history up)

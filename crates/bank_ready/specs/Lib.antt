@@ -1,3 +1,5 @@
 pub mod Ready
+pub mod Delays
 pub mod Words
+pub mod Noted
 pub mod Stands

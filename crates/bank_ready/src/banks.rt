@@ -1,59 +1,63 @@
 //! The banks of a channel, as far as they decide when a command may be issued.
 
-ghost use Rattle.std.specs.Prelude.{◌≡◌, ◌+◌, ◌*◌, ◌^◌, ◌<◌, ◌≤◌, [], length, replicate, IfOk};
-ghost use Rattle.circular_buffer.specs.Buffer.{buffer};
-ghost use Rattle.bank_ready.specs.Words.{window_end};
+ghost use Rattle.std.specs.Prelude.{◌≡◌, ◌+◌, ◌*◌, ◌^◌, ◌<◌, ◌≤◌, length};
 
-use crate::words::{BankState, BankWords, RankWords, note_in_banks, note_in_ranks, number_of};
-use circular_buffer::HeapCircularBuffer;
-use sim_base::command::{Command, Kind};
+use crate::delays::Delays;
+use crate::words::{
+    RankState, Window, bound_until, close_rank, note_act_in_rank, note_row, number_of, own_number,
+    raise_acts, raise_data, raise_own, raise_rank, raise_rank_words,
+};
+use sim_base::command::{Command, Kind, Relation};
 use sim_base::config::Config;
 use sim_base::message::Cycle;
 use sim_base::place::BankId;
 use std::alloc::{AllocError, Global};
-use timing::gap_table::GapTable;
 
 /// The banks of a channel. It stands for the list of commands that were noted, each with its cycle.
 #[derive(Drop)]
 pub struct Banks {
-    gaps: GapTable,
-    banks: Vec<BankState>,
-    ranks: Vec<RankWords>,
-    /// The last four ACTs of each rank, by the cycle from which on each no longer counts for the four-activate window.
-    windows: Vec<HeapCircularBuffer<Cycle>>,
+    delays: Box<Delays>,
+    /// The least cycle from which on each command of a bank is held back no more, by the bank's number.
+    act: Vec<Cycle>,
+    rd: Vec<Cycle>,
+    wr: Vec<Cycle>,
+    pre: Vec<Cycle>,
+    /// The open rows, by the bank's number.
+    rows: Vec<Option<u32>>,
+    ranks: Vec<RankState>,
     ghost few: { length ranks.items ≤ 4 },
-    ghost all_banks: { length banks.items ≡ 16 * length ranks.items },
-    ghost all_windows: { length windows.items ≡ length ranks.items },
+    ghost all_acts: { length act.items ≡ 16 * length ranks.items },
+    ghost all_rds: { length rd.items ≡ 16 * length ranks.items },
+    ghost all_wrs: { length wr.items ≡ 16 * length ranks.items },
+    ghost all_pres: { length pre.items ≡ 16 * length ranks.items },
+    ghost all_rows: { length rows.items ≡ 16 * length ranks.items },
 }
 
-fn new_windows(alloc: Global, ranks: usize) -> Result<Vec<HeapCircularBuffer<Cycle>>, AllocError>
-    ensures { IfOk result (λ v. v.items ≡ replicate ranks (buffer [] 4)) }
+/// A rank that had no command.
+fn unused_rank() -> RankState
+    ensures { result ≡ record { prea = 0; refresh = 0; window = record { oldest = 0; second = 0; third = 0; last = 0 } } }
 {
-    let mut windows = Vec::new(alloc);
-    for _ in 0..ranks {
-        windows.push(HeapCircularBuffer::with_capacity(alloc, 4)?)?;
-    }
-    Ok(windows)
-}
-
-/// From which cycle on one ACT more does not make five within the four-activate window.
-fn window_end(window: &HeapCircularBuffer<Cycle>) -> Cycle
-    ensures { result ≡ window_end window.now }
-{
-    if window.is_full() {
-        window.front().copied().unwrap_or(0)
-    } else {
-        0
+    RankState {
+        prea: 0,
+        refresh: 0,
+        window: Window {
+            oldest: 0,
+            second: 0,
+            third: 0,
+            last: 0,
+        },
     }
 }
 
 impl Banks {
-    ghost use Rattle.std.specs.Prelude.{ℕ, ◌≡◌, ◌+◌, ◌^◌, ◌<◌, List, [], ◌∷◌, ◌++◌, All, Some, None, IsTrue, IfOk};
+    ghost use Rattle.std.specs.Prelude.{ℕ, ◌≡◌, ◌+◌, ◌*◌, ◌^◌, ◌<◌, List, [], ◌∷◌, ◌++◌, All, Some, None, IsTrue, IfOk};
     ghost use Rattle.sim_base.specs.declared.config.Config.{Config};
     ghost use Rattle.sim_base.specs.declared.command.Command.{Command};
     ghost use Rattle.sim_base.specs.declared.command.CommandRow.{CommandRow};
+    ghost use Rattle.sim_base.specs.declared.command.Source.{Source};
     ghost use Rattle.sim_base.specs.Rules.{kind_of, bank_of, rank_of, open_row};
-    ghost use Rattle.bank_ready.specs.Words.{names_bank, names_rank};
+    ghost use Rattle.bank_ready.specs.Words.{names_bank, names_rank, moves_data, bank_at};
+    ghost use Rattle.bank_ready.specs.Noted.{IsNoted};
     ghost use Rattle.bank_ready.specs.Stands.{rank_count, IsAllowedFrom, StandsFor};
 
     /// Banks that were never used.
@@ -62,29 +66,40 @@ impl Banks {
         ensures ranks { IfOk result (λ banks. rank_count banks ≡ config.now.ranks) }
     {
         let ranks = config.ranks as usize;
-        let state = BankState {
-            ready: BankWords {
-                act: 0,
-                rd: 0,
-                wr: 0,
-                pre: 0,
-            },
-            row: None,
-        };
-        let words = RankWords {
-            prea: 0,
-            refresh: 0,
-        };
         Ok(Banks {
-            gaps: GapTable::of(config),
-            banks: vec![in alloc; state; 16 * ranks]?,
-            ranks: vec![in alloc; words; ranks]?,
-            windows: new_windows(alloc, ranks)?,
+            delays: Box::new(alloc, Delays::of(config))?,
+            act: vec![in alloc; 0; 16 * ranks]?,
+            rd: vec![in alloc; 0; 16 * ranks]?,
+            wr: vec![in alloc; 0; 16 * ranks]?,
+            pre: vec![in alloc; 0; 16 * ranks]?,
+            rows: vec![in alloc; None; 16 * ranks]?,
+            ranks: vec![in alloc; unused_rank(); ranks]?,
         })
+    }
+
+    /// The least cycle from which on a command of this kind, which names the bank with this number, is held back no more: by the
+    /// distances to the commands before it and, for an ACT, by the four-activate window.
+    #[inline(always)]
+    pub fn earliest_in(&self, kind: Kind, bank: usize) -> Cycle
+        requires kind { IsTrue (names_bank kind) }
+        requires bank { bank < 16 * rank_count self.now }
+        ensures least { (s : Config) (history : List CommandRow) (command : Command)
+            → StandsFor self.now s history → kind_of command ≡ kind → bank_of command ≡ Some (bank_at bank)
+            → IsAllowedFrom s history command result }
+    {
+        match kind {
+            Kind::Act => self.act[bank],
+            Kind::Rd => self.rd[bank],
+            Kind::Wr => self.wr[bank],
+            Kind::Pre => self.pre[bank],
+            Kind::Prea | Kind::Ref => unreachable!(),
+        }
     }
 
     /// The least cycle from which on a command of this kind, which names a bank, is held back no more: by the distances to
     /// the commands before it and, for an ACT, by the four-activate window.
+    #[inline(always)]
+    #[tactic(auto, using(crate::proofs::Places::bank_at_number))]
     pub fn earliest(&self, kind: Kind, bank: BankId) -> Cycle
         requires kind { IsTrue (names_bank kind) }
         requires rank { bank.rank < rank_count self.now }
@@ -94,17 +109,11 @@ impl Banks {
             → StandsFor self.now s history → kind_of command ≡ kind → bank_of command ≡ Some bank
             → IsAllowedFrom s history command result }
     {
-        let ready = self.banks[number_of(bank)].ready;
-        match kind {
-            Kind::Act => ready.act.max(window_end(&self.windows[bank.rank as usize])),
-            Kind::Rd => ready.rd,
-            Kind::Wr => ready.wr,
-            Kind::Pre => ready.pre,
-            Kind::Prea | Kind::Ref => unreachable!(),
-        }
+        self.earliest_in(kind, number_of(bank))
     }
 
     /// The least cycle from which on a PREA or a REF of a rank is held back no more.
+    #[inline(always)]
     pub fn earliest_all(&self, kind: Kind, rank: u32) -> Cycle
         requires kind { IsTrue (names_rank kind) }
         requires rank { rank < rank_count self.now }
@@ -112,15 +121,27 @@ impl Banks {
             → StandsFor self.now s history → kind_of command ≡ kind → rank_of command ≡ rank
             → IsAllowedFrom s history command result }
     {
-        let words = self.ranks[rank as usize];
+        let state = &self.ranks[rank as usize];
         match kind {
-            Kind::Prea => words.prea,
-            Kind::Ref => words.refresh,
+            Kind::Prea => state.prea,
+            Kind::Ref => state.refresh,
             Kind::Act | Kind::Rd | Kind::Wr | Kind::Pre => unreachable!(),
         }
     }
 
+    /// The row that is open in the bank with this number.
+    #[inline(always)]
+    pub fn open_row_in(&self, bank: usize) -> Option<u32>
+        requires { bank < 16 * rank_count self.now }
+        ensures { (s : Config) (history : List CommandRow)
+            → StandsFor self.now s history → result ≡ open_row (bank_at bank) history }
+    {
+        self.rows[bank]
+    }
+
     /// The row that is open in a bank.
+    #[inline(always)]
+    #[tactic(auto, using(crate::proofs::Places::bank_at_number))]
     pub fn open_row(&self, bank: BankId) -> Option<u32>
         requires rank { bank.rank < rank_count self.now }
         requires group { bank.group < 4 }
@@ -128,10 +149,99 @@ impl Banks {
         ensures { (s : Config) (history : List CommandRow)
             → StandsFor self.now s history → result ≡ open_row bank history }
     {
-        self.banks[number_of(bank)].row
+        self.open_row_in(number_of(bank))
+    }
+
+    /// Notes an ACT, in its bank, in the words of ACTs of its rank and in those of the whole rank.
+    #[inline(never)]
+    #[tactic(auto, unfolding(sim_base::specs::Rules::is_bound))]
+    fn note_act(&mut self, bank: BankId, row: u32, cycle: Cycle)
+        requires rank { bank.rank < rank_count self.old }
+        requires cycle { cycle < 2 ^ 62 }
+        ensures { (source : Source) → IsNoted self.old self.new self.old.delays.value cycle (Command.Act bank row source) }
+    {
+        let delays = &*self.delays;
+        let own = own_number(bank);
+        let end = self.ranks[bank.rank as usize].window.second;
+        let to_rd = bound_until(delays, cycle, Kind::Act, Kind::Rd, Relation::SameBank);
+        let to_wr = bound_until(delays, cycle, Kind::Act, Kind::Wr, Relation::SameBank);
+        let to_pre = bound_until(delays, cycle, Kind::Act, Kind::Pre, Relation::SameBank);
+        raise_acts(delays, &mut self.act, bank, own, cycle, end);
+        raise_own(&mut self.rd, own, to_rd);
+        raise_own(&mut self.wr, own, to_wr);
+        raise_own(&mut self.pre, own, to_pre);
+        note_row(&mut self.rows, own, Some(row));
+        let last = cycle + u64::from(delays.four_act_window());
+        note_act_in_rank(delays, &mut self.ranks, bank.rank, cycle, last);
+    }
+
+    /// Notes a RD or a WR, in its bank, in the words of RDs and WRs of each rank and in those of the whole rank.
+    #[inline(never)]
+    #[tactic(auto, using(crate::proofs::Bounds::data_pre_bound))]
+    fn note_data(&mut self, kind: Kind, bank: BankId, cycle: Cycle)
+        requires kind { IsTrue (moves_data kind) }
+        requires rank { bank.rank < rank_count self.old }
+        requires cycle { cycle < 2 ^ 62 }
+        ensures { (command : Command) → kind_of command ≡ kind → bank_of command ≡ Some bank → IsNoted self.old self.new self.old.delays.value cycle command }
+    {
+        let delays = &*self.delays;
+        let own = own_number(bank);
+        let to_pre = bound_until(delays, cycle, kind, Kind::Pre, Relation::SameBank);
+        raise_data(delays, &mut self.rd, bank, cycle, kind, Kind::Rd);
+        raise_data(delays, &mut self.wr, bank, cycle, kind, Kind::Wr);
+        raise_own(&mut self.pre, own, to_pre);
+        raise_rank_words(delays, &mut self.ranks, bank.rank, cycle, kind);
+    }
+
+    /// Notes a PRE, in its bank and in the words of its rank.
+    #[inline(never)]
+    #[tactic(auto, unfolding(sim_base::specs::Rules::is_bound))]
+    fn note_pre(&mut self, bank: BankId, cycle: Cycle)
+        requires rank { bank.rank < rank_count self.old }
+        requires cycle { cycle < 2 ^ 62 }
+        ensures { (source : Source) → IsNoted self.old self.new self.old.delays.value cycle (Command.Pre bank source) }
+    {
+        let delays = &*self.delays;
+        let own = own_number(bank);
+        let to_act = bound_until(delays, cycle, Kind::Pre, Kind::Act, Relation::SameBank);
+        raise_own(&mut self.act, own, to_act);
+        note_row(&mut self.rows, own, None);
+        raise_rank_words(delays, &mut self.ranks, bank.rank, cycle, Kind::Pre);
+    }
+
+    /// Notes a PREA, in each bank of its rank and in the words of the whole rank.
+    #[inline(never)]
+    #[tactic(auto, unfolding(sim_base::specs::Rules::is_bound))]
+    fn note_prea(&mut self, rank: u32, cycle: Cycle)
+        requires rank { rank < rank_count self.old }
+        requires cycle { cycle < 2 ^ 62 }
+        ensures { IsNoted self.old self.new self.old.delays.value cycle (Command.Prea rank) }
+    {
+        let delays = &*self.delays;
+        let to_act = bound_until(delays, cycle, Kind::Prea, Kind::Act, Relation::SameBank);
+        raise_rank(&mut self.act, rank, to_act);
+        close_rank(&mut self.rows, rank);
+        raise_rank_words(delays, &mut self.ranks, rank, cycle, Kind::Prea);
+    }
+
+    /// Notes a REF, in each bank of its rank and in the words of the whole rank.
+    #[inline(never)]
+    #[tactic(auto, unfolding(sim_base::specs::Rules::is_bound))]
+    fn note_refresh(&mut self, rank: u32, cycle: Cycle)
+        requires rank { rank < rank_count self.old }
+        requires cycle { cycle < 2 ^ 62 }
+        ensures { IsNoted self.old self.new self.old.delays.value cycle (Command.Ref rank) }
+    {
+        let delays = &*self.delays;
+        let to_act = bound_until(delays, cycle, Kind::Ref, Kind::Act, Relation::SameBank);
+        let to_pre = bound_until(delays, cycle, Kind::Ref, Kind::Pre, Relation::SameBank);
+        raise_rank(&mut self.act, rank, to_act);
+        raise_rank(&mut self.pre, rank, to_pre);
+        raise_rank_words(delays, &mut self.ranks, rank, cycle, Kind::Ref);
     }
 
     /// Notes a command that is issued in a cycle, which is later than all that were noted before.
+    #[inline(always)]
     pub fn note(&mut self, command: Command, cycle: Cycle)
         requires rank { rank_of command < rank_count self.old }
         requires cycle { cycle < 2 ^ 62 }
@@ -140,11 +250,13 @@ impl Banks {
             → StandsFor self.new s (history ++ record { cycle = cycle; channel = channel; command = command } ∷ []) }
         ensures ranks { rank_count self.new ≡ rank_count self.old }
     {
-        note_in_banks(&self.gaps, &mut self.banks, command, cycle);
-        note_in_ranks(&self.gaps, &mut self.ranks, command, cycle);
-        if let Command::Act { bank, .. } = command {
-            let end = cycle + u64::from(self.gaps.four_act_window());
-            self.windows[bank.rank as usize].push_back(end);
+        match command {
+            Command::Act { bank, row, .. } => self.note_act(bank, row, cycle),
+            Command::Rd { bank, .. } => self.note_data(Kind::Rd, bank, cycle),
+            Command::Wr { bank, .. } => self.note_data(Kind::Wr, bank, cycle),
+            Command::Pre { bank, .. } => self.note_pre(bank, cycle),
+            Command::Prea { rank } => self.note_prea(rank, cycle),
+            Command::Ref { rank } => self.note_refresh(rank, cycle),
         }
     }
 }

@@ -2,6 +2,7 @@
 #![tactic(auto)]
 
 pub mod banks;
+mod delays;
 #[cfg(test)]
 mod tests;
 pub mod words;

@@ -1,117 +1,54 @@
-//! What a bank and a rank keep of the commands that were issued.
+//! What a channel keeps of the commands that were issued: columns with a word for each bank, and what it keeps of each rank.
 
-ghost use Rattle.std.specs.Prelude.{◌≡◌, ◌+◌, ◌*◌, ◌^◌, ◌<◌, ◌≤◌, ℕ, length, slice_index_or};
+ghost use Rattle.std.specs.Prelude.{◌≡◌, ◌+◌, ◌*◌, ◌/◌, ◌%◌, ◌^◌, ◌<◌, ◌≤◌, ◌==◌, max, ℕ, IsTrue, IfSome, None, Option, length, slice_index_or, if◌then◌else◌};
 ghost use Rattle.sim_base.specs.Places.{is_bank};
-ghost use Rattle.sim_base.specs.Rules.{rank_of, row_after};
+ghost use Rattle.sim_base.specs.Rules.{is_bound};
 ghost use Rattle.bank_ready.specs.Ready.{held_until};
-ghost use Rattle.bank_ready.specs.declared.words.BankState.{BankState};
-ghost use Rattle.bank_ready.specs.declared.words.RankWords.{RankWords};
-ghost use Rattle.bank_ready.specs.Words.{words_until, later_of, all_untils, rows_raised, columns_raised, raised, closed, raised_in_rank, raised_in_bank, state_after, rank_words_after, bank_at, number_of};
+ghost use Rattle.bank_ready.specs.declared.words.RankState.{RankState};
+ghost use Rattle.bank_ready.specs.Words.{moves_data, relation_from, is_own, bank_at, number_of, act_pushed, rank_raised};
 
-use sim_base::command::{Command, Kind, Relation};
+use crate::delays::Delays;
+use sim_base::command::{Kind, Relation};
 use sim_base::message::Cycle;
 use sim_base::place::BankId;
-use timing::gap_table::GapTable;
-use timing::rules::relation_to;
 
-/// The least cycle from which on each command that names a bank is held back no more.
+/// The last four ACTs of a rank, by the cycle from which on each no longer counts for the four-activate window; 0 in the place
+/// of each that there was not.
 #[derive(Clone, Copy)]
-pub(crate) struct BankWords {
-    pub(crate) act: Cycle,
-    pub(crate) rd: Cycle,
-    pub(crate) wr: Cycle,
-    pub(crate) pre: Cycle,
+pub(crate) struct Window {
+    pub(crate) oldest: Cycle,
+    pub(crate) second: Cycle,
+    pub(crate) third: Cycle,
+    pub(crate) last: Cycle,
 }
 
-/// A bank: from which cycle on its commands are held back no more, and its open row.
+/// A rank: the least cycle from which on each command of the whole rank is held back no more, and its last four ACTs.
 #[derive(Clone, Copy)]
-pub(crate) struct BankState {
-    pub(crate) ready: BankWords,
-    pub(crate) row: Option<u32>,
-}
-
-/// The least cycle from which on each command of a whole rank is held back no more.
-#[derive(Clone, Copy)]
-pub(crate) struct RankWords {
+pub(crate) struct RankState {
     pub(crate) prea: Cycle,
     pub(crate) refresh: Cycle,
+    pub(crate) window: Window,
 }
 
-/// From which cycle on a command holds back a later one no more; 0 where no rule binds them.
-#[tactic(auto, unfolding(crate::specs::Ready::held_until))]
-fn held_until(
-    gaps: &GapTable,
+/// From which cycle on a command holds back a later one no more, which a rule binds to it.
+#[inline(always)]
+#[tactic(auto, using(crate::proofs::Bounds::held_if_bound))]
+pub(crate) fn bound_until(
+    delays: &Delays,
     cycle: Cycle,
     earlier: Kind,
     later: Kind,
     relation: Relation,
 ) -> Cycle
-    requires { cycle < 2 ^ 62 }
-    ensures { result ≡ held_until gaps.now cycle earlier later relation }
+    requires cycle { cycle < 2 ^ 62 }
+    requires bound { IsTrue (is_bound delays.now earlier later relation) }
+    ensures { result ≡ held_until delays.now cycle earlier later relation }
 {
-    match gaps.hold(earlier, later, relation) {
-        Some(gap) => cycle + gap,
-        None => 0,
-    }
-}
-
-fn words_until(gaps: &GapTable, cycle: Cycle, earlier: Kind, relation: Relation) -> BankWords
-    requires { cycle < 2 ^ 62 }
-    ensures { result ≡ words_until gaps.now cycle earlier relation }
-{
-    BankWords {
-        act: held_until(gaps, cycle, earlier, Kind::Act, relation),
-        rd: held_until(gaps, cycle, earlier, Kind::Rd, relation),
-        wr: held_until(gaps, cycle, earlier, Kind::Wr, relation),
-        pre: held_until(gaps, cycle, earlier, Kind::Pre, relation),
-    }
-}
-
-fn later_of(a: BankWords, b: BankWords) -> BankWords
-    ensures { result ≡ later_of a b }
-{
-    BankWords {
-        act: a.act.max(b.act),
-        rd: a.rd.max(b.rd),
-        wr: a.wr.max(b.wr),
-        pre: a.pre.max(b.pre),
-    }
-}
-
-fn is_same_bank(a: BankId, b: BankId) -> bool
-    ensures { result ≡ is_bank a b }
-{
-    a.rank == b.rank && a.group == b.group && a.bank == b.bank
-}
-
-fn row_after(bank: BankId, row_before: Option<u32>, command: Command) -> Option<u32>
-    ensures { result ≡ row_after bank row_before command }
-{
-    match command {
-        Command::Act {
-            bank: other,
-            row,
-            ..
-        } => {
-            if is_same_bank(bank, other) {
-                Some(row)
-            } else {
-                row_before
-            }
-        }
-        Command::Pre { bank: other, .. } => {
-            if is_same_bank(bank, other) {
-                None
-            } else {
-                row_before
-            }
-        }
-        Command::Prea { rank } => { if bank.rank == rank { None } else { row_before } }
-        Command::Rd { .. } | Command::Wr { .. } | Command::Ref { .. } => row_before,
-    }
+    cycle + delays.delay(earlier, later, relation)
 }
 
 /// The number of a bank among those of all ranks.
+#[inline(always)]
 pub(crate) fn number_of(bank: BankId) -> usize
     requires rank { bank.rank < 4 }
     requires group { bank.group < 4 }
@@ -121,210 +58,244 @@ pub(crate) fn number_of(bank: BankId) -> usize
     (bank.rank * 16 + bank.group * 4 + bank.bank) as usize
 }
 
-/// From which cycle on a command holds back those of a bank no more, by how that bank lies to its own.
-#[derive(Clone, Copy)]
-struct Untils {
-    same_bank: BankWords,
-    same_group: BankWords,
-    other_group: BankWords,
-    other_rank: BankWords,
+/// The number of a bank, if there is such a bank in a rank.
+#[inline(always)]
+#[tactic(auto, using(crate::proofs::Places::own_number, crate::proofs::Places::no_group, crate::proofs::Places::no_bank))]
+pub(crate) fn own_number(bank: BankId) -> Option<usize>
+    requires { bank.rank < 4 }
+    ensures number { (k : ℕ) → is_own result k ≡ is_bank (bank_at k) bank }
+    ensures inside { IfSome result (λ k. k < 16 * bank.rank + 16) }
+{
+    if bank.group < 4 && bank.bank < 4 {
+        Some(number_of(bank))
+    } else {
+        None
+    }
 }
 
-fn all_untils(gaps: &GapTable, cycle: Cycle, earlier: Kind) -> Untils
+/// Raises N words from a place on to a cycle.
+#[inline(always)]
+pub(crate) fn raise<const N: usize>(words: &mut [Cycle], first: usize, until: Cycle)
+    requires inside { first + N ≤ length words.old }
+    ensures inside { (k d : ℕ) → first ≤ k → k < first + N → slice_index_or words.new k d ≡ max (slice_index_or words.old k d) until }
+    ensures below { (k d : ℕ) → k < first → slice_index_or words.new k d ≡ slice_index_or words.old k d }
+    ensures above { (k d : ℕ) → first + N ≤ k → slice_index_or words.new k d ≡ slice_index_or words.old k d }
+{
+    for place in 0..N {
+        let word = &mut words[first + place];
+        *word = (*word).max(until);
+    }
+}
+
+/// Raises the word of one bank to a cycle, if there is such a bank.
+#[inline(always)]
+pub(crate) fn raise_own(words: &mut [Cycle], own: Option<usize>, until: Cycle)
+    requires { IfSome own (λ k. k < length words.old) }
+    ensures { (k d : ℕ) → slice_index_or words.new k d ≡ max (slice_index_or words.old k d) (if is_own own k then until else 0) }
+{
+    if let Some(own) = own {
+        let word = &mut words[own];
+        *word = (*word).max(until);
+    }
+}
+
+/// Raises the words of the banks of a rank, those of one group to one cycle and the others to another.
+#[inline(always)]
+pub(crate) fn raise_groups(
+    words: &mut [Cycle],
+    rank: u32,
+    group: u32,
+    same_group: Cycle,
+    other_group: Cycle,
+)
+    requires { 16 * rank + 16 ≤ length words.old }
+    ensures { (k d : ℕ) → slice_index_or words.new k d
+        ≡ max (slice_index_or words.old k d) (if rank == k / 16 then (if group == k / 4 % 4 then same_group else other_group) else 0) }
+{
+    if same_group == other_group {
+        raise_rank(words, rank, same_group);
+        return;
+    }
+    let first = 16 * rank as usize;
+    for other in 0..4 {
+        let until = if other == group {
+            same_group
+        } else {
+            other_group
+        };
+        raise::<4>(words, first + 4 * other as usize, until);
+    }
+}
+
+/// Raises the words of all banks of a rank to a cycle.
+#[inline(always)]
+pub(crate) fn raise_rank(words: &mut [Cycle], rank: u32, until: Cycle)
+    requires { 16 * rank + 16 ≤ length words.old }
+    ensures { (k d : ℕ) → slice_index_or words.new k d ≡ max (slice_index_or words.old k d) (if rank == k / 16 then until else 0) }
+{
+    raise::<16>(words, 16 * rank as usize, until);
+}
+
+/// Raises the words of all banks of the other ranks to a cycle.
+#[inline(always)]
+pub(crate) fn raise_other_ranks(words: &mut [Cycle], rank: u32, until: Cycle)
+    requires { length words.old % 16 ≡ 0 }
+    ensures { (k d : ℕ) → k < length words.old
+        → slice_index_or words.new k d ≡ max (slice_index_or words.old k d) (if rank == k / 16 then 0 else until) }
+{
+    for other in 0..words.len() / 16 {
+        if other != rank as usize {
+            raise::<16>(words, 16 * other, until);
+        }
+    }
+}
+
+/// Raises the words of a kind of command that moves data after another one, which was issued to a bank.
+#[inline(always)]
+#[tactic(auto, using(crate::proofs::Bounds::data_bound, crate::proofs::Bounds::data_same, crate::proofs::Places::data_raised))]
+pub(crate) fn raise_data(
+    delays: &Delays,
+    words: &mut [Cycle],
+    bank: BankId,
+    cycle: Cycle,
+    earlier: Kind,
+    later: Kind,
+)
+    requires earlier { IsTrue (moves_data earlier) }
+    requires later { IsTrue (moves_data later) }
+    requires cycle { cycle < 2 ^ 62 }
+    requires inside { 16 * bank.rank + 16 ≤ length words.old }
+    requires whole { length words.old % 16 ≡ 0 }
+    ensures { (k d : ℕ) → k < length words.old → slice_index_or words.new k d
+        ≡ max (slice_index_or words.old k d) (held_until delays.now cycle earlier later (relation_from bank k)) }
+{
+    let same_group = bound_until(delays, cycle, earlier, later, Relation::SameGroup);
+    let other_group = bound_until(delays, cycle, earlier, later, Relation::OtherGroup);
+    let other_rank = bound_until(delays, cycle, earlier, later, Relation::OtherRank);
+    raise_groups(words, bank.rank, bank.group, same_group, other_group);
+    raise_other_ranks(words, bank.rank, other_rank);
+}
+
+/// Raises the words of ACTs after an ACT of a bank, and those of its rank to the end of a four-activate window as well.
+#[inline(always)]
+#[tactic(auto, unfolding(sim_base::specs::Rules::is_bound), using(crate::proofs::Bounds::act_grows, crate::proofs::Bounds::act_other_rank, crate::proofs::Places::act_raised))]
+pub(crate) fn raise_acts(
+    delays: &Delays,
+    words: &mut [Cycle],
+    bank: BankId,
+    own: Option<usize>,
+    cycle: Cycle,
+    end: Cycle,
+)
+    requires cycle { cycle < 2 ^ 62 }
+    requires inside { 16 * bank.rank + 16 ≤ length words.old }
+    requires own { (k : ℕ) → is_own own k ≡ is_bank (bank_at k) bank }
+    requires own_inside { IfSome own (λ k. k < length words.old) }
+    ensures { (k d : ℕ) → slice_index_or words.new k d
+        ≡ max (slice_index_or words.old k d)
+        (max (held_until delays.now cycle Kind.Act Kind.Act (relation_from bank k)) (if bank.rank == k / 16 then end else 0)) }
+{
+    let same_bank = bound_until(delays, cycle, Kind::Act, Kind::Act, Relation::SameBank);
+    let same_group = bound_until(delays, cycle, Kind::Act, Kind::Act, Relation::SameGroup);
+    let other_group = bound_until(delays, cycle, Kind::Act, Kind::Act, Relation::OtherGroup);
+    raise_groups(
+        words,
+        bank.rank,
+        bank.group,
+        same_group.max(end),
+        other_group.max(end),
+    );
+    raise_own(words, own, same_bank);
+}
+
+/// Notes the row of one bank, if there is such a bank.
+#[inline(always)]
+pub(crate) fn note_row(rows: &mut [Option<u32>], own: Option<usize>, row: Option<u32>)
+    requires { IfSome own (λ k. k < length rows.old) }
+    ensures { (k : ℕ) (d : Option ℕ) → slice_index_or rows.new k d ≡ (if is_own own k then row else slice_index_or rows.old k d) }
+{
+    if let Some(own) = own {
+        rows[own] = row;
+    }
+}
+
+/// Closes the rows of all banks of a rank.
+pub(crate) fn close_rank(rows: &mut [Option<u32>], rank: u32)
+    requires { 16 * rank + 16 ≤ length rows.old }
+    ensures { (k : ℕ) (d : Option ℕ) → slice_index_or rows.new k d ≡ (if k / 16 == rank then None else slice_index_or rows.old k d) }
+{
+    let first = 16 * rank as usize;
+    for place in 0..16 {
+        rows[first + place] = None;
+    }
+}
+
+/// From which cycle on a command in a rank holds back a PREA of it no more; 0 where no rule binds them.
+#[inline(always)]
+#[tactic(auto, using(crate::proofs::Bounds::prea_bound, crate::proofs::Bounds::pre_to_prea, crate::proofs::Bounds::prea_to_prea))]
+fn prea_until(delays: &Delays, cycle: Cycle, earlier: Kind) -> Cycle
     requires { cycle < 2 ^ 62 }
-    ensures { result ≡ all_untils gaps.now cycle earlier }
+    ensures { result ≡ held_until delays.now cycle earlier Kind.Prea Relation.SameBank }
 {
-    Untils {
-        same_bank: words_until(gaps, cycle, earlier, Relation::SameBank),
-        same_group: words_until(gaps, cycle, earlier, Relation::SameGroup),
-        other_group: words_until(gaps, cycle, earlier, Relation::OtherGroup),
-        other_rank: words_until(gaps, cycle, earlier, Relation::OtherRank),
+    match earlier {
+        Kind::Pre => 0,
+        Kind::Prea => 0,
+        _ => bound_until(delays, cycle, earlier, Kind::Prea, Relation::SameBank),
     }
 }
 
-/// Raises the words for ACT and PRE of the banks from one number up to another, as far as these hold them back.
-fn raise_rows(banks: &mut [BankState], first: usize, end: usize, words: BankWords)
-    requires inside { end ≤ length banks.old }
-    requires ascending { first ≤ end }
-    ensures inside { (k : ℕ) (d : BankState) → first ≤ k → k < end
-        → slice_index_or banks.new k d ≡ rows_raised words (slice_index_or banks.old k d) }
-    ensures below { (k : ℕ) (d : BankState) → k < first → slice_index_or banks.new k d ≡ slice_index_or banks.old k d }
-    ensures above { (k : ℕ) (d : BankState) → end ≤ k → slice_index_or banks.new k d ≡ slice_index_or banks.old k d }
+/// From which cycle on a command in a rank holds back a REF of it no more; 0 where no rule binds them.
+#[inline(always)]
+#[tactic(auto, using(crate::proofs::Bounds::refresh_bound, crate::proofs::Bounds::act_to_refresh, crate::proofs::Bounds::rd_to_refresh, crate::proofs::Bounds::wr_to_refresh))]
+fn refresh_until(delays: &Delays, cycle: Cycle, earlier: Kind) -> Cycle
+    requires { cycle < 2 ^ 62 }
+    ensures { result ≡ held_until delays.now cycle earlier Kind.Ref Relation.SameBank }
 {
-    if words.act > 0 || words.pre > 0 {
-        for number in first..end {
-            let ready = &mut banks[number].ready;
-            ready.act = ready.act.max(words.act);
-            ready.pre = ready.pre.max(words.pre);
-        }
+    match earlier {
+        Kind::Act => 0,
+        Kind::Rd => 0,
+        Kind::Wr => 0,
+        _ => bound_until(delays, cycle, earlier, Kind::Ref, Relation::SameBank),
     }
 }
 
-/// Raises the words for RD and WR of the banks from one number up to another, as far as these hold them back.
-fn raise_columns(banks: &mut [BankState], first: usize, end: usize, words: BankWords)
-    requires inside { end ≤ length banks.old }
-    requires ascending { first ≤ end }
-    ensures inside { (k : ℕ) (d : BankState) → first ≤ k → k < end
-        → slice_index_or banks.new k d ≡ columns_raised words (slice_index_or banks.old k d) }
-    ensures below { (k : ℕ) (d : BankState) → k < first → slice_index_or banks.new k d ≡ slice_index_or banks.old k d }
-    ensures above { (k : ℕ) (d : BankState) → end ≤ k → slice_index_or banks.new k d ≡ slice_index_or banks.old k d }
-{
-    if words.rd > 0 || words.wr > 0 {
-        for number in first..end {
-            let ready = &mut banks[number].ready;
-            ready.rd = ready.rd.max(words.rd);
-            ready.wr = ready.wr.max(words.wr);
-        }
-    }
-}
-
-/// Raises the words of the banks from one number up to another.
-fn raise_between(banks: &mut [BankState], first: usize, end: usize, words: BankWords)
-    requires inside { end ≤ length banks.old }
-    requires ascending { first ≤ end }
-    ensures inside { (k : ℕ) (d : BankState) → first ≤ k → k < end
-        → slice_index_or banks.new k d ≡ raised words (slice_index_or banks.old k d) }
-    ensures below { (k : ℕ) (d : BankState) → k < first → slice_index_or banks.new k d ≡ slice_index_or banks.old k d }
-    ensures above { (k : ℕ) (d : BankState) → end ≤ k → slice_index_or banks.new k d ≡ slice_index_or banks.old k d }
-{
-    raise_rows(banks, first, end, words);
-    raise_columns(banks, first, end, words);
-}
-
-/// Closes the rows of the banks from one number up to another.
-fn close_between(banks: &mut [BankState], first: usize, end: usize)
-    requires inside { end ≤ length banks.old }
-    requires ascending { first ≤ end }
-    ensures inside { (k : ℕ) (d : BankState) → first ≤ k → k < end
-        → slice_index_or banks.new k d ≡ closed (slice_index_or banks.old k d) }
-    ensures below { (k : ℕ) (d : BankState) → k < first → slice_index_or banks.new k d ≡ slice_index_or banks.old k d }
-    ensures above { (k : ℕ) (d : BankState) → end ≤ k → slice_index_or banks.new k d ≡ slice_index_or banks.old k d }
-{
-    for number in first..end {
-        banks[number].row = None;
-    }
-}
-
-/// Notes a command that names no bank in the banks of its rank, which have the numbers from `first` on.
-fn note_in_rank(banks: &mut [BankState], first: usize, command: Command, untils: &Untils)
-    requires inside { first + 16 ≤ length banks.old }
-    ensures inside { (k : ℕ) (d : BankState) → first ≤ k → k < first + 16
-        → slice_index_or banks.new k d ≡ raised_in_rank command untils.now.same_bank (slice_index_or banks.old k d) }
-    ensures below { (k : ℕ) (d : BankState) → k < first → slice_index_or banks.new k d ≡ slice_index_or banks.old k d }
-    ensures above { (k : ℕ) (d : BankState) → first + 16 ≤ k → slice_index_or banks.new k d ≡ slice_index_or banks.old k d }
-{
-    raise_between(banks, first, first + 16, untils.same_bank);
-    if let Command::Prea { .. } = command {
-        close_between(banks, first, first + 16);
-    }
-}
-
-/// Notes a command of a bank in the banks of its group, which have the numbers from `first` up to `end`.
-fn note_in_group(
-    banks: &mut [BankState],
-    first: usize,
-    end: usize,
-    bank: BankId,
-    command: Command,
-    untils: &Untils,
-)
-    requires inside { end ≤ length banks.old }
-    requires ascending { first ≤ end }
-    requires few { end ≤ 64 }
-    ensures same_bank { (k : ℕ) (d : BankState) → first ≤ k → k < end → k ≡ first + bank.bank
-        → slice_index_or banks.new k d ≡ raised_in_bank bank command untils.now.same_bank (slice_index_or banks.old k d) }
-    ensures others { (k : ℕ) (d : BankState) → first ≤ k → k < end → (k ≡ first + bank.bank → ⊥)
-        → slice_index_or banks.new k d ≡ raised untils.now.same_group (slice_index_or banks.old k d) }
-    ensures below { (k : ℕ) (d : BankState) → k < first → slice_index_or banks.new k d ≡ slice_index_or banks.old k d }
-    ensures above { (k : ℕ) (d : BankState) → end ≤ k → slice_index_or banks.new k d ≡ slice_index_or banks.old k d }
-{
-    let place = bank.bank as usize;
-    if place < end - first {
-        let own = first + place;
-        raise_between(banks, first, own, untils.same_group);
-        raise_between(banks, own + 1, end, untils.same_group);
-        let state = &mut banks[own];
-        state.ready = later_of(state.ready, untils.same_bank);
-        state.row = row_after(bank, state.row, command);
-    } else {
-        raise_between(banks, first, end, untils.same_group);
-    }
-}
-
-/// Notes a command of a bank in the banks of its rank, which have the numbers from `first` on.
-fn note_in_groups(
-    banks: &mut [BankState],
-    first: usize,
-    bank: BankId,
-    command: Command,
-    untils: &Untils,
-)
-    requires inside { first + 16 ≤ length banks.old }
-    requires few { first + 16 ≤ 64 }
-    ensures same_bank { (k : ℕ) (d : BankState) → first ≤ k → k < first + 16 → k ≡ first + 4 * bank.group + bank.bank → bank.bank < 4
-        → slice_index_or banks.new k d ≡ raised_in_bank bank command untils.now.same_bank (slice_index_or banks.old k d) }
-    ensures same_group { (k : ℕ) (d : BankState) → first ≤ k → k < first + 16 → first + 4 * bank.group ≤ k
-        → k < first + 4 * bank.group + 4 → (k ≡ first + 4 * bank.group + bank.bank → ⊥)
-        → slice_index_or banks.new k d ≡ raised untils.now.same_group (slice_index_or banks.old k d) }
-    ensures other_group { (k : ℕ) (d : BankState) → first ≤ k → k < first + 16
-        → (first + 4 * bank.group ≤ k → k < first + 4 * bank.group + 4 → ⊥)
-        → slice_index_or banks.new k d ≡ raised untils.now.other_group (slice_index_or banks.old k d) }
-    ensures below { (k : ℕ) (d : BankState) → k < first → slice_index_or banks.new k d ≡ slice_index_or banks.old k d }
-    ensures above { (k : ℕ) (d : BankState) → first + 16 ≤ k → slice_index_or banks.new k d ≡ slice_index_or banks.old k d }
-{
-    if bank.group < 4 {
-        let start = first + 4 * bank.group as usize;
-        raise_between(banks, first, start, untils.other_group);
-        note_in_group(banks, start, start + 4, bank, command, untils);
-        raise_between(banks, start + 4, first + 16, untils.other_group);
-    } else {
-        raise_between(banks, first, first + 16, untils.other_group);
-    }
-}
-
-/// Notes a command in each bank.
-pub(crate) fn note_in_banks(
-    gaps: &GapTable,
-    banks: &mut [BankState],
-    command: Command,
+/// Raises the words of the commands of a whole rank, as far as a command of this kind in the rank holds them back.
+#[inline(always)]
+pub(crate) fn raise_rank_words(
+    delays: &Delays,
+    ranks: &mut [RankState],
+    rank: u32,
     cycle: Cycle,
+    earlier: Kind,
 )
-    requires few { length banks.old ≤ 64 }
-    requires rank { 16 * rank_of command + 16 ≤ length banks.old }
     requires cycle { cycle < 2 ^ 62 }
-    ensures each { (k : ℕ) (d : BankState) → k < length banks.old
-        → slice_index_or banks.new k d
-        ≡ state_after gaps.now cycle command (bank_at k) (slice_index_or banks.old k d) }
+    requires inside { rank < length ranks.old }
+    ensures { (k : ℕ) (d : RankState) → slice_index_or ranks.new k d
+        ≡ (if rank == k then rank_raised delays.now cycle earlier (slice_index_or ranks.old k d) else slice_index_or ranks.old k d) }
 {
-    let untils = all_untils(gaps, cycle, command.kind());
-    let first = 16 * command.rank() as usize;
-    let count = banks.len();
-    raise_between(banks, 0, first, untils.other_rank);
-    match command.bank() {
-        Some(bank) => note_in_groups(banks, first, bank, command, &untils),
-        None => note_in_rank(banks, first, command, &untils),
-    }
-    raise_between(banks, first + 16, count, untils.other_rank);
+    let state = &mut ranks[rank as usize];
+    state.prea = state.prea.max(prea_until(delays, cycle, earlier));
+    state.refresh = state.refresh.max(refresh_until(delays, cycle, earlier));
 }
 
-/// Notes a command in each rank.
-pub(crate) fn note_in_ranks(
-    gaps: &GapTable,
-    ranks: &mut [RankWords],
-    command: Command,
+/// Notes an ACT in the words and the window of its rank, for which it counts no longer from a cycle on.
+#[inline(always)]
+pub(crate) fn note_act_in_rank(
+    delays: &Delays,
+    ranks: &mut [RankState],
+    rank: u32,
     cycle: Cycle,
+    end: Cycle,
 )
-    requires few { length ranks.old ≤ 4 }
     requires cycle { cycle < 2 ^ 62 }
-    ensures each { (k : ℕ) (d : RankWords) → k < length ranks.old
-        → slice_index_or ranks.new k d
-        ≡ rank_words_after gaps.now cycle command k (slice_index_or ranks.old k d) }
+    requires inside { rank < length ranks.old }
+    ensures { (k : ℕ) (d : RankState) → slice_index_or ranks.new k d
+        ≡ (if rank == k then act_pushed (rank_raised delays.now cycle Kind.Act (slice_index_or ranks.old k d)) end else slice_index_or ranks.old k d) }
 {
-    for (rank, words) in ranks.iter_mut().enumerate() {
-        let relation = relation_to(command, rank as u32, None);
-        let prea = held_until(gaps, cycle, command.kind(), Kind::Prea, relation);
-        let refresh = held_until(gaps, cycle, command.kind(), Kind::Ref, relation);
-        words.prea = words.prea.max(prea);
-        words.refresh = words.refresh.max(refresh);
-    }
+    raise_rank_words(delays, ranks, rank, cycle, Kind::Act);
+    let window = &mut ranks[rank as usize].window;
+    window.oldest = window.second;
+    window.second = window.third;
+    window.third = window.last;
+    window.last = end;
 }

@@ -1,5 +1,6 @@
 -- What a channel decides in a cycle.
-use Rattle.std.proofs.Common.{◌≡◌, ℕ, ◌+◌, List, length, Option, sym, ap, ap₂, subst, ◌∙◌}
+use Rattle.std.proofs.Common.{◌≡◌, ℕ, ◌+◌, ◌-◌, ◌<◌, ◌≤◌, List, ◌++◌, length, Option, None, sym, ap, ap₂, subst, ◌∙◌, arith}
+use Rattle.std.specs.Prelude.{replicate}
 use Rattle.std.specs.List.{All}
 use Rattle.sim_base.specs.declared.config.Config.{Config}
 use Rattle.sim_base.specs.History.{issued_commands}
@@ -11,12 +12,14 @@ use Rattle.queue.specs.View.{QueueView, is_draining, drains_by}
 use Rattle.queue.specs.Columns.{write_count}
 use Rattle.fr_fcfs.specs.Requests.{IsInBanks}
 use Rattle.fr_fcfs.specs.Choices.{StandFor, choice_in}
-use Rattle.channel_step.specs.Channels.{HeadsStand, IsMadeFor, IsInCycle, IsInSomeCycle}
+use Rattle.fr_fcfs.specs.Cycles.{IsNextAt}
+use Rattle.channel_step.specs.Fit.{IsIdle}
+use Rattle.channel_step.specs.Channels.{HeadsStand, IsMadeFor, IsInCycle, IsInSomeCycle, IsNextIn}
 use Rattle.channel_step.specs.declared.channel.Channel.{Channel}
-use Rattle.channel_step.proofs.Cycle.{joined-choice}
 use Rattle.channel_step.proofs.Places.{queue-in_banks}
 use Rattle.channel_step.proofs.Spans.{drains-next}
-use Rattle.channel_step.proofs.Stretches.{drains-twice}
+use Rattle.channel_step.proofs.Requests.{requests-arrived}
+use Rattle.channel_step.proofs.Stretches.{drains-twice, idle-choice}
 
 drains-configured : (c : Channel) (s : Config) (channel : ℕ) → IsMadeFor c s channel → is_draining c.waiting.queue ≡ drains_with s c.waiting.queue.settled (write_count c.waiting.queue.requests)
 drains-configured c s channel h =
@@ -43,14 +46,38 @@ cycle-in_banks c now queue h e =
     queue-in_banks h.s h.channel (rank_count c.banks) (issued_commands h.channel h.rows) h.mail (length h.rows + 1) queue.requests
     i.banks_stand.ranks i.joined.requests (ap (λ (q : QueueView). q.requests) e ∙ i.joined.queue_is)
 
--- what is chosen for the queue is what the channel does
-pub cycle-choice : (c : Channel) (s : Config) (channel : ℕ) (rows : List (Option Command)) (mail : List Message) (now : ℕ) (queue : QueueView) → IsInCycle c s channel rows mail → length rows ≡ now
-    → queue ≡ c.waiting.queue → choice_in s (issued_commands channel rows) queue now ≡ choice s channel rows mail
-cycle-choice c s channel rows mail now queue h at e =
+-- what would be chosen for the queue in a later cycle is what the channel does in it, if nothing is issued and nothing arrives before it
+cycle-later : (c : Channel) (s : Config) (channel : ℕ) (rows : List (Option Command)) (mail : List Message) (cycle : ℕ) (queue : QueueView) → IsInCycle c s channel rows mail → length rows ≤ cycle
+    → queue ≡ c.waiting.queue → choice_in s (issued_commands channel rows) queue cycle ≡ choice s channel (rows ++ replicate (cycle - length rows) None) mail
+cycle-later c s channel rows mail cycle queue h l e =
+    let j = h.joined in
     let history = issued_commands channel rows in
-    ap₂ (λ t (q : QueueView). choice_between s history t (candidates s (is_draining q) q.requests) (lowest_due s history t)) (sym at) e
-    ∙ ap (λ d. choice_between s history (length rows) (candidates s d c.waiting.queue.requests) (lowest_due s history (length rows))) (settled-drains c s channel rows mail h)
-    ∙ sym (joined-choice _ _ _ _ s channel rows mail h.joined)
+    let n = cycle - length rows in
+    let then : cycle ≡ length rows + n = omega arith in
+    ap₂ (λ t (q : QueueView). choice_between s history t (candidates s (is_draining q) q.requests) (lowest_due s history t)) then e
+    ∙ ap₂ (λ d q. choice_between s history (length rows + n) (candidates s d q) (lowest_due s history (length rows + n))) (settled-drains c s channel rows mail h ∙ j.drained_is) j.queue_is
+    ∙ sym (idle-choice s channel rows mail (requests-arrived s channel (length rows + 1) mail j.requests j.arrived) n)
+
+-- where nothing would be chosen before a cycle, the channel is idle before it
+pub none-before : (c : Channel) (s : Config) (channel : ℕ) (rows : List (Option Command)) (mail : List Message) (now end : ℕ) (queue : QueueView) → IsInCycle c s channel rows mail → length rows ≡ now
+    → queue ≡ c.waiting.queue → ((t : ℕ) → now ≤ t → t < end → choice_in s (issued_commands channel rows) queue t ≡ None) → IsIdle s channel rows mail (end - length rows)
+none-before c s channel rows mail now end queue h at e none k l =
+    let then : length rows + k - length rows ≡ k = omega arith in
+    ap (λ n. choice s channel (rows ++ replicate n None) mail) (sym then)
+    ∙ sym (cycle-later c s channel rows mail (length rows + k) queue h (omega arith) e)
+    ∙ none (length rows + k) (omega arith) (omega arith)
+
+-- what is chosen next for the queue is the next command of the channel
+pub found-before : (c : Channel) (s : Config) (channel : ℕ) (rows : List (Option Command)) (mail : List Message) (now end cycle : ℕ) (command : Command) (queue : QueueView) → IsInCycle c s channel rows mail
+    → length rows ≡ now → queue ≡ c.waiting.queue → IsNextAt (choice_in s (issued_commands channel rows) queue) now cycle command → cycle < end → IsNextIn s channel rows mail end cycle command
+found-before c s channel rows mail now end cycle command queue h at e n l =
+    let from = n.from_now in
+    record {
+      from_now = omega arith;
+      before_end = l;
+      idle = none-before c s channel rows mail now cycle queue h at e n.none_before;
+      command_is = sym n.then_is ∙ cycle-later c s channel rows mail cycle queue h (omega arith) e;
+    }
 
 -- the parts of the channel stand for its commands
 pub cycle-stands : (c : Channel) (s : Config) (channel : ℕ) (rows : List (Option Command)) (mail : List Message) (queue : QueueView) → IsInCycle c s channel rows mail → queue ≡ c.waiting.queue

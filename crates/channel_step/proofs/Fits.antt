@@ -2,6 +2,7 @@
 use Rattle.std.proofs.Common.{◌≡◌, ℕ, zero, suc, ◌+◌, ◌<◌, ◌≤◌, Bool, true, false, cond, eqb, List, [], ◌∷◌, ◌++◌, length, take, drop, Option, Some, None, refl, sym, ap, ap₂, subst, ◌∙◌, arith}
 use Rattle.std.specs.Option.{IfSome}
 use Rattle.std.specs.List.{AllByRecursion as Each, prefix_len}
+use Rattle.std.proofs.lemmas.Bool.{cond-false}
 use Rattle.std.proofs.lemmas.Bool.Decides.{nat_tests}
 use Rattle.std.proofs.lemmas.List.{append-nil, append_assoc, take-append-drop}
 use Rattle.sim_base.proofs.Arrived.{NotBefore}
@@ -109,6 +110,28 @@ fit-later s channel rows mail inbox now until at h =
       Each-weaker (λ (m : Message). now + 1 ≤ m.arrival) (λ (m : Message). length rows + 1 ≤ m.arrival) (λ m l. omega arith) (drop n inbox)
           (arrive-later now inbox h.by_age (Each-weaker (λ (m : Message). (now ≤ m.arrival) × (m.arrival < until)) (λ (m : Message). now ≤ m.arrival) (λ m k. k.0) inbox h.in_span)),
     )
+
+-- when the first of them are among those that have arrived, the others are as fit for the span
+pub fit-taken : (s : Config) (channel : ℕ) (rows : List (Option Command)) (mail inbox : List Message) (now until n : ℕ) → IsFit s channel rows mail inbox now until
+    → IsFit s channel rows (mail ++ take n inbox) (drop n inbox) now until
+fit-taken s channel rows mail inbox now until n h =
+    let history = issued_commands channel rows in
+    let whole : mail ++ inbox ≡ (mail ++ take n inbox) ++ drop n inbox = ap (λ x. mail ++ x) (sym (take-append-drop n inbox)) ∙ sym (append_assoc mail (take n inbox) (drop n inbox)) in
+    let named : requests_of inbox ≡ requests_of (take n inbox) ++ requests_of (drop n inbox) =
+    ap requests_of (sym (take-append-drop n inbox)) ∙ requests-append (take n inbox) (drop n inbox) in
+    record {
+      requests = (split-each (CarriesRequest s channel) n inbox h.requests).1;
+      by_age = split-age n inbox h.by_age;
+      in_span = (split-each (λ (m : Message). (now ≤ m.arrival) × (m.arrival < until)) n inbox h.in_span).1;
+      differ = subst Differ (ap requests_of whole) h.differ;
+      unnamed = (split-append (IsUnnamed history) (requests_of (take n inbox)) (requests_of (drop n inbox)) (subst (Each (IsUnnamed history)) named h.unnamed)).1;
+      room = λ k l. subst (λ m. queue_length channel (channel_run s channel rows m k) m (now + k) ≤ queue_room s) whole (h.room k l);
+    }
+
+-- none arrives before the first
+pub none-due : (now : ℕ) (inbox : List Message) → Each (λ (m : Message). now + 1 ≤ m.arrival) inbox → due_count inbox now ≡ 0
+none-due now [] h = refl
+none-due now (m ∷ ms) h = let later : now + 1 ≤ m.arrival = h.0 in cond-false (eqb m.arrival now) _ _ (grind (arith, nat_tests))
 
 unnamed_by : (command : Command) (rest : List Request) → IfSome (source_in command) (λ source. Each (λ (r : Request). is_source r source ≡ false) rest)
     → Each (λ (r : Request). is_named_by command r ≡ false) rest

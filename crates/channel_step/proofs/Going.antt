@@ -1,27 +1,32 @@
 -- A channel that goes on to the next cycle in which something happens.
-use Rattle.std.proofs.Common.{◌≡◌, ℕ, ◌+◌, ◌-◌, ◌<◌, ◌≤◌, Bool, true, false, List, [], ◌∷◌, ◌++◌, length, Option, Some, None, refl, sym, ap, ap₂, subst, ◌∙◌, arith}
-use Rattle.std.specs.Prelude.{replicate, is_some}
+use Rattle.std.proofs.Common.{◌≡◌, ℕ, ◌+◌, ◌-◌, ◌<◌, ◌≤◌, true, List, [], ◌∷◌, ◌++◌, length, take, drop, Option, Some, None, sym, ap, ap₂, subst, ◌∙◌, eqb, arith}
+use Rattle.std.specs.Prelude.{replicate, take_while}
 use Rattle.std.specs.List.{AllByRecursion as Each}
-use Rattle.std.proofs.lemmas.List.{append-nil}
+use Rattle.std.proofs.lemmas.List.{append-nil, append_assoc, take-append-drop, take_rest}
+use Rattle.std.proofs.lemmas.List.Sums.{prefix_len-le-length}
+use Rattle.sim_base.proofs.Added.{channel_messages-push}
 use Rattle.sim_base.proofs.Ordered.{Each-weaker}
 use Rattle.sim_base.specs.declared.config.Config.{Config}
 use Rattle.sim_base.specs.Counts.{queue_length}
-use Rattle.sim_base.specs.History.{is_before}
+use Rattle.sim_base.specs.History.{is_before, issued_commands, channel_messages, messages_at}
 use Rattle.sim_base.specs.Machine.{channel_run}
 use Rattle.sim_base.specs.Scheduling.{choice}
 use Rattle.sim_base.specs.declared.command.Command.{Command}
 use Rattle.sim_base.specs.declared.message.Message.{Message}
 use Rattle.statistics.proofs.ChannelMail.{AgreeUpTo-later}
-use Rattle.fr_fcfs.specs.Cycles.{IsFirstCycle}
+use Rattle.statistics.proofs.ChannelSteps.{issued_commands-push}
 use Rattle.channel_step.specs.Past.{requests_of, CarriesRequest}
 use Rattle.channel_step.specs.Fit.{IsUnnamed, ComeByAge, IsFit, IsIdle}
-use Rattle.channel_step.specs.Channels.{StandsFor}
-use Rattle.channel_step.specs.Runs.{first_arrival, sooner_of, HasSkipped, CanSkip}
+use Rattle.channel_step.specs.Stands.{HasJoined}
+use Rattle.channel_step.specs.Channels.{StandsFor, IsInCycle, IsNextIn}
+use Rattle.channel_step.specs.Runs.{issued_in, first_arrival, HasRun}
 use Rattle.channel_step.specs.declared.channel.Channel.{Channel}
 use Rattle.channel_step.proofs.Requests.{carries-stamped}
-use Rattle.channel_step.proofs.Spans.{channel_run-more, channel_run-same}
-use Rattle.channel_step.proofs.Stretches.{idle-issued, idle-run}
-use Rattle.channel_step.proofs.Fits.{no_sooner}
+use Rattle.channel_step.proofs.Running.{rest_of}
+use Rattle.channel_step.proofs.Stepping.{due_count-is}
+use Rattle.channel_step.proofs.Spans.{channel_run-one, channel_run-more, channel_run-same}
+use Rattle.channel_step.proofs.Stretches.{length-idle, idle-issued, idle-messages, idle-run}
+use Rattle.channel_step.proofs.Fits.{due_count, no_sooner, fit-later, fit-rest, fit-taken, none-due}
 
 -- no message arrives before the first
 arrive-from : (next until : ℕ) (inbox : List Message) → ComeByAge inbox → next ≤ first_arrival inbox until → Each (λ (m : Message). next ≤ m.arrival) inbox
@@ -30,7 +35,7 @@ arrive-from next until (m ∷ ms) h l =
     (l, Each-weaker (λ (n : Message). is_before m n ≡ true) (λ (n : Message). next ≤ n.arrival) (λ n k. omega (arith, no_sooner m n k)) ms h.0)
 
 -- and that arrives within the span
-pub arrival-within : (now until : ℕ) (inbox : List Message) → now ≤ until → Each (λ (m : Message). (now ≤ m.arrival) × (m.arrival < until)) inbox
+arrival-within : (now until : ℕ) (inbox : List Message) → now ≤ until → Each (λ (m : Message). (now ≤ m.arrival) × (m.arrival < until)) inbox
     → (now ≤ first_arrival inbox until) × (first_arrival inbox until ≤ until)
 arrival-within now until [] l h = (l, omega arith)
 arrival-within now until (m ∷ ms) l h = let a = h.0.0 in let b = h.0.1 in (a, omega arith)
@@ -65,91 +70,145 @@ idle-fit s channel rows mail inbox now until n at f late is =
           omega (arith, x, f.room (n + k) (omega arith));
     }
 
-no-choice : (o : Option Command) → is_some o ≡ false → o ≡ None
-no-choice None e = refl
-no-choice (Some c) e = cc
-
--- no cycle before the first act acts
-idle-before : (s : Config) (channel : ℕ) (rows : List (Option Command)) (mail : List Message) (now next other : ℕ) (act : Option ℕ)
-    → IsFirstCycle (λ cycle. is_some (choice s channel (rows ++ replicate (cycle - now) None) mail)) now act → next ≤ sooner_of act other → IsIdle s channel rows mail (next - now)
-idle-before s channel rows mail now next other act h l k m =
-    let then : now + k - now ≡ k = omega arith in
-    ap (λ n. choice s channel (rows ++ replicate n None) mail) (sym then) ∙ no-choice _ (by act h l)
-  where
-    by : (o : Option ℕ) → IsFirstCycle (λ cycle. is_some (choice s channel (rows ++ replicate (cycle - now) None) mail)) now o → next ≤ sooner_of o other
-        → is_some (choice s channel (rows ++ replicate (now + k - now) None) mail) ≡ false
-    by None i j = i (now + k) (omega arith)
-    by (Some first) i j = i.not_before (now + k) (omega arith) (omega arith)
-
-sooner-within : (act : Option ℕ) (now other : ℕ) (p : ℕ → Bool) → IsFirstCycle p now act → now ≤ other → (now ≤ sooner_of act other) × (sooner_of act other ≤ other)
-sooner-within None now other p h l = (l, omega arith)
-sooner-within (Some first) now other p h l = let a = h.from_now in (omega arith, omega arith)
-
--- what is known where a channel looks for the next cycle in which something happens
-pub record Looks (c : Channel) (s : Config) (channel : ℕ) (rows : List (Option Command)) (mail inbox : List Message) (now until next : ℕ) (act : Option ℕ) : Type 0 where
-  pub stands : StandsFor c s channel rows mail
+-- what is known of the way of a channel from a cycle on, in which the first n messages arrive, to the next one with an arrival
+pub record Goes (s : Config) (channel : ℕ) (rows : List (Option Command)) (mail inbox : List Message) (now until n end : ℕ) : Type 0 where
   pub at : length rows ≡ now
   pub fit : IsFit s channel rows mail inbox now until
-  pub span : now ≤ until
-  pub first : IsFirstCycle (λ cycle. is_some (choice s channel (rows ++ replicate (cycle - now) None) mail)) now act
-  pub next_is : next ≡ sooner_of act (first_arrival inbox until)
+  pub span : now < until
+  pub due : n ≡ due_count inbox now
+  pub end_is : end ≡ first_arrival (drop n inbox) until
+  pub carry : Each (CarriesRequest s channel) (mail ++ take n inbox)
 
-pub looks-within : (c : Channel) (s : Config) (channel : ℕ) (rows : List (Option Command)) (mail inbox : List Message) (now until next : ℕ) (act : Option ℕ)
-    → Looks c s channel rows mail inbox now until next act → (now ≤ next) × (next ≤ first_arrival inbox until) × (next ≤ until)
-looks-within c s channel rows mail inbox now until next act h =
-    let a = arrival-within now until inbox h.span h.fit.in_span in
-    let b = sooner-within act now (first_arrival inbox until) _ h.first a.0 in
-    let e = h.next_is in
-    (omega (arith, b.0), omega (arith, b.1), omega (arith, a.1, b.1))
-
-looks-idle : (c : Channel) (s : Config) (channel : ℕ) (rows : List (Option Command)) (mail inbox : List Message) (now until next : ℕ) (act : Option ℕ)
-    → Looks c s channel rows mail inbox now until next act → IsIdle s channel rows mail (next - length rows)
-looks-idle c s channel rows mail inbox now until next act h =
-    let e = h.next_is in
-    subst (λ k. IsIdle s channel rows mail (next - k)) (sym h.at) (idle-before s channel rows mail now next (first_arrival inbox until) act h.first (omega arith))
-
-pub looks-can_skip : (c : Channel) (s : Config) (channel : ℕ) (rows : List (Option Command)) (mail inbox : List Message) (now until next : ℕ) (act : Option ℕ)
-    → Looks c s channel rows mail inbox now until next act → CanSkip c next
-looks-can_skip c s channel rows mail inbox now until next act h =
+-- the others arrive later
+goes-late : (s : Config) (channel : ℕ) (rows : List (Option Command)) (mail inbox : List Message) (now until n end : ℕ) → Goes s channel rows mail inbox now until n end
+    → Each (λ (m : Message). now + 1 ≤ m.arrival) (drop n inbox)
+goes-late s channel rows mail inbox now until n end h =
     let at = h.at in
-    let w = looks-within c s channel rows mail inbox now until next act h in
-    record { s = s; channel = channel; rows = rows; mail = mail; stands = h.stands; not_past = omega (arith, w.0); idle = looks-idle c s channel rows mail inbox now until next act h }
+    subst (λ k. Each (λ (m : Message). now + 1 ≤ m.arrival) (drop k inbox)) (sym h.due)
+    (Each-weaker (λ (m : Message). length rows + 1 ≤ m.arrival) (λ (m : Message). now + 1 ≤ m.arrival) (λ m l. omega arith) (drop (due_count inbox now) inbox)
+    (fit-later s channel rows mail inbox now until at h.fit).1)
 
-skipped-by : (d : Channel) (s : Config) (channel : ℕ) (rows : List (Option Command)) (mail inbox : List Message) (now until next : ℕ) → length rows ≡ now
-    → Each (CarriesRequest s channel) mail → IsFit s channel rows mail inbox now until → now ≤ next → next ≤ first_arrival inbox until → IsIdle s channel rows mail (next - length rows)
-    → StandsFor d s channel (rows ++ replicate (next - length rows) None) mail → HasSkipped d s channel rows mail inbox next until
-skipped-by d s channel rows mail inbox now until next at old f from before idle stands =
-    let n = next - length rows in
-    let then : now + n ≡ next = omega arith in
-    let late : Each (λ (m : Message). next ≤ m.arrival) inbox = arrive-from next until inbox f.by_age before in
-    let is : channel_run s channel rows (mail ++ inbox) n ≡ rows ++ replicate n None =
-    idle-rows s channel rows mail inbox n old f.requests (Each-weaker (λ (m : Message). next ≤ m.arrival) (λ (m : Message). length rows + n ≤ m.arrival) (λ m l. omega arith) inbox late) idle in
+-- the first of them in the span
+pub goes-end : (s : Config) (channel : ℕ) (rows : List (Option Command)) (mail inbox : List Message) (now until n end : ℕ) → Goes s channel rows mail inbox now until n end
+    → (now + 1 ≤ end) × (end ≤ until)
+goes-end s channel rows mail inbox now until n end h =
+    let span = h.span in
+    subst (λ t. (now + 1 ≤ t) × (t ≤ until)) (sym h.end_is)
+    (arrival-within (now + 1) until (drop n inbox) (omega arith)
+    (in_span-from now (now + 1) until (drop n inbox) (goes-late s channel rows mail inbox now until n end h) (fit-taken s channel rows mail inbox now until n h.fit).in_span))
+
+whole : (mail inbox : List Message) (n : ℕ) → mail ++ inbox ≡ (mail ++ take n inbox) ++ drop n inbox
+whole mail inbox n = ap (λ x. mail ++ x) (sym (take-append-drop n inbox)) ∙ sym (append_assoc mail (take n inbox) (drop n inbox))
+
+-- the rows of idle cycles before the next message, and what is fit after them
+goes-idle : (s : Config) (channel : ℕ) (rows : List (Option Command)) (mail inbox : List Message) (now until n end cycle : ℕ) → Goes s channel rows mail inbox now until n end
+    → now ≤ cycle → cycle ≤ end → IsIdle s channel rows (mail ++ take n inbox) (cycle - length rows)
+    → (channel_run s channel rows (mail ++ inbox) (cycle - now) ≡ rows ++ replicate (cycle - length rows) None)
+    × IsFit s channel (rows ++ replicate (cycle - length rows) None) (mail ++ take n inbox) (drop n inbox) cycle until
+goes-idle s channel rows mail inbox now until n end cycle h from before idle =
+    let at = h.at in
+    let k = cycle - length rows in
+    let there = mail ++ take n inbox in
+    let rest = drop n inbox in
+    let f = fit-taken s channel rows mail inbox now until n h.fit in
+    let then : now + k ≡ cycle = omega arith in
+    let much : cycle - now ≡ k = omega arith in
+    let late : Each (λ (m : Message). cycle ≤ m.arrival) rest = arrive-from cycle until rest f.by_age (let e = h.end_is in omega arith) in
+    let is : channel_run s channel rows (there ++ rest) k ≡ rows ++ replicate k None =
+    idle-rows s channel rows there rest k h.carry f.requests (Each-weaker (λ (m : Message). cycle ≤ m.arrival) (λ (m : Message). length rows + k ≤ m.arrival) (λ m l. omega arith) rest late) idle in (
+      ap₂ (λ m j. channel_run s channel rows m j) (whole mail inbox n) much ∙ is,
+      subst (λ t. IsFit s channel (rows ++ replicate k None) there rest t until) then
+          (idle-fit s channel rows there rest now until k at f (Each-weaker (λ (m : Message). cycle ≤ m.arrival) (λ (m : Message). now + k ≤ m.arrival) (λ m l. omega arith) rest late) is),
+    )
+
+pub goes-some : (s : Config) (channel : ℕ) (rows : List (Option Command)) (mail inbox : List Message) (now until n end : ℕ) → Goes s channel rows mail inbox now until n end → n ≤ length inbox
+goes-some s channel rows mail inbox now until n end h = omega (arith, h.due, prefix_len-le-length (λ (m : Message). eqb m.arrival now) inbox)
+
+-- what is left where nothing is issued before that
+pub waits : (d : Channel) (s : Config) (channel : ℕ) (rows : List (Option Command)) (mail inbox : List Message) (now until n end : ℕ) → Goes s channel rows mail inbox now until n end
+    → IsIdle s channel rows (mail ++ take n inbox) (end - length rows) → StandsFor d s channel (rows ++ replicate (end - length rows) None) (mail ++ take n inbox)
+    → HasRun d s channel rows mail inbox now (end - 1 + 1) until n [] []
+waits d s channel rows mail inbox now until n end h idle stands =
+    let within = goes-end s channel rows mail inbox now until n end h in
+    let k = end - length rows in
+    let last : end ≡ end - 1 + 1 = omega (arith, within.0) in
+    let passed = goes-idle s channel rows mail inbox now until n end end h (omega (arith, within.0)) (omega arith) idle in
+    subst (λ t. HasRun d s channel rows mail inbox now t until n [] []) last
+    (record {
+      stands = subst (λ r. StandsFor d s channel r (mail ++ take n inbox)) (sym passed.0) stands;
+      fit = subst (λ r. IsFit s channel r (mail ++ take n inbox) (drop n inbox) end until) (sym passed.0) passed.1;
+      some = goes-some s channel rows mail inbox now until n end h;
+      commands_are = ap (issued_commands channel) passed.0 ∙ idle-issued channel rows k ∙ sym (append-nil (issued_commands channel rows));
+      messages_are = ap (channel_messages s channel) passed.0 ∙ idle-messages s channel rows k ∙ sym (append-nil (channel_messages s channel rows));
+    })
+
+-- a command in a cycle in which nothing arrives
+act-fit : (c : Channel) (s : Config) (channel : ℕ) (rows : List (Option Command)) (mail inbox : List Message) (now until : ℕ) (command : Command) → IsInCycle c s channel rows mail → length rows ≡ now
+    → IsFit s channel rows mail inbox now until → Each (λ (m : Message). now + 1 ≤ m.arrival) inbox → Some command ≡ choice s channel rows mail
+    → (choice s channel rows (mail ++ inbox) ≡ Some command) × IsFit s channel (rows ++ Some command ∷ []) mail inbox (now + 1) until
+act-fit c s channel rows mail inbox now until command h at f late is =
+    let n = due_count inbox now in
+    let none : n ≡ 0 = none-due now inbox late in
+    let same : mail ++ take n inbox ≡ mail = ap (λ k. mail ++ take k inbox) none ∙ append-nil mail in
+    let q = c.waiting in
+    let left =
+    fit-rest q.queue.requests q.queue.settled q.marks c.stats s channel rows mail inbox now until at f
+    (subst (λ m. HasJoined q.queue.requests q.queue.settled q.marks c.stats s channel rows m) (sym same) h.joined) in
+    let chosen : choice s channel rows (mail ++ take n inbox) ≡ Some command = ap (choice s channel rows) same ∙ sym is in (
+      left.1 ∙ chosen,
+      subst (λ o. IsFit s channel (rows ++ o ∷ []) mail inbox (now + 1) until) chosen
+          (subst (λ m. IsFit s channel (rows ++ choice s channel rows (mail ++ take n inbox) ∷ []) m inbox (now + 1) until) same
+          (subst (λ k. IsFit s channel (rows ++ choice s channel rows (mail ++ take n inbox) ∷ []) (mail ++ take n inbox) (drop k inbox) (now + 1) until) none left.0)),
+    )
+
+-- what is left where a command is issued in a cycle, and none before that
+pub acts : (c d : Channel) (s : Config) (channel : ℕ) (rows : List (Option Command)) (mail inbox : List Message) (now until n end cycle : ℕ) (command : Command) → Goes s channel rows mail inbox now until n end
+    → IsNextIn s channel rows (mail ++ take n inbox) end cycle command
+    → IsInCycle c s channel (rows ++ replicate (cycle - length rows) None) (mail ++ take n inbox)
+    → StandsFor d s channel ((rows ++ replicate (cycle - length rows) None) ++ Some command ∷ []) (mail ++ take n inbox)
+    → HasRun d s channel rows mail inbox now (cycle + 1) until n (issued_in channel cycle (Some command)) (messages_at s channel cycle (Some command))
+acts c d s channel rows mail inbox now until n end cycle command h i in_cycle stands =
+    let at = h.at in
+    let from = i.from_now in
+    let before = i.before_end in
+    let k = cycle - length rows in
+    let o = Some command in
+    let all = mail ++ inbox in
+    let there = mail ++ take n inbox in
+    let rest = drop n inbox in
+    let then = rows ++ replicate k None in
+    let passed = goes-idle s channel rows mail inbox now until n end cycle h (omega arith) (omega arith) i.idle in
+    let len : length then ≡ cycle = omega (arith, length-idle rows k) in
+    let f = fit-taken s channel rows mail inbox now until n h.fit in
+    let act = act-fit c s channel then there rest cycle until command in_cycle len passed.1 (arrive-from (cycle + 1) until rest f.by_age (let e = h.end_is in omega arith)) i.command_is in
+    let next : cycle + 1 - now ≡ (cycle - now) + 1 = omega arith in
+    let rows_are : channel_run s channel rows all (cycle + 1 - now) ≡ then ++ o ∷ [] =
+    ap (channel_run s channel rows all) next
+    ∙ channel_run-one s channel rows all (cycle - now)
+    ∙ ap (λ r. r ++ choice s channel r all ∷ []) passed.0
+    ∙ ap (λ x. then ++ x ∷ []) (ap (choice s channel then) (whole mail inbox n) ∙ act.0) in
     record {
-      rows_are = is;
-      stands = stands;
-      fit = subst (λ t. IsFit s channel (rows ++ replicate n None) mail inbox t until) then
-          (idle-fit s channel rows mail inbox now until n at f (Each-weaker (λ (m : Message). next ≤ m.arrival) (λ (m : Message). now + n ≤ m.arrival) (λ m l. omega arith) inbox late) is);
+      stands = subst (λ r. StandsFor d s channel r there) (sym rows_are) stands;
+      fit = subst (λ r. IsFit s channel r there rest (cycle + 1) until) (sym rows_are) act.1;
+      some = goes-some s channel rows mail inbox now until n end h;
+      commands_are =
+          ap (issued_commands channel) rows_are ∙ issued_commands-push channel then o
+          ∙ ap₂ (λ x j. x ++ issued_in channel j o) (idle-issued channel rows k) len;
+      messages_are =
+          ap (channel_messages s channel) rows_are ∙ channel_messages-push s channel then o
+          ∙ ap₂ (λ x j. x ++ messages_at s channel j o) (idle-messages s channel rows k) len;
     }
 
--- what going on leaves
-pub looks-skipped : (c d : Channel) (s : Config) (channel : ℕ) (rows : List (Option Command)) (mail inbox : List Message) (now until next : ℕ) (act : Option ℕ)
-    → Looks c s channel rows mail inbox now until next act
-    → (IsIdle s channel rows mail (next - length rows) → StandsFor d s channel (rows ++ replicate (next - length rows) None) mail)
-    → HasSkipped d s channel rows mail inbox next until
-looks-skipped c d s channel rows mail inbox now until next act h then =
-    let w = looks-within c s channel rows mail inbox now until next act h in
-    let idle = looks-idle c s channel rows mail inbox now until next act h in
-    skipped-by d s channel rows mail inbox now until next h.at h.stands.recalls.past.requests h.fit w.0 w.1 idle (then idle)
-
--- where nothing is skipped
-pub nothing-skipped : (c : Channel) (s : Config) (channel : ℕ) (rows : List (Option Command)) (mail inbox : List Message) (now until : ℕ) → StandsFor c s channel rows mail → length rows ≡ now
-    → IsFit s channel rows mail inbox now until → HasSkipped c s channel rows mail inbox now until
-unfolding channel_run
-nothing-skipped c s channel rows mail inbox now until h at f =
-    let none : now - length rows ≡ 0 = omega arith in
-    let here : rows ++ replicate (now - length rows) None ≡ rows = ap (λ k. rows ++ replicate k None) none ∙ append-nil rows in
+-- a channel that has taken in what arrives in a cycle is on such a way
+pub goes : (d : Channel) (s : Config) (channel : ℕ) (rows : List (Option Command)) (mail inbox : List Message) (now until n end : ℕ) → IsInCycle d s channel rows (mail ++ take n inbox) → length rows ≡ now
+    → IsFit s channel rows mail inbox now until → now < until → n ≡ length (take_while (λ (m : Message). eqb m.arrival now) inbox) → end ≡ first_arrival (rest_of inbox n) until
+    → Goes s channel rows mail inbox now until n end
+goes d s channel rows mail inbox now until n end h at f l e then =
     record {
-      rows_are = ap (channel_run s channel rows (mail ++ inbox)) none ∙ sym here;
-      stands = subst (λ r. StandsFor c s channel r mail) (sym here) h;
-      fit = subst (λ r. IsFit s channel r mail inbox now until) (sym here) f;
+      at = at;
+      fit = f;
+      span = l;
+      due = e ∙ due_count-is inbox now;
+      end_is = then ∙ ap (λ x. first_arrival x until) (take_rest inbox n);
+      carry = h.joined.requests;
     }

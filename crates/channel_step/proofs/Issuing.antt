@@ -1,11 +1,10 @@
 -- What a command that a channel issues leaves.
-use Rattle.std.proofs.Common.{◌≡◌, ℕ, zero, suc, ◌+◌, ◌*◌, ◌<◌, ◌≤◌, ◌^◌, Bool, true, false, cond, List, [], ◌∷◌, ◌++◌, length, get_or, map, Option, Some, None, refl, sym, ap, ap₂, subst, ◌∙◌, add-one, arith}
+use Rattle.std.proofs.Common.{◌≡◌, ℕ, zero, suc, ◌+◌, ◌<◌, ◌≤◌, ◌^◌, Bool, true, false, cond, List, [], ◌∷◌, ◌++◌, length, get_or, map, Option, Some, None, refl, sym, ap, ap₂, subst, ◌∙◌, add-one, arith}
 use Rattle.std.specs.Prelude.{is_some, not, remove, slice_get, filter, filter_map, max, option_and_then}
 use Rattle.std.specs.Option.{IfSome, ForSome}
 use Rattle.std.specs.Prelude.{MatchOption}
 use Rattle.std.specs.List.{All, AllByRecursion as Each, cons_option, enumerate_from}
 use Rattle.std.proofs.lemmas.Bool.{true≢false}
-use Rattle.std.proofs.lemmas.List.{append-nil}
 use Rattle.std.proofs.lemmas.List.Elements.{All-from_recursion}
 use Rattle.sim_base.proofs.Ordered.{Each-weaker}
 use Rattle.sim_base.specs.declared.config.Config.{Config}
@@ -33,7 +32,6 @@ use Rattle.heads.specs.declared.heads.Heads.{Heads}
 use Rattle.heads.specs.Heads.{bank_at}
 use Rattle.heads.specs.Stands.{bank_count, IsAmong, StandsFor as HeadsStandFor}
 use Rattle.heads.proofs.Stood.{same_rows}
-use Rattle.fr_fcfs.specs.Requests.{IsInBanks}
 use Rattle.fr_fcfs.specs.Choices.{Serves, IsFor}
 use Rattle.fr_fcfs.specs.declared.choice.Choice.{Choice}
 use Rattle.channel_step.specs.Past.{Differ, is_named}
@@ -236,20 +234,6 @@ issued-stands c s channel rows mail now chosen w heads banks refresh stats h at 
     (subst (λ k. BanksStandFor banks s (history ++ row_of channel k chosen.command ∷ [])) (sym at) b)
     (subst (λ k. RefreshesStandFor refresh s (history ++ row_of channel k chosen.command ∷ [])) (sym at) r)
     (t ∙ counted-is c s history (length rows) (Some chosen.command) (moves_unmarked c.waiting chosen.slot) left.1)
-
--- and when it has issued none
-pub none-stands : (c : Channel) (s : Config) (channel : ℕ) (rows : List (Option Command)) (mail : List Message) (stats : ChannelStats)
-    → IsInCycle c s channel rows mail → None ≡ choice s channel rows mail
-    → stats ≡ counted c s (issued_commands channel rows) (length rows) None false
-    → StandsFor (record c { cycle = c.cycle + 1; stats = stats }) s channel (rows ++ None ∷ []) mail
-none-stands c s channel rows mail stats h e t =
-    let history = issued_commands channel rows in
-    let none : history ≡ history ++ [] = sym (append-nil history) in
-    let marks : c.waiting.marks ≡ marks_of (history ++ []) c.waiting.queue.requests = h.joined.marks_are ∙ ap (λ x. marks_of x c.waiting.queue.requests) none in
-    stands-after c s channel rows mail None c.waiting c.heads c.banks c.refresh stats h e (λ i. record { queue = c.waiting.queue; marks = marks i }) refl
-    (subst (HeadsStand c.heads c.waiting.queue.requests) none h.heads_stand)
-    (subst (BanksStandFor c.banks s) none h.banks_stand) (subst (RefreshesStandFor c.refresh s) none h.refreshes_stand)
-    (t ∙ counted-is c s history (length rows) None false refl)
 
 -- each command was issued before the next cycle
 issued-from : (channel from : ℕ) (rows : List (Option Command))

@@ -20,7 +20,7 @@ use Rattle.statistics.proofs.Repeats.{channel_stretch-replicate}
 use Rattle.bank_ready.specs.Stands.{StandsFor as BanksStandFor}
 use Rattle.refresh.specs.Refreshes.{RefreshCounts, lowest_owed, StandsFor as RefreshesStandFor}
 use Rattle.refresh.proofs.Due.{lowest_due_from_owed}
-use Rattle.channel_step.specs.Past.{requests_of, IsPast}
+use Rattle.channel_step.specs.Past.{requests_of}
 use Rattle.channel_step.specs.Stands.{marks_of}
 use Rattle.channel_step.specs.Counted.{cycle_with_hit}
 use Rattle.channel_step.specs.Fit.{queue_room}
@@ -33,10 +33,6 @@ use Rattle.channel_step.proofs.Stretches.{idle-push, length-idle, idle-issued, i
 use Rattle.channel_step.proofs.Cycle.{cycle-with}
 use Rattle.channel_step.proofs.Deciding.{settled-drains}
 use Rattle.channel_step.proofs.Starting.{at-drains}
-
--- all of this mail arrived before the next cycle
-abbrev pub HasArrived : List (Option Command) → List Message → Type 0
-HasArrived rows mail = Each (λ (m : Message). m.arrival < length rows) mail
 
 -- the next cycle, when it is settled whether the channel drains its writes in it
 pub settled-in_cycle : (c : Channel) (s : Config) (channel : ℕ) (rows : List (Option Command)) (mail : List Message) → StandsFor c s channel rows mail
@@ -92,7 +88,7 @@ abbrev pub IsDueThroughout : Config → ℕ → List (Option Command) → ℕ �
 IsDueThroughout s channel rows n due = (k : ℕ) → k < n → is_some (lowest_due s (issued_commands channel rows) (length rows + k)) ≡ due
 
 -- what each of them counts
-idle-counts : (s : Config) (channel : ℕ) (rows : List (Option Command)) (mail : List Message) (n : ℕ) (due : Bool) → Each (ArrivedBefore (length rows)) (requests_of mail)
+idle-counts : (s : Config) (channel : ℕ) (rows : List (Option Command)) (mail : List Message) (n : ℕ) (due : Bool) → Each (ArrivedBefore (length rows + 1)) (requests_of mail)
     → IsDueThroughout s channel rows n due → (k : ℕ) → k < n
     → channel_cycle s channel (rows ++ replicate k None) mail None
     ≡ cycle_with_hit s (length (waiting (issued_commands channel rows) mail (length rows + 1))) due (drains s channel rows mail (length rows)) None false
@@ -105,7 +101,7 @@ idle-counts s channel rows mail n due h alike k l =
     ∙ ap (λ b. cycle_with_hit s (length (waiting history mail (length rows + 1))) b (drains s channel rows mail (length rows)) None false) first
 
 -- the statistics after them
-pub idle-stats : (s : Config) (channel : ℕ) (rows : List (Option Command)) (mail : List Message) (n : ℕ) (due : Bool) → Each (ArrivedBefore (length rows)) (requests_of mail)
+pub idle-stats : (s : Config) (channel : ℕ) (rows : List (Option Command)) (mail : List Message) (n : ℕ) (due : Bool) → Each (ArrivedBefore (length rows + 1)) (requests_of mail)
     → IsDueThroughout s channel rows n due
     → channel_stats s channel (rows ++ replicate n None) mail
     ≡ channel_joined (channel_stats s channel rows mail)
@@ -119,7 +115,7 @@ abbrev pub passed_by : Channel → Config → ℕ → Bool → ChannelStats
 passed_by c s n due = channel_joined c.stats (channel_times n (cycle_with_hit s (length c.waiting.queue.requests) due c.waiting.queue.settled None false))
 
 passed-stats : (c : Channel) (s : Config) (channel : ℕ) (rows : List (Option Command)) (mail : List Message) (n : ℕ) (due : Bool) → IsInCycle c s channel rows mail
-    → Each (ArrivedBefore (length rows)) (requests_of mail) → IsDueThroughout s channel rows n due → passed_by c s n due ≡ channel_stats s channel (rows ++ replicate n None) mail
+    → Each (ArrivedBefore (length rows + 1)) (requests_of mail) → IsDueThroughout s channel rows n due → passed_by c s n due ≡ channel_stats s channel (rows ++ replicate n None) mail
 passed-stats c s channel rows mail n due h before alike =
     let j = h.joined in
     ap₂ (λ q d. channel_joined c.stats (channel_times n (cycle_with_hit s (length q) due d None false))) j.queue_is j.drained_is
@@ -136,7 +132,7 @@ passed-longest c s channel rows mail n due h = times-longest c.stats.queued_max 
 
 -- the statistics after them fit
 pub passed-fits : (c : Channel) (s : Config) (channel : ℕ) (rows : List (Option Command)) (mail : List Message) (n : ℕ) (due : Bool) → IsInCycle c s channel rows mail
-    → Each (ArrivedBefore (length rows)) (requests_of mail) → IsDueThroughout s channel rows n due → length rows + n ≤ 2 ^ 62 → ChannelFits (passed_by c s n due)
+    → Each (ArrivedBefore (length rows + 1)) (requests_of mail) → IsDueThroughout s channel rows n due → length rows + n ≤ 2 ^ 62 → ChannelFits (passed_by c s n due)
 unfolding channel_stats
 passed-fits c s channel rows mail n due h before alike early =
     let more = rows ++ replicate n None in
@@ -148,7 +144,7 @@ passed-fits c s channel rows mail n due h before alike early =
 
 -- after them the channel is in a cycle that is as the first
 pub passed-in_cycle : (c : Channel) (s : Config) (channel : ℕ) (rows : List (Option Command)) (mail : List Message) (n : ℕ) (due : Bool) (until : ℕ) → IsInCycle c s channel rows mail
-    → Each (ArrivedBefore (length rows)) (requests_of mail) → IsDueThroughout s channel rows n due → until ≡ length rows + n
+    → Each (ArrivedBefore (length rows + 1)) (requests_of mail) → IsDueThroughout s channel rows n due → until ≡ length rows + n
     → IsInCycle (record c { cycle = until; stats = passed_by c s n due }) s channel (rows ++ replicate n None) mail
 passed-in_cycle c s channel rows mail n due until h before alike e =
     let more = rows ++ replicate n None in
@@ -173,7 +169,6 @@ passed-in_cycle c s channel rows mail n due until h before alike e =
         differ = j.differ;
         queue_is =
             j.queue_is
-            ∙ waiting-until (issued_commands channel rows) mail (length rows) (length rows + 1) (omega arith) before
             ∙ sym (idle-waiting channel rows mail before n (length more + 1) (omega arith));
         drained_is = j.drained_is ∙ sym (idle-drains s channel rows mail before n);
         marks_are = j.marks_are ∙ ap (λ x. marks_of x c.waiting.queue.requests) (sym history);
@@ -185,8 +180,8 @@ passed-in_cycle c s channel rows mail n due until h before alike e =
     }
 
 -- when at least one cycle was passed it stands after them
-pub skipped-stands : (c : Channel) (s : Config) (channel : ℕ) (rows : List (Option Command)) (mail : List Message) (n : ℕ) → IsInCycle c s channel (rows ++ replicate n None) mail
-    → Each (λ (m : Message). m.arrival < length rows) mail → Each (ArrivedBefore (length rows)) (requests_of mail) → 0 < n → StandsFor c s channel (rows ++ replicate n None) mail
+skipped-stands : (c : Channel) (s : Config) (channel : ℕ) (rows : List (Option Command)) (mail : List Message) (n : ℕ) → IsInCycle c s channel (rows ++ replicate n None) mail
+    → Each (λ (m : Message). m.arrival < length rows + 1) mail → Each (ArrivedBefore (length rows + 1)) (requests_of mail) → 0 < n → StandsFor c s channel (rows ++ replicate n None) mail
 skipped-stands c s channel rows mail zero h arrived before some = absurd (omega arith)
 skipped-stands c s channel rows mail (suc k) h arrived before some =
     let last = rows ++ replicate k None in
@@ -203,7 +198,7 @@ skipped-stands c s channel rows mail (suc k) h arrived before some =
       recalls = record {
         past = record {
           requests = j.requests;
-          arrived = Each-weaker (λ (m : Message). m.arrival < length rows) (λ (m : Message). m.arrival < length more) (λ m l. omega arith) mail arrived;
+          arrived = Each-weaker (λ (m : Message). m.arrival < length rows + 1) (λ (m : Message). m.arrival < length more) (λ m l. omega arith) mail arrived;
           differ = j.differ;
         };
         queue_is = j.queue_is
@@ -241,14 +236,14 @@ passed-is c s channel rows mail until h =
     h.made_for.config_is (settled-drains c s channel rows mail h)
 
 pass-fits : (c : Channel) (s : Config) (channel : ℕ) (rows : List (Option Command)) (mail : List Message) (until : ℕ) → IsInCycle c s channel rows mail
-    → Each (ArrivedBefore (length rows)) (requests_of mail) → IsDueThroughout s channel rows (until - c.cycle) (is_some (lowest_owed c.refresh c.cycle)) → c.cycle ≤ until → until ≤ 2 ^ 62
+    → Each (ArrivedBefore (length rows + 1)) (requests_of mail) → IsDueThroughout s channel rows (until - c.cycle) (is_some (lowest_owed c.refresh c.cycle)) → c.cycle ≤ until → until ≤ 2 ^ 62
     → ChannelFits (passed c until)
 pass-fits c s channel rows mail until h before due l early =
     subst ChannelFits (sym (passed-is c s channel rows mail until h))
     (passed-fits c s channel rows mail (until - c.cycle) _ h before due (omega (arith, h.cycle_is)))
 
 pass-in_cycle : (c : Channel) (s : Config) (channel : ℕ) (rows : List (Option Command)) (mail : List Message) (until : ℕ) → IsInCycle c s channel rows mail
-    → Each (ArrivedBefore (length rows)) (requests_of mail) → IsDueThroughout s channel rows (until - c.cycle) (is_some (lowest_owed c.refresh c.cycle)) → c.cycle ≤ until
+    → Each (ArrivedBefore (length rows + 1)) (requests_of mail) → IsDueThroughout s channel rows (until - c.cycle) (is_some (lowest_owed c.refresh c.cycle)) → c.cycle ≤ until
     → IsInCycle (record c { cycle = until; stats = passed c until }) s channel (rows ++ replicate (until - c.cycle) None) mail
 pass-in_cycle c s channel rows mail until h before due l =
     subst (λ x. IsInCycle (record c { cycle = until; stats = x }) s channel (rows ++ replicate (until - c.cycle) None) mail) (sym (passed-is c s channel rows mail until h))
@@ -258,18 +253,17 @@ pass-in_cycle c s channel rows mail until h before due l =
 abbrev pub passed_to : Channel → ℕ → Channel
 passed_to c until = record c { cycle = until; stats = passed c until }
 
--- what is known where a channel skips cycles, when it is settled whether it drains its writes in them
+-- what is known where a channel passes over cycles
 pub record Skips (c : Channel) (s : Config) (channel : ℕ) (rows : List (Option Command)) (mail : List Message) (until due : ℕ) : Type 0 where
-  pub past : IsPast s channel rows mail
   pub in_cycle : IsInCycle c s channel rows mail
   pub from_now : c.cycle ≤ due
   pub within : due ≤ until
   pub early : until ≤ 2 ^ 62
   pub dues : IsDueIn c.refresh c.cycle until due
 
-skips-before : (c : Channel) (s : Config) (channel : ℕ) (rows : List (Option Command)) (mail : List Message) (until due : ℕ) → Skips c s channel rows mail until due
-    → Each (ArrivedBefore (length rows)) (requests_of mail)
-skips-before c s channel rows mail until due h = requests-arrived s channel (length rows) mail h.past.requests h.past.arrived
+-- all requests are there from the first of them on
+pub there-before : (c : Channel) (s : Config) (channel : ℕ) (rows : List (Option Command)) (mail : List Message) → IsInCycle c s channel rows mail → Each (ArrivedBefore (length rows + 1)) (requests_of mail)
+there-before c s channel rows mail h = requests-arrived s channel (length rows + 1) mail h.joined.requests h.joined.arrived
 
 skips-alike : (c : Channel) (s : Config) (channel : ℕ) (rows : List (Option Command)) (mail : List Message) (until due : ℕ) → Skips c s channel rows mail until due
     → IsDueThroughout s channel rows (due - c.cycle) (is_some (lowest_owed c.refresh c.cycle))
@@ -284,18 +278,12 @@ pub skips-first_fits : (c : Channel) (s : Config) (channel : ℕ) (rows : List (
 skips-first_fits c s channel rows mail until due h =
     let within = h.within in
     let early = h.early in
-    pass-fits c s channel rows mail due h.in_cycle (skips-before c s channel rows mail until due h) (skips-alike c s channel rows mail until due h) h.from_now (omega arith)
+    pass-fits c s channel rows mail due h.in_cycle (there-before c s channel rows mail h.in_cycle) (skips-alike c s channel rows mail until due h) h.from_now (omega arith)
 
 skips-second : (c : Channel) (s : Config) (channel : ℕ) (rows : List (Option Command)) (mail : List Message) (until due : ℕ) → Skips c s channel rows mail until due
     → IsInCycle (passed_to c due) s channel (rows ++ replicate (due - c.cycle) None) mail
 skips-second c s channel rows mail until due h =
-    pass-in_cycle c s channel rows mail due h.in_cycle (skips-before c s channel rows mail until due h) (skips-alike c s channel rows mail until due h) h.from_now
-
-skips-before_second : (c : Channel) (s : Config) (channel : ℕ) (rows : List (Option Command)) (mail : List Message) (until due : ℕ) → Skips c s channel rows mail until due
-    → Each (ArrivedBefore (length (rows ++ replicate (due - c.cycle) None))) (requests_of mail)
-skips-before_second c s channel rows mail until due h =
-    let len = length-idle rows (due - c.cycle) in
-    Each-weaker (ArrivedBefore (length rows)) (ArrivedBefore (length (rows ++ replicate (due - c.cycle) None))) (λ r l. omega arith) (requests_of mail) (skips-before c s channel rows mail until due h)
+    pass-in_cycle c s channel rows mail due h.in_cycle (there-before c s channel rows mail h.in_cycle) (skips-alike c s channel rows mail until due h) h.from_now
 
 skips-alike_second : (c : Channel) (s : Config) (channel : ℕ) (rows : List (Option Command)) (mail : List Message) (until due : ℕ) → Skips c s channel rows mail until due
     → IsDueThroughout s channel (rows ++ replicate (due - c.cycle) None) (until - due) (is_some (lowest_owed c.refresh due))
@@ -309,25 +297,72 @@ skips-alike_second c s channel rows mail until due h =
 pub skips-second_fits : (c : Channel) (s : Config) (channel : ℕ) (rows : List (Option Command)) (mail : List Message) (until due : ℕ) → Skips c s channel rows mail until due
     → ChannelFits (passed (passed_to c due) until)
 skips-second_fits c s channel rows mail until due h =
-    pass-fits (passed_to c due) s channel (rows ++ replicate (due - c.cycle) None) mail until (skips-second c s channel rows mail until due h)
-    (skips-before_second c s channel rows mail until due h) (skips-alike_second c s channel rows mail until due h) h.within h.early
+    let d = passed_to c due in
+    let second = skips-second c s channel rows mail until due h in
+    pass-fits d s channel (rows ++ replicate (due - c.cycle) None) mail until second (there-before d s channel (rows ++ replicate (due - c.cycle) None) mail second)
+    (skips-alike_second c s channel rows mail until due h) h.within h.early
 
--- the channel after the cycles that it skips
-pub skips-stands : (c : Channel) (s : Config) (channel : ℕ) (rows : List (Option Command)) (mail : List Message) (until due : ℕ) → Skips c s channel rows mail until due
-    → length rows < until → StandsFor (passed_to (passed_to c due) until) s channel (rows ++ replicate (until - length rows) None) mail
-skips-stands c s channel rows mail until due h some =
+-- the channel after the cycles that it passes over
+pub skips-in_cycle : (c : Channel) (s : Config) (channel : ℕ) (rows : List (Option Command)) (mail : List Message) (until due : ℕ) → Skips c s channel rows mail until due
+    → IsInCycle (passed_to (passed_to c due) until) s channel (rows ++ replicate (until - length rows) None) mail
+skips-in_cycle c s channel rows mail until due h =
     let d = passed_to (passed_to c due) until in
     let n = due - c.cycle in
     let m = until - due in
     let from_now = h.from_now in
     let within = h.within in
     let is = h.in_cycle.cycle_is in
+    let second = skips-second c s channel rows mail until due h in
     let whole : (rows ++ replicate n None) ++ replicate m None ≡ rows ++ replicate (until - length rows) None =
     append_assoc rows (replicate n None) (replicate m None)
     ∙ ap (λ x. rows ++ x) (replicate-append-replicate {A = Option Command} n m None)
     ∙ ap (λ k. rows ++ replicate k None) (let e : n + m ≡ until - length rows = omega arith in e) in
-    skipped-stands d s channel rows mail (until - length rows)
-    (subst (λ r. IsInCycle d s channel r mail) whole
-    (pass-in_cycle (passed_to c due) s channel (rows ++ replicate n None) mail until (skips-second c s channel rows mail until due h)
-    (skips-before_second c s channel rows mail until due h) (skips-alike_second c s channel rows mail until due h) within))
-    h.past.arrived (skips-before c s channel rows mail until due h) (omega arith)
+    subst (λ r. IsInCycle d s channel r mail) whole
+    (pass-in_cycle (passed_to c due) s channel (rows ++ replicate n None) mail until second
+    (there-before (passed_to c due) s channel (rows ++ replicate n None) mail second) (skips-alike_second c s channel rows mail until due h) within)
+
+-- the same where a refresh is due in none of them
+pub skips-not_due : (c : Channel) (s : Config) (channel : ℕ) (rows : List (Option Command)) (mail : List Message) (until due : ℕ) → Skips c s channel rows mail until due → until ≤ due
+    → IsInCycle (passed_to c due) s channel (rows ++ replicate (until - length rows) None) mail
+skips-not_due c s channel rows mail until due h l =
+    let within = h.within in
+    let is = h.in_cycle.cycle_is in
+    subst (λ n. IsInCycle (passed_to c due) s channel (rows ++ replicate n None) mail) (let e : due - c.cycle ≡ until - length rows = omega arith in e) (skips-second c s channel rows mail until due h)
+
+-- and where one is due in each
+skips-alike_due : (c : Channel) (s : Config) (channel : ℕ) (rows : List (Option Command)) (mail : List Message) (until due : ℕ) → Skips c s channel rows mail until due → due ≤ c.cycle
+    → IsDueThroughout s channel rows (until - c.cycle) (is_some (lowest_owed c.refresh c.cycle))
+skips-alike_due c s channel rows mail until due h l =
+    let within = h.within in
+    let from_now = h.from_now in
+    alike c s channel rows mail until due (until - c.cycle) h.in_cycle h.dues (omega arith)
+    (λ k m. le-leb due (c.cycle + k) (omega arith) ∙ sym (le-leb due c.cycle (omega arith)))
+
+pub skips-due : (c : Channel) (s : Config) (channel : ℕ) (rows : List (Option Command)) (mail : List Message) (until due : ℕ) → Skips c s channel rows mail until due → due ≤ c.cycle
+    → IsInCycle (passed_to c until) s channel (rows ++ replicate (until - length rows) None) mail
+skips-due c s channel rows mail until due h l =
+    let within = h.within in
+    let from_now = h.from_now in
+    let is = h.in_cycle.cycle_is in
+    subst (λ n. IsInCycle (passed_to c until) s channel (rows ++ replicate n None) mail) (let e : until - c.cycle ≡ until - length rows = omega arith in e)
+    (pass-in_cycle c s channel rows mail until h.in_cycle (there-before c s channel rows mail h.in_cycle) (skips-alike_due c s channel rows mail until due h l) (omega arith))
+
+pub skips-due_fits : (c : Channel) (s : Config) (channel : ℕ) (rows : List (Option Command)) (mail : List Message) (until due : ℕ) → Skips c s channel rows mail until due → due ≤ c.cycle
+    → ChannelFits (passed c until)
+skips-due_fits c s channel rows mail until due h l =
+    let within = h.within in
+    let from_now = h.from_now in
+    pass-fits c s channel rows mail until h.in_cycle (there-before c s channel rows mail h.in_cycle) (skips-alike_due c s channel rows mail until due h l) (omega arith) h.early
+
+-- and where there are none
+pub waited-none : (c : Channel) (s : Config) (channel : ℕ) (rows : List (Option Command)) (mail : List Message) (until : ℕ) → c.cycle ≡ until → IsInCycle c s channel rows mail
+    → IsInCycle c s channel (rows ++ replicate (until - length rows) None) mail
+waited-none c s channel rows mail until at h =
+    let is = h.cycle_is in
+    let none : until - length rows ≡ 0 = omega arith in
+    subst (λ r. IsInCycle c s channel r mail) (sym (ap (λ n. rows ++ replicate n None) none ∙ append-nil rows)) h
+
+-- the channel stands after them, where there are some
+pub waited-stands : (c d : Channel) (s : Config) (channel : ℕ) (rows : List (Option Command)) (mail : List Message) (n : ℕ) → IsInCycle c s channel rows mail
+    → IsInCycle d s channel (rows ++ replicate n None) mail → 0 < n → StandsFor d s channel (rows ++ replicate n None) mail
+waited-stands c d s channel rows mail n h k some = skipped-stands d s channel rows mail n k h.joined.arrived (there-before c s channel rows mail h) some

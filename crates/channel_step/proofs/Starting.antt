@@ -2,6 +2,7 @@
 use Rattle.std.proofs.Common.{◌≡◌, ℕ, ◌+◌, ◌-◌, ◌*◌, ◌≤◌, Bool, false, List, [], ◌++◌, length, Option, Some, None, refl, sym, ap, ap₂, subst, ◌∙◌, arith}
 use Rattle.std.specs.Prelude.{is_some, replicate}
 use Rattle.std.specs.List.{All, AllByRecursion as Each}
+use Rattle.sim_base.proofs.Ordered.{Each-weaker}
 use Rattle.sim_base.specs.declared.config.Config.{Config}
 use Rattle.sim_base.specs.Counts.{issued_of_kind, hits, queue_lengths, queued, queued_max, idle, refreshing, draining}
 use Rattle.sim_base.specs.History.{issued_commands}
@@ -77,10 +78,13 @@ at-choice c s channel rows mail from cycle queue h at l e =
     let r = h.recalls in
     let history = issued_commands channel rows in
     let before : Each (ArrivedBefore (length rows)) (requests_of mail) = requests-arrived s channel (length rows) mail r.past.requests r.past.arrived in
+    let soon : Each (ArrivedBefore (length rows + 1)) (requests_of mail) =
+    Each-weaker (ArrivedBefore (length rows)) (ArrivedBefore (length rows + 1)) (λ r l. omega arith) (requests_of mail) before in
+    let there : c.waiting.queue.requests ≡ waiting history mail (length rows + 1) = r.queue_is ∙ sym (waiting-until history mail (length rows) (length rows + 1) (omega arith) before) in
     let then : cycle ≡ length rows + (cycle - from) = omega arith in
     ap₂ (λ t (q : QueueView). choice_between s history t (candidates s (is_draining q) q.requests) (lowest_due s history t)) then e
-    ∙ ap₂ (λ d q. choice_between s history (length rows + (cycle - from)) (candidates s d q) (lowest_due s history (length rows + (cycle - from)))) (at-drains c s channel rows mail h) r.queue_is
-    ∙ sym (idle-choice s channel rows mail before (cycle - from))
+    ∙ ap₂ (λ d q. choice_between s history (length rows + (cycle - from)) (candidates s d q) (lowest_due s history (length rows + (cycle - from)))) (at-drains c s channel rows mail h) there
+    ∙ sym (idle-choice s channel rows mail soon (cycle - from))
 
 first-agree : (p q : ℕ → Bool) (now : ℕ) → ((cycle : ℕ) → now ≤ cycle → p cycle ≡ q cycle) → (o : Option ℕ) → IsFirstCycle p now o → IsFirstCycle q now o
 first-agree p q now same None h = λ cycle l. sym (same cycle l) ∙ h cycle l

@@ -1,4 +1,4 @@
--- One cycle of a channel, from what arrives in it on.
+-- What arrives in a cycle of a channel.
 use Rattle.std.proofs.Common.{◌≡◌, ℕ, suc, ◌+◌, ◌<◌, ◌≤◌, List, [], ◌∷◌, ◌++◌, length, take, drop, Option, Some, None, refl, sym, ap, ap₂, subst, ◌∙◌, add-zero, arith, eqb}
 use Rattle.std.specs.Prelude.{count_by, take_while}
 use Rattle.std.specs.List.{All, AllByRecursion as Each, cons_option}
@@ -10,7 +10,7 @@ use Rattle.sim_base.specs.declared.config.Config.{Config}
 use Rattle.sim_base.specs.Counts.{queue_length}
 use Rattle.sim_base.specs.History.{issued_commands}
 use Rattle.sim_base.specs.Machine.{channel_run}
-use Rattle.sim_base.specs.Scheduling.{request_in, drains_with, choice}
+use Rattle.sim_base.specs.Scheduling.{request_in, drains_with}
 use Rattle.sim_base.specs.declared.command.Command.{Command}
 use Rattle.sim_base.specs.declared.message.Message.{Message}
 use Rattle.sim_base.specs.declared.message.Request.{Request}
@@ -24,13 +24,12 @@ use Rattle.channel_step.specs.Fit.{queue_room, IsFit}
 use Rattle.channel_step.specs.Stands.{marks_of}
 use Rattle.channel_step.specs.Queued.{Queued, with_arrivals}
 use Rattle.channel_step.specs.Channels.{HeadsStand, StandsFor, IsInCycle}
-use Rattle.channel_step.specs.Runs.{IsStep}
 use Rattle.channel_step.specs.declared.channel.Channel.{Channel}
 use Rattle.channel_step.proofs.Requests.{carries-stamped}
 use Rattle.channel_step.proofs.Spans.{queue-next}
 use Rattle.channel_step.proofs.Cycle.{joined}
 use Rattle.channel_step.proofs.Places.{queue-in_banks, below-count}
-use Rattle.channel_step.proofs.Fits.{due_count, fit-arrives, fit-rest, fit-later}
+use Rattle.channel_step.proofs.Fits.{due_count, fit-arrives, fit-later}
 
 pub due_count-is : (inbox : List Message) (now : ℕ) → length (take_while (λ (m : Message). eqb m.arrival now) inbox) ≡ due_count inbox now
 due_count-is inbox now = length-prefix_len (λ (m : Message). eqb m.arrival now) inbox
@@ -142,21 +141,3 @@ heads-before c s channel rows mail new n w h e x =
     let before : c.waiting.queue.requests ≡ take n w.queue.requests =
     sym (ap (λ (z : Queued). take n z.queue.requests) x ∙ take_at c.waiting.queue.requests (requests_of new) n (sym e)) in
     subst (λ rs. HeadsStand c.heads rs (issued_commands channel rows)) before h.heads_stand
-
--- the whole cycle
-pub step-is : (c d : Channel) (s : Config) (channel : ℕ) (rows : List (Option Command)) (mail inbox : List Message) (now until n : ℕ) (w : Queued) (heads : Heads) (o : Option Command) → length rows ≡ now
-    → IsFit s channel rows mail inbox now until → n ≡ due_count inbox now → IsInCycle (record c { waiting = w; heads = heads }) s channel rows (mail ++ take n inbox)
-    → o ≡ choice s channel rows (mail ++ take n inbox) → StandsFor d s channel (rows ++ o ∷ []) (mail ++ take n inbox)
-    → IsStep d s channel rows mail inbox now until n o
-step-is c d s channel rows mail inbox now until n w heads o at f e h choose stands =
-    let k = due_count inbox now in
-    let joined_then = subst (λ i. IsInCycle (record c { waiting = w; heads = heads }) s channel rows (mail ++ take i inbox)) e h in
-    let left = fit-rest _ _ _ _ s channel rows mail inbox now until at f joined_then.joined in
-    let chosen : o ≡ choice s channel rows (mail ++ take k inbox) = choose ∙ ap (λ i. choice s channel rows (mail ++ take i inbox)) e in
-    record {
-      command_is = chosen ∙ sym left.1;
-      stands = stands;
-      fit = subst (λ i. IsFit s channel (rows ++ o ∷ []) (mail ++ take i inbox) (drop i inbox) (now + 1) until) (sym e)
-          (subst (λ x. IsFit s channel (rows ++ x ∷ []) (mail ++ take k inbox) (drop k inbox) (now + 1) until) (sym chosen) left.0);
-      some = omega (arith, due_count-le inbox now);
-    }

@@ -1,4 +1,4 @@
--- Cycles in which a channel issues nothing and nothing arrives.
+-- Cycles in which a channel issues nothing and nothing arrives, but in the first.
 use Rattle.std.proofs.Common.{◌≡◌, ℕ, zero, suc, ◌+◌, ◌<◌, ◌≤◌, Bool, true, false, ◌&&◌, ◌||◌, List, [], ◌∷◌, ◌++◌, length, Option, None, refl, sym, ap, ap₂, ◌∙◌, add-one, arith}
 use Rattle.std.specs.Prelude.{replicate, count_by, is_some}
 use Rattle.std.specs.List.{AllByRecursion as Each}
@@ -47,10 +47,10 @@ idle-messages s channel rows (suc n) =
     ∙ idle-messages s channel rows n
 
 -- the same requests wait in each of them, since all have arrived
-pub idle-waiting : (channel : ℕ) (rows : List (Option Command)) (mail : List Message) → Each (ArrivedBefore (length rows)) (requests_of mail) → (n later : ℕ) → length rows ≤ later
-    → waiting (issued_commands channel (rows ++ replicate n None)) mail later ≡ waiting (issued_commands channel rows) mail (length rows)
+pub idle-waiting : (channel : ℕ) (rows : List (Option Command)) (mail : List Message) → Each (ArrivedBefore (length rows + 1)) (requests_of mail) → (n later : ℕ) → length rows + 1 ≤ later
+    → waiting (issued_commands channel (rows ++ replicate n None)) mail later ≡ waiting (issued_commands channel rows) mail (length rows + 1)
 idle-waiting channel rows mail h n later l =
-    ap (λ x. waiting x mail later) (idle-issued channel rows n) ∙ waiting-until (issued_commands channel rows) mail (length rows) later l h
+    ap (λ x. waiting x mail later) (idle-issued channel rows n) ∙ waiting-until (issued_commands channel rows) mail (length rows + 1) later l h
 
 settled_twice : (a b d : Bool) → (a || ((a || (d && b)) && b)) ≡ (a || (d && b))
 settled_twice true b d = refl
@@ -64,7 +64,7 @@ pub drains-twice : (s : Config) (draining : Bool) (writes : ℕ) → drains_with
 drains-twice s draining writes = settled_twice _ _ draining
 
 -- in each of them the channel drains as in the first
-pub idle-drains : (s : Config) (channel : ℕ) (rows : List (Option Command)) (mail : List Message) → Each (ArrivedBefore (length rows)) (requests_of mail) → (n : ℕ)
+pub idle-drains : (s : Config) (channel : ℕ) (rows : List (Option Command)) (mail : List Message) → Each (ArrivedBefore (length rows + 1)) (requests_of mail) → (n : ℕ)
     → drains s channel (rows ++ replicate n None) mail (length (rows ++ replicate n None)) ≡ drains s channel rows mail (length rows)
 idle-drains s channel rows mail h zero = ap (λ x. drains s channel x mail (length x)) (append-nil rows)
 idle-drains s channel rows mail h (suc n) =
@@ -82,26 +82,18 @@ idle-drains s channel rows mail h (suc n) =
     ∙ idle-drains s channel rows mail h n
 
 -- what the channel would choose in each of them
-pub idle-choice : (s : Config) (channel : ℕ) (rows : List (Option Command)) (mail : List Message) → Each (ArrivedBefore (length rows)) (requests_of mail) → (n : ℕ)
+pub idle-choice : (s : Config) (channel : ℕ) (rows : List (Option Command)) (mail : List Message) → Each (ArrivedBefore (length rows + 1)) (requests_of mail) → (n : ℕ)
     → choice s channel (rows ++ replicate n None) mail
     ≡ choice_between s (issued_commands channel rows) (length rows + n)
-    (candidates s (drains s channel rows mail (length rows)) (waiting (issued_commands channel rows) mail (length rows)))
+    (candidates s (drains s channel rows mail (length rows)) (waiting (issued_commands channel rows) mail (length rows + 1)))
     (lowest_due s (issued_commands channel rows) (length rows + n))
 idle-choice s channel rows mail h n =
     let more = rows ++ replicate n None in
-    let queue = waiting (issued_commands channel rows) mail (length rows) in
+    let queue = waiting (issued_commands channel rows) mail (length rows + 1) in
     let draining = drains s channel rows mail (length rows) in
     choice-next s channel more mail queue draining
     (idle-waiting channel rows mail h n (length more + 1) (omega (arith, length-idle rows n))) (idle-drains s channel rows mail h n)
     ∙ ap₂ (λ x k. choice_between s x k (candidates s draining queue) (lowest_due s x k)) (idle-issued channel rows n) (length-idle rows n)
-
--- where nothing could be issued in any of them, they are idle
-pub idle-from : (s : Config) (channel : ℕ) (rows : List (Option Command)) (mail : List Message) → Each (ArrivedBefore (length rows)) (requests_of mail) → (n : ℕ)
-    → ((k : ℕ) → k < n → choice_between s (issued_commands channel rows) (length rows + k)
-    (candidates s (drains s channel rows mail (length rows)) (waiting (issued_commands channel rows) mail (length rows)))
-    (lowest_due s (issued_commands channel rows) (length rows + k)) ≡ None)
-    → IsIdle s channel rows mail n
-idle-from s channel rows mail h n none k l = idle-choice s channel rows mail h k ∙ none k l
 
 -- the rows that follow from idle cycles
 pub idle-run : (s : Config) (channel : ℕ) (rows : List (Option Command)) (mail : List Message) (n : ℕ) → IsIdle s channel rows mail n
@@ -131,14 +123,14 @@ idle-has_due s channel rows n k l h =
     ∙ sym (has_due-next s channel rows)
 
 -- each of these cycles counts as much as the first
-pub idle-cycle : (s : Config) (channel : ℕ) (rows : List (Option Command)) (mail : List Message) → Each (ArrivedBefore (length rows)) (requests_of mail)
+pub idle-cycle : (s : Config) (channel : ℕ) (rows : List (Option Command)) (mail : List Message) → Each (ArrivedBefore (length rows + 1)) (requests_of mail)
     → (n k : ℕ) → k < n → IsDueAlike s channel rows n
     → channel_cycle s channel (rows ++ replicate k None) mail None ≡ channel_cycle s channel rows mail None
 unfolding channel_cycle queue_length
 idle-cycle s channel rows mail h n k l due =
     let more = rows ++ replicate k None in
     let q : length (waiting (issued_commands channel more) mail (length more + 1)) ≡ length (waiting (issued_commands channel rows) mail (length rows + 1)) =
-    ap length (idle-waiting channel rows mail h k (length more + 1) (omega (arith, length-idle rows k)) ∙ sym (waiting-until (issued_commands channel rows) mail (length rows) (length rows + 1) (omega arith) h)) in
+    ap length (idle-waiting channel rows mail h k (length more + 1) (omega (arith, length-idle rows k))) in
     ap₂ (λ x y. channel_cycle_with s x y (has_refresh_due s channel more (length more)) (drains s channel more mail (length more)) None)
     (idle-issued channel rows k) (ap length (queue-next channel more mail) ∙ q ∙ sym (ap length (queue-next channel rows mail)))
     ∙ ap₂ (λ x y. channel_cycle_with s (issued_commands channel rows) (queue_length channel rows mail (length rows)) x y None)

@@ -4,10 +4,11 @@
 --     StandsFor c s channel rows mail      all that it keeps is what these rows, and the messages that arrived in them, make of it
 --     HasRank c rank, HasBank c bank      a channel of a machine with this rank, or with this bank
 --     IsInCycle c s channel rows mail      the same in the cycle after these rows, when what arrives in it has joined the queue
+--     IsNextBefore s channel rows mail end next      the next command before a cycle, and when it is issued, if there is one
 --     seen_of c now      what is seen of a channel in a cycle
 --     idle_cycle c now      the statistics of a cycle in which a channel issues nothing
 --     passed c until      its statistics after such cycles
-use Rattle.std.specs.Prelude.{◌≡◌, ℕ, ◌-◌, ◌*◌, ◌<◌, ◌≤◌, false, List, length, is_some, Option, Some, None}
+use Rattle.std.specs.Prelude.{◌≡◌, ℕ, ◌-◌, ◌*◌, ◌<◌, ◌≤◌, false, List, ◌++◌, length, replicate, is_some, Option, Some, None}
 use Rattle.sim_base.specs.declared.config.Config.{Config}
 use Rattle.sim_base.specs.History.{issued_commands}
 use Rattle.sim_base.specs.Rules.{open_row}
@@ -26,7 +27,8 @@ use Rattle.queue.specs.View.{is_draining}
 use Rattle.statistics.specs.Channels.{channel_joined, channel_times}
 use Rattle.statistics.specs.declared.channels.ChannelStats.{ChannelStats}
 use Rattle.channel_step.specs.Counted.{cycle_with_hit}
-use Rattle.channel_step.specs.Fit.{queue_room}
+use Rattle.fr_fcfs.specs.declared.choice.Choice.{Choice}
+use Rattle.channel_step.specs.Fit.{queue_room, IsIdle}
 use Rattle.channel_step.specs.Stands.{Recalls, HasJoined}
 use Rattle.channel_step.specs.declared.channel.Channel.{Channel}
 use Rattle.channel_step.specs.declared.counting.Seen.{Seen}
@@ -103,6 +105,19 @@ pub record IsChosen (c : Channel) (now : ℕ) (command : Command) : Type 0 where
   pub is_in : IsInCycle c s channel rows mail
   pub at : length rows ≡ now
   pub chosen : Some command ≡ choice s channel rows mail
+
+-- The next command that is issued after these rows, if nothing arrives any more: it is what the channel does in this cycle, which
+-- is before another one, and none is issued in the cycles before it.
+pub record IsNextIn (s : Config) (channel : ℕ) (rows : List (Option Command)) (mail : List Message) (end cycle : ℕ) (command : Command) : Type 0 where
+  pub from_now : length rows ≤ cycle
+  pub before_end : cycle < end
+  pub idle : IsIdle s channel rows mail (cycle - length rows)
+  pub command_is : Some command ≡ choice s channel (rows ++ replicate (cycle - length rows) None) mail
+
+-- the same, where there may be none before that cycle
+abbrev pub IsNextBefore : Config → ℕ → List (Option Command) → List Message → ℕ → Option (ℕ × Choice) → Type 0
+IsNextBefore s channel rows mail end (Some next) = IsNextIn s channel rows mail end next.0 next.1.command
+IsNextBefore s channel rows mail end None = IsIdle s channel rows mail (end - length rows)
 
 -- what is seen of a channel in a cycle, before it issues a command
 abbrev pub seen_of : Channel → ℕ → Seen

@@ -1,20 +1,17 @@
 -- What a channel does over a span of cycles.
 --     issued_in channel now o      the command of a cycle as a list of rows
---     IsStep d s channel rows mail inbox now until n o      what one cycle leaves
---     first_arrival inbox until, sooner_of first other      the first of some cycles
---     HasSkipped d s channel rows mail inbox next until      what skipping to a cycle leaves
---     HasRun c s channel rows mail inbox from now until arrived commands messages      the same for the cycles so far
+--     first_arrival inbox until      when the first of these messages arrives
+--     HasRun c s channel rows mail inbox from now until arrived commands messages      what the cycles so far leave
 --     IsDone done s channel rows mail inbox from until      and for all cycles of a span
 --     CanRun c inbox from until      a channel stands for a past after which messages are fit for a span
 --     CanStep c inbox now      they are fit for a span that begins with this cycle
 --     StandsAt c from      a channel stands for some past at a cycle
 --     CanSkip c until      it stands for some past, and is idle before a cycle
-use Rattle.std.specs.Prelude.{◌≡◌, ℕ, ◌+◌, ◌-◌, ◌<◌, ◌≤◌, List, [], ◌∷◌, ◌++◌, length, take, drop, replicate, min, Option, Some, None}
+use Rattle.std.specs.Prelude.{◌≡◌, ℕ, ◌-◌, ◌<◌, ◌≤◌, List, [], ◌∷◌, ◌++◌, length, take, drop, Option}
 use Rattle.std.specs.List.{cons_option}
 use Rattle.sim_base.specs.declared.config.Config.{Config}
 use Rattle.sim_base.specs.History.{issued_at, issued_commands, channel_messages}
 use Rattle.sim_base.specs.Machine.{channel_run}
-use Rattle.sim_base.specs.Scheduling.{choice}
 use Rattle.sim_base.specs.declared.command.Command.{Command}
 use Rattle.sim_base.specs.declared.command.CommandRow.{CommandRow}
 use Rattle.sim_base.specs.declared.message.Message.{Message}
@@ -27,30 +24,10 @@ use Rattle.channel_step.specs.declared.done.ChannelDone.{ChannelDone}
 abbrev pub issued_in : ℕ → ℕ → Option Command → List CommandRow
 issued_in channel now o = cons_option (issued_at channel now o) []
 
--- After one cycle a channel, which took in the first n messages and did this, stands for a row more and those messages; the
--- others are fit for the rest of the span.
-pub record IsStep (d : Channel) (s : Config) (channel : ℕ) (rows : List (Option Command)) (mail inbox : List Message) (now until n : ℕ) (o : Option Command) : Type 0 where
-  pub command_is : o ≡ choice s channel rows (mail ++ inbox)
-  pub stands : StandsFor d s channel (rows ++ o ∷ []) (mail ++ take n inbox)
-  pub fit : IsFit s channel (rows ++ o ∷ []) (mail ++ take n inbox) (drop n inbox) (now + 1) until
-  pub some : n ≤ length inbox
-
 -- when the first of these messages arrives, and a cycle where there is none
 abbrev pub first_arrival : List Message → ℕ → ℕ
 first_arrival [] until = until
 first_arrival (m ∷ ms) until = m.arrival
-
--- the first of two cycles, of which one may not be
-abbrev pub sooner_of : Option ℕ → ℕ → ℕ
-sooner_of None other = other
-sooner_of (Some first) other = min first other
-
--- After the cycles before another one, which are idle, a channel stands for a row more for each of them; the messages, of which
--- none has arrived, are fit for the rest of the span.
-pub record HasSkipped (d : Channel) (s : Config) (channel : ℕ) (rows : List (Option Command)) (mail inbox : List Message) (next until : ℕ) : Type 0 where
-  pub rows_are : channel_run s channel rows (mail ++ inbox) (next - length rows) ≡ rows ++ replicate (next - length rows) None
-  pub stands : StandsFor d s channel (rows ++ replicate (next - length rows) None) mail
-  pub fit : IsFit s channel (rows ++ replicate (next - length rows) None) mail inbox next until
 
 -- After the cycles from one on and before another a channel stands for the rows of its run and for the messages that arrived in
 -- them; the others are fit for the rest of the span; and these commands and messages are those that came more.

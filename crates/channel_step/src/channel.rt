@@ -1,20 +1,21 @@
 //! A channel that is run alone over a span of cycles.
 
-ghost use Rattle.std.specs.Prelude.{◌≡◌, ℕ, ◌+◌, ◌-◌, ◌<◌, ◌≤◌, ◌^◌, ◌==◌, take_while, ◌++◌, List, [], ◌∷◌, length, Option, Some, None, option_map, replicate, is_some, nat_le, IfSome, IfOk};
-ghost use Rattle.sim_base.specs.History.{issued_commands};
+ghost use Rattle.std.specs.Prelude.{◌≡◌, ℕ, ◌+◌, ◌-◌, ◌<◌, ◌≤◌, ◌^◌, ◌==◌, take, take_while, ◌++◌, List, [], ◌∷◌, length, Option, Some, None, replicate, is_some, nat_le, IfSome, IfOk};
+ghost use Rattle.sim_base.specs.History.{issued_commands, messages_at};
 ghost use Rattle.sim_base.specs.Rules.{open_row};
 ghost use Rattle.sim_base.specs.Scheduling.{choice, due, waiting};
 ghost use Rattle.sim_base.specs.declared.config.Config.{Config};
 ghost use Rattle.sim_base.specs.declared.command.Command.{Command};
 ghost use Rattle.sim_base.specs.declared.message.Message.{Message};
 ghost use Rattle.refresh.specs.Refreshes.{lowest_owed};
+ghost use Rattle.queue.specs.View.{is_draining};
 ghost use Rattle.fr_fcfs.specs.Choices.{IsFor};
 ghost use Rattle.fr_fcfs.specs.Cycles.{IsFirstCycle};
 ghost use Rattle.statistics.specs.Channels.{channel_stats, channel_joined, ChannelFits};
 ghost use Rattle.channel_step.specs.Counted.{cycle_with_hit};
-ghost use Rattle.channel_step.specs.Channels.{StandsFor, HasRank, HasBank, IsInCycle, IsInSomeCycle, IsChosen, seen_of, passed};
+ghost use Rattle.channel_step.specs.Channels.{StandsFor, HasRank, HasBank, IsInCycle, IsInSomeCycle, IsChosen, IsNextBefore, seen_of, passed};
 ghost use Rattle.channel_step.specs.Fit.{IsFit, IsIdle};
-ghost use Rattle.channel_step.specs.Runs.{IsStep, CanStep, CanRun, CanSkip, HasSkipped, IsDone, StandsAt, first_arrival, sooner_of};
+ghost use Rattle.channel_step.specs.Runs.{CanStep, CanRun, CanSkip, HasRun, IsDone, StandsAt, issued_in, first_arrival};
 
 use crate::counting::{Seen, cycle_stats, drained};
 use crate::done::ChannelDone;
@@ -22,7 +23,7 @@ use crate::noting::{note_heads, note_refresh, request_at};
 use crate::sending::tell;
 use crate::waiting::Waiting;
 use bank_ready::banks::Banks;
-use fr_fcfs::choice::{Choice, choose, wake};
+use fr_fcfs::choice::{Choice, next, wake};
 use heads::Heads;
 use refresh::Refresh;
 use sim_base::command::Command;
@@ -44,6 +45,14 @@ pub struct Channel {
     refresh: Refresh,
     stats: ChannelStats,
     heads: Heads,
+}
+
+/// What a channel did from one cycle to another, the last that is over: how many messages arrived, and what it issued in the last.
+#[derive(Clone, Copy)]
+struct Turn {
+    arrived: usize,
+    last: Cycle,
+    command: Option<Command>,
 }
 
 impl Channel {
@@ -128,31 +137,34 @@ impl Channel {
         )
     }
 
-    /// What the channel does in this cycle.
-    fn decide(&mut self, now: Cycle) -> Option<Choice>
-        requires { IsInSomeCycle self.old now }
-        ensures same { self.new ≡ self.old }
-        ensures command { (s : Config) (channel : ℕ) (rows : List (Option Command)) (mail : List Message)
-            → IsInCycle self.old s channel rows mail → length rows ≡ now → option_map (λ c. c.command) result ≡ choice s channel rows mail }
-        ensures slot { IfSome result (IsFor self.old.waiting.queue.requests) }
+    /// The next command that the channel issues, and in which cycle, if that is before `end` and nothing arrives before that.
+    fn look(&self, now: Cycle, end: Cycle) -> Option<(Cycle, Choice)>
+        requires { IsInSomeCycle self.now now }
+        ensures next { (s : Config) (channel : ℕ) (rows : List (Option Command)) (mail : List Message)
+            → IsInCycle self.now s channel rows mail → length rows ≡ now → IsNextBefore s channel rows mail end result }
+        ensures place { IfSome result (λ next. IsFor self.now.waiting.queue.requests next.1) }
     {
-        choose(
+        let found = next(
             self.waiting.queue(),
             &self.heads,
             &self.banks,
             &self.refresh,
             self.config.groups,
             now,
-        )
+        );
+        match found {
+            Some((cycle, choice)) if cycle < end => Some((cycle, choice)),
+            _ => None,
+        }
     }
 
-    /// What is seen of the channel before it issues a command.
-    fn seen(&self, now: Cycle) -> Seen
-        ensures { result ≡ seen_of self.now now }
+    /// What is seen of the channel before it issues a command, where it is known whether a refresh is due.
+    fn seen(&self, refreshing: bool) -> Seen
+        ensures { result ≡ record { queued = length self.now.waiting.queue.requests; refreshing = refreshing; draining = is_draining self.now.waiting.queue } }
     {
         Seen {
             queued: self.waiting.queue().len(),
-            refreshing: self.refresh.lowest_due(now).is_some(),
+            refreshing,
             draining: self.waiting.queue().draining(),
         }
     }
@@ -180,12 +192,13 @@ impl Channel {
 
     /// Counts the cycles before `until`, in each of which is seen what is seen in the next one, and nothing is issued. They are
     /// then over.
-    fn pass(&mut self, until: Cycle)
+    fn pass(&mut self, refreshing: bool, until: Cycle)
         requires until { self.old.cycle ≤ until }
+        requires refreshing { refreshing ≡ is_some (lowest_owed self.old.refresh self.old.cycle) }
         requires fits { ChannelFits (passed self.old until) }
         ensures { self.new ≡ record self.old { cycle = until; stats = passed self.old until } }
     {
-        let seen = self.seen(self.cycle);
+        let seen = self.seen(refreshing);
         let each = cycle_stats(&self.config, seen, None, false);
         let cycles = until - self.cycle;
         self.add(each.times(cycles), until);
@@ -205,12 +218,42 @@ impl Channel {
         }
     }
 
+    /// Whether a refresh of some rank is due in this cycle.
+    fn refreshing(&self) -> bool
+        requires { self.now.cycle < 2 ^ 62 }
+        ensures { result ≡ is_some (lowest_owed self.now.refresh self.now.cycle) }
+    {
+        self.due_from(self.cycle + 1) <= self.cycle
+    }
+
     /// Settles whether the channel drains its writes in the next cycle, where nothing arrives in it.
     fn settle(&mut self)
         ensures { (s : Config) (channel : ℕ) (rows : List (Option Command)) (mail : List Message)
             → StandsFor self.old s channel rows mail → IsInCycle self.new s channel rows mail }
     {
         self.waiting.settle();
+    }
+
+    /// Counts the cycles from this one on and before `until`, at most 2^62, in which nothing is issued, and nothing arrives but in
+    /// the first. The channel is in the cycle `until` then.
+    fn wait(&mut self, until: Cycle)
+        requires in_cycle { IsInSomeCycle self.old self.old.cycle }
+        requires span { self.old.cycle ≤ until }
+        requires until { until ≤ 2 ^ 62 }
+        ensures same_queue { self.new.waiting ≡ self.old.waiting }
+        ensures in_cycle { (s : Config) (channel : ℕ) (rows : List (Option Command)) (mail : List Message)
+            → IsInCycle self.old s channel rows mail → IsInCycle self.new s channel (rows ++ replicate (until - length rows) None) mail }
+    {
+        if self.cycle == until {
+            return;
+        }
+        let due = self.due_from(until);
+        if self.cycle < due {
+            self.pass(false, due);
+        }
+        if due < until {
+            self.pass(true, until);
+        }
     }
 
     /// Moves on to the cycle `until`, at most 2^62, where nothing arrives and nothing is issued before that. A channel that stands
@@ -224,9 +267,7 @@ impl Channel {
     {
         if self.cycle < until {
             self.settle();
-            let due = self.due_from(until);
-            self.pass(due);
-            self.pass(until);
+            self.wait(until);
         }
     }
 
@@ -248,68 +289,58 @@ impl Channel {
         self.count(seen, Some(chosen.command), hit);
     }
 
-    /// Does what a channel does in a cycle, once what arrives in it has joined the queue.
-    fn issue(&mut self, now: Cycle) -> Option<Command>
-        requires in_cycle { IsInSomeCycle self.old now }
-        requires now { now < 2 ^ 62 }
-        ensures command { (s : Config) (channel : ℕ) (rows : List (Option Command)) (mail : List Message)
-            → IsInCycle self.old s channel rows mail → length rows ≡ now → result ≡ choice s channel rows mail }
-        ensures stands { (s : Config) (channel : ℕ) (rows : List (Option Command)) (mail : List Message)
-            → IsInCycle self.old s channel rows mail → length rows ≡ now → StandsFor self.new s channel (rows ++ result ∷ []) mail }
-    {
-        let choice = self.decide(now);
-        let seen = self.seen(now);
-        match choice {
-            None => {
-                self.count(seen, None, false);
-                None
-            }
-            Some(chosen) => {
-                self.perform(chosen, seen, now);
-                Some(chosen.command)
-            }
-        }
-    }
-
-    /// One cycle, in which those of these messages arrive that come first. Tells how many, and what the channel does.
-    fn step(
-        &mut self,
-        inbox: &[Message],
-        now: Cycle,
-    ) -> Result<(usize, Option<Command>), AllocError>
-        requires can_step { CanStep self.old inbox.now now }
-        requires now { now < 2 ^ 62 }
-        ensures some { IfOk result (λ done. done.0 ≤ length inbox.now) }
-        ensures stepped { (s : Config) (channel : ℕ) (rows : List (Option Command)) (mail : List Message) (until : ℕ)
+    /// Takes in those of these messages that arrive in a cycle, and settles whether the channel drains its writes in it. Tells how
+    /// many.
+    fn arrive(&mut self, inbox: &[Message], now: Cycle) -> Result<usize, AllocError>
+        requires { CanStep self.old inbox.now now }
+        ensures some { IfOk result (λ due. due ≡ length (take_while (λ m. m.arrival == now) inbox.now)) }
+        ensures in_cycle { (s : Config) (channel : ℕ) (rows : List (Option Command)) (mail : List Message) (until : ℕ)
             → StandsFor self.old s channel rows mail → length rows ≡ now → now < until → IsFit s channel rows mail inbox.now now until
-            → IfOk result (λ done. IsStep self.new s channel rows mail inbox.now now until done.0 done.1) }
+            → IfOk result (λ due. IsInCycle self.new s channel rows (mail ++ take due inbox.now)) }
     {
         let due = due_count(inbox, now);
         let older = self.waiting.queue().len();
         self.waiting.admit(&inbox[..due])?;
         self.heads.arrived(older, self.waiting.queue());
-        Ok((due, self.issue(now)))
+        Ok(due)
     }
 
-    /// Moves on from a cycle, where the channel stands, to the first one before `until` in which one of these messages arrives or
-    /// a command is issued, and to `until` where there is none. Tells which.
-    fn go_on(&mut self, inbox: &[Message], now: Cycle, until: Cycle) -> Cycle
+    /// Goes on from a cycle, where the channel stands, over the next one in which it issues a command, or over all before the next
+    /// one in which something arrives, if that comes first; and no further than `until`.
+    fn turn(&mut self, inbox: &[Message], now: Cycle, until: Cycle) -> Result<Turn, AllocError>
         requires can_run { CanRun self.old inbox.now now until }
-        requires span { now ≤ until }
+        requires span { now < until }
         requires until { until ≤ 2 ^ 62 }
-        ensures from_now { now ≤ result }
-        ensures within { result ≤ until }
-        ensures skipped { (s : Config) (channel : ℕ) (rows : List (Option Command)) (mail : List Message)
+        ensures some { IfOk result (λ turn. turn.arrived ≤ length inbox.now) }
+        ensures from_now { IfOk result (λ turn. now ≤ turn.last) }
+        ensures within { IfOk result (λ turn. turn.last < until) }
+        ensures done { (s : Config) (channel : ℕ) (rows : List (Option Command)) (mail : List Message)
             → StandsFor self.old s channel rows mail → length rows ≡ now → IsFit s channel rows mail inbox.now now until
-            → HasSkipped self.new s channel rows mail inbox.now result until }
+            → IfOk result (λ turn. HasRun self.new s channel rows mail inbox.now now (turn.last + 1) until turn.arrived
+            (issued_in channel turn.last turn.command) (messages_at s channel turn.last turn.command)) }
     {
-        let arrival = next_arrival(inbox, until);
-        if arrival <= now {
-            return now;
+        let arrived = self.arrive(inbox, now)?;
+        let end = next_arrival(&inbox[arrived..], until);
+        match self.look(now, end) {
+            Some((cycle, chosen)) => {
+                self.wait(cycle);
+                let seen = self.seen(self.refreshing());
+                self.perform(chosen, seen, cycle);
+                Ok(Turn {
+                    arrived,
+                    last: cycle,
+                    command: Some(chosen.command),
+                })
+            }
+            None => {
+                self.wait(end);
+                Ok(Turn {
+                    arrived,
+                    last: end - 1,
+                    command: None,
+                })
+            }
         }
-        let next = sooner(self.next_act(now), arrival);
-        self.skip(next);
-        next
     }
 
     /// Runs the channel over the cycles from `from` on and before `until`, in which these messages arrive, by arrival and then
@@ -334,17 +365,17 @@ impl Channel {
         let mut arrived = 0;
         let mut now = from;
         while now < until {
-            let (due, command) = self.step(&inbox[arrived..], now)?;
-            arrived += due;
+            let turn = self.turn(&inbox[arrived..], now, until)?;
+            arrived += turn.arrived;
             tell(
                 &self.config,
                 self.number,
-                now,
-                command,
+                turn.last,
+                turn.command,
                 &mut commands,
                 &mut messages,
             )?;
-            now = self.go_on(&inbox[arrived..], now + 1, until);
+            now = turn.last + 1;
         }
         Ok(ChannelDone {
             channel: self,
@@ -368,15 +399,5 @@ fn next_arrival(inbox: &[Message], until: Cycle) -> Cycle
     match inbox.first() {
         Some(message) => message.arrival,
         None => until,
-    }
-}
-
-/// The first of two cycles, of which one may not be.
-fn sooner(first: Option<Cycle>, other: Cycle) -> Cycle
-    ensures { result ≡ sooner_of first other }
-{
-    match first {
-        Some(first) => first.min(other),
-        None => other,
     }
 }

@@ -1,4 +1,4 @@
-//! A core that is run span by span.
+//! A core that is run span by span, and then anew in one span.
 
 use crate::traces::sparse_trace;
 use anyhow::{Context, Result};
@@ -47,14 +47,19 @@ nREFI = 0
 /// Cycles of a span.
 const SPAN: u64 = 2000;
 
-/// What a core did, and how long the spans took.
+/// What a core did, and how long it took.
 #[derive(Clone, Copy)]
 pub struct Did {
     pub retired: u64,
     pub cycles: Cycle,
-    pub spans: u64,
-    /// Microseconds in the runs, the test of the messages included.
     pub micros: u64,
+}
+
+/// What a core did that was fed span by span, where the test of the messages counts too, and one that ran all in one span.
+#[derive(Clone, Copy)]
+pub struct Runs {
+    pub fed: Did,
+    pub at_once: Did,
 }
 
 /// The reply and the credit to each request, all of which arrive in a cycle.
@@ -85,37 +90,60 @@ fn answers(
     Ok(answers)
 }
 
-/// Runs a core until it has retired a trace of so many lines.
-pub fn run_spans(rt: &impl Clock, alloc: Global, lines: u64) -> Result<Did> {
-    let config = read_config(alloc, MACHINE.as_bytes())?;
-    let trace = sparse_trace(alloc, lines)?;
-    let len = trace.len();
-    let mut core = FedCore::start(alloc, &config, 0, trace)?;
+fn micros_since(rt: &impl Clock, start: Instant) -> Result<u64> {
+    Ok(u64::try_from(start.elapsed(rt)?.as_micros()).unwrap_or(u64::MAX))
+}
+
+/// Runs a core up to a cycle.
+fn run_span(alloc: Global, core: FedCore, inbox: &[Message], until: Cycle) -> Result<FedCoreDone> {
+    core.run(alloc, inbox, until)
+        .ok()
+        .context("a message is unfit")
+}
+
+/// Runs a core until it has retired as many entries, span by span.
+fn run_spans(alloc: Global, config: &Config, start: FedCore, len: u64) -> Result<FedCore> {
+    let mut core = start;
     let mut inbox = Vec::new(alloc);
-    let mut spans = 0u64;
-    let start = Instant::now(rt)?;
-    for span in 1..lines.saturating_add(2) {
+    for span in 1..len.saturating_add(2) {
         let until = span.wrapping_mul(SPAN);
-        let done = core
-            .run(alloc, &inbox, until)
-            .ok()
-            .context("a message is unfit")?;
-        let FedCoreDone {
-            core: next,
-            messages,
-        } = done;
-        core = next;
-        spans = span;
+        let done = run_span(alloc, core, &inbox, until)?;
+        core = done.core;
         if core.stats().retired == len {
             break;
         }
-        inbox = answers(alloc, &config, &messages, until)?;
+        inbox = answers(alloc, config, &done.messages, until)?;
     }
-    let micros = u64::try_from(start.elapsed(rt)?.as_micros()).unwrap_or(u64::MAX);
+    Ok(core)
+}
+
+/// Runs a core anew over all cycles that were run, in one span.
+fn run_at_once(rt: &impl Clock, alloc: Global, core: &FedCore) -> Result<Did> {
+    let start = Instant::now(rt)?;
+    let done = core.replay(alloc)?;
     Ok(Did {
+        retired: done.core.stats().retired,
+        cycles: done.core.now(),
+        micros: micros_since(rt, start)?,
+    })
+}
+
+fn start_core(alloc: Global, config: &Config, lines: u64) -> Result<FedCore> {
+    let trace = sparse_trace(alloc, lines)?;
+    Ok(FedCore::start(alloc, config, 0, trace)?)
+}
+
+/// Runs a core until it has retired a trace of so many lines, span by span, and then one anew over all these cycles, in one span.
+pub fn run_lines(rt: &impl Clock, alloc: Global, lines: u64) -> Result<Runs> {
+    let config = read_config(alloc, MACHINE.as_bytes())?;
+    let core = start_core(alloc, &config, lines)?;
+    let start = Instant::now(rt)?;
+    let core = run_spans(alloc, &config, core, lines.wrapping_mul(1001))?;
+    let fed = Did {
         retired: core.stats().retired,
         cycles: core.now(),
-        spans,
-        micros,
-    })
+        micros: micros_since(rt, start)?,
+    };
+    let at_once = run_at_once(rt, alloc, &core)?;
+    Ok(Runs { fed, at_once })
 }

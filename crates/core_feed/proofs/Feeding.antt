@@ -1,5 +1,6 @@
 -- A core that is fed goes on.
 use Rattle.std.proofs.Common.{true, ◌≡◌, ℕ, ◌+◌, ◌-◌, ◌≤◌, List, [], ◌++◌, sym, ap, subst, ◌∙◌, arith}
+use Rattle.std.specs.List.{AllByRecursion as Each}
 use Rattle.sim_base.specs.declared.config.Config.{Config}
 use Rattle.sim_base.specs.History.{core_messages}
 use Rattle.sim_base.specs.Machine.{core_run}
@@ -33,12 +34,12 @@ pub record GoesOn (s : Config) (core : ℕ) (mail inbox : List Message) (until :
   pub sends : core_messages s core a.trace (rows_by s core a.trace (mail ++ inbox) until) ≡ core_messages s core a.trace (rows_by s core a.trace mail a.now) ++ sent
 
 -- what arrives later changed nothing
-rows-later : (s : Config) (core : ℕ) (trace : List Entry) (mail inbox : List Message) (now until : ℕ) → Fit s core trace (rows_by s core trace mail now) mail now until inbox → now ≤ until
+pub rows-later : (s : Config) (core : ℕ) (trace : List Entry) (mail inbox : List Message) (now until : ℕ) → Each (λ m. now ≤ m.arrival) inbox → now ≤ until
     → core_run s core trace (rows_by s core trace mail now) (mail ++ inbox) (until - now) ≡ rows_by s core trace (mail ++ inbox) until
-rows-later s core trace mail inbox now until fit l =
+rows-later s core trace mail inbox now until late l =
     let sum : now + (until - now) ≡ until = omega arith in
     ap (λ r. core_run s core trace r (mail ++ inbox) (until - now))
-    (sym (core_run-later s core trace [] mail inbox now (Each-weaker (λ (m : Message). now ≤ m.arrival) (λ m. 0 + now ≤ m.arrival) (λ m h. omega arith) inbox fit.from_then)))
+    (sym (core_run-later s core trace [] mail inbox now (Each-weaker (λ (m : Message). now ≤ m.arrival) (λ m. 0 + now ≤ m.arrival) (λ m h. omega arith) inbox late)))
     ∙ sym (core_run-add s core trace [] (mail ++ inbox) now (until - now))
     ∙ ap (core_run s core trace [] (mail ++ inbox)) sum
 
@@ -48,7 +49,7 @@ pub run-fed : (s : Config) (core : ℕ) (mail inbox : List Message) (until : ℕ
 run-fed s core mail inbox until a b sent h fit l runs =
     let rows = rows_by s core a.trace mail a.now in
     let r = runs s core a.trace rows mail h fit in
-    let whole = rows-later s core a.trace mail inbox a.now until fit l in
+    let whole = rows-later s core a.trace mail inbox a.now until fit.from_then l in
     let stands : StandsFor s core a.trace (rows_by s core a.trace (mail ++ inbox) until) (mail ++ inbox) b = subst (λ x. StandsFor s core a.trace x (mail ++ inbox) b) whole r.0 in
     let now : b.now ≡ until = stands.now ∙ length-core_run s core a.trace [] (mail ++ inbox) until ∙ zero_less until in
     record {

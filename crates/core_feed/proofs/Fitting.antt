@@ -1,5 +1,5 @@
 -- Messages that are expected are fit for the core's past.
-use Rattle.std.proofs.Common.{◌⊎◌, inl, inr, ◌≡◌, ℕ, zero, suc, ◌+◌, ◌-◌, ◌/◌, ◌%◌, ◌<◌, ◌≤◌, Bool, true, false, cond, not, ◌&&◌, ◌||◌, eqb, leb, List, [], ◌∷◌, ◌++◌, length, take, Option, Some, None, refl, sym, ap, ap₂, subst, ◌∙◌, arith, ⊎_elim}
+use Rattle.std.proofs.Common.{◌⊎◌, inl, inr, ◌≡◌, ℕ, zero, suc, ◌+◌, ◌-◌, ◌/◌, ◌%◌, ◌^◌, ◌<◌, ◌≤◌, Bool, true, false, cond, not, ◌&&◌, ◌||◌, eqb, leb, List, [], ◌∷◌, ◌++◌, length, take, Option, Some, None, refl, sym, ap, ap₂, subst, ◌∙◌, arith, ⊎_elim}
 use Rattle.std.specs.Prelude.{count_by, is_some}
 use Rattle.std.specs.Option.{IfSome}
 use Rattle.std.specs.List.{AllByRecursion as Each, list_any, list_all, enumerate_from, filter_map, range_with_len, cons_option}
@@ -208,3 +208,7 @@ may_go-fit s core mail view until inbox h k =
 -- and it stands at the cycle to which it goes on, or before it
 pub may_go-since : (s : Config) (core : ℕ) (view : CoreView) (until : ℕ) (inbox : List Message) → true ≡ may_go s core view until inbox → view.now ≤ until
 may_go-since s core view until inbox k = leb-true _ _ (both _ _ (both _ _ (sym k)).0).0
+
+-- which is below 2^62
+pub may_go-early : (s : Config) (core : ℕ) (view : CoreView) (until : ℕ) (inbox : List Message) → true ≡ may_go s core view until inbox → until < 2 ^ 62
+may_go-early s core view until inbox k = ltb-true _ _ (both _ _ (both _ _ (sym k)).0).1

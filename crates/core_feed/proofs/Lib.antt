@@ -1,3 +1,4 @@
 pub mod Fitting
 pub mod Feeding
+pub mod Replaying
 pub mod Skipping

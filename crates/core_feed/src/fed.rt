@@ -2,9 +2,9 @@
 //! Read that waits then, and a credit one that the core does not hold then. That is enough for them to be fit, and more than is
 //! needed: end a span before the reply to what it sends arrives.
 
-ghost use Rattle.std.specs.Prelude.{◌≡◌, ◌↔◌, ◌++◌, [], false, IfOk, IfErr, IsErr, IsTrue, Err};
+ghost use Rattle.std.specs.Prelude.{◌≡◌, ◌↔◌, ◌++◌, ◌<◌, ◌^◌, [], false, IfOk, IfErr, IsErr, IsTrue, Err};
 ghost use Rattle.sim_base.specs.declared.message.Message.{Message};
-ghost use Rattle.core_feed.specs.Past.{IsFed};
+ghost use Rattle.core_feed.specs.Past.{IsFed, CameFit, CameFit-prop};
 ghost use Rattle.std.proofs.Props.{props};
 ghost use Rattle.core_feed.specs.Expected.{is_reply_expected, is_credit_expected, is_load_expected, is_in_time, is_expected, are_expected, may_go};
 ghost use Rattle.core_window.specs.CoreViews.{view_of};
@@ -20,14 +20,18 @@ use sim_base::message::{CoreId, Cycle, LinkId, Load, Message};
 use statistics::cores::CoreStats;
 use std::alloc::{AllocError, Global};
 
-/// A core that is fed with messages, with its configuration, its number and all messages that came to it.
+/// A core that is fed with messages, with its configuration, its number, its trace and all messages that came to it.
 #[derive(Drop)]
 pub struct FedCore {
     config: Config,
     id: CoreId,
+    trace: Trace,
     core: Core,
     mail: Vec<Message>,
     pub ghost fed: { IsFed config id mail.items (view_of core) } by { Prim.hlevel props },
+    pub ghost came: { CameFit config id mail.items (view_of core) } by { CameFit-prop config id mail.items (view_of core) },
+    pub ghost entries: { (view_of core).trace ≡ trace },
+    pub ghost early: { (view_of core).now < 2 ^ 62 },
 }
 
 /// Why a core was not fed.
@@ -58,10 +62,11 @@ impl FedCore {
     ) -> Result<FedCore, AllocError>
         ensures { IfOk result (λ fed. feed_of fed ≡ record { config = config.now; core = id; trace = trace; mail = []; now = 0 }) }
     {
-        let core = Core::start(alloc, config, id, trace)?;
+        let core = Core::start(alloc, config, id, trace.copy()?)?;
         Ok(FedCore {
             config: config.copy(alloc)?,
             id,
+            trace,
             core,
             mail: Vec::new(alloc),
         })
@@ -153,6 +158,7 @@ impl FedCore {
         let FedCore {
             config,
             id,
+            trace,
             core,
             mut mail,
         } = self;
@@ -168,6 +174,7 @@ impl FedCore {
             core: FedCore {
                 config,
                 id,
+                trace,
                 core,
                 mail,
             },
@@ -207,6 +214,7 @@ impl FedCore {
         let FedCore {
             config,
             id,
+            trace,
             mut core,
             mail,
         } = self;
@@ -214,9 +222,20 @@ impl FedCore {
         Ok(FedCore {
             config,
             id,
+            trace,
             core,
             mail,
         })
+    }
+
+    /// A core anew, with the same trace, that runs all cycles before the one where this core stands in one span, with all
+    /// messages that came. It keeps the same as this core, and sends what this core sent. Only memory can be refused.
+    pub fn replay(&self, alloc: Global) -> Result<CoreDone, AllocError>
+        ensures core { IfOk result (λ done. view_of done.core ≡ view_of self.now.core) }
+        ensures sent { IfOk result (λ done. done.messages.items ≡ sent_by (feed_of self.now)) }
+    {
+        let core = Core::start(alloc, &self.config, self.id, self.trace.copy()?)?;
+        core.run(alloc, &self.mail, 0, self.core.now())
     }
 
     /// The cycle where the core stands: all before it are done.

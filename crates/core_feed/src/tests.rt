@@ -1,6 +1,6 @@
 //! Short runs of one profile, counted by hand, and messages that may not come.
 
-use crate::fed::{FedCore, FeedFault};
+use crate::fed::{FedCore, FedCoreDone, FeedFault};
 use cpu_trace::trace::Trace;
 use sim_base::config::Config;
 use sim_base::document::read_config;
@@ -199,6 +199,44 @@ fn window_of_one_entry_is_full(rt: HostRuntime) -> Result<(), Fail> {
     };
     let did_so = counted(rt.alloc(), &config, &entries, &mail, &[7, 16, 32])?;
     assert_eq!(rt; did_so, did);
+    Ok(())
+}
+
+/// A core after spans up to each of these cycles, and what it sent.
+fn fed_up_to(
+    alloc: Global,
+    start: FedCore,
+    mail: &[Message],
+    cuts: &[Cycle],
+) -> Result<FedCoreDone, Fail> {
+    let mut core = start;
+    let mut sent = Vec::new(alloc);
+    for cut in cuts {
+        let inbox = between(alloc, mail, core.now(), *cut)?;
+        let done = core.run(alloc, &inbox, *cut)?;
+        sent.extend_from_slice(&done.messages)?;
+        core = done.core;
+    }
+    Ok(FedCoreDone {
+        core,
+        messages: sent,
+    })
+}
+
+#[test]
+fn a_replay_does_the_same_in_one_span(rt: HostRuntime) -> Result<(), Fail> {
+    let config = config(rt.alloc(), 8, 1)?;
+    let entries = [Entry::Read(0), Entry::Plain, Entry::Read(64)];
+    let mail = [credit(0, 7), credit(2, 12), reply(0, 15), reply(2, 20)];
+    let trace = trace_of(rt.alloc(), &entries)?;
+    let start = FedCore::start(rt.alloc(), &config, 0, trace)?;
+    let fed = fed_up_to(rt.alloc(), start, &mail, &[7, 8, 18, 32])?;
+    let replay = fed.core.replay(rt.alloc())?;
+    assert_eq!(rt; fed.messages.len(), 2);
+    assert_eq!(rt; replay.messages, fed.messages);
+    assert_eq!(rt; replay.core.stats(), fed.core.stats());
+    assert_eq!(rt; replay.core.stats().finish, Some(20));
+    assert_eq!(rt; replay.core.now(), 32);
     Ok(())
 }
 

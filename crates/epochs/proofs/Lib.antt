@@ -7,3 +7,5 @@ pub mod Joining
 pub mod Seating
 pub mod Arranged
 pub mod Counted
+pub mod Tabled
+pub mod Ended

@@ -6,3 +6,4 @@ pub mod Flight
 pub mod Merging
 pub mod Seats
 pub mod Ordered
+pub mod Tables

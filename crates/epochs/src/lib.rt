@@ -3,6 +3,7 @@
 #![tactic(auto)]
 
 mod counts;
+mod ending;
 pub mod job;
 mod machine;
 pub mod merging;
@@ -11,5 +12,6 @@ mod part;
 pub mod phase;
 pub mod planning;
 pub mod sim;
+mod tables;
 #[cfg(test)]
 mod tests;

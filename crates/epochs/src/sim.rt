@@ -3,19 +3,23 @@
 ghost use Rattle.std.specs.Prelude.{◌≡◌, ◌<◌, ◌≤◌, ◌^◌, ◌+◌, ℕ, List, [], length, IfOk, OnOk};
 ghost use Rattle.sim_base.specs.declared.trace.Entry.{Entry};
 ghost use Rattle.sim_base.specs.Machine.{run};
-ghost use Rattle.statistics.specs.Runs.{stats_of};
+ghost use Rattle.statistics.specs.Runs.{stats_of, final_of, outcome_of};
 ghost use Rattle.epochs.specs.Units.{unit_count};
-ghost use Rattle.epochs.specs.Parts.{StandAt};
+ghost use Rattle.epochs.specs.Parts.{StandAt, IsSim};
 
 use crate::counts::{stats_of_channels, stats_of_cores};
+use crate::ending::{channels_left, cores_left};
 use crate::machine::Machine;
 use crate::part::Part;
+use crate::tables::all_commands;
 use channel_step::channel::Channel;
 use core_window::core_unit::Core;
 use cpu_trace::trace::Trace;
 use links::flight::Links;
 use sim_base::config::Config;
 use sim_base::message::Cycle;
+use statistics::final_state::FinalState;
+use statistics::outcome::Outcome;
 use statistics::stats::Stats;
 use std::alloc::{AllocError, Global};
 use std::marker::Model;
@@ -76,6 +80,25 @@ fn add_channels(alloc: Global, config: &Config, parts: &mut Vec<Part>) -> Result
     Ok(())
 }
 
+/// The state in which a machine is left: that of each unit, and the messages in flight.
+fn final_state(
+    alloc: Global,
+    machine: &Machine,
+    now: Cycle,
+    phase: u64,
+    parts: &[Part],
+    links: &Links,
+) -> Result<FinalState, AllocError>
+    requires { IsSim machine.now.config machine.now.traces.items now phase parts.now links.now }
+    ensures { IfOk result (λ last. last ≡ final_of machine.now.config machine.now.traces.items (run machine.now.config machine.now.traces.items now)) }
+{
+    Ok(FinalState {
+        cores: cores_left(alloc, machine, now, parts)?,
+        channels: channels_left(alloc, machine, now, parts)?,
+        in_flight: links.messages(alloc)?,
+    })
+}
+
 impl Sim {
     /// A machine before its first cycle, with a trace for each core. Only memory can be refused.
     pub fn start(alloc: Global, config: &Config, traces: Vec<Trace>) -> Result<Sim, AllocError>
@@ -111,5 +134,28 @@ impl Sim {
         let channels = stats_of_channels(alloc, config, &self.parts)?;
         let stats = Stats::of_parts(alloc, self.now, &cores, &channels)?;
         Ok(stats)
+    }
+
+    /// What the run of the cycles that are over did and left: the commands of all channels by cycle and then by channel, the
+    /// statistics, and the state before the cycle where the simulator stands. Only memory can be refused.
+    pub fn outcome(self, alloc: Global) -> Result<Outcome, AllocError>
+        ensures { IfOk result (λ outcome. outcome ≡ outcome_of self.machine self.traces self.now) }
+    {
+        let stats = self.stats(alloc)?;
+        let Sim {
+            machine,
+            now,
+            phase,
+            parts,
+            links,
+        } = self;
+        let commands = all_commands(alloc, &machine, now, &parts)?;
+        let last = final_state(alloc, &machine, now, phase, &parts, &links)?;
+        Ok(Outcome {
+            commands,
+            stats,
+            last,
+            ranks: machine.config.ranks,
+        })
     }
 }

@@ -107,3 +107,40 @@ fn one_line_is_read(rt: HostRuntime) -> Result<(), Fail> {
     assert_eq!(rt; counts, Some((1, 1, 0)));
     Ok(())
 }
+
+/// The same read, up to cycle 6: its row is open, its reply and its credit are in flight, and the credit comes first.
+#[test]
+fn one_line_is_left(rt: HostRuntime) -> Result<(), Fail> {
+    let config = config(rt.alloc())?;
+    let trace = Trace::from_entries(rt.alloc(), &[Entry::Read(0)])?;
+    let traces = Vec::from_array(rt.alloc(), [trace])?;
+    let sim = Sim::start(rt.alloc(), &config, traces)?;
+    let Ok(sim) = run_in_order(sim, rt.alloc(), 6, &mut AsTheyCome) else {
+        assert!(rt; false);
+        return Ok(());
+    };
+    let outcome = sim.outcome(rt.alloc())?;
+    let plain = &outcome;
+    let rows = &plain.commands;
+    let cycles = (
+        rows.first().map(|row| row.cycle),
+        rows.last().map(|row| row.cycle),
+    );
+    let last = &plain.last;
+    let flight = &last.in_flight;
+    let arrivals = (
+        flight.first().map(|m| m.arrival),
+        flight.last().map(|m| m.arrival),
+    );
+    let open = last
+        .channels
+        .first()
+        .map(|c| (c.open_rows.len(), c.queue.len()));
+    let core = last.cores.first().map(|c| (c.issued, c.retired));
+    assert_eq!(rt; (rows.len(), plain.stats.cycles, plain.ranks), (2, 6, 1));
+    assert_eq!(rt; cycles, (Some(2), Some(5)));
+    assert_eq!(rt; (flight.len(), arrivals), (2, (Some(7), Some(15))));
+    assert_eq!(rt; open, Some((1, 0)));
+    assert_eq!(rt; core, Some((1, 0)));
+    Ok(())
+}

@@ -18,9 +18,8 @@ use Rattle.heads.specs.Heads.{bank_at, asks, hits, first_place, AreHeads}
 use Rattle.heads.specs.Moves.{earlier}
 use Rattle.heads.proofs.Stood.{bank_named}
 use Rattle.heads.proofs.Searches.{none_everywhere, none_narrower_all}
-use Rattle.fr_fcfs.specs.declared.kinds.Kinds.{Kinds}
 use Rattle.fr_fcfs.specs.Requests.{IsInBanks, is_hit}
-use Rattle.fr_fcfs.specs.Offers.{is_of, if_allowed, hit_head, oldest_head, going, hits_now, rows_now, hits_in, rows_in, IsReadyFrom, row_kind}
+use Rattle.fr_fcfs.specs.Offers.{Kinds, is_of, if_allowed, hit_head, oldest_head, going, hits_now, rows_now, hits_in, rows_in, IsReadyFrom, row_kind}
 use Rattle.fr_fcfs.proofs.Booleans.{and_false, and_true, or_false, eqb_swap}
 use Rattle.fr_fcfs.proofs.Legal.{needed_bank, hit_is, column_needed, finds_needed, legal_at, withheld_is}
 use Rattle.fr_fcfs.proofs.Firsts.{same_among, either_among, place_if, same_unless, any_going}
@@ -43,7 +42,7 @@ bank_is ranks r bank places same =
     λ i. record { rank = rank i; group = group i; bank = number_in_group i }
 
 -- a request of a bank asks for its open row
-row_hit_is : (history : List CommandRow) (ranks : ℕ) (r : Request) (bank : ℕ) (row : Option ℕ) → IsInBanks ranks r → row ≡ open_row (bank_at bank) history
+pub row_hit_is : (history : List CommandRow) (ranks : ℕ) (r : Request) (bank : ℕ) (row : Option ℕ) → IsInBanks ranks r → row ≡ open_row (bank_at bank) history
     → eqb (bank_number r.place) bank ≡ true → is_hit history r ≡ is_row r.place.row row
 row_hit_is history ranks r bank row places row_is here =
     hit_is history r ∙ ap (λ b. is_row r.place.row (open_row b history)) (bank_is ranks r bank places here) ∙ ap (is_row r.place.row) (sym row_is)
@@ -52,7 +51,7 @@ column_kind : (w : Bool) (r : Request) → kind_of (cond w (Wr (bank_in r.place)
 column_kind true r = refl
 column_kind false r = refl
 
-hit_kind : (history : List CommandRow) (r : Request) → is_hit history r ≡ true → kind_of (needed history r) ≡ cond r.write kind.Wr kind.Rd
+pub hit_kind : (history : List CommandRow) (r : Request) → is_hit history r ≡ true → kind_of (needed history r) ≡ cond r.write kind.Wr kind.Rd
 unfolding needed
 hit_kind history r hit = ap kind_of (column_needed (open_row (bank_in r.place) history) r hit) ∙ column_kind r.write r
 
@@ -70,7 +69,7 @@ row_kind_at (Some row) r other = elim (cases_Bool (eqb row r.place.row)) [
     column_any false r = refl
 
 -- when what a request of a bank needs is legal
-legal_then : (s : Config) (history : List CommandRow) (ranks : ℕ) (r : Request) (bank : ℕ) (k : Kind) (ready : ℕ) → IsInBanks ranks r → IsReadyFrom s history (bank_at bank) k ready
+pub legal_then : (s : Config) (history : List CommandRow) (ranks : ℕ) (r : Request) (bank : ℕ) (k : Kind) (ready : ℕ) → IsInBanks ranks r → IsReadyFrom s history (bank_at bank) k ready
     → eqb (bank_number r.place) bank ≡ true → kind_of (needed history r) ≡ k → (cycle : ℕ) → is_legal s history cycle (needed history r) ≡ leb ready cycle
 unfolding needed
 legal_then s history ranks r bank k ready places from here kind_is =
@@ -251,3 +250,24 @@ none_offered requests bank h test first no_read no_write =
     sym
     (none_narrower_all (λ r. eqb (bank_number r.place) bank && test r) (λ r. asks bank false r || asks bank true r) requests
     (λ r off. ap (λ b. b && test r) (sym (either_kind (eqb (bank_number r.place) bank) r.write) ∙ off)) (sym none))
+
+no_hit_test : (b w kr kw hit row_hit legal : Bool) → (b ≡ true → hit ≡ row_hit)
+    → ((kr && ((b && cond false w (not w)) && row_hit)) || (kw && ((b && cond true w (not w)) && row_hit))) ≡ false → (b && (cond w kw kr && (hit && legal))) ≡ false
+no_hit_test false w kr kw hit row_hit legal same none = refl
+no_hit_test true w kr kw hit row_hit legal same none = one (cond w kw kr) hit row_hit legal (same refl) (row_hit_test true w kr kw row_hit ∙ none)
+  where
+    one : (k h rh l : Bool) → h ≡ rh → (k && rh) ≡ false → (k && (h && l)) ≡ false
+    one false h rh l is none = refl
+    one true h rh l is none = ap (λ t. t && l) (is ∙ none)
+
+-- no row hit of a bank is ready where there is none
+pub no_hits : (s : Config) (history : List CommandRow) (ranks : ℕ) (requests : List Request) (kinds : Kinds) (bank : ℕ) (h : BankHeads) → All (IsInBanks ranks) requests
+    → AreHeads requests bank h → h.row ≡ open_row (bank_at bank) history → hit_head kinds h ≡ None → (cycle : ℕ) → hits_in s history requests kinds bank cycle ≡ None
+unfolding ready_hit
+no_hits s history ranks requests kinds bank h places first row_is none cycle =
+    same_unless (λ r. eqb (bank_number r.place) bank && hits_now s history kinds cycle r) (λ r. false) (wants_row kinds bank h.row) (IsInBanks ranks) requests
+    (hit_head_is ranks requests kinds bank h places first ∙ none) places
+    (λ r in_banks off.
+    no_hit_test (eqb (bank_number r.place) bank) r.write kinds.reads kinds.writes (is_hit history r) (is_row r.place.row h.row) (is_legal s history cycle (needed history r))
+    (row_hit_is history ranks r bank h.row in_banks row_is) off)
+    ∙ sym (none_everywhere (λ r. false) requests (λ r. refl))

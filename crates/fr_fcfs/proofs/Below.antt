@@ -1,6 +1,6 @@
 -- The first request that passes a test, among those of the banks below a number.
 use Rattle.std.proofs.Common.{◌≡◌, ℕ, zero, suc, ◌+◌, ◌<◌, ◌≤◌, Bool, true, false, ◌&&◌, ◌||◌, ltb, eqb, List, [], ◌∷◌, length, Option, Some, None, refl, sym, ap, ◌∙◌, inl, inr, arith}
-use Rattle.std.proofs.lemmas.Bool.{cases_Bool, cases_lt, cases_eq, lt-ltb, le-ltb, eq-eqb, ne_eqb, true≢false}
+use Rattle.std.proofs.lemmas.Bool.{cases_lt, cases_eq, lt-ltb, le-ltb, eq-eqb, ne_eqb}
 use Rattle.std.specs.List.{All, slice_get}
 use Rattle.std.specs.Option.{is_some, option_map, option_and_then, IfSome}
 use Rattle.sim_base.specs.declared.config.Config.{Config}
@@ -9,14 +9,12 @@ use Rattle.sim_base.specs.declared.message.Request.{Request}
 use Rattle.sim_base.specs.Scheduling.{needed, or_else, first_ready, ready_hit, ready_row}
 use Rattle.queue.specs.Columns.{bank_number}
 use Rattle.queue.specs.View.{QueueView}
-use Rattle.heads.specs.declared.entry.BankHeads.{BankHeads}
-use Rattle.heads.specs.Heads.{first_place, asks, AreHeads}
+use Rattle.heads.specs.Heads.{first_place}
 use Rattle.heads.specs.Moves.{earlier}
-use Rattle.heads.proofs.Searches.{none_everywhere, none_narrower_all}
-use Rattle.fr_fcfs.specs.declared.kinds.Kinds.{Kinds}
+use Rattle.heads.proofs.Searches.{none_everywhere}
 use Rattle.fr_fcfs.specs.declared.offers.Offer.{Offer}
 use Rattle.fr_fcfs.specs.Requests.{candidates_of}
-use Rattle.fr_fcfs.specs.Offers.{going, hits_now, rows_now, head_of, IsAt, IsBest, IsFirstReady}
+use Rattle.fr_fcfs.specs.Offers.{Kinds, going, hits_now, rows_now, IsAt, IsBest, IsFirstReady}
 use Rattle.fr_fcfs.proofs.Firsts.{same_among, either_among, find_going}
 
 -- the first request of the banks below a number that passes a test
@@ -65,23 +63,9 @@ pub place_all : (n : ℕ) (test : Request → Bool) (requests : List Request) �
 place_all n test requests within =
     same_among (λ r. ltb (bank_number r.place) n && test r) test (λ r. bank_number r.place < n) requests within (λ r below. ap (λ b. b && test r) (lt-ltb (bank_number r.place) n below))
 
--- the head of a kind
-pub head_is : (write : Bool) (requests : List Request) (bank : ℕ) (h : BankHeads) → AreHeads requests bank h
-    → head_of write h.reads.oldest h.writes.oldest ≡ first_place (asks bank write) requests
-head_is true requests bank h first = first.writes_are.oldest_is
-head_is false requests bank h first = first.reads_are.oldest_is
-
 pub none_is : (o : Option ℕ) → is_some o ≡ false → o ≡ None
 none_is None off = refl
 none_is (Some k) off = cc
-
--- some request passes a test where one passes another that asks for more
-pub some_wider : (p q : Request → Bool) (requests : List Request) → ((x : Request) → q x ≡ false → p x ≡ false) → is_some (first_place p requests) ≡ true
-    → is_some (first_place q requests) ≡ true
-some_wider p q requests weaker some = elim (cases_Bool (is_some (first_place q requests))) [
-  | inl is ↦ is
-  | inr none ↦ absurd (true≢false (sym some ∙ ap is_some (sym (none_narrower_all p q requests weaker (sym (none_is (first_place q requests) none))))))
-]
 
 -- the command of the first request that is ready, by the places
 pub ready_by_places : (s : Config) (history : List CommandRow) (requests : List Request) (kinds : Kinds) (cycle : ℕ)

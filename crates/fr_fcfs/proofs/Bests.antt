@@ -9,7 +9,7 @@ use Rattle.fr_fcfs.specs.Offers.{goes_before, IsAt, IsBestOffer, IsBest}
 none_both : (a b : Option ℕ) → a ≡ None → b ≡ None → earlier a b ≡ None
 none_both a b none_a none_b = λ i. earlier (none_a i) (none_b i)
 
-first_alone : (a : Option ℕ) → earlier a None ≡ a
+pub first_alone : (a : Option ℕ) → earlier a None ≡ a
 first_alone None = refl
 first_alone (Some k) = refl
 

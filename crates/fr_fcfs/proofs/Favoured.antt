@@ -7,11 +7,10 @@ use Rattle.sim_base.specs.declared.config.Config.{Config}
 use Rattle.sim_base.specs.declared.message.Request.{Request}
 use Rattle.sim_base.specs.Scheduling.{candidates, favour, is_favoured, first_of_lines}
 use Rattle.queue.specs.View.{QueueView, is_draining}
-use Rattle.heads.specs.declared.entry.BankHeads.{BankHeads}
-use Rattle.heads.specs.Heads.{passes, entries, first_place, AreHeads}
+use Rattle.heads.specs.Heads.{passes, entries, first_place}
 use Rattle.heads.proofs.Entries.{length-entries}
 use Rattle.fr_fcfs.specs.Requests.{candidates_of}
-use Rattle.fr_fcfs.specs.Offers.{is_of, AreBelow}
+use Rattle.fr_fcfs.specs.Offers.{is_of, only, all_kinds}
 use Rattle.fr_fcfs.proofs.Firsts.{some_filtered}
 
 -- Where the channel ever drains and some request is favoured, the favoured ones go first.
@@ -63,11 +62,31 @@ one_kind true false = refl
 one_kind false true = refl
 one_kind false false = refl
 
-pub of_one_kind : (write : Bool) (requests : List Request) → filter (is_favoured write) requests ≡ filter (is_of (record { reads = not write; writes = write })) requests
-of_one_kind write requests = filter_same (is_favoured write) (is_of (record { reads = not write; writes = write })) requests (λ r. one_kind write r.write)
+pub of_one_kind : (write : Bool) (requests : List Request) → filter (is_favoured write) requests ≡ filter (is_of (only write)) requests
+of_one_kind write requests = filter_same (is_favoured write) (is_of (only write)) requests (λ r. one_kind write r.write)
 
-pub of_all_kinds : (requests : List Request) → requests ≡ filter (is_of (record { reads = true; writes = true })) requests
-of_all_kinds requests = sym (filter_all (is_of (record { reads = true; writes = true })) requests (λ r. any_kind r.write))
+-- where a test keeps nothing, its opposite keeps all
+kept_next : {X : Type 0} (keep other : Bool) (x : X) (kept rest xs : List X) → other ≡ not keep → length (cond keep (x ∷ kept) kept) ≡ 0 → (length kept ≡ 0 → rest ≡ xs)
+    → cond other (x ∷ rest) rest ≡ x ∷ xs
+kept_next true other x kept rest xs is none all = absurd (omega arith)
+kept_next false other x kept rest xs is none all = cond-true other (x ∷ rest) rest is ∙ ap (λ ys. x ∷ ys) (all none)
+
+filter_others : {X : Type 0} (p q : X → Bool) (xs : List X) → ((x : X) → q x ≡ not (p x)) → length (filter p xs) ≡ 0 → filter q xs ≡ xs
+filter_others p q [] opposite none = refl
+filter_others p q (x ∷ xs) opposite none = kept_next (p x) (q x) x (filter p xs) (filter q xs) xs (opposite x) none (filter_others p q xs opposite)
+
+other_kind : (write w : Bool) → cond w (not write) (not (not write)) ≡ not (cond write w (not w))
+other_kind true true = refl
+other_kind true false = refl
+other_kind false true = refl
+other_kind false false = refl
+
+-- where no request is of a kind, all are of the other
+pub of_other_kind : (write : Bool) (requests : List Request) → length (filter (is_favoured write) requests) ≡ 0 → requests ≡ filter (is_of (only (not write))) requests
+of_other_kind write requests none = sym (filter_others (is_favoured write) (is_of (only (not write))) requests (λ r. other_kind write r.write) none)
+
+pub of_all_kinds : (requests : List Request) → requests ≡ filter (is_of all_kinds) requests
+of_all_kinds requests = sym (filter_all (is_of all_kinds) requests (λ r. any_kind r.write))
   where
     any_kind : (w : Bool) → cond w true true ≡ true
     any_kind true = refl
@@ -83,15 +102,7 @@ bound p xs k is =
       | inr over ↦ let none : None ≡ Some k = sym (cond-false (ltb place (length xs)) (Some place) None (le-ltb place (length xs) over)) ∙ is in cc
     ]
 
-within : (test : Request → Bool) (requests : List Request) (o : Option ℕ) → o ≡ first_place test requests → IfSome o (λ k. k < length requests)
+-- the head of a bank stands within the queue
+pub within : (test : Request → Bool) (requests : List Request) (o : Option ℕ) → o ≡ first_place test requests → IfSome o (λ k. k < length requests)
 within test requests None is = tt
 within test requests (Some k) is = let inside = bound (passes test) (entries requests) k (sym is) in omega (arith, length-entries requests)
-
--- the heads of a bank stand within the queue
-pub heads_below : (requests : List Request) (bank : ℕ) (h : BankHeads) → AreHeads requests bank h → AreBelow (length requests) h
-heads_below requests bank h first = record {
-  read_oldest = within _ requests h.reads.oldest first.reads_are.oldest_is;
-  read_hit = within _ requests h.reads.hit first.reads_are.hit_is;
-  write_oldest = within _ requests h.writes.oldest first.writes_are.oldest_is;
-  write_hit = within _ requests h.writes.hit first.writes_are.hit_is;
-}

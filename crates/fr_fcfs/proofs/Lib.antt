@@ -4,5 +4,7 @@ pub mod Firsts
 pub mod Bests
 pub mod BankOffers
 pub mod Below
+pub mod SoFar
 pub mod Favoured
+pub mod OneKind
 pub mod Waking

@@ -1,11 +1,13 @@
 -- What banks offer for the heads of their queues.
---     head_of write read write      the head to write, or to read
+--     Kinds      the kinds that go
 --     is_of kinds r      a request is of the kinds that go
+--     only write      requests to write go alone, or requests to read
 --     hits_in s history requests kinds bank cycle      the place of the first ready row hit of a bank in a cycle
 --     rows_in s history requests kinds bank cycle      the place of its first request for which an ACT or a PRE may be issued then
 --     IsBest now hits rows offer      an offer is the first from now on
+--     IsBestSoFar room now hits rows offer      the same, where one with a place behind all others stands for none
 --     IsFirstReady s history queue now offer      an offer is what the first request of the queue needs that is ready
-use Rattle.std.specs.Prelude.{◌≡◌, ℕ, ◌<◌, ◌≤◌, ◌==◌, nat_lt, Bool, true, false, ◌&&◌, List, filter, Option, Some, None, IfSome, option_map, slice_get, if◌then◌else◌}
+use Rattle.std.specs.Prelude.{◌≡◌, ℕ, ◌<◌, ◌≤◌, ◌==◌, nat_lt, max, Bool, true, false, not, ◌&&◌, List, filter, Option, Some, None, option_map, slice_get, if◌then◌else◌}
 use Rattle.sim_base.specs.declared.config.Config.{Config}
 use Rattle.sim_base.specs.declared.command.Command.{Command}
 use Rattle.sim_base.specs.declared.command.CommandRow.{CommandRow}
@@ -22,17 +24,29 @@ use Rattle.heads.specs.declared.heads.Heads.{Heads}
 use Rattle.heads.specs.Heads.{first_place}
 use Rattle.heads.specs.Moves.{earlier}
 use Rattle.heads.specs.Stands.{StandsFor as HeadsStandFor}
-use Rattle.fr_fcfs.specs.declared.kinds.Kinds.{Kinds}
 use Rattle.fr_fcfs.specs.declared.offers.Offer.{Offer}
 use Rattle.fr_fcfs.specs.Requests.{IsLegalFrom, candidates_of}
 
--- the head to write, or to read
-abbrev pub head_of : Bool → Option ℕ → Option ℕ → Option ℕ
-head_of write reads writes = if write then writes else reads
+-- whether requests to read go, and requests to write
+pub record Kinds : Type 0 where
+  pub reads : Bool
+  pub writes : Bool
 
 -- a request is of the kinds that go
 abbrev pub is_of : Kinds → Request → Bool
 is_of kinds r = if r.write then kinds.writes else kinds.reads
+
+-- requests to write go alone, or requests to read
+abbrev pub only : Bool → Kinds
+only write = record { reads = not write; writes = write }
+
+-- all requests go
+abbrev pub all_kinds : Kinds
+all_kinds = record { reads = true; writes = true }
+
+-- the command that moves data
+abbrev pub column_kind : Bool → Kind
+column_kind write = if write then kind.Wr else kind.Rd
 
 -- a head, if its kind goes
 abbrev pub if_allowed : Option ℕ → Bool → Option ℕ
@@ -87,12 +101,22 @@ IsBest now hits rows (Some o) = IsBestOffer now hits rows o
 abbrev pub goes_before : Offer → Offer → Bool
 goes_before a b = if a.cycle == b.cycle then (if a.hit then (if b.hit then nat_lt a.slot b.slot else true) else (if b.hit then false else nat_lt a.slot b.slot)) else nat_lt a.cycle b.cycle
 
--- the heads of a bank stand below a place
-pub record AreBelow (room : ℕ) (heads : BankHeads) : Type 0 where
-  pub read_oldest : IfSome heads.reads.oldest (λ k. k < room)
-  pub read_hit : IfSome heads.reads.hit (λ k. k < room)
-  pub write_oldest : IfSome heads.writes.oldest (λ k. k < room)
-  pub write_hit : IfSome heads.writes.hit (λ k. k < room)
+-- what stands for no offer, where there are so many places: all offers go before it
+abbrev pub no_offer : ℕ → Offer
+no_offer room = record { cycle = 18446744073709551615; hit = false; slot = room }
+
+-- an offer, if it has one of so many places
+abbrev pub if_within : ℕ → Offer → Option Offer
+if_within room o = if nat_lt o.slot room then Some o else None
+
+-- An offer is the first from now on, or stands for none where there is none.
+pub record IsBestSoFar (room now : ℕ) (hits rows : ℕ → Option ℕ) (o : Offer) : Type 0 where
+  pub none : room ≤ o.slot → o ≡ no_offer room
+  pub best : IsBest now hits rows (if_within room o)
+
+-- the offer of a request whose need may be issued from a cycle on
+abbrev pub offer_from : ℕ → ℕ → Bool → ℕ → Offer
+offer_from now ready hit slot = record { cycle = max now ready; hit = hit; slot = slot }
 
 -- heads are those of a queue of requests, whichever rows are open
 abbrev pub AreOf : Heads → List Request → Type 0

@@ -16,7 +16,7 @@ ghost use Rattle.fr_fcfs.specs.Offers.{AreOf};
 ghost use Rattle.fr_fcfs.specs.Cycles.{IsFirstCycle, IsNext};
 ghost use Rattle.fr_fcfs.specs.Choices.{StandFor, choice_in, IsFor};
 
-use crate::needs::{is_column, need_of, refresh_need};
+use crate::needs::{is_column, needed, refresh_need};
 use crate::offers::first_offer;
 use bank_ready::banks::Banks;
 use heads::Heads;
@@ -33,6 +33,7 @@ pub struct Choice {
 }
 
 /// What a request at a place of the queue needs, as a choice.
+#[inline]
 fn choice_at(banks: &Banks, requests: &[Request], slot: usize) -> Choice
     requires places { All (IsInBanks (rank_count banks.now)) requests.now }
     requires within { slot < length requests.now }
@@ -40,15 +41,16 @@ fn choice_at(banks: &Banks, requests: &[Request], slot: usize) -> Choice
         → option_map (needed history) (slice_get requests.now slot) ≡ Some result.command }
     ensures place { IsFor requests.now result }
 {
-    let need = need_of(banks, requests[slot]);
-    let place = is_column(need.command).then_some(slot);
+    let command = needed(banks, requests[slot]);
+    let place = is_column(command).then_some(slot);
     Choice {
-        command: need.command,
+        command,
         slot: place,
     }
 }
 
 /// The first cycle from now on in which some request has what it needs issued, and what that is.
+#[inline]
 fn next_of_requests(
     queue: &Queue,
     heads: &Heads,
@@ -71,6 +73,7 @@ fn next_of_requests(
 
 /// The first cycle with a command, where a rank's refresh may be due from some cycle on and keeps all else waiting then, of which
 /// `next` is the first.
+#[inline]
 fn with_refresh(
     next: Option<(Cycle, Choice)>,
     due: Option<Cycle>,

@@ -15,13 +15,14 @@ use sim_base::command::{Command, Kind, Source};
 use sim_base::message::{Cycle, Request};
 use sim_base::place::{BankId, Place};
 
-/// What is needed next, and from which cycle on it may be issued.
+/// What a rank needs next, and from which cycle on that may be issued.
 #[derive(Clone, Copy)]
 pub(crate) struct Need {
     pub(crate) command: Command,
     pub(crate) ready: Cycle,
 }
 
+#[inline]
 fn source_of(request: Request) -> Source
     ensures { result ≡ source_of request }
 {
@@ -31,6 +32,7 @@ fn source_of(request: Request) -> Source
     }
 }
 
+#[inline]
 fn bank_of_place(place: Place) -> BankId
     ensures { result ≡ bank_in place }
 {
@@ -41,6 +43,7 @@ fn bank_of_place(place: Place) -> BankId
     }
 }
 
+#[inline]
 fn column_command(request: Request) -> Command
     ensures { result ≡ column_command request }
 {
@@ -65,6 +68,7 @@ fn column_command(request: Request) -> Command
     }
 }
 
+#[inline]
 fn needed_with(open_row: Option<u32>, request: Request) -> Command
     ensures { result ≡ needed_at open_row request }
 {
@@ -88,6 +92,7 @@ fn needed_with(open_row: Option<u32>, request: Request) -> Command
 }
 
 /// Whether a command moves data.
+#[inline]
 pub(crate) fn is_column(command: Command) -> bool
     ensures { result ≡ is_column_command command }
 {
@@ -95,16 +100,14 @@ pub(crate) fn is_column(command: Command) -> bool
 }
 
 /// What a request needs next.
-pub(crate) fn need_of(banks: &Banks, request: Request) -> Need
+#[inline]
+pub(crate) fn needed(banks: &Banks, request: Request) -> Command
     requires { IsInBanks (rank_count banks.now) request }
-    ensures command { (s : Config) (history : List CommandRow) → StandsFor banks.now s history → result.command ≡ needed history request }
-    ensures ready { (s : Config) (history : List CommandRow) → StandsFor banks.now s history → IsLegalFrom s history (needed history request) result.ready }
-    ensures column { is_column_command result.command ≡ true → result.command ≡ column_command request }
+    ensures command { (s : Config) (history : List CommandRow) → StandsFor banks.now s history → result ≡ needed history request }
+    ensures column { is_column_command result ≡ true → result ≡ column_command request }
 {
     let bank = bank_of_place(request.place);
-    let command = needed_with(banks.open_row(bank), request);
-    let ready = banks.earliest(command.kind(), bank);
-    Need { command, ready }
+    needed_with(banks.open_row(bank), request)
 }
 
 fn is_open(banks: &Banks, rank: u32, group: u32, bank: u32) -> bool
@@ -141,6 +144,7 @@ fn has_open_bank(banks: &Banks, rank: u32, groups: u32) -> bool
 }
 
 /// What a rank needs that is to be refreshed.
+#[inline(never)]
 pub(crate) fn refresh_need(banks: &Banks, rank: u32, groups: u32) -> Need
     requires rank { rank < rank_count banks.now }
     requires groups { groups ≤ 4 }

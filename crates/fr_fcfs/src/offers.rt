@@ -1,21 +1,21 @@
-//! What the banks offer: of each one, from which cycle on what a head of its queue needs may be issued.
+//! What requests offer: from which cycle on what they need may be issued.
 
-ghost use Rattle.std.specs.Prelude.{◌≡◌, ◌<◌, ◌*◌, ◌||◌, ℕ, List, Option, None, All, max, false, IsTrue, length, option_map, is_some, IfSome, if◌then◌else◌};
+ghost use Rattle.std.specs.Prelude.{◌≡◌, ◌<◌, ◌*◌, ℕ, List, Option, All, IsTrue, length, IfSome, if◌then◌else◌};
 ghost use Rattle.sim_base.specs.Rules.{open_row};
 ghost use Rattle.sim_base.specs.declared.config.Config.{Config};
 ghost use Rattle.sim_base.specs.declared.command.CommandRow.{CommandRow};
-ghost use Rattle.sim_base.specs.declared.message.Request.{Request};
 ghost use Rattle.bank_ready.specs.Words.{names_bank};
 ghost use Rattle.bank_ready.specs.Stands.{rank_count, StandsFor as BanksStandFor};
-ghost use Rattle.heads.specs.Heads.{bank_at, AreHeads};
-ghost use Rattle.heads.specs.Moves.{earlier};
+ghost use Rattle.heads.specs.Heads.{bank_at};
 ghost use Rattle.heads.specs.Stands.{bank_count, StandsFor as HeadsStandFor};
 ghost use Rattle.fr_fcfs.specs.Requests.{IsInBanks};
-ghost use Rattle.fr_fcfs.specs.Offers.{goes_before, hit_head, hits_in, rows_in, IsBest, AreBelow, AreOf, IsReadyFrom, IsFirstReady, row_kind};
+ghost use Rattle.fr_fcfs.specs.Offers.{goes_before, offer_from, AreOf, IsReadyFrom, IsFirstReady, row_kind};
 
-use crate::kinds::{Kinds, kinds_that_go};
+use crate::all_kinds::first_of_all;
+use crate::kinds::kind_that_goes;
+use crate::one_kind::first_of_kind;
 use bank_ready::banks::Banks;
-use heads::{BankHeads, Heads, bank_at};
+use heads::Heads;
 use queue::Queue;
 use sim_base::command::Kind;
 use sim_base::message::Cycle;
@@ -32,6 +32,7 @@ pub(crate) struct Offer {
 }
 
 /// Whether an offer goes before another: it is for an earlier cycle, or in the same one a row hit, or else an older request.
+#[inline(always)]
 fn goes_before(a: Offer, b: Offer) -> bool
     ensures { result ≡ goes_before a b }
 {
@@ -44,135 +45,41 @@ fn goes_before(a: Offer, b: Offer) -> bool
     a.slot < b.slot
 }
 
-/// The offer that goes first.
-fn better(a: Option<Offer>, b: Option<Offer>) -> Option<Offer>
-    ensures best { (now : ℕ) (hits_a rows_a hits_b rows_b : ℕ → Option ℕ) → IsBest now hits_a rows_a a → IsBest now hits_b rows_b b
-        → IsBest now (λ cycle. earlier (hits_a cycle) (hits_b cycle)) (λ cycle. earlier (rows_a cycle) (rows_b cycle)) result }
-    ensures some { is_some result ≡ (is_some a || is_some b) }
-    ensures within { (room : ℕ) → IfSome a (λ o. o.slot < room) → IfSome b (λ o. o.slot < room) → IfSome result (λ o. o.slot < room) }
+/// The better of the best offer so far and one of a request whose need may be issued from a cycle on.
+#[inline(always)]
+pub(crate) fn improved(best: Offer, ready: Cycle, hit: bool, slot: usize, now: Cycle) -> Offer
+    ensures { result ≡ (if goes_before (offer_from now ready hit slot) best then offer_from now ready hit slot else best) }
 {
-    match (a, b) {
-        (Some(a), Some(b)) => Some(if goes_before(b, a) { b } else { a }),
-        (Some(a), None) => Some(a),
-        (None, other) => other,
+    if best.cycle < ready {
+        return best;
     }
-}
-
-/// A head, if its kind goes.
-fn if_allowed(head: Option<usize>, allowed: bool) -> Option<usize>
-    ensures { result ≡ (if allowed then head else None) }
-{
-    if allowed { head } else { None }
-}
-
-/// The first of two places, if there is one.
-fn earlier(a: Option<usize>, b: Option<usize>) -> Option<usize>
-    ensures { result ≡ earlier a b }
-{
-    match (a, b) {
-        (Some(a), Some(b)) => Some(a.min(b)),
-        (Some(a), None) => Some(a),
-        (None, other) => other,
+    let cycle = now.max(ready);
+    let offer = Offer { cycle, hit, slot };
+    if !goes_before(offer, best) {
+        return best;
     }
+    offer
 }
 
 /// From which cycle on a command of a kind may be issued to a bank.
-fn ready(banks: &Banks, bank: usize, kind: Kind) -> Cycle
+#[inline(always)]
+pub(crate) fn ready(banks: &Banks, bank: usize, kind: Kind) -> Cycle
     requires kind { IsTrue (names_bank kind) }
     requires bank { bank < 16 * rank_count banks.now }
     ensures { (s : Config) (history : List CommandRow) → BanksStandFor banks.now s history → IsReadyFrom s history (bank_at bank) kind result }
 {
-    banks.earliest(kind, bank_at(bank))
-}
-
-/// The offer of a head, if there is one.
-fn offer_of_head(head: Option<usize>, hit: bool, ready: Cycle, now: Cycle) -> Option<Offer>
-    ensures { result ≡ option_map (λ slot. record { cycle = max now ready; hit = hit; slot = slot }) head }
-{
-    match head {
-        Some(slot) => Some(Offer {
-            cycle: now.max(ready),
-            hit,
-            slot,
-        }),
-        None => None,
-    }
-}
-
-/// What a bank offers to those that ask for its open row.
-fn hit_offer(
-    heads: BankHeads,
-    bank: usize,
-    kinds: Kinds,
-    banks: &Banks,
-    now: Cycle,
-) -> Option<Offer>
-    requires bank { bank < 16 * rank_count banks.now }
-    ensures some { is_some result ≡ is_some (hit_head kinds heads) }
-    ensures within { (room : ℕ) → AreBelow room heads → IfSome result (λ o. o.slot < room) }
-    ensures best { (s : Config) (history : List CommandRow) (requests : List Request) → BanksStandFor banks.now s history → AreHeads requests bank heads
-        → heads.row ≡ open_row (bank_at bank) history → All (IsInBanks (rank_count banks.now)) requests
-        → IsBest now (hits_in s history requests kinds bank) (λ cycle. None) result }
-{
-    let read = if_allowed(heads.reads.hit, kinds.reads);
-    let write = if_allowed(heads.writes.hit, kinds.writes);
-    better(
-        offer_of_head(read, true, ready(banks, bank, Kind::Rd), now),
-        offer_of_head(write, true, ready(banks, bank, Kind::Wr), now),
-    )
+    banks.earliest_in(kind, bank)
 }
 
 /// What closes a bank in which a row is open, and opens one in which none is.
-fn row_kind(row: Option<u32>) -> Kind
+#[inline(always)]
+pub(crate) fn row_kind(row: Option<u32>) -> Kind
     ensures kind { result ≡ row_kind row }
     ensures bank { IsTrue (names_bank result) }
 {
     match row {
         Some(_) => Kind::Pre,
         None => Kind::Act,
-    }
-}
-
-/// What a bank offers where none asks for its open row.
-fn row_offer(
-    heads: BankHeads,
-    bank: usize,
-    kinds: Kinds,
-    banks: &Banks,
-    now: Cycle,
-) -> Option<Offer>
-    requires bank { bank < 16 * rank_count banks.now }
-    ensures within { (room : ℕ) → AreBelow room heads → IfSome result (λ o. o.slot < room) }
-    ensures best { (s : Config) (history : List CommandRow) (requests : List Request) → BanksStandFor banks.now s history → AreHeads requests bank heads
-        → heads.row ≡ open_row (bank_at bank) history → All (IsInBanks (rank_count banks.now)) requests → is_some (hit_head kinds heads) ≡ false
-        → IsBest now (λ cycle. None) (rows_in s history requests kinds bank) result }
-{
-    let read = if_allowed(heads.reads.oldest, kinds.reads);
-    let write = if_allowed(heads.writes.oldest, kinds.writes);
-    let ready = ready(banks, bank, row_kind(heads.row));
-    offer_of_head(earlier(read, write), false, ready, now)
-}
-
-/// What a bank offers. A row hit keeps it from being closed.
-fn offer_of_bank(
-    heads: BankHeads,
-    bank: usize,
-    kinds: Kinds,
-    banks: &Banks,
-    now: Cycle,
-) -> Option<Offer>
-    requires bank { bank < 16 * rank_count banks.now }
-    ensures within { (room : ℕ) → AreBelow room heads → IfSome result (λ o. o.slot < room) }
-    ensures best { (s : Config) (history : List CommandRow) (requests : List Request) → BanksStandFor banks.now s history → AreHeads requests bank heads
-        → heads.row ≡ open_row (bank_at bank) history → All (IsInBanks (rank_count banks.now)) requests
-        → IsBest now (hits_in s history requests kinds bank) (rows_in s history requests kinds bank) result }
-{
-    if heads.reads.oldest.is_none() && heads.writes.oldest.is_none() {
-        return None;
-    }
-    match hit_offer(heads, bank, kinds, banks, now) {
-        Some(offer) => Some(offer),
-        None => row_offer(heads, bank, kinds, banks, now),
     }
 }
 
@@ -186,11 +93,11 @@ pub(crate) fn first_offer(queue: &Queue, heads: &Heads, banks: &Banks, now: Cycl
         → HeadsStandFor heads.now queue.now.requests (λ bank. open_row (bank_at bank) history) → s.write_high ≡ queue.now.high
         → IsFirstReady s history queue.now now result }
 {
-    let kinds = kinds_that_go(queue, heads);
-    let mut best = None;
-    for bank in 0..heads.bank_count() {
-        let offer = offer_of_bank(heads.of_bank(bank), bank, kinds, banks, now);
-        best = better(best, offer);
+    if queue.high() == 0 {
+        first_of_all(queue, heads, banks, now)
+    } else if kind_that_goes(queue, heads) {
+        first_of_kind(queue, heads, true, banks, now)
+    } else {
+        first_of_kind(queue, heads, false, banks, now)
     }
-    best
 }

@@ -1,7 +1,7 @@
 -- The first request that may be served and passes a test, with one request more and with one less.
 use Rattle.std.proofs.Common.{◌≡◌, ℕ, suc, ◌+◌, ◌<◌, Bool, true, false, not, cond, ◌&&◌, ◌||◌, List, [], ◌∷◌, ◌++◌, length, take, drop, get_or, min, Some, None, refl, sym, ap, ◌∙◌, inl, inr, arith}
 use Rattle.std.proofs.lemmas.Bool.{cases_Bool}
-use Rattle.std.proofs.lemmas.List.{length-take-le}
+use Rattle.std.proofs.lemmas.List.{length-take-le, length-append, get_or_at}
 use Rattle.std.proofs.lemmas.Slice.Zip.{length-zip}
 use Rattle.std.specs.List.{position, remove, zip}
 use Rattle.std.specs.Option.{option_map}
@@ -28,7 +28,7 @@ zip_long xs ms long = let least : min (length xs) (length ms) ≡ length xs = om
 pub length-entries : (rs : List Request) → length (entries rs) ≡ length rs
 length-entries rs = zip_long rs (eligible_column rs) (length-eligible rs)
 
-passes_mark : (test : Request → Bool) (r : Request) (b : Bool) → passes test (r, mark b) ≡ (b && test r)
+pub passes_mark : (test : Request → Bool) (r : Request) (b : Bool) → passes test (r, mark b) ≡ (b && test r)
 passes_mark test r true = refl
 passes_mark test r false = refl
 
@@ -74,13 +74,13 @@ marks_apart test a b (r ∷ rs) same =
     never false = refl
 
 -- the requests before a place, each with its mark
-abbrev front : List Request → List (Request × ℕ)
+abbrev pub front : List Request → List (Request × ℕ)
 front older = zip older (marks_after (λ p. false) older)
 
 front_long : (older : List Request) → length (front older) ≡ length older
 front_long older = zip_long older (marks_after (λ p. false) older) (length-marks (λ p. false) older)
 
-entries_with : (older later : List Request) (r : Request)
+pub entries_with : (older later : List Request) (r : Request)
     → entries (older ++ r ∷ later)
     ≡ front older ++ (r, mark (not (asks_for_line r.place older))) ∷ zip later (marks_after (λ p. asks_for_line p older || is_line r.place p) later)
 entries_with older later r =
@@ -88,7 +88,7 @@ entries_with older later r =
     ∙ zip-append older (r ∷ later) (marks_after (λ p. false) older) (mark (not (asks_for_line r.place older)) ∷ marks_after (λ p. asks_for_line p older || is_line r.place p) later)
     (length-marks (λ p. false) older)
 
-entries_without : (older later : List Request) → entries (older ++ later) ≡ front older ++ zip later (marks_after (λ p. asks_for_line p older) later)
+pub entries_without : (older later : List Request) → entries (older ++ later) ≡ front older ++ zip later (marks_after (λ p. asks_for_line p older) later)
 entries_without older later =
     ap (zip (older ++ later)) (eligible_is (older ++ later) ∙ marks-append (λ p. false) older later)
     ∙ zip-append older later (marks_after (λ p. false) older) (marks_after (λ p. asks_for_line p older) later) (length-marks (λ p. false) older)
@@ -97,20 +97,19 @@ or_false : (a : Bool) → (a || false) ≡ a
 or_false true = refl
 or_false false = refl
 
-split_apart : (test : Request → Bool) (older later : List Request) (r : Request) → test r ≡ false → ((x : Request) → test x ≡ true → is_line r.place x.place ≡ false)
+-- the first place moves past a request that does not pass, where none behind it has its turn
+split_skipped : (test : Request → Bool) (older later : List Request) (r : Request) → (not (asks_for_line r.place older) && test r) ≡ false
+    → position (passes test) (zip later (marks_after (λ p. asks_for_line p older || is_line r.place p) later))
+    ≡ position (passes test) (zip later (marks_after (λ p. asks_for_line p older) later))
     → first_place test (older ++ later) ≡ past (length older) (first_place test (older ++ r ∷ later))
-split_apart test older later r fails others =
+split_skipped test older later r skipped same =
     let n = length older in
     let there = zip later (marks_after (λ p. asks_for_line p older || is_line r.place p) later) in
     let here = zip later (marks_after (λ p. asks_for_line p older) later) in
     let asked = not (asks_for_line r.place older) in
-    let same : position (passes test) there ≡ position (passes test) here =
-    marks_apart test (λ p. asks_for_line p older || is_line r.place p) (λ p. asks_for_line p older) later
-    (λ x is. ap (λ t. asks_for_line x.place older || t) (others x is) ∙ or_false (asks_for_line x.place older)) in
-    let skipped : (b : Bool) → (b && test r) ≡ false = λ b. elim b as (λ t. (t && test r) ≡ false) [ true ↦ fails | false ↦ refl ] in
     let later_place : position (passes test) ((r, mark asked) ∷ there) ≡ option_map suc (position (passes test) here) =
     position-cons (passes test) (r, mark asked) there
-    ∙ ap (λ t. cond t (Some 0) (option_map suc (position (passes test) there))) (passes_mark test r asked ∙ skipped asked)
+    ∙ ap (λ t. cond t (Some 0) (option_map suc (position (passes test) there))) (passes_mark test r asked ∙ skipped)
     ∙ ap (option_map suc) same in
     let whole : first_place test (older ++ r ∷ later) ≡ or_else (position (passes test) (front older)) (option_map (λ k. n + k) (option_map suc (position (passes test) here))) =
     ap (position (passes test)) (entries_with older later r)
@@ -131,6 +130,32 @@ split_apart test older later r fails others =
 
     within : {X : Type 0} (p : X → Bool) (xs : List X) → before (length xs) (position p xs) ≡ position p xs
     within p xs = ap (λ ys. before (length xs) (position p ys)) (sym (append_none xs)) ∙ position-front p xs []
+
+split_apart : (test : Request → Bool) (older later : List Request) (r : Request) → test r ≡ false → ((x : Request) → test x ≡ true → is_line r.place x.place ≡ false)
+    → first_place test (older ++ later) ≡ past (length older) (first_place test (older ++ r ∷ later))
+split_apart test older later r fails others =
+    let skipped : (b : Bool) → (b && test r) ≡ false = λ b. elim b as (λ t. (t && test r) ≡ false) [ true ↦ fails | false ↦ refl ] in
+    split_skipped test older later r (skipped (not (asks_for_line r.place older)))
+    (marks_apart test (λ p. asks_for_line p older || is_line r.place p) (λ p. asks_for_line p older) later
+    (λ x is. ap (λ t. asks_for_line x.place older || t) (others x is) ∙ or_false (asks_for_line x.place older)))
+
+-- the same, where the first place is behind the request
+pub split_moved : (test : Request → Bool) (older later : List Request) (r : Request) → before (length older + 1) (first_place test (older ++ r ∷ later)) ≡ None
+    → position (passes test) (zip later (marks_after (λ p. asks_for_line p older || is_line r.place p) later))
+    ≡ position (passes test) (zip later (marks_after (λ p. asks_for_line p older) later))
+    → first_place test (older ++ later) ≡ past (length older) (first_place test (older ++ r ∷ later))
+split_moved test older later r late same =
+    let n = length older in
+    let asked = not (asks_for_line r.place older) in
+    let head : Request × ℕ = (r, mark asked) in
+    let there = zip later (marks_after (λ p. asks_for_line p older || is_line r.place p) later) in
+    let whole = front older ++ head ∷ there in
+    let fails : passes test (get_or whole n head) ≡ false =
+    fails_before (passes test) whole (n + 1) (ap (λ es. before (n + 1) (position (passes test) es)) (sym (entries_with older later r)) ∙ late) n head (omega arith)
+    (omega (arith, length-append (front older) (head ∷ there), front_long older)) in
+    split_skipped test older later r
+    (sym (passes_mark test r asked) ∙ ap (passes test) (sym (get_or_at (front older) head there head n (front_long older))) ∙ fails)
+    same
 
 split_front : (test : Request → Bool) (older later : List Request) (r : Request)
     → before (length older) (first_place test (older ++ later)) ≡ before (length older) (first_place test (older ++ r ∷ later))

@@ -1,5 +1,5 @@
 -- What the heads of all banks stand for, when those of one bank change.
-use Rattle.std.proofs.Common.{◌≡◌, ℕ, zero, suc, ◌+◌, ◌/◌, ◌%◌, ◌<◌, ◌≤◌, Bool, true, false, not, cond, ◌&&◌, ◌||◌, eqb, ltb, List, [], ◌∷◌, ◌++◌, length, get_or, set, take, drop, Option, None, refl, sym, ap, subst, ◌∙◌, inl, inr, arith, get_or-set_same, get_or-set_other}
+use Rattle.std.proofs.Common.{◌≡◌, ℕ, zero, suc, ◌+◌, ◌/◌, ◌%◌, ◌^◌, ◌<◌, ◌≤◌, Bool, true, false, not, cond, ◌&&◌, ◌||◌, eqb, ltb, List, [], ◌∷◌, ◌++◌, length, get_or, set, take, drop, Option, None, refl, sym, ap, subst, ◌∙◌, inl, inr, arith, get_or-set_same, get_or-set_other}
 use Rattle.std.proofs.lemmas.Bool.{cases_lt, cases_eq, eq-eqb, ne_eqb, cond-true, cond-false, lt-ltb, le-ltb, and_from, and_parts, eqb-true, false_from_ne_true}
 use Rattle.std.proofs.lemmas.List.{get_or_default, get_or_at, length-set, length-take-le, take_more}
 use Rattle.std.proofs.lemmas.List.Elements.{All-push, All-append, All-take, All-drop}
@@ -13,10 +13,11 @@ use Rattle.queue.specs.Columns.{bank_number, eligible_column}
 use Rattle.queue.proofs.Eligible.{marks_after, length-marks, split_marks, around}
 use Rattle.heads.specs.declared.entry.BankHeads.{BankHeads}
 use Rattle.heads.specs.declared.heads.Heads.{Heads}
-use Rattle.heads.specs.Heads.{asks, AreHeads, bank_at, number_of}
+use Rattle.heads.specs.Heads.{asks, AreHeads, RowsFit, NoneWaits, bank_at, number_of}
 use Rattle.heads.specs.Moves.{bank_past}
 use Rattle.heads.specs.Stands.{bank_count, heads_of, StandsFor, with_row, closed_in}
 use Rattle.heads.proofs.OneBank.{bank_kept, bank_left, asks_elsewhere}
+use Rattle.heads.proofs.Calm.{waits_push, waits_left, noted_other, noted_here}
 
 -- an item that a list has at a place
 pub item_at : {X : Type 0} (xs : List X) (k : ℕ) → k < length xs → (x : X) × (x ≡ get_or xs k x)
@@ -52,11 +53,17 @@ set_each P xs n x within here others k d exists = elim (cases_eq k n) [
   | inr apart ↦ subst (P k) (sym (get_or-set_other xs n k x d apart)) (others k d exists apart)
 ]
 
+-- banks that are not noted have none that waits
+abbrev pub AreCalm : List Bool → List Request → Type 0
+AreCalm noted requests = (bank : ℕ) → get_or noted bank true ≡ false → NoneWaits bank requests
+
 -- heads of which each bank is known
-pub stand : (heads : Heads) (requests : List Request) (open_rows : ℕ → Option ℕ) → All (λ r. bank_number r.place < bank_count heads) requests
-    → ((bank : ℕ) (d : BankHeads) → bank < bank_count heads → IsBank requests open_rows bank (heads_of heads bank d)) → StandsFor heads requests open_rows
-stand heads requests open_rows within each = record {
+pub stand : (heads : Heads) (requests : List Request) (open_rows : ℕ → Option ℕ) → All (λ r. bank_number r.place < bank_count heads) requests → RowsFit requests
+    → AreCalm heads.waits.items requests → ((bank : ℕ) (d : BankHeads) → bank < bank_count heads → IsBank requests open_rows bank (heads_of heads bank d)) → StandsFor heads requests open_rows
+stand heads requests open_rows within fit calm each = record {
   within = within;
+  rows_fit = fit;
+  waits_are = calm;
   rows_are = λ bank d exists. (each bank d exists).0;
   heads_are = λ bank d exists. (each bank d exists).1;
 }
@@ -66,21 +73,15 @@ fewer requests m n same within = subst (λ k. All (λ (r : Request). bank_number
 
 -- where the heads of one bank are written
 pub written : (old new : Heads) (requests more : List Request) (before after : ℕ → Option ℕ) (bank : ℕ) (h : BankHeads) → new.banks.items ≡ set old.banks.items bank h
-    → bank < bank_count old → StandsFor old requests before → All (λ r. bank_number r.place < bank_count old) more → IsBank more after bank h
+    → bank < bank_count old → StandsFor old requests before → All (λ r. bank_number r.place < bank_count old) more → RowsFit more → AreCalm new.waits.items more → IsBank more after bank h
     → ((other : ℕ) (x : BankHeads) → (other ≡ bank → ⊥) → IsBank requests before other x → IsBank more after other x) → StandsFor new more after
-written old new requests more open_before open_after bank h is exists stands within here others =
+written old new requests more open_before open_after bank h is exists stands within fit calm here others =
     let long : bank_count old ≡ bank_count new = sym (ap length is ∙ length-set old.banks.items bank h) in
-    stand new more open_after (fewer more (bank_count old) (bank_count new) long within)
+    stand new more open_after (fewer more (bank_count old) (bank_count new) long within) fit calm
     (λ k d there.
     subst (λ xs. IsBank more open_after k (get_or xs k d)) (sym is)
     (set_each (IsBank more open_after) old.banks.items bank h exists here
     (λ j e within_j apart. others j (get_or old.banks.items j e) apart (stands.rows_are j e within_j, stands.heads_are j e within_j)) k d (omega (arith, long))))
-
--- where none is
-pub unwritten : (heads : Heads) (requests more : List Request) (open_rows : ℕ → Option ℕ) → StandsFor heads requests open_rows
-    → All (λ r. bank_number r.place < bank_count heads) more → ((bank : ℕ) (x : BankHeads) → AreHeads requests bank x → AreHeads more bank x) → StandsFor heads more open_rows
-unwritten heads requests more open_rows stands within each =
-    stand heads more open_rows within (λ bank d exists. (stands.rows_are bank d exists, each bank (heads_of heads bank d) (stands.heads_are bank d exists)))
 
 -- the mark of a request
 mark_at : (rs : List Request) (slot : ℕ) (r : Request) (marks : List ℕ) → slot < length rs → r ≡ get_or rs slot r → marks ≡ eligible_column rs
@@ -112,12 +113,14 @@ take_next rs xs slot e exists same = ap (λ ys. take slot rs ++ get_or ys slot e
 
 -- a request more, for one bank
 pub joined_stand : (old new : Heads) (older : List Request) (r : Request) (open_rows : ℕ → Option ℕ) (h : BankHeads) → new.banks.items ≡ set old.banks.items (bank_number r.place) h
-    → bank_number r.place < bank_count old → StandsFor old older open_rows → ((d : BankHeads) → h.row ≡ (heads_of old (bank_number r.place) d).row)
-    → AreHeads (older ++ r ∷ []) (bank_number r.place) h → StandsFor new (older ++ r ∷ []) open_rows
-joined_stand old new older r open_rows h is exists stands row here =
+    → new.waits.items ≡ old.waits.items → bank_number r.place < bank_count old → r.place.row < 2 ^ 32 → StandsFor old older open_rows → asks_for_line r.place older ≡ false
+    → ((d : BankHeads) → h.row ≡ (heads_of old (bank_number r.place) d).row) → AreHeads (older ++ r ∷ []) (bank_number r.place) h → StandsFor new (older ++ r ∷ []) open_rows
+joined_stand old new older r open_rows h is noted exists short stands first row here =
     let own = bank_number r.place in
     written old new older (older ++ r ∷ []) open_rows open_rows own h is exists stands
     (All-push (λ (x : Request). bank_number x.place < bank_count old) older r stands.within exists)
+    (All-push (λ (x : Request). x.place.row < 2 ^ 32) older r stands.rows_fit short)
+    (λ bank calm. waits_push bank older r (stands.waits_are bank (ap (λ ws. get_or ws bank true) (sym noted) ∙ calm)) (ap (λ t. t && eqb (bank_number r.place) bank) first))
     (row h ∙ stands.rows_are own h exists, here)
     (λ other x apart known. (
       known.0,
@@ -130,11 +133,34 @@ joined_stand old new older r open_rows h is exists stands row here =
     never true = refl
     never false = refl
 
-pub unjoined_stand : (heads : Heads) (older : List Request) (r : Request) (open_rows : ℕ → Option ℕ) → bank_number r.place < bank_count heads → StandsFor heads older open_rows
-    → asks_for_line r.place older ≡ true → StandsFor heads (older ++ r ∷ []) open_rows
-unjoined_stand heads older r open_rows exists stands asked =
-    unwritten heads older (older ++ r ∷ []) open_rows stands (All-push (λ (x : Request). bank_number x.place < bank_count heads) older r stands.within exists)
-    (λ bank x known. bank_kept older r bank x (λ write. ap (λ b. not b && asks bank write r) asked) known)
+-- one that waits for an older one of its line, as is noted
+pub unjoined_stand : (old new : Heads) (older : List Request) (r : Request) (open_rows : ℕ → Option ℕ) → new.banks ≡ old.banks
+    → new.waits.items ≡ set old.waits.items (bank_number r.place) true → bank_number r.place < bank_count old → r.place.row < 2 ^ 32 → StandsFor old older open_rows
+    → asks_for_line r.place older ≡ true → StandsFor new (older ++ r ∷ []) open_rows
+unjoined_stand old new older r open_rows same noted exists short stands asked =
+    let own = bank_number r.place in
+    let count : bank_count old ≡ bank_count new = ap (λ b. length b.items) (sym same) in
+    stand new (older ++ r ∷ []) open_rows
+    (fewer (older ++ r ∷ []) (bank_count old) (bank_count new) count (All-push (λ (x : Request). bank_number x.place < bank_count old) older r stands.within exists))
+    (All-push (λ (x : Request). x.place.row < 2 ^ 32) older r stands.rows_fit short)
+    (λ bank is.
+    let there = ap (λ ws. get_or ws bank true) (sym noted) ∙ is in
+    elim (cases_eq bank own) [
+      | inl here ↦ absurd (noted_here old.waits.items own (ap (λ n. get_or (set old.waits.items own true) n true) (sym here) ∙ there))
+      | inr apart ↦
+          waits_push bank older r (stands.waits_are bank (noted_other old.waits.items own bank true apart there))
+          (ap (λ t. asks_for_line r.place older && t) (ne_eqb own bank (λ e. apart (sym e))) ∙ never (asks_for_line r.place older))
+    ])
+    (λ bank d there.
+    let there_old : bank < bank_count old = omega (arith, count) in
+    subst (λ b. IsBank (older ++ r ∷ []) open_rows bank (get_or b.items bank d)) (sym same) (
+      stands.rows_are bank d there_old,
+      bank_kept older r bank (heads_of old bank d) (λ write. ap (λ b. not b && asks bank write r) asked) (stands.heads_are bank d there_old),
+    ))
+  where
+    never : (t : Bool) → (t && false) ≡ false
+    never true = refl
+    never false = refl
 
 pub All-remove : {X : Type 0} (P : X → Type 0) (xs : List X) (k : ℕ) → All P xs → All P (remove xs k)
 All-remove P xs k all = All-append P (take k xs) (drop (suc k) xs) (All-take P k xs all) (All-drop P (suc k) xs all)
@@ -143,13 +169,15 @@ All-remove P xs k all = All-append P (take k xs) (drop (suc k) xs) (All-take P k
 pub served_stand : (old moved new : Heads) (rs : List Request) (slot : ℕ) (r : Request) (open_rows : ℕ → Option ℕ) (h : BankHeads) → slot < length rs → r ≡ get_or rs slot r
     → bank_number r.place < bank_count old → bank_count moved ≡ bank_count old
     → ((k : ℕ) (d : BankHeads) → k < bank_count old → heads_of moved k d ≡ bank_past slot (heads_of old k d)) → new.banks.items ≡ set moved.banks.items (bank_number r.place) h
-    → StandsFor old rs open_rows → ((d : BankHeads) → h.row ≡ (heads_of old (bank_number r.place) d).row) → AreHeads (remove rs slot) (bank_number r.place) h
-    → StandsFor new (remove rs slot) open_rows
-served_stand old moved new rs slot r open_rows h within request exists long each is stands row here =
+    → StandsFor old rs open_rows → AreCalm new.waits.items (remove rs slot) → ((d : BankHeads) → h.row ≡ (heads_of old (bank_number r.place) d).row)
+    → AreHeads (remove rs slot) (bank_number r.place) h → StandsFor new (remove rs slot) open_rows
+served_stand old moved new rs slot r open_rows h within request exists long each is stands calm row here =
     let own = bank_number r.place in
     let more : bank_count old ≡ bank_count new = sym (ap length is ∙ length-set moved.banks.items own h ∙ long) in
     stand new (remove rs slot) open_rows
     (fewer (remove rs slot) (bank_count old) (bank_count new) more (All-remove (λ (x : Request). bank_number x.place < bank_count old) rs slot stands.within))
+    (All-remove (λ (x : Request). x.place.row < 2 ^ 32) rs slot stands.rows_fit)
+    calm
     (λ k d there.
     subst (λ xs. IsBank (remove rs slot) open_rows k (get_or xs k d)) (sym is)
     (set_each (IsBank (remove rs slot) open_rows) moved.banks.items own h (omega (arith, long)) (row h ∙ stands.rows_are own h exists, here)
@@ -161,11 +189,32 @@ served_stand old moved new rs slot r open_rows h within request exists long each
     ))
     k d (omega (arith, long, more))))
 
+-- banks of which none waits, once a request has left
+pub calm_left : (noted : List Bool) (rs : List Request) (slot : ℕ) → slot < length rs → AreCalm noted rs → AreCalm noted (remove rs slot)
+calm_left noted rs slot within calm bank is = let item = item_at rs slot within in waits_left bank rs slot item.0 within item.1 (calm bank is)
+
+pub calm_empty : (noted : List Bool) (rs : List Request) (bank : ℕ) → AreCalm noted rs → NoneWaits bank rs → AreCalm (set noted bank false) rs
+calm_empty noted rs bank calm none other is = elim (cases_eq other bank) [
+  | inl same ↦ subst (λ n. NoneWaits n rs) (sym same) none
+  | inr apart ↦ calm other (noted_other noted bank other false apart is)
+]
+
+-- where other banks are noted
+pub noted_stand : (old new : Heads) (requests : List Request) (open_rows : ℕ → Option ℕ) → new.banks ≡ old.banks → StandsFor old requests open_rows
+    → AreCalm new.waits.items requests → StandsFor new requests open_rows
+noted_stand old new requests open_rows same stands calm =
+    let count : bank_count old ≡ bank_count new = ap (λ b. length b.items) (sym same) in
+    stand new requests open_rows (fewer requests (bank_count old) (bank_count new) count stands.within) stands.rows_fit calm
+    (λ bank d there.
+    let there_old : bank < bank_count old = omega (arith, count) in
+    subst (λ b. IsBank requests open_rows bank (get_or b.items bank d)) (sym same) (stands.rows_are bank d there_old, stands.heads_are bank d there_old))
+
 -- one bank that is opened or closed
 pub row_stand : (old new : Heads) (requests : List Request) (open_rows : ℕ → Option ℕ) (number : ℕ) (row : Option ℕ) (h : BankHeads) → new.banks.items ≡ set old.banks.items number h
-    → number < bank_count old → StandsFor old requests open_rows → h.row ≡ row → AreHeads requests number h → StandsFor new requests (with_row number row open_rows)
-row_stand old new requests open_rows number row h is exists stands row_is here =
-    written old new requests requests open_rows (with_row number row open_rows) number h is exists stands stands.within
+    → new.waits.items ≡ old.waits.items → number < bank_count old → StandsFor old requests open_rows → h.row ≡ row → AreHeads requests number h → StandsFor new requests (with_row number row open_rows)
+row_stand old new requests open_rows number row h is noted exists stands row_is here =
+    written old new requests requests open_rows (with_row number row open_rows) number h is exists stands stands.within stands.rows_fit
+    (λ bank calm. stands.waits_are bank (ap (λ ws. get_or ws bank true) (sym noted) ∙ calm))
     (row_is ∙ sym (cond-true (eqb number number) row (open_rows number) (eq-eqb number number refl)), here)
     (λ other x apart known. (known.0 ∙ sym (cond-false (eqb other number) row (open_rows other) (ne_eqb other number apart)), known.1))
 
@@ -174,6 +223,8 @@ pub same_rows : (heads : Heads) (requests : List Request) (a b : ℕ → Option 
     → StandsFor heads requests b
 same_rows heads requests a b stands same = record {
   within = stands.within;
+  rows_fit = stands.rows_fit;
+  waits_are = stands.waits_are;
   rows_are = λ bank d exists. stands.rows_are bank d exists ∙ same bank exists;
   heads_are = stands.heads_are;
 }

@@ -3,10 +3,12 @@
 --     asks bank write r      a request asks to write to a bank, or to read from it
 --     hits bank write row r      it does, and for the row that is open there
 --     wants bank write row r      it does, and for this row if one is given
+--     RowsFit requests      each asks for a row whose number has 32 bits
 --     first_place test requests      the place of the first request that may be served and passes a test
+--     NoneWaits bank requests      none that asks for a bank waits for an older one of its line
 --     AreHeads requests bank heads      each head of a bank is the place of the first such request
-use Rattle.std.specs.Prelude.{◌≡◌, ℕ, ◌+◌, ◌*◌, ◌/◌, ◌%◌, ◌==◌, Bool, true, false, not, ◌&&◌, List, position, Option, Some, None, if◌then◌else◌}
-use Rattle.std.specs.List.{zip}
+use Rattle.std.specs.Prelude.{◌≡◌, ℕ, ◌+◌, ◌*◌, ◌/◌, ◌%◌, ◌^◌, ◌<◌, ◌==◌, Bool, true, false, not, ◌&&◌, List, All, position, Option, Some, None, if◌then◌else◌}
+use Rattle.std.specs.List.{list_any, zip}
 use Rattle.sim_base.specs.declared.message.Request.{Request}
 use Rattle.sim_base.specs.declared.place.BankId.{BankId}
 use Rattle.sim_base.specs.Rules.{is_row}
@@ -36,6 +38,10 @@ abbrev pub wants : ℕ → Bool → Option ℕ → Request → Bool
 wants bank write None r = asks bank write r
 wants bank write (Some row) r = asks bank write r && (r.place.row == row)
 
+-- each request asks for a row whose number has 32 bits
+abbrev pub RowsFit : List Request → Type 0
+RowsFit requests = All (λ r. r.place.row < 2 ^ 32) requests
+
 -- a request at a place of the queue may be served, and passes a test
 abbrev pub passes : (Request → Bool) → Request × ℕ → Bool
 passes test e = is_marked e.1 && test e.0
@@ -47,6 +53,14 @@ entries requests = zip requests (eligible_column requests)
 -- the place of the first request that may be served and passes a test
 abbrev pub first_place : (Request → Bool) → List Request → Option ℕ
 first_place test requests = position (passes test) (entries requests)
+
+-- a request at a place asks for a bank, and waits for an older one of its line
+abbrev pub waits : ℕ → Request × ℕ → Bool
+waits bank e = not (is_marked e.1) && (bank_number e.0.place == bank)
+
+-- no request that asks for a bank waits for an older one of its line
+abbrev pub NoneWaits : ℕ → List Request → Type 0
+NoneWaits bank requests = list_any (waits bank) (entries requests) ≡ false
 
 -- the heads of a bank to read or to write, where this row is open
 pub record AreFirst (requests : List Request) (bank : ℕ) (write : Bool) (row : Option ℕ) (heads : KindHeads) : Type 0 where

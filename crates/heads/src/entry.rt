@@ -1,14 +1,14 @@
 //! The heads of one bank.
 
-ghost use Rattle.std.specs.Prelude.{◌≡◌, ℕ, ◌<◌, false, List, ◌++◌, ◌∷◌, [], length, remove, Option, Some, None, if◌then◌else◌};
+ghost use Rattle.std.specs.Prelude.{◌≡◌, ℕ, ◌<◌, ◌^◌, true, false, ◌&&◌, is_none, List, ◌++◌, ◌∷◌, [], length, remove, Option, Some, None, if◌then◌else◌};
 ghost use Rattle.sim_base.specs.Rules.{is_row};
 ghost use Rattle.sim_base.specs.Scheduling.{asks_for_line, or_else};
 ghost use Rattle.sim_base.specs.declared.message.Request.{Request};
 ghost use Rattle.queue.specs.Columns.{bank_number};
-ghost use Rattle.heads.specs.Heads.{bank_at, number_of, AreFirst, AreHeads};
-ghost use Rattle.heads.specs.Moves.{past, kind_past, bank_past};
+ghost use Rattle.heads.specs.Heads.{bank_at, number_of, RowsFit, NoneWaits, AreFirst, AreHeads};
+ghost use Rattle.heads.specs.Moves.{past};
 
-use crate::search::{first_from, next_place};
+use crate::search::{Gap, first_from, next_place};
 use queue::Queue;
 use sim_base::message::Request;
 use sim_base::place::{BankId, Place};
@@ -43,9 +43,10 @@ pub fn bank_at(number: usize) -> BankId
     }
 }
 
-/// The number of the bank of a place.
+/// The number of the bank of a place, whose row has 32 bits.
 pub(crate) fn bank_number(place: Place) -> usize
-    ensures { result ≡ bank_number place }
+    ensures number { result ≡ bank_number place }
+    ensures row { place.row < 2 ^ 32 }
 {
     (place.rank as usize * 4 + place.group as usize) * 4 + place.bank as usize
 }
@@ -68,7 +69,7 @@ fn or_later(head: Option<usize>, slot: usize) -> Option<usize>
 }
 
 /// A place, once the request at another place has left.
-fn past(slot: usize, head: Option<usize>) -> Option<usize>
+pub(crate) fn past(slot: usize, head: Option<usize>) -> Option<usize>
     ensures { result ≡ past slot head }
 {
     match head {
@@ -109,16 +110,6 @@ impl KindHeads {
         }
     }
 
-    /// Once a request of another bank has left.
-    fn past(self, slot: usize) -> KindHeads
-        ensures { result ≡ kind_past slot self }
-    {
-        KindHeads {
-            oldest: past(slot, self.oldest),
-            hit: past(slot, self.hit),
-        }
-    }
-
     /// Where no row is open.
     fn without_hit(self) -> KindHeads
         ensures { result ≡ record self { hit = None } }
@@ -130,28 +121,13 @@ impl KindHeads {
     }
 
     /// Once a request of the same bank has left its place in the queue.
-    fn after(
-        self,
-        queue: &Queue,
-        slot: usize,
-        bank: usize,
-        write: bool,
-        row: Option<u32>,
-    ) -> KindHeads
-        ensures { (earlier : List Request) → slot < length earlier → queue.now.requests ≡ remove earlier slot → AreFirst earlier bank write row self
-            → AreFirst queue.now.requests bank write row result }
+    fn after(self, queue: &Queue, gap: Gap, write: bool, row: Option<u32>) -> KindHeads
+        ensures { (earlier : List Request) → gap.slot < length earlier → queue.now.requests ≡ remove earlier gap.slot → RowsFit queue.now.requests
+            → (gap.calm ≡ true → NoneWaits gap.bank earlier) → AreFirst earlier gap.bank write row self → AreFirst queue.now.requests gap.bank write row result }
     {
-        let oldest = next_place(self.oldest, queue, slot, 0, bank, write, None);
+        let oldest = next_place(self.oldest, queue, gap, 0, write, None);
         let hit = match (row, oldest) {
-            (Some(row), Some(least)) => next_place(
-                self.hit,
-                queue,
-                slot,
-                least,
-                bank,
-                write,
-                Some(row),
-            ),
+            (Some(row), Some(least)) => next_place(self.hit, queue, gap, least, write, Some(row)),
             _ => None,
         };
         KindHeads { oldest, hit }
@@ -159,7 +135,7 @@ impl KindHeads {
 
     /// Once a row is open in the bank.
     fn opened(self, queue: &Queue, bank: usize, write: bool, row: u32) -> KindHeads
-        ensures { (old : Option ℕ) → AreFirst queue.now.requests bank write old self → AreFirst queue.now.requests bank write (Some row) result }
+        ensures { (old : Option ℕ) → RowsFit queue.now.requests → AreFirst queue.now.requests bank write old self → AreFirst queue.now.requests bank write (Some row) result }
     {
         let hit = match self.oldest {
             Some(least) => first_from(queue, least, bank, write, Some(row)),
@@ -193,34 +169,30 @@ impl BankHeads {
         }
     }
 
-    /// Once a request of another bank has left its place in the queue.
-    pub(crate) fn past(self, slot: usize) -> BankHeads
-        ensures { result ≡ bank_past slot self }
+    /// Once a request of this bank has left its place in the queue.
+    pub(crate) fn after(self, queue: &Queue, gap: Gap) -> BankHeads
+        ensures row { result.row ≡ self.row }
+        ensures heads { (earlier : List Request) → gap.slot < length earlier → queue.now.requests ≡ remove earlier gap.slot → RowsFit queue.now.requests
+            → (gap.calm ≡ true → NoneWaits gap.bank earlier) → AreHeads earlier gap.bank self → AreHeads queue.now.requests gap.bank result }
     {
         BankHeads {
             row: self.row,
-            reads: self.reads.past(slot),
-            writes: self.writes.past(slot),
+            reads: self.reads.after(queue, gap, false, self.row),
+            writes: self.writes.after(queue, gap, true, self.row),
         }
     }
 
-    /// Once a request of this bank has left its place in the queue.
-    pub(crate) fn after(self, queue: &Queue, slot: usize, bank: usize) -> BankHeads
-        ensures row { result.row ≡ self.row }
-        ensures heads { (earlier : List Request) → slot < length earlier → queue.now.requests ≡ remove earlier slot → AreHeads earlier bank self
-            → AreHeads queue.now.requests bank result }
+    /// Whether no request of the bank may be served.
+    pub(crate) fn is_empty(self) -> bool
+        ensures { result ≡ (is_none self.reads.oldest && is_none self.writes.oldest) }
     {
-        BankHeads {
-            row: self.row,
-            reads: self.reads.after(queue, slot, bank, false, self.row),
-            writes: self.writes.after(queue, slot, bank, true, self.row),
-        }
+        self.reads.oldest.is_none() && self.writes.oldest.is_none()
     }
 
     /// Once a row is open in the bank.
     pub(crate) fn opened(self, queue: &Queue, bank: usize, row: u32) -> BankHeads
         ensures row { result.row ≡ Some row }
-        ensures heads { AreHeads queue.now.requests bank self → AreHeads queue.now.requests bank result }
+        ensures heads { RowsFit queue.now.requests → AreHeads queue.now.requests bank self → AreHeads queue.now.requests bank result }
     {
         BankHeads {
             row: Some(row),

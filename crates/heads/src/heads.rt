@@ -2,9 +2,10 @@
 
 ghost use Rattle.std.specs.Prelude.{◌≡◌, ◌<◌, ℕ, length, slice_index_or};
 ghost use Rattle.heads.specs.declared.entry.BankHeads.{BankHeads};
-ghost use Rattle.heads.specs.Moves.{bank_past};
+ghost use Rattle.heads.specs.Moves.{past, kind_past, bank_past};
 
 use crate::entry::{BankHeads, KindHeads, bank_number, number_of};
+use crate::search::Gap;
 use queue::Queue;
 use sim_base::command::Command;
 use sim_base::message::Request;
@@ -15,6 +16,8 @@ use std::alloc::{AllocError, Global};
 #[derive(Drop)]
 pub struct Heads {
     banks: Vec<BankHeads>,
+    /// Of each bank, whether some request for it may wait for an older one of its line.
+    waits: Vec<bool>,
 }
 
 const NONE: BankHeads = BankHeads {
@@ -29,24 +32,46 @@ const NONE: BankHeads = BankHeads {
     },
 };
 
+/// Moves a head past a place that a request has left.
+#[inline(always)]
+fn move_head(head: &mut Option<usize>, slot: usize)
+    ensures { head.new ≡ past slot head.old }
+{
+    if let Some(place) = head {
+        if slot < *place {
+            *place -= 1;
+        }
+    }
+}
+
+/// Moves the heads of a kind past a place that a request has left.
+#[inline(always)]
+fn move_kind(heads: &mut KindHeads, slot: usize)
+    ensures { heads.new ≡ kind_past slot heads.old }
+{
+    move_head(&mut heads.oldest, slot);
+    move_head(&mut heads.hit, slot);
+}
+
 /// Moves the heads past a place, once a request has left it.
 fn move_past(banks: &mut [BankHeads], slot: usize)
     ensures { (k : ℕ) (d : BankHeads) → k < length banks.old → slice_index_or banks.new k d ≡ bank_past slot (slice_index_or banks.old k d) }
 {
     for heads in banks.iter_mut() {
-        *heads = heads.past(slot);
+        move_kind(&mut heads.reads, slot);
+        move_kind(&mut heads.writes, slot);
     }
 }
 
 impl Heads {
-    ghost use Rattle.std.specs.Prelude.{ℕ, ◌≡◌, ◌<◌, ◌++◌, ◌∷◌, not, [], List, length, take, remove, slice_index_or, All, Option, None, Some, IfOk};
+    ghost use Rattle.std.specs.Prelude.{ℕ, ◌≡◌, ◌<◌, ◌++◌, ◌∷◌, not, true, [], List, length, take, remove, slice_index_or, slice_set, All, Option, None, Some, is_some, IfOk, if◌then◌else◌};
     ghost use Rattle.std.specs.Option.{ForSome};
     ghost use Rattle.sim_base.specs.Rules.{bank_of, row_after};
-    ghost use Rattle.sim_base.specs.Scheduling.{asks_for_line};
+    ghost use Rattle.sim_base.specs.Scheduling.{asks_for_line, is_favoured};
     ghost use Rattle.sim_base.specs.declared.message.Request.{Request};
     ghost use Rattle.queue.specs.Columns.{bank_number};
     ghost use Rattle.heads.specs.declared.entry.BankHeads.{BankHeads};
-    ghost use Rattle.heads.specs.Heads.{bank_at, number_of};
+    ghost use Rattle.heads.specs.Heads.{bank_at, number_of, first_place};
     ghost use Rattle.heads.specs.Stands.{bank_count, heads_of, StandsFor, with_row, closed_in, IsAmong};
 
     /// The heads of an empty queue, of so many banks, which are all closed. Nothing else takes memory.
@@ -56,6 +81,7 @@ impl Heads {
     {
         Ok(Heads {
             banks: vec![in alloc; NONE; banks]?,
+            waits: vec![in alloc; false; banks]?,
         })
     }
 
@@ -67,11 +93,75 @@ impl Heads {
     }
 
     /// The heads of a bank, by its number.
+    #[inline(always)]
     pub fn of_bank(&self, bank: usize) -> BankHeads
         requires { bank < bank_count self.now }
         ensures { (d : BankHeads) → result ≡ heads_of self.now bank d }
     {
         self.banks[bank]
+    }
+
+    /// The heads of a bank to write, or to read.
+    #[inline(always)]
+    pub fn of_kind(&self, bank: usize, write: bool) -> KindHeads
+        requires { bank < bank_count self.now }
+        ensures { (d : BankHeads) → result ≡ (if write then (heads_of self.now bank d).writes else (heads_of self.now bank d).reads) }
+    {
+        let heads = &self.banks[bank];
+        if write { heads.writes } else { heads.reads }
+    }
+
+    /// The row that is open in a bank, if one is.
+    #[inline(always)]
+    pub fn row_of(&self, bank: usize) -> Option<u32>
+        requires { bank < bank_count self.now }
+        ensures { (d : BankHeads) → result ≡ (heads_of self.now bank d).row }
+    {
+        self.banks[bank].row
+    }
+
+    /// Whether some request to write, or to read, may be served.
+    #[inline(always)]
+    pub fn has_kind(&self, write: bool) -> bool
+        ensures { (requests : List Request) (open_rows : ℕ → Option ℕ) → StandsFor self.now requests open_rows → result ≡ is_some (first_place (is_favoured write) requests) }
+    {
+        for bank in 0..self.bank_count() {
+            if self.of_kind(bank, write).oldest.is_some() {
+                return true;
+            }
+        }
+        false
+    }
+
+    /// Whether it is known that no request for a bank waits for an older one of its line.
+    fn is_calm(&self, bank: usize) -> bool
+        ensures { result ≡ not (slice_index_or self.now.waits.items bank true) }
+    {
+        match self.waits.get(bank) {
+            Some(waits) => !*waits,
+            None => false,
+        }
+    }
+
+    /// Notes whether some request for a bank may wait for an older one of its line.
+    fn set_waits(&mut self, bank: usize, waits: bool)
+        ensures banks { self.new.banks ≡ self.old.banks }
+        ensures waits { self.new.waits.items ≡ slice_set self.old.waits.items bank waits }
+    {
+        if bank < self.waits.len() {
+            self.waits[bank] = waits;
+        }
+    }
+
+    /// Notes that no request for a bank waits, where none of the bank may be served.
+    fn note_empty(&mut self, bank: usize)
+        requires { bank < bank_count self.old }
+        ensures banks { bank_count self.new ≡ bank_count self.old }
+        ensures stands { (requests : List Request) (open_rows : ℕ → Option ℕ) → StandsFor self.old requests open_rows → StandsFor self.new requests open_rows }
+    {
+        if self.banks[bank].is_empty() {
+            self.set_waits(bank, false);
+        }
     }
 
     /// Takes note of a request at a place behind all others, which may be served or not.
@@ -81,9 +171,11 @@ impl Heads {
         ensures stands { (older : List Request) (open_rows : ℕ → Option ℕ) → slot ≡ length older → first_of_line ≡ not (asks_for_line request.place older)
             → StandsFor self.old older open_rows → StandsFor self.new (older ++ request ∷ []) open_rows }
     {
+        let bank = bank_number(request.place);
         if first_of_line {
-            let bank = bank_number(request.place);
             self.banks[bank] = self.banks[bank].joined(request, slot);
+        } else {
+            self.set_waits(bank, true);
         }
     }
 
@@ -108,9 +200,11 @@ impl Heads {
             → queue.now.requests ≡ remove earlier slot → StandsFor self.old earlier open_rows → StandsFor self.new queue.now.requests open_rows }
     {
         let bank = bank_number(request.place);
-        let own = self.banks[bank].after(queue, slot, bank);
+        let calm = self.is_calm(bank);
+        let own = self.banks[bank].after(queue, Gap { slot, bank, calm });
         move_past(&mut self.banks, slot);
         self.banks[bank] = own;
+        self.note_empty(bank);
     }
 
     /// Takes note of a row that has been opened in a bank.

@@ -5,7 +5,7 @@ ghost use Rattle.std.specs.Option.{option_map, option_map_or};
 ghost use Rattle.std.specs.Map.{values_of};
 ghost use Rattle.std.specs.BTreeMap.{values, IsOrdered};
 ghost use Rattle.std.specs.BTreeMap.Range.{IsLeBy};
-ghost use Rattle.sim_base.specs.History.{insert_by_age, by_age};
+ghost use Rattle.sim_base.specs.History.{is_before, place_by_age, insert_by_age, by_age};
 ghost use Rattle.links.specs.InFlight.{receiver_of, unit_number, is_due};
 ghost use Rattle.links.specs.Filing.{key_of, key_cmp, first_key, AreFiled, between, outside, from_key};
 
@@ -172,6 +172,41 @@ fn messages_between(
         .collect(alloc)
 }
 
+fn is_older(a: &Message, b: &Message) -> bool
+    ensures { result ≡ is_before a.now b.now }
+{
+    a.arrival < b.arrival || (a.arrival == b.arrival && a.link < b.link)
+}
+
+#[tactic(auto, unfolding(sim_base::specs::History::place_by_age))]
+fn place_in_order(message: &Message, sorted: &[Message]) -> usize
+    ensures value { result ≡ place_by_age message.now sorted.now }
+    ensures small { result ≤ length sorted.now }
+{
+    sorted.iter().take_while(|m| !is_older(message, m)).count()
+}
+
+/// Puts messages into their places by age, one after the other.
+fn insert_all(mail: &mut Vec<Message>, more: &[Message]) -> Result<(), AllocError>
+    ensures { OnOk result (mail.new.items ≡ fold insert_by_age mail.old.items more.now) }
+{
+    for message in more {
+        let place = place_in_order(message, mail);
+        mail.insert(place, *message)?;
+    }
+    Ok(())
+}
+
+/// Copies of all that is filed, by key.
+fn filed_messages(
+    alloc: Global,
+    flight: &BTreeMap<Key, Message>,
+) -> Result<Vec<Message>, AllocError>
+    ensures { IfOk result (λ v. v.items ≡ values flight.now) }
+{
+    flight.values().copied().collect(alloc)
+}
+
 /// The lesser of two cycles; the second, where there is no first.
 fn earlier(least: Option<Cycle>, arrival: Cycle) -> Cycle
     ensures { result ≡ option_map_or (λ cycle. min cycle arrival) least arrival }
@@ -224,6 +259,17 @@ impl Links {
         let inbox = messages_between(alloc, &self.flight, start, end)?;
         remove_between(&mut self.flight, start, end);
         Ok(inbox)
+    }
+
+    /// Copies of all messages in flight, by age.
+    #[tactic(auto, unfolding(sim_base::specs::History::by_age))]
+    pub fn messages(&self, alloc: Global) -> Result<Vec<Message>, AllocError>
+        ensures { IfOk result (λ v. v.items ≡ self.now.messages) }
+    {
+        let filed = filed_messages(alloc, &self.flight)?;
+        let mut all = Vec::new(alloc);
+        insert_all(&mut all, &filed)?;
+        Ok(all)
     }
 
     /// The least arrival of a message in flight; none, where none is in flight.

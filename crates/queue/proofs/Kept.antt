@@ -85,14 +85,15 @@ marked_mark false = refl
 abbrev key_at : Request → ℕ → ℕ
 key_at r eligible = key_of (is_marked eligible) r
 
-pub keys_pushed : (column longer : List ℕ) (rs more : List Request) (r : Request) (word : ℕ) (asked : Bool) → column ≡ key_column rs → longer ≡ column ++ word ∷ []
-    → word ≡ key_of (not asked) r → asked ≡ asks_for_line r.place rs → more ≡ rs ++ r ∷ [] → longer ≡ key_column more
-unfolding key_column
-keys_pushed column longer rs more r word asked is pushed word_is asked_is more_is =
+-- the keys with one of the requests more
+pub keys_pushed : (column longer : List ℕ) (rs more : List Request) (marks longer_marks : List ℕ) (r : Request) (word mark_word : ℕ) (marked : Bool) → column ≡ keys_of rs marks
+    → length rs ≡ length marks → longer ≡ column ++ word ∷ [] → word ≡ key_of marked r → mark_word ≡ mark marked → more ≡ rs ++ r ∷ [] → longer_marks ≡ marks ++ mark_word ∷ []
+    → longer ≡ keys_of more longer_marks
+keys_pushed column longer rs more marks longer_marks r word mark_word marked is same pushed word_is mark_is more_is marks_are =
     pushed
-    ∙ (λ i. is i ++ (word_is ∙ (λ j. key_of (sym (marked_mark (not (asked_is j))) j) r)) i ∷ [])
-    ∙ sym (zip2-push key_at rs (eligible_column rs) r (mark (not (asks_for_line r.place rs))) (sym (length-eligible rs)))
-    ∙ (λ i. zip2 key_at (sym more_is i) ((sym (eligible_push rs r) ∙ ap eligible_column (sym more_is)) i))
+    ∙ (λ i. is i ++ (word_is ∙ (λ j. key_of (sym (marked_mark marked) j) r) ∙ ap (key_at r) (sym mark_is)) i ∷ [])
+    ∙ sym (zip2-push key_at rs marks r mark_word same)
+    ∙ (λ i. zip2 key_at (sym more_is i) (sym marks_are i))
 
 -- the keys without one of the requests
 pub keys_removed : (column shorter : List ℕ) (rs fewer : List Request) (marks left : List ℕ) (n : ℕ) → column ≡ keys_of rs marks → shorter ≡ remove column n → fewer ≡ remove rs n
@@ -104,10 +105,6 @@ keys_removed column shorter rs fewer marks left n is shorter_is fewer_is left_is
 pub keys_turned : (column changed : List ℕ) (rs : List Request) (marks : List ℕ) (p : ℕ) (d : Request) → column ≡ keys_of rs marks
     → changed ≡ set column p (key_of true (get_or rs p d)) → changed ≡ keys_of rs (set marks p 1)
 keys_turned column changed rs marks p d is changed_is = changed_is ∙ ap (λ xs. set xs p (key_of true (get_or rs p d))) is ∙ zip2-set key_at p rs marks 1 d
-
-pub keys_whole : (column : List ℕ) (rs : List Request) → column ≡ key_column rs → column ≡ keys_of rs (eligible_column rs)
-unfolding key_column
-keys_whole column rs is = is
 
 pub keys_again : (column : List ℕ) (rs : List Request) (marks : List ℕ) → column ≡ keys_of rs marks → marks ≡ eligible_column rs → column ≡ key_column rs
 unfolding key_column

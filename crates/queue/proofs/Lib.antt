@@ -4,4 +4,5 @@ pub mod Kept
 pub mod Keys
 pub mod Served
 pub mod Dropped
+pub mod Counted
 pub mod Found

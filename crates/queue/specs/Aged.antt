@@ -1,8 +1,47 @@
--- Items by age.
---     AgedItems X      some items, and how many there is room for
-use Rattle.std.specs.Prelude.{ℕ, List}
+-- Requests by age, and their marks.
+--     AgedRequests      some requests with a mark for each, and the room for them
+--     IsAged inside      the words kept beside the requests are those of them, and there is room in each list
+--     IsMovedUp before after, IsMovedDown before after      all items but the last have moved up by a place, or all but the first down
+use Rattle.std.specs.Prelude.{◌≡◌, ◌-◌, ◌≤◌, ℕ, List, drop, take, length, vec_capacity}
+use Rattle.sim_base.specs.declared.message.Request.{Request}
+use Rattle.queue.specs.declared.aged.Aged.TheInside.{Inside}
+use Rattle.queue.specs.Columns.{bank_column, row_column, kind_column, keys_of, print_column}
 
--- items, the oldest first, and how many there is room for
-pub record AgedItems (X : Type 0) : Type 0 where
-  pub items : List X
+-- requests, the oldest first, with the mark of each, how many there is room for, and how many places are free behind the youngest
+pub record AgedRequests : Type 0 where
+  pub requests : List Request
+  pub marks : List ℕ
   pub room : ℕ
+  pub free : ℕ
+
+-- Behind the free places each list has the words of the requests, and each has room for as many places.
+pub record IsAged (a : Inside) : Type 0 where
+  pub begun : a.start ≤ length a.requests.items
+  pub banks_are : drop a.start a.banks.items ≡ bank_column (drop a.start a.requests.items)
+  pub rows_are : drop a.start a.rows.items ≡ row_column (drop a.start a.requests.items)
+  pub kinds_are : drop a.start a.kinds.items ≡ kind_column (drop a.start a.requests.items)
+  pub keys_are : drop a.start a.keys.items ≡ keys_of (drop a.start a.requests.items) (drop a.start a.eligible.items)
+  pub prints_are : drop a.start a.prints.items ≡ print_column (drop a.start a.requests.items)
+  pub banks_long : length a.banks.items ≡ length a.requests.items
+  pub rows_long : length a.rows.items ≡ length a.requests.items
+  pub kinds_long : length a.kinds.items ≡ length a.requests.items
+  pub eligible_long : length a.eligible.items ≡ length a.requests.items
+  pub keys_long : length a.keys.items ≡ length a.requests.items
+  pub prints_long : length a.prints.items ≡ length a.requests.items
+  pub within : length a.requests.items ≤ a.places
+  pub enough : a.room ≤ a.places
+  pub request_room : a.places ≤ vec_capacity a.requests
+  pub bank_room : a.places ≤ vec_capacity a.banks
+  pub row_room : a.places ≤ vec_capacity a.rows
+  pub kind_room : a.places ≤ vec_capacity a.kinds
+  pub eligible_room : a.places ≤ vec_capacity a.eligible
+  pub key_room : a.places ≤ vec_capacity a.keys
+  pub print_room : a.places ≤ vec_capacity a.prints
+
+-- all items but the last stand a place further
+abbrev pub IsMovedUp : {X : Type 0} → List X → List X → Type 0
+IsMovedUp before after = (length after ≡ length before) × (drop 1 after ≡ take (length before - 1) before)
+
+-- all items but the first stand a place before
+abbrev pub IsMovedDown : {X : Type 0} → List X → List X → Type 0
+IsMovedDown before after = (length after ≡ length before) × (take (length before - 1) after ≡ drop 1 before)

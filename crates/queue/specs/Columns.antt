@@ -9,9 +9,11 @@
 --     key_mask by_kind by_row, key_wanted by_kind by_row write bank row      the bits of a key that a search asks for, and what it wants of them
 --     is_wanted by_kind by_row write bank row eligible r      what such a search finds
 --     line_print place, print_column requests      a byte that is the same for places of one line
+--     line_slot mask place      the counter that counts the requests for the line of a place, and for some others
+--     slot_count mask requests slot, AreCounted mask counts requests      how many requests a counter counts, and that each says so many
 --     marked_items items marks      the items at the places that are marked
 --     write_count requests      how many of them are writes
-use Rattle.std.specs.Prelude.{ℕ, ◌+◌, ◌-◌, ◌*◌, ◌%◌, ◌^◌, ◌==◌, Bool, true, not, ◌&&◌, ◌||◌, if◌then◌else◌, List, map, filter, take, count_by}
+use Rattle.std.specs.Prelude.{ℕ, ◌≡◌, ◌<◌, ◌+◌, ◌-◌, ◌*◌, ◌/◌, ◌%◌, ◌^◌, bit_and, length, slice_index_or, ◌==◌, Bool, true, not, ◌&&◌, ◌||◌, if◌then◌else◌, List, map, filter, take, count_by}
 use Rattle.std.specs.List.{zip, enumerate_from}
 use Rattle.std.specs.Simd.Lanes.{zip2}
 use Rattle.sim_base.specs.Scheduling.{asks_for_line}
@@ -81,6 +83,18 @@ line_print place = (place.row * 97 + bank_number place * 41 + place.column) % 25
 -- the print of the line of each request
 abbrev pub print_column : List Request → List ℕ
 print_column requests = map (λ r. line_print r.place) requests
+
+-- one of the counters up to `mask`, the same for all places of a line
+unfoldable pub line_slot : ℕ → Place → ℕ
+line_slot mask place = bit_and ((((place.row * 128 + bank_number place) * 1024 + place.column) * 11400714819323198485) % 2 ^ 64 / 2 ^ 32) mask
+
+-- how many requests a counter counts
+abbrev pub slot_count : ℕ → List Request → ℕ → ℕ
+slot_count mask requests slot = count_by (λ r. line_slot mask r.place == slot) requests
+
+-- each counter says how many requests it counts
+abbrev pub AreCounted : ℕ → List ℕ → List Request → Type 0
+AreCounted mask counts requests = (slot : ℕ) → slot < length counts → slice_index_or counts slot 0 ≡ slot_count mask requests slot
 
 -- the items at the places that are marked
 abbrev pub marked_items : {X : Type 0} → List X → List ℕ → List X

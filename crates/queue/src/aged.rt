@@ -1,10 +1,17 @@
-//! Items by age, of which any one can leave.
+//! Requests by age with their columns, of which any one can leave.
 
 ghost use Rattle.std.specs.Prelude.{◌≡◌, ◌+◌, ◌-◌, ◌<◌, ◌≤◌, ◌++◌, [], ◌∷◌, IfOk, drop, take, length, remove, slice_index_or, slice_set, vec_len, vec_capacity};
-ghost use Rattle.queue.specs.Aged.{AgedItems};
+ghost use Rattle.lane_scan.specs.Marks.{mark};
+ghost use Rattle.queue.specs.Aged.{AgedRequests, IsMovedUp, IsMovedDown};
+ghost use Rattle.queue.specs.Columns.{bank_column, row_column, kind_column, keys_of, print_column};
 
+use crate::columns::{bank_number, key, line_print, mark};
+use sim_base::message::Request;
 use std::alloc::{AllocError, Global};
 use std::marker::Model;
+
+/// A move of this many places or more is left to the one that is fast on long ones.
+const LONG_MOVE: usize = 18;
 
 /// Takes out the first items.
 fn remove_front<T: Copy + Drop>(items: &mut Vec<T>, count: usize)
@@ -23,110 +30,377 @@ fn remove_front<T: Copy + Drop>(items: &mut Vec<T>, count: usize)
 }
 
 /// Moves all items but the last one up by a place, over it.
-fn move_up<T: Copy>(items: &mut [T])
+#[inline(always)]
+fn move_up<T>(items: &mut [T])
     requires { 0 < length items.old }
-    ensures len { length items.new ≡ length items.old }
-    ensures after { drop 1 items.new ≡ take (length items.old - 1) items.old }
+    ensures { IsMovedUp items.old items.new }
 {
-    let mut at = items.len() - 1;
+    items.rotate_right(1);
+}
+
+/// Moves all items but the first one down by a place, over it.
+#[inline(always)]
+fn move_down<T>(items: &mut [T])
+    requires { 0 < length items.old }
+    ensures { IsMovedDown items.old items.new }
+{
+    items.rotate_left(1);
+}
+
+/// Moves all items of each list but the last one up by a place, over it.
+#[inline(always)]
+fn move_each_up(
+    requests: &mut [Request],
+    banks: &mut [u64],
+    rows: &mut [u64],
+    kinds: &mut [u64],
+    eligible: &mut [u64],
+    keys: &mut [u64],
+    prints: &mut [u8],
+)
+    requires some { 0 < length requests.old }
+    requires banks_long { length banks.old ≡ length requests.old }
+    requires rows_long { length rows.old ≡ length requests.old }
+    requires kinds_long { length kinds.old ≡ length requests.old }
+    requires eligible_long { length eligible.old ≡ length requests.old }
+    requires keys_long { length keys.old ≡ length requests.old }
+    requires prints_long { length prints.old ≡ length requests.old }
+    ensures requests { IsMovedUp requests.old requests.new }
+    ensures banks { IsMovedUp banks.old banks.new }
+    ensures rows { IsMovedUp rows.old rows.new }
+    ensures kinds { IsMovedUp kinds.old kinds.new }
+    ensures eligible { IsMovedUp eligible.old eligible.new }
+    ensures keys { IsMovedUp keys.old keys.new }
+    ensures prints { IsMovedUp prints.old prints.new }
+{
+    if LONG_MOVE < requests.len() {
+        move_up(requests);
+        move_up(banks);
+        move_up(rows);
+        move_up(kinds);
+        move_up(eligible);
+        move_up(keys);
+        move_up(prints);
+        return;
+    }
+    let mut at = requests.len() - 1;
     while 0 < at {
-        items[at] = items[at - 1];
-        at -= 1;
+        let below = at - 1;
+        requests[at] = requests[below];
+        banks[at] = banks[below];
+        rows[at] = rows[below];
+        kinds[at] = kinds[below];
+        eligible[at] = eligible[below];
+        keys[at] = keys[below];
+        prints[at] = prints[below];
+        at = below;
     }
 }
 
-/// Appends an item where there is room for it.
-fn push_within<T: Drop>(items: &mut Vec<T>, item: T)
-    requires { vec_len items.old < vec_capacity items.old }
-    ensures items { items.new.items ≡ items.old.items ++ item ∷ [] }
-    ensures room { vec_capacity items.old ≤ vec_capacity items.new }
+/// Moves all items of each list but the first one down by a place, over it.
+#[inline(always)]
+fn move_each_down(
+    requests: &mut [Request],
+    banks: &mut [u64],
+    rows: &mut [u64],
+    kinds: &mut [u64],
+    eligible: &mut [u64],
+    keys: &mut [u64],
+    prints: &mut [u8],
+)
+    requires some { 0 < length requests.old }
+    requires banks_long { length banks.old ≡ length requests.old }
+    requires rows_long { length rows.old ≡ length requests.old }
+    requires kinds_long { length kinds.old ≡ length requests.old }
+    requires eligible_long { length eligible.old ≡ length requests.old }
+    requires keys_long { length keys.old ≡ length requests.old }
+    requires prints_long { length prints.old ≡ length requests.old }
+    ensures requests { IsMovedDown requests.old requests.new }
+    ensures banks { IsMovedDown banks.old banks.new }
+    ensures rows { IsMovedDown rows.old rows.new }
+    ensures kinds { IsMovedDown kinds.old kinds.new }
+    ensures eligible { IsMovedDown eligible.old eligible.new }
+    ensures keys { IsMovedDown keys.old keys.new }
+    ensures prints { IsMovedDown prints.old prints.new }
 {
-    let _ = items.push(item);
+    if LONG_MOVE < requests.len() {
+        move_down(requests);
+        move_down(banks);
+        move_down(rows);
+        move_down(kinds);
+        move_down(eligible);
+        move_down(keys);
+        move_down(prints);
+        return;
+    }
+    let last = requests.len() - 1;
+    let mut at = 0;
+    while at < last {
+        let above = at + 1;
+        requests[at] = requests[above];
+        banks[at] = banks[above];
+        rows[at] = rows[above];
+        kinds[at] = kinds[above];
+        eligible[at] = eligible[above];
+        keys[at] = keys[above];
+        prints[at] = prints[above];
+        at = above;
+    }
 }
 
-/// Items by age, behind some free places that those left which went from the older half. An item that leaves has the others of
-/// the shorter side move by one place.
+/// Takes out the last item.
+#[inline(always)]
+fn drop_last<T: Drop>(items: &mut Vec<T>)
+    requires { 0 < vec_len items.old }
+    ensures items { items.new.items ≡ take (vec_len items.old - 1) items.old.items }
+    ensures room { vec_capacity items.new ≡ vec_capacity items.old }
+{
+    let _ = items.pop();
+}
+
+/// Requests by age with their columns, behind some free places that those left which went from the older half. Where a request
+/// leaves, those of the shorter side move by one place.
 #[derive(Drop)]
-pub(crate) struct Aged<T> {
-    places: Vec<T>,
-    /// The place of the oldest item.
-    start: usize,
+pub(crate) struct Aged {
     room: usize,
+    /// The places of each column.
+    places: usize,
+    /// The place of the oldest request.
+    start: usize,
+    requests: Vec<Request>,
+    banks: Vec<u64>,
+    rows: Vec<u64>,
+    kinds: Vec<u64>,
+    /// The marks.
+    eligible: Vec<u64>,
+    keys: Vec<u64>,
+    prints: Vec<u8>,
 }
 
-impl<T> Model for Aged<T> {
-    ghost use Rattle.std.specs.Prelude.{◌≤◌, drop, vec_len, vec_capacity};
-    ghost use Rattle.queue.specs.Aged.{AgedItems};
+impl Model for Aged {
+    ghost use Rattle.std.specs.Prelude.{◌-◌, drop, length};
+    ghost use Rattle.queue.specs.Aged.{AgedRequests, IsAged};
 
-    ghost Value = { AgedItems T };
+    ghost Value = { AgedRequests };
 
-    ghost view = { λ a. record { items = drop a.start a.places.items; room = a.room } };
+    ghost view = { λ a. record { requests = drop a.start a.requests.items; marks = drop a.start a.eligible.items; room = a.room; free = a.places - length a.requests.items } };
 
-    ghost invariant = { λ a. (a.start ≤ vec_len a.places) × (a.room ≤ vec_capacity a.places) };
+    ghost invariant = { IsAged };
 }
 
-impl<T: Copy + Drop> Aged<T> {
-    /// No items, with room for so many and as many free places more.
+impl Aged {
+    /// No requests, with room for so many and as many free places more.
     pub(crate) fn with_room(alloc: Global, room: usize) -> Result<Self, AllocError>
-        ensures { IfOk result (λ aged. aged ≡ record { items = []; room = room }) }
+        ensures requests { IfOk result (λ aged. aged.requests ≡ []) }
+        ensures marks { IfOk result (λ aged. aged.marks ≡ []) }
+        ensures room { IfOk result (λ aged. aged.room ≡ room) }
     {
+        let places = room.saturating_mul(2);
         Ok(Aged {
-            places: Vec::with_capacity(alloc, room.saturating_mul(2))?,
-            start: 0,
             room,
+            places,
+            start: 0,
+            requests: Vec::with_capacity(alloc, places)?,
+            banks: Vec::with_capacity(alloc, places)?,
+            rows: Vec::with_capacity(alloc, places)?,
+            kinds: Vec::with_capacity(alloc, places)?,
+            eligible: Vec::with_capacity(alloc, places)?,
+            keys: Vec::with_capacity(alloc, places)?,
+            prints: Vec::with_capacity(alloc, places)?,
         })
     }
 
-    /// How many items there are.
+    /// How many requests there are.
+    #[inline(always)]
     pub(crate) fn len(&self) -> usize
-        ensures { result ≡ length self.now.items }
+        ensures { result ≡ length self.now.requests }
     {
-        self.places.len() - self.start
+        self.requests.len() - self.start
     }
 
-    /// The items, the oldest first.
-    pub(crate) fn as_slice(&self) -> &[T]
-        ensures { result.now ≡ self.now.items }
-    {
-        &self.places[self.start..]
-    }
-
-    /// Takes in an item that is younger than all others.
+    /// The requests, the oldest first.
     #[inline(always)]
-    pub(crate) fn push(&mut self, item: T)
-        requires { length self.old.items < self.old.room }
-        ensures { self.new ≡ record self.old { items = self.old.items ++ item ∷ [] } }
+    pub(crate) fn requests(&self) -> &[Request]
+        ensures { result.now ≡ self.now.requests }
     {
-        if self.places.len() == self.places.capacity() {
-            remove_front(&mut self.places, self.start);
-            self.start = 0;
+        &self.requests[self.start..]
+    }
+
+    #[inline(always)]
+    pub(crate) fn banks(&self) -> &[u64]
+        ensures { result.now ≡ bank_column self.now.requests }
+    {
+        &self.banks[self.start..]
+    }
+
+    #[inline(always)]
+    pub(crate) fn rows(&self) -> &[u64]
+        ensures { result.now ≡ row_column self.now.requests }
+    {
+        &self.rows[self.start..]
+    }
+
+    #[inline(always)]
+    pub(crate) fn kinds(&self) -> &[u64]
+        ensures { result.now ≡ kind_column self.now.requests }
+    {
+        &self.kinds[self.start..]
+    }
+
+    /// The mark of each request.
+    #[inline(always)]
+    pub(crate) fn eligible(&self) -> &[u64]
+        ensures { result.now ≡ self.now.marks }
+    {
+        &self.eligible[self.start..]
+    }
+
+    #[inline(always)]
+    pub(crate) fn keys(&self) -> &[u64]
+        ensures { result.now ≡ keys_of self.now.requests self.now.marks }
+    {
+        &self.keys[self.start..]
+    }
+
+    #[inline(always)]
+    pub(crate) fn prints(&self) -> &[u8]
+        ensures { result.now ≡ print_column self.now.requests }
+    {
+        &self.prints[self.start..]
+    }
+
+    /// Moves all requests to the first places.
+    #[inline(never)]
+    fn move_to_front(&mut self)
+        ensures requests { self.new.requests ≡ self.old.requests }
+        ensures marks { self.new.marks ≡ self.old.marks }
+        ensures room { self.new.room ≡ self.old.room }
+        ensures free { length self.old.requests < self.old.room → 0 < self.new.free }
+    {
+        remove_front(&mut self.requests, self.start);
+        remove_front(&mut self.banks, self.start);
+        remove_front(&mut self.rows, self.start);
+        remove_front(&mut self.kinds, self.start);
+        remove_front(&mut self.eligible, self.start);
+        remove_front(&mut self.keys, self.start);
+        remove_front(&mut self.prints, self.start);
+        self.start = 0;
+    }
+
+    /// Takes in a request where a place is free behind the youngest one.
+    #[inline(always)]
+    fn push_behind(&mut self, request: Request, marked: bool)
+        requires { 0 < self.old.free }
+        ensures requests { self.new.requests ≡ self.old.requests ++ request ∷ [] }
+        ensures marks { self.new.marks ≡ self.old.marks ++ mark marked ∷ [] }
+        ensures room { self.new.room ≡ self.old.room }
+    {
+        self.banks.push_reserved(bank_number(request.place));
+        self.rows.push_reserved(u64::from(request.place.row));
+        self.kinds.push_reserved(mark(request.write));
+        self.eligible.push_reserved(mark(marked));
+        self.keys.push_reserved(key(marked, request));
+        self.prints.push_reserved(line_print(request.place));
+        self.requests.push_reserved(request);
+    }
+
+    /// Takes in a request that is younger than all others.
+    #[inline(always)]
+    pub(crate) fn push(&mut self, request: Request, marked: bool)
+        requires { length self.old.requests < self.old.room }
+        ensures requests { self.new.requests ≡ self.old.requests ++ request ∷ [] }
+        ensures marks { self.new.marks ≡ self.old.marks ++ mark marked ∷ [] }
+        ensures room { self.new.room ≡ self.old.room }
+    {
+        if self.free() == 0 {
+            self.move_to_front();
         }
-        push_within(&mut self.places, item);
+        self.push_behind(request, marked);
     }
 
-    /// Gives out the item at a place. The others keep their order.
+    /// How many places are free behind the youngest request.
     #[inline(always)]
-    pub(crate) fn remove(&mut self, at: usize) -> T
-        requires { at < length self.old.items }
-        ensures value { (d : T) → result ≡ slice_index_or self.old.items at d }
-        ensures rest { self.new ≡ record self.old { items = remove self.old.items at } }
+    fn free(&self) -> usize
+        ensures { result ≡ self.now.free }
+    {
+        self.places - self.requests.len()
+    }
+
+    /// Takes out the request at a place, over which the older ones move.
+    #[inline(always)]
+    fn remove_older(&mut self, at: usize)
+        requires { at < length self.old.requests }
+        ensures requests { self.new.requests ≡ remove self.old.requests at }
+        ensures marks { self.new.marks ≡ remove self.old.marks at }
+        ensures room { self.new.room ≡ self.old.room }
+    {
+        let start = self.start;
+        let place = start + at;
+        move_each_up(
+            &mut self.requests[start..=place],
+            &mut self.banks[start..=place],
+            &mut self.rows[start..=place],
+            &mut self.kinds[start..=place],
+            &mut self.eligible[start..=place],
+            &mut self.keys[start..=place],
+            &mut self.prints[start..=place],
+        );
+        self.start = start + 1;
+    }
+
+    /// Takes out the request at a place, over which the younger ones move.
+    #[inline(always)]
+    fn remove_younger(&mut self, at: usize)
+        requires { at < length self.old.requests }
+        ensures requests { self.new.requests ≡ remove self.old.requests at }
+        ensures marks { self.new.marks ≡ remove self.old.marks at }
+        ensures room { self.new.room ≡ self.old.room }
     {
         let place = self.start + at;
+        let end = self.requests.len();
+        move_each_down(
+            &mut self.requests[place..end],
+            &mut self.banks[place..end],
+            &mut self.rows[place..end],
+            &mut self.kinds[place..end],
+            &mut self.eligible[place..end],
+            &mut self.keys[place..end],
+            &mut self.prints[place..end],
+        );
+        drop_last(&mut self.requests);
+        drop_last(&mut self.banks);
+        drop_last(&mut self.rows);
+        drop_last(&mut self.kinds);
+        drop_last(&mut self.eligible);
+        drop_last(&mut self.keys);
+        drop_last(&mut self.prints);
+    }
+
+    /// Takes out the request at a place. The others keep their order.
+    #[inline(always)]
+    pub(crate) fn remove(&mut self, at: usize)
+        requires { at < length self.old.requests }
+        ensures requests { self.new.requests ≡ remove self.old.requests at }
+        ensures marks { self.new.marks ≡ remove self.old.marks at }
+        ensures room { self.new.room ≡ self.old.room }
+    {
         if at < self.len() / 2 {
-            let item = self.places[place];
-            move_up(&mut self.places[self.start..=place]);
-            self.start += 1;
-            item
+            self.remove_older(at);
         } else {
-            self.places.remove(place)
+            self.remove_younger(at);
         }
     }
 
-    /// Writes an item in place of another.
-    pub(crate) fn set(&mut self, at: usize, item: T)
-        requires { at < length self.old.items }
-        ensures { self.new ≡ record self.old { items = slice_set self.old.items at item } }
+    /// Marks the request at a place.
+    #[inline(always)]
+    pub(crate) fn give_turn(&mut self, at: usize)
+        requires { at < length self.old.requests }
+        ensures requests { self.new.requests ≡ self.old.requests }
+        ensures marks { self.new.marks ≡ slice_set self.old.marks at 1 }
+        ensures room { self.new.room ≡ self.old.room }
     {
-        self.places[self.start + at] = item;
+        let place = self.start + at;
+        self.eligible[place] = 1;
+        self.keys[place] = key(true, self.requests[place]);
     }
 }

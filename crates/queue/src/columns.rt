@@ -1,8 +1,8 @@
 //! The words of a request in the columns.
 
-ghost use Rattle.std.specs.Prelude.{◌≡◌, ◌^◌, ◌<◌};
+ghost use Rattle.std.specs.Prelude.{◌≡◌, ◌^◌, ◌<◌, ◌≤◌};
 ghost use Rattle.lane_scan.specs.Marks.{mark};
-ghost use Rattle.queue.specs.Columns.{bank_number, key_word, key_of, line_print};
+ghost use Rattle.queue.specs.Columns.{bank_number, key_word, key_of, line_print, line_slot};
 
 use sim_base::message::Request;
 use sim_base::place::Place;
@@ -45,4 +45,15 @@ pub(crate) fn line_print(place: Place) -> u8
 {
     let mixed = u64::from(place.row) * 97 + bank_number(place) * 41 + u64::from(place.column);
     (mixed % 256) as u8
+}
+
+/// One of the counters up to `mask`, the same for all places of a line.
+#[tactic(auto, unfolding(crate::specs::Columns::line_slot))]
+#[inline(always)]
+pub(crate) fn line_slot(place: Place, mask: usize) -> usize
+    ensures value { result ≡ line_slot mask place }
+    ensures within { result ≤ mask }
+{
+    let line = (u64::from(place.row) * 128 + bank_number(place)) * 1024 + u64::from(place.column);
+    (line.wrapping_mul(11_400_714_819_323_198_485) >> 32) as usize & mask
 }

@@ -14,8 +14,8 @@ ghost use Rattle.queue.specs.View.{QueueView, drains_by, is_draining};
 
 use crate::aged::Aged;
 pub use crate::columns::key_word;
-use crate::columns::{bank_number, key, line_print, mark};
-use crate::lines::{give_turn, is_line_asked};
+use crate::columns::line_slot;
+use crate::lines::{counters, give_turn, is_line_asked};
 use sim_base::message::Request;
 use std::alloc::{AllocError, Global};
 use std::marker::Model;
@@ -34,13 +34,11 @@ pub struct Queue {
     writes: usize,
     /// Requests that wait for an older one of the same line.
     waiting: usize,
-    requests: Aged<Request>,
-    banks: Aged<u64>,
-    rows: Aged<u64>,
-    kinds: Aged<u64>,
-    eligible: Aged<u64>,
-    keys: Aged<u64>,
-    prints: Aged<u8>,
+    aged: Aged,
+    /// How many requests are for the lines of each counter.
+    lines: Vec<usize>,
+    /// The highest counter.
+    mask: usize,
 }
 
 impl Model for Queue {
@@ -50,7 +48,7 @@ impl Model for Queue {
 
     ghost use Rattle.queue.specs.Kept.{AreKept};
 
-    ghost view = { λ q. record { room = q.room; high = q.high; low = q.low; requests = q.requests.items; settled = q.settled } };
+    ghost view = { λ q. record { room = q.room; high = q.high; low = q.low; requests = q.aged.requests; settled = q.settled } };
 
     ghost invariant = { AreKept };
 }
@@ -62,6 +60,7 @@ impl Queue {
     pub fn with_room(alloc: Global, room: usize, high: u32, low: u32) -> Result<Self, AllocError>
         ensures { IfOk result (λ queue. queue ≡ record { room = room; high = high; low = low; requests = []; settled = false }) }
     {
+        let (lines, mask) = counters(alloc, room)?;
         Ok(Queue {
             room,
             high,
@@ -69,13 +68,9 @@ impl Queue {
             settled: false,
             writes: 0,
             waiting: 0,
-            requests: Aged::with_room(alloc, room)?,
-            banks: Aged::with_room(alloc, room)?,
-            rows: Aged::with_room(alloc, room)?,
-            kinds: Aged::with_room(alloc, room)?,
-            eligible: Aged::with_room(alloc, room)?,
-            keys: Aged::with_room(alloc, room)?,
-            prints: Aged::with_room(alloc, room)?,
+            aged: Aged::with_room(alloc, room)?,
+            lines,
+            mask,
         })
     }
 
@@ -83,7 +78,7 @@ impl Queue {
     pub fn len(&self) -> usize
         ensures { result ≡ length self.now.requests }
     {
-        self.requests.len()
+        self.aged.len()
     }
 
     /// Whether no place is free.
@@ -99,15 +94,12 @@ impl Queue {
         requires { length self.old.requests < self.old.room }
         ensures { self.new ≡ record self.old { requests = self.old.requests ++ request ∷ [] } }
     {
-        let (requests, prints) = (self.requests.as_slice(), self.prints.as_slice());
-        let asked = is_line_asked(request.place, requests, prints);
-        self.banks.push(bank_number(request.place));
-        self.rows.push(u64::from(request.place.row));
-        self.kinds.push(mark(request.write));
-        self.eligible.push(mark(!asked));
-        self.keys.push(key(!asked, request));
-        self.prints.push(line_print(request.place));
-        self.requests.push(request);
+        let line = line_slot(request.place, self.mask);
+        let alike = self.lines[line];
+        let (requests, prints) = (self.aged.requests(), self.aged.prints());
+        let asked = is_line_asked(request.place, alike, requests, prints);
+        self.aged.push(request, !asked);
+        self.lines[line] = alike + 1;
         self.waiting += usize::from(asked);
         self.writes += usize::from(request.write);
     }
@@ -118,18 +110,14 @@ impl Queue {
         ensures request { (d : Request) → result ≡ slice_index_or self.old.requests slot d }
         ensures rest { self.new ≡ record self.old { requests = remove self.old.requests slot } }
     {
-        let request = self.requests.remove(slot);
-        let _bank = self.banks.remove(slot);
-        let _row = self.rows.remove(slot);
-        let _kind = self.kinds.remove(slot);
-        let _key = self.keys.remove(slot);
-        let _print = self.prints.remove(slot);
-        let was_first = self.eligible.remove(slot) == 1;
+        let request = self.aged.requests()[slot];
+        let was_first = self.aged.eligible()[slot] == 1;
+        self.aged.remove(slot);
+        let line = line_slot(request.place, self.mask);
+        let alike = self.lines[line] - 1;
+        self.lines[line] = alike;
         let waited = if was_first {
-            let (requests, prints) = (self.requests.as_slice(), self.prints.as_slice());
-            let (marks, keys) = (&mut self.eligible, &mut self.keys);
-            let waiting = self.waiting;
-            give_turn(request.place, requests, prints, slot, waiting, marks, keys)
+            give_turn(request.place, slot, self.waiting, alike, &mut self.aged)
         } else {
             true
         };
@@ -166,35 +154,35 @@ impl Queue {
     pub fn requests(&self) -> &[Request]
         ensures { result.now ≡ self.now.requests }
     {
-        self.requests.as_slice()
+        self.aged.requests()
     }
 
     /// The number of the bank of each request, by age: 16 times its rank, 4 times its group and its bank, together.
     pub fn banks(&self) -> &[u64]
         ensures { result.now ≡ bank_column self.now.requests }
     {
-        self.banks.as_slice()
+        self.aged.banks()
     }
 
     /// The row of each request, by age.
     pub fn rows(&self) -> &[u64]
         ensures { result.now ≡ row_column self.now.requests }
     {
-        self.rows.as_slice()
+        self.aged.rows()
     }
 
     /// The kind of each request, by age: 1 for a write, 0 for a read.
     pub fn kinds(&self) -> &[u64]
         ensures { result.now ≡ kind_column self.now.requests }
     {
-        self.kinds.as_slice()
+        self.aged.kinds()
     }
 
     /// Which requests may be served, by age: 1 where no older request of the same line waits, 0 elsewhere.
     pub fn eligible(&self) -> &[u64]
         ensures { result.now ≡ eligible_column self.now.requests }
     {
-        self.eligible.as_slice()
+        self.aged.eligible()
     }
 
     /// The key of each request, by age, which says in one word what a search for a bank asks for: bit 63 is 1 where the request
@@ -202,7 +190,7 @@ impl Queue {
     pub fn keys(&self) -> &[u64]
         ensures { result.now ≡ key_column self.now.requests }
     {
-        self.keys.as_slice()
+        self.aged.keys()
     }
 }
 

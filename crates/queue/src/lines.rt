@@ -1,17 +1,18 @@
 //! Which requests ask for the same line.
 
-ghost use Rattle.std.specs.Prelude.{◌≡◌, ◌+◌, ◌≤◌, length, drop, position, slice_set};
+ghost use Rattle.std.specs.Prelude.{◌≡◌, ◌+◌, ◌<◌, ◌≤◌, [], false, IfOk, length, drop, position, slice_set};
 ghost use Rattle.std.specs.List.{position_or_len};
 ghost use Rattle.sim_base.specs.Places.{is_line};
 ghost use Rattle.sim_base.specs.Scheduling.{asks_for_line};
-ghost use Rattle.queue.specs.Columns.{keys_of, print_column, waiting_count};
+ghost use Rattle.queue.specs.Columns.{print_column, waiting_count, AreCounted};
 ghost use Rattle.lane_scan.specs.Marks.{mark};
 
 use crate::aged::Aged;
-use crate::columns::{key, line_print};
+use crate::columns::line_print;
 use memchr::memchr;
 use sim_base::message::Request;
 use sim_base::place::Place;
+use std::alloc::{AllocError, Global};
 
 fn is_same_line(a: Place, b: Place) -> bool
     ensures { result ≡ is_line a b }
@@ -37,45 +38,58 @@ fn first_for_line(place: Place, requests: &[Request], prints: &[u8]) -> Option<u
     None
 }
 
-/// Whether one of these requests asks for the line of a place.
-pub(crate) fn is_line_asked(place: Place, requests: &[Request], prints: &[u8]) -> bool
-    requires { prints.now ≡ print_column requests.now }
+/// Whether one of these requests asks for the line of a place. `alike` is 0 only where none does.
+pub(crate) fn is_line_asked(place: Place, alike: usize, requests: &[Request], prints: &[u8]) -> bool
+    requires alike { alike ≡ 0 → asks_for_line place requests.now ≡ false }
+    requires prints { prints.now ≡ print_column requests.now }
     ensures { result ≡ asks_for_line place requests.now }
 {
-    first_for_line(place, requests, prints).is_some()
+    alike != 0 && first_for_line(place, requests, prints).is_some()
 }
 
-/// Marks the first request for a line from a place on, if there is one, writes the key that it then has, and says whether it
-/// was not marked. `waiting` is how many are not marked.
+/// Counters for the lines of so many requests, some four for each, and the highest of them.
+pub(crate) fn counters(alloc: Global, room: usize) -> Result<(Vec<usize>, usize), AllocError>
+    ensures masked { IfOk result (λ made. made.1 < length made.0.items) }
+    ensures counts { IfOk result (λ made. AreCounted made.1 made.0.items []) }
+{
+    let wanted = room.min(1 << 20) * 4;
+    let mut mask = 255;
+    while mask < wanted {
+        mask = mask * 2 + 1;
+    }
+    Ok((vec![in alloc; 0; mask + 1]?, mask))
+}
+
+/// Marks the first request for a line from a place on, if there is one, and says whether it was not marked. `waiting` is how many
+/// are not marked, and `alike` is 0 only where none asks for the line.
 pub(crate) fn give_turn(
     place: Place,
-    requests: &[Request],
-    prints: &[u8],
     from: usize,
     waiting: usize,
-    marks: &mut Aged<u64>,
-    keys: &mut Aged<u64>,
+    alike: usize,
+    aged: &mut Aged,
 ) -> bool
-    requires prints { prints.now ≡ print_column requests.now }
-    requires from { from ≤ length requests.now }
-    requires waiting { waiting ≡ waiting_count marks.old.items }
-    requires same_length { length marks.old.items ≡ length requests.now }
-    requires keys { keys.old.items ≡ keys_of requests.now marks.old.items }
-    ensures items { marks.new.items ≡ slice_set marks.old.items (from + position_or_len (λ q. is_line q.place place) (drop from requests.now)) 1 }
-    ensures keys { keys.new.items ≡ keys_of requests.now marks.new.items }
-    ensures waited { waiting_count marks.new.items + mark result ≡ waiting_count marks.old.items }
-    ensures room { marks.new.room ≡ marks.old.room }
-    ensures key_room { keys.new.room ≡ keys.old.room }
+    requires from { from ≤ length aged.old.requests }
+    requires waiting { waiting ≡ waiting_count aged.old.marks }
+    requires alike { alike ≡ 0 → asks_for_line place aged.old.requests ≡ false }
+    requires same_length { length aged.old.marks ≡ length aged.old.requests }
+    ensures requests { aged.new.requests ≡ aged.old.requests }
+    ensures marks { aged.new.marks ≡ slice_set aged.old.marks (from + position_or_len (λ q. is_line q.place place) (drop from aged.old.requests)) 1 }
+    ensures waited { waiting_count aged.new.marks + mark result ≡ waiting_count aged.old.marks }
+    ensures room { aged.new.room ≡ aged.old.room }
 {
     if waiting == 0 {
         return false;
     }
+    if alike == 0 {
+        return false;
+    }
+    let (requests, prints) = (aged.requests(), aged.prints());
     let Some(next) = first_for_line(place, &requests[from..], &prints[from..]) else {
         return false;
     };
     let next = from + next;
-    let waited = marks.as_slice()[next] != 1;
-    marks.set(next, 1);
-    keys.set(next, key(true, requests[next]));
+    let waited = aged.eligible()[next] != 1;
+    aged.give_turn(next);
     waited
 }

@@ -1,80 +1,113 @@
--- Each column has lost the word of the request, and the next one for its line is marked.
-use Rattle.std.proofs.Common.{◌≡◌, ℕ, ◌+◌, ◌<◌, length, drop, set, not, cond, eqb, sym, ap, ◌∙◌, ne_eqb, eq-eqb, arith}
+-- The request is gone, and the next one for its line is marked.
+use Rattle.std.proofs.Common.{◌≡◌, ℕ, ◌+◌, ◌-◌, ◌<◌, refl, length, drop, set, false, not, cond, eqb, get_or, ap, ◌∙◌, ne_eqb, eq-eqb, arith, sym}
 use Rattle.std.proofs.lemmas.Bool.{eqb-true, eqb-false}
+use Rattle.std.proofs.lemmas.List.{get_or_default, get_or-set_same, length-set}
 use Rattle.std.proofs.lemmas.List.Edits.{length-remove}
 use Rattle.std.specs.List.{remove, position_or_len}
 use mir.Val.{bool_byte}
 use Rattle.sim_base.specs.Places.{is_line}
 use Rattle.sim_base.specs.declared.message.Request.{Request}
-use Rattle.queue.specs.Columns.{line_print, print_column, keys_of, waiting_count}
+use Rattle.queue.specs.Columns.{waiting_count, AreCounted}
+use Rattle.queue.proofs.Counted.{none_asks, some_counted, counted_removed}
 use Rattle.queue.proofs.Eligible.{length-eligible}
-use Rattle.queue.proofs.Kept.{length_keys, map_removed, keys_removed, keys_whole, waiting_removed, writes_removed, byte_is}
+use Rattle.queue.proofs.Kept.{writes_removed, waiting_removed, byte_is}
 use Rattle.queue.proofs.Served.{IsServed, served_kept}
 use Rattle.queue.proofs.Queue.serve.Goals as goal
 use Rattle.queue.proofs.Queue.serve.Goals.{then-was_first, else-was_first}
 
-pub remove-was_first-requires : goal.remove-was_first-requires
-remove-was_first-requires c =
-    let q = c.self.inside in
-    let exists : c.args.slot < length q.requests.items = omega (arith, ap (λ v. length v.requests) c.self.view_is, c.requires) in
-    let long = ap length c.self.invariant.eligible_are ∙ length-eligible q.requests.items in
-    omega (arith, long, exists)
+-- what a read past the end would give
+abbrev absent : Request
+absent = record {
+  core = 0;
+  entry = 0;
+  write = false;
+  address = 0;
+  place = record { channel = 0; rank = 0; group = 0; bank = 0; row = 0; column = 0 };
+  arrival = 0;
+  link = 0;
+}
 
-pub remove-key-requires : goal.remove-key-requires
-remove-key-requires c =
+pub bounds-eligible-slot : goal.bounds-eligible-slot
+bounds-eligible-slot c =
     let q = c.self.inside in
-    let exists : c.args.slot < length q.requests.items = omega (arith, ap (λ v. length v.requests) c.self.view_is, c.requires) in
-    let long = ap length c.self.invariant.keys_are ∙ length_keys q.requests.items in
-    omega (arith, long, exists)
+    let long : length q.aged.marks ≡ length q.aged.requests = ap length c.self.invariant.eligible_are ∙ length-eligible q.aged.requests in
+    omega (arith, long, ap length c.eligible.ensures, ap (λ v. length v.requests) c.self.view_is, c.requires)
 
-pub give_turn-waited-requires-clause-prints : goal.give_turn-waited-requires-clause-prints
-give_turn-waited-requires-clause-prints c =
-    let q = c.self.inside in
-    let fewer = ap (λ a. a.items) c.remove-request.ensures.rest in
-    let left = ap (λ a. a.items) c.remove-print.ensures.rest in
-    c.as_slice-prints.ensures
-    ∙ map_removed (λ r. line_print r.place) q.prints.items _ q.requests.items _ c.args.slot c.self.invariant.prints_are left fewer
-    ∙ ap print_column (sym c.as_slice-requests.ensures)
-
-pub give_turn-waited-requires-clause-same_length : goal.give_turn-waited-requires-clause-same_length
-give_turn-waited-requires-clause-same_length c =
+pub overflow_sub-alike : goal.overflow_sub-alike
+overflow_sub-alike c =
     let q = c.self.inside in
     let n = c.args.slot in
-    let exists : n < length q.requests.items = omega (arith, ap (λ v. length v.requests) c.self.view_is, c.requires) in
-    let long : length q.eligible.items ≡ length q.requests.items = ap length c.self.invariant.eligible_are ∙ length-eligible q.requests.items in
-    let marked : n < length q.eligible.items = omega (arith, long, exists) in
-    let fewer : length c.remove-request.new.self.items ≡ length (remove q.requests.items n) = ap (λ a. length a.items) c.remove-request.ensures.rest in
-    let left : length c.remove-was_first.new.self.items ≡ length (remove q.eligible.items n) = ap (λ a. length a.items) c.remove-was_first.ensures.rest in
-    let same : length c.as_slice-requests.result.now ≡ length c.remove-request.new.self.items = ap length c.as_slice-requests.ensures in
-    omega (arith, length-remove q.requests.items n exists, length-remove q.eligible.items n marked, fewer, left, same, long)
+    let r = get_or c.requests.result.now n absent in
+    let exists : n < length q.aged.requests = omega (arith, ap (λ v. length v.requests) c.self.view_is, c.requires) in
+    let request : r ≡ get_or q.aged.requests n r = ap (λ xs. get_or xs n absent) c.requests.ensures ∙ get_or_default q.aged.requests n absent r exists in
+    let slot = c.line_slot-line.result in
+    let below : slot < length q.lines.items = omega (arith, c.line_slot-line.ensures.within, c.self.invariant.masked) in
+    let count_is : c.index.result.now ≡ get_or q.lines.items slot 0 = c.index.ensures ∙ get_or_default q.lines.items slot c.index.result.now 0 below in
+    omega (arith, count_is, some_counted q.mask n q.lines.items q.aged.requests r slot c.self.invariant.lines_are c.line_slot-line.ensures.value below exists request)
 
 pub give_turn-waited-requires-clause-waiting : goal.give_turn-waited-requires-clause-waiting
 give_turn-waited-requires-clause-waiting c =
     let q = c.self.inside in
     let n = c.args.slot in
-    let word = c.remove-was_first.result in
-    let exists : n < length q.requests.items = omega (arith, ap (λ v. length v.requests) c.self.view_is, c.requires) in
-    let long : length q.eligible.items ≡ length q.requests.items = ap length c.self.invariant.eligible_are ∙ length-eligible q.requests.items in
-    let left = waiting_removed q.eligible.items _ n word (omega arith) (c.remove-was_first.ensures.value word) (ap (λ a. a.items) c.remove-was_first.ensures.rest) in
+    let word = get_or c.eligible.result.now n 0 in
+    let exists : n < length q.aged.requests = omega (arith, ap (λ v. length v.requests) c.self.view_is, c.requires) in
+    let long : length q.aged.marks ≡ length q.aged.requests = ap length c.self.invariant.eligible_are ∙ length-eligible q.aged.requests in
+    let marked : n < length q.aged.marks = omega (arith, long, exists) in
+    let word_is : word ≡ get_or q.aged.marks n word = ap (λ xs. get_or xs n 0) c.eligible.ensures ∙ get_or_default q.aged.marks n 0 word marked in
+    let left = waiting_removed q.aged.marks _ n word marked word_is c.remove.ensures.marks in
     let none : cond {A = ℕ} (not (eqb word 1)) 1 0 ≡ 0 = ap (λ b. cond {A = ℕ} (not b) 1 0) (eq-eqb word 1 c.if-was_first.true) in
     omega (arith, left, none, c.self.invariant.waiting_are)
 
-pub give_turn-waited-requires-clause-keys : goal.give_turn-waited-requires-clause-keys
-give_turn-waited-requires-clause-keys c =
+pub give_turn-waited-requires-clause-alike : goal.give_turn-waited-requires-clause-alike
+give_turn-waited-requires-clause-alike c none =
     let q = c.self.inside in
-    let kept = c.self.invariant in
-    let whole : q.keys.items ≡ keys_of q.requests.items q.eligible.items = keys_whole q.keys.items q.requests.items kept.keys_are ∙ ap (keys_of q.requests.items) (sym kept.eligible_are) in
-    keys_removed q.keys.items _ q.requests.items _ q.eligible.items _ c.args.slot whole (ap (λ a. a.items) c.remove-key.ensures.rest)
-    (c.as_slice-requests.ensures ∙ ap (λ a. a.items) c.remove-request.ensures.rest) (ap (λ a. a.items) c.remove-was_first.ensures.rest)
+    let n = c.args.slot in
+    let r = get_or c.requests.result.now n absent in
+    let exists : n < length q.aged.requests = omega (arith, ap (λ v. length v.requests) c.self.view_is, c.requires) in
+    let request : r ≡ get_or q.aged.requests n r = ap (λ xs. get_or xs n absent) c.requests.ensures ∙ get_or_default q.aged.requests n absent r exists in
+    let slot = c.line_slot-line.result in
+    let slot_is = c.line_slot-line.ensures.value in
+    let below : slot < length q.lines.items = omega (arith, c.line_slot-line.ensures.within, c.self.invariant.masked) in
+    let count_is : c.index.result.now ≡ get_or q.lines.items slot 0 = c.index.ensures ∙ get_or_default q.lines.items slot c.index.result.now 0 below in
+    let left = c.index.result.now - 1 in
+    let counted = counted_removed q.mask n q.lines.items q.aged.requests _ r slot left c.self.invariant.lines_are slot_is below exists request c.remove.ensures.requests (ap (λ k. k - 1) count_is) in
+    none_asks q.mask (set q.lines.items slot left) c.remove.new.self.requests r.place counted (omega (arith, below, slot_is, length-set q.lines.items slot left))
+    (ap (λ k. get_or (set q.lines.items slot left) k 0) (sym slot_is) ∙ get_or-set_same q.lines.items slot left 0 below ∙ none)
+
+pub overflow_sub-self-2 : goal.overflow_sub-self-2
+overflow_sub-self-2 c =
+    let q = c.self.inside in
+    let n = c.args.slot in
+    let r = get_or c.requests.result.now n absent in
+    let exists : n < length q.aged.requests = omega (arith, ap (λ v. length v.requests) c.self.view_is, c.requires) in
+    let request : r ≡ get_or q.aged.requests n r = ap (λ xs. get_or xs n absent) c.requests.ensures ∙ get_or_default q.aged.requests n absent r exists in
+    let counted = writes_removed q.aged.requests _ r n q.writes c.from-2.result exists request c.self.invariant.writes_are c.from-2.ensures c.remove.ensures.requests in
+    let same : c.if-was_first.self-inside.writes ≡ q.writes =
+    elim c.if-was_first.branch [
+      | then-was_first w ↦ ap (λ s. s.writes) w.self-inside-is
+      | else-was_first w ↦ ap (λ s. s.writes) w.self-inside-is
+    ] in
+    omega (arith, counted, same)
+
+pub give_turn-waited-requires-clause-same_length : goal.give_turn-waited-requires-clause-same_length
+give_turn-waited-requires-clause-same_length c =
+    let q = c.self.inside in
+    let n = c.args.slot in
+    let exists : n < length q.aged.requests = omega (arith, ap (λ v. length v.requests) c.self.view_is, c.requires) in
+    let long : length q.aged.marks ≡ length q.aged.requests = ap length c.self.invariant.eligible_are ∙ length-eligible q.aged.requests in
+    let marked : n < length q.aged.marks = omega (arith, long, exists) in
+    omega (arith, length-remove q.aged.requests n exists, length-remove q.aged.marks n marked, ap length c.remove.ensures.requests, ap length c.remove.ensures.marks, long)
 
 pub overflow_sub-self : goal.overflow_sub-self
 overflow_sub-self c =
     let q = c.self.inside in
     let n = c.args.slot in
-    let word = c.remove-was_first.result in
-    let exists : n < length q.requests.items = omega (arith, ap (λ v. length v.requests) c.self.view_is, c.requires) in
-    let long : length q.eligible.items ≡ length q.requests.items = ap length c.self.invariant.eligible_are ∙ length-eligible q.requests.items in
-    let left = waiting_removed q.eligible.items _ n word (omega arith) (c.remove-was_first.ensures.value word) (ap (λ a. a.items) c.remove-was_first.ensures.rest) in
+    let word = get_or c.eligible.result.now n 0 in
+    let exists : n < length q.aged.requests = omega (arith, ap (λ v. length v.requests) c.self.view_is, c.requires) in
+    let long : length q.aged.marks ≡ length q.aged.requests = ap length c.self.invariant.eligible_are ∙ length-eligible q.aged.requests in
+    let marked : n < length q.aged.marks = omega (arith, long, exists) in
+    let word_is : word ≡ get_or q.aged.marks n word = ap (λ xs. get_or xs n 0) c.eligible.ensures ∙ get_or_default q.aged.marks n 0 word marked in
+    let left = waiting_removed q.aged.marks _ n word marked word_is c.remove.ensures.marks in
     elim c.if-was_first.branch [
       | then-was_first w ↦
           let done : c.from.result ≡ cond {A = ℕ} w.give_turn-waited.result 1 0 = c.from.ensures ∙ ap bool_byte w.waited-is ∙ byte_is w.give_turn-waited.result in
@@ -85,99 +118,72 @@ overflow_sub-self c =
           omega (arith, done, one, left, c.self.invariant.waiting_are, ap (λ s. s.waiting) w.self-inside-is)
     ]
 
-pub overflow_sub-self-2 : goal.overflow_sub-self-2
-overflow_sub-self-2 c =
-    let q = c.self.inside in
-    let n = c.args.slot in
-    let exists : n < length q.requests.items = omega (arith, ap (λ v. length v.requests) c.self.view_is, c.requires) in
-    let fewer = ap (λ a. a.items) c.remove-request.ensures.rest in
-    let request = c.remove-request.ensures.value c.remove-request.result in
-    let counted = writes_removed q.requests.items _ c.remove-request.result n q.writes c.from-2.result exists request c.self.invariant.writes_are c.from-2.ensures fewer in
-    let same : c.if-was_first.self-inside.writes ≡ q.writes =
-    elim c.if-was_first.branch [
-      | then-was_first w ↦ ap (λ s. s.writes) w.self-inside-is
-      | else-was_first w ↦ ap (λ s. s.writes) w.self-inside-is
-    ] in
-    omega (arith, counted, same)
-
 pub invariant_of-self : goal.invariant_of-self
 invariant_of-self c =
     let q = c.self.inside in
     let kept = c.self.invariant in
     let n = c.args.slot in
-    let word = c.remove-was_first.result in
-    let exists : n < length q.requests.items = omega (arith, ap (λ v. length v.requests) c.self.view_is, c.requires) in
-    let long : length q.eligible.items ≡ length q.requests.items = ap length kept.eligible_are ∙ length-eligible q.requests.items in
-    let fewer = ap (λ a. a.items) c.remove-request.ensures.rest in
-    let counted = waiting_removed q.eligible.items _ n word (omega arith) (c.remove-was_first.ensures.value word) (ap (λ a. a.items) c.remove-was_first.ensures.rest) in
-    let left : IsServed q c.if-was_first.self-inside n c.remove-request.result word c.from.result =
+    let word = get_or c.eligible.result.now n 0 in
+    let r = get_or c.requests.result.now n absent in
+    let exists : n < length q.aged.requests = omega (arith, ap (λ v. length v.requests) c.self.view_is, c.requires) in
+    let long : length q.aged.marks ≡ length q.aged.requests = ap length kept.eligible_are ∙ length-eligible q.aged.requests in
+    let marked : n < length q.aged.marks = omega (arith, long, exists) in
+    let word_is : word ≡ get_or q.aged.marks n word = ap (λ xs. get_or xs n 0) c.eligible.ensures ∙ get_or_default q.aged.marks n 0 word marked in
+    let request : r ≡ get_or q.aged.requests n r = ap (λ xs. get_or xs n absent) c.requests.ensures ∙ get_or_default q.aged.requests n absent r exists in
+    let fewer = c.remove.ensures.requests in
+    let counted = waiting_removed q.aged.marks _ n word marked word_is c.remove.ensures.marks in
+    let slot = c.line_slot-line.result in
+    let below : slot < length q.lines.items = omega (arith, c.line_slot-line.ensures.within, kept.masked) in
+    let count_is : c.index.result.now ≡ get_or q.lines.items slot 0 = c.index.ensures ∙ get_or_default q.lines.items slot c.index.result.now 0 below in
+    let now = set q.lines.items slot (c.index.result.now - 1) in
+    let one_less : AreCounted q.mask now (remove q.aged.requests n) =
+    counted_removed q.mask n q.lines.items q.aged.requests (remove q.aged.requests n) r slot (c.index.result.now - 1) kept.lines_are c.line_slot-line.ensures.value below exists request refl
+    (ap (λ k. k - 1) count_is) in
+    let left : IsServed q c.if-was_first.self-inside n r word c.from.result =
     elim c.if-was_first.branch [
       | then-was_first w ↦
           let h = w.self-inside-is in
+          let turned = w.give_turn-waited.ensures in
           let done : c.from.result ≡ cond {A = ℕ} w.give_turn-waited.result 1 0 = c.from.ensures ∙ ap bool_byte w.waited-is ∙ byte_is w.give_turn-waited.result in
           let none : cond {A = ℕ} (not (eqb word 1)) 1 0 ≡ 0 = ap (λ b. cond {A = ℕ} (not b) 1 0) (eq-eqb word 1 w.if-was_first.true) in
-          let counts = ap (λ s. waiting_count s.eligible.items) h in
+          let counts = ap (λ s. waiting_count s.aged.marks) h in
           record {
             exists = exists;
-            request = c.remove-request.ensures.value c.remove-request.result;
-            word_is = c.remove-was_first.ensures.value word;
+            request = request;
+            word_is = word_is;
             room = ap (λ s. s.room) h;
+            places = ap (λ s. s.aged.room) h ∙ turned.room ∙ c.remove.ensures.room;
             writes = ap (λ s. s.writes) h;
-            requests = ap (λ s. s.requests.items) h ∙ fewer;
-            banks = ap (λ s. s.banks.items) h ∙ ap (λ a. a.items) c.remove-bank.ensures.rest;
-            rows = ap (λ s. s.rows.items) h ∙ ap (λ a. a.items) c.remove-row.ensures.rest;
-            kinds = ap (λ s. s.kinds.items) h ∙ ap (λ a. a.items) c.remove-kind.ensures.rest;
-            prints = ap (λ s. s.prints.items) h ∙ ap (λ a. a.items) c.remove-print.ensures.rest;
+            requests = ap (λ s. s.aged.requests) h ∙ turned.requests ∙ fewer;
             turn = λ _.
-                ap (λ s. s.eligible.items) h
-                ∙ w.give_turn-waited.ensures.items
-                ∙ (λ i.
-                set (c.remove-was_first.ensures.rest i).items
-                (n + position_or_len (λ (x : Request). is_line x.place c.remove-request.result.place) (drop n ((w.as_slice-requests.ensures ∙ fewer) i))) 1);
+                ap (λ s. s.aged.marks) h
+                ∙ turned.marks
+                ∙ (λ i. set (c.remove.ensures.marks i) (n + position_or_len (λ (x : Request). is_line x.place r.place) (drop n (fewer i))) 1);
             no_turn = λ no. absurd (eqb-false word 1 no w.if-was_first.true);
-            keys =
-                ap (λ s. s.keys.items) h
-                ∙ w.give_turn-waited.ensures.keys
-                ∙ (λ i. keys_of ((w.as_slice-requests.ensures ∙ sym (ap (λ s. s.requests.items) h)) i) (sym (ap (λ s. s.eligible.items) h) i));
-            waited = omega (arith, done, none, counts, w.give_turn-waited.ensures.waited, counted, kept.waiting_are, ap (λ s. s.waiting) h);
-            request_room = ap (λ s. s.requests.room) h ∙ ap (λ a. a.room) c.remove-request.ensures.rest;
-            bank_room = ap (λ s. s.banks.room) h ∙ ap (λ a. a.room) c.remove-bank.ensures.rest;
-            row_room = ap (λ s. s.rows.room) h ∙ ap (λ a. a.room) c.remove-row.ensures.rest;
-            kind_room = ap (λ s. s.kinds.room) h ∙ ap (λ a. a.room) c.remove-kind.ensures.rest;
-            eligible_room = ap (λ s. s.eligible.room) h ∙ w.give_turn-waited.ensures.room ∙ ap (λ a. a.room) c.remove-was_first.ensures.rest;
-            key_room = ap (λ s. s.keys.room) h ∙ w.give_turn-waited.ensures.key_room ∙ ap (λ a. a.room) c.remove-key.ensures.rest;
-            print_room = ap (λ s. s.prints.room) h ∙ ap (λ a. a.room) c.remove-print.ensures.rest;
+            mask = ap (λ s. s.mask) h;
+            long = ap (λ s. length s.lines.items) h ∙ length-set q.lines.items slot (c.index.result.now - 1);
+            counted = λ k within. ap (λ s. get_or s.lines.items k 0) h ∙ one_less k (omega (arith, within, ap (λ s. length s.lines.items) h));
+            waited = omega (arith, done, none, counts, turned.waited, counted, kept.waiting_are, ap (λ s. s.waiting) h);
           }
       | else-was_first w ↦
           let h = w.self-inside-is in
           let done : c.from.result ≡ 1 = c.from.ensures ∙ ap bool_byte w.waited-is in
           let one : cond {A = ℕ} (not (eqb word 1)) 1 0 ≡ 1 = ap (λ b. cond {A = ℕ} (not b) 1 0) (ne_eqb word 1 w.if-was_first.false) in
-          let counts = ap (λ s. waiting_count s.eligible.items) h in
-          let whole : q.keys.items ≡ keys_of q.requests.items q.eligible.items = keys_whole q.keys.items q.requests.items kept.keys_are ∙ ap (keys_of q.requests.items) (sym kept.eligible_are) in
+          let counts = ap (λ s. waiting_count s.aged.marks) h in
           record {
             exists = exists;
-            request = c.remove-request.ensures.value c.remove-request.result;
-            word_is = c.remove-was_first.ensures.value word;
+            request = request;
+            word_is = word_is;
             room = ap (λ s. s.room) h;
+            places = ap (λ s. s.aged.room) h ∙ c.remove.ensures.room;
             writes = ap (λ s. s.writes) h;
-            requests = ap (λ s. s.requests.items) h ∙ fewer;
-            banks = ap (λ s. s.banks.items) h ∙ ap (λ a. a.items) c.remove-bank.ensures.rest;
-            rows = ap (λ s. s.rows.items) h ∙ ap (λ a. a.items) c.remove-row.ensures.rest;
-            kinds = ap (λ s. s.kinds.items) h ∙ ap (λ a. a.items) c.remove-kind.ensures.rest;
-            prints = ap (λ s. s.prints.items) h ∙ ap (λ a. a.items) c.remove-print.ensures.rest;
+            requests = ap (λ s. s.aged.requests) h ∙ fewer;
             turn = λ yes. absurd (w.if-was_first.false (eqb-true word 1 yes));
-            no_turn = λ _. ap (λ s. s.eligible.items) h ∙ ap (λ a. a.items) c.remove-was_first.ensures.rest;
-            keys =
-                keys_removed q.keys.items _ q.requests.items _ q.eligible.items _ n whole (ap (λ s. s.keys.items) h ∙ ap (λ a. a.items) c.remove-key.ensures.rest)
-                (ap (λ s. s.requests.items) h ∙ fewer) (ap (λ s. s.eligible.items) h ∙ ap (λ a. a.items) c.remove-was_first.ensures.rest);
+            no_turn = λ _. ap (λ s. s.aged.marks) h ∙ c.remove.ensures.marks;
+            mask = ap (λ s. s.mask) h;
+            long = ap (λ s. length s.lines.items) h ∙ length-set q.lines.items slot (c.index.result.now - 1);
+            counted = λ k within. ap (λ s. get_or s.lines.items k 0) h ∙ one_less k (omega (arith, within, ap (λ s. length s.lines.items) h));
             waited = omega (arith, done, one, counts, counted, kept.waiting_are, ap (λ s. s.waiting) h);
-            request_room = ap (λ s. s.requests.room) h ∙ ap (λ a. a.room) c.remove-request.ensures.rest;
-            bank_room = ap (λ s. s.banks.room) h ∙ ap (λ a. a.room) c.remove-bank.ensures.rest;
-            row_room = ap (λ s. s.rows.room) h ∙ ap (λ a. a.room) c.remove-row.ensures.rest;
-            kind_room = ap (λ s. s.kinds.room) h ∙ ap (λ a. a.room) c.remove-kind.ensures.rest;
-            eligible_room = ap (λ s. s.eligible.room) h ∙ ap (λ a. a.room) c.remove-was_first.ensures.rest;
-            key_room = ap (λ s. s.keys.room) h ∙ ap (λ a. a.room) c.remove-key.ensures.rest;
-            print_room = ap (λ s. s.prints.room) h ∙ ap (λ a. a.room) c.remove-print.ensures.rest;
           }
     ] in
-    served_kept q c.if-was_first.self-inside n c.remove-request.result word c.from.result c.from-2.result kept left c.from-2.ensures
+    served_kept q c.if-was_first.self-inside n r word c.from.result c.from-2.result kept left c.from-2.ensures

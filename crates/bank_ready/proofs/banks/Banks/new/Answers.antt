@@ -4,4 +4,5 @@ use Rattle.bank_ready.proofs.Stood.{stands-first}
 use Rattle.bank_ready.proofs.banks.Banks.new.Goals as goal
 
 pub returns-clause-stands : goal.returns-clause-stands
-returns-clause-stands c = stands-first _ c.args.config.now c.of.ensures (search rules) (search rules) c.in_ok-new_windows.ensures
+returns-clause-stands c =
+    stands-first _ c.args.config.now (search rules) (search rules) (search rules) (search rules) (search rules) (search rules) (search rules)

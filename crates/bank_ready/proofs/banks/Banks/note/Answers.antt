@@ -1,31 +1,41 @@
--- The command is noted in each bank and each rank, and an ACT in the window of its rank as well.
-use Rattle.std.proofs.Common.{◌∙◌, ◌+◌, ◌<◌, ◌++◌, ◌∷◌, [], ℕ, refl, ap, subst}
-use Rattle.circular_buffer.specs.Buffer.{buffer, keep_last}
-use Rattle.sim_base.specs.declared.command.Command.{Command}
-use Rattle.sim_base.specs.declared.command.CommandRow.{CommandRow}
-use Rattle.sim_base.specs.declared.command.Kind.TheVariants as kind
-use Rattle.sim_base.specs.Rules.{is_kind, kind_of, rank_of}
-use Rattle.bank_ready.specs.Stands.{rank_count}
-use Rattle.bank_ready.proofs.Allowed.{is_kind-no_act}
-use Rattle.bank_ready.proofs.Stood.{is_noted, noted-act, noted-other}
+-- One command more is noted, and so all stands for one more.
+use Rattle.std.proofs.Common.{refl}
+use Rattle.sim_base.specs.declared.command.Command.TheVariants.{Rd, Wr}
+use Rattle.bank_ready.proofs.Stood.{noted_is}
 use Rattle.bank_ready.proofs.banks.Banks.note.Goals as goal
 
 pub returns-in-Act-clause-stands : goal.returns-in-Act-clause-stands
 returns-in-Act-clause-stands c s history channel h later =
-    let i : CommandRow = record { cycle = c.args.cycle; channel = channel; command = c.args.command } in
-    let ring = c.index_mut.result.now in
-    noted-act c.args.self.now _ s history i c.in-Act.bank.rank ring c.push_back.new.self h later
-    (is_noted c.args.self.now _ i c.deref_mut.result.now c.note_in_banks.new.banks c.deref_mut-2.result.now c.note_in_ranks.new.ranks refl refl refl
-    c.deref_mut.ensures.value c.deref_mut-2.ensures.value c.note_in_banks.auto.banks c.note_in_ranks.auto.ranks c.note_in_banks.ensures.each c.note_in_ranks.ensures.each)
-    (ap (λ (command : Command). is_kind (kind_of command) kind.Act) c.in-Act.is) (ap rank_of c.in-Act.is)
-    (subst (λ (n : ℕ). n < rank_count c.args.self.now) (ap rank_of c.in-Act.is) c.requires.rank) refl c.index_mut.ensures.value
-    (c.push_back.ensures.items
-    ∙ ap (λ (n : ℕ). buffer (keep_last ring.capacity (ring.items ++ (c.args.cycle + n) ∷ [])) ring.capacity) (c.from.ensures ∙ c.four_act_window.ensures.value))
+    noted_is c.args.self.now c.note_act.new.self s history c.args.cycle channel c.args.command _ h later c.in-Act.is (c.note_act.ensures c.in-Act.source)
 
-pub returns-in_default-clause-stands : goal.returns-in_default-clause-stands
-returns-in_default-clause-stands c s history channel h later =
-    let i : CommandRow = record { cycle = c.args.cycle; channel = channel; command = c.args.command } in
-    noted-other c.args.self.now _ s history i h later
-    (is_noted c.args.self.now _ i c.deref_mut.result.now c.note_in_banks.new.banks c.deref_mut-2.result.now c.note_in_ranks.new.ranks refl refl refl
-    c.deref_mut.ensures.value c.deref_mut-2.ensures.value c.note_in_banks.auto.banks c.note_in_ranks.auto.ranks c.note_in_banks.ensures.each c.note_in_ranks.ensures.each)
-    (is_kind-no_act c.args.command c.in_default.not-Act) refl
+pub returns-in-Act-clause-ranks : goal.returns-in-Act-clause-ranks
+returns-in-Act-clause-ranks c = (c.note_act.ensures c.in-Act.source).rank_count
+
+pub returns-in-Rd-clause-stands : goal.returns-in-Rd-clause-stands
+returns-in-Rd-clause-stands c s history channel h later =
+    noted_is c.args.self.now c.note_data.new.self s history c.args.cycle channel c.args.command _ h later c.in-Rd.is (c.note_data.ensures (Rd c.in-Rd.bank c.in-Rd.row c.in-Rd.column c.in-Rd.source) refl refl)
+
+pub returns-in-Rd-clause-ranks : goal.returns-in-Rd-clause-ranks
+returns-in-Rd-clause-ranks c = (c.note_data.ensures (Rd c.in-Rd.bank c.in-Rd.row c.in-Rd.column c.in-Rd.source) refl refl).rank_count
+
+pub returns-in-Wr-clause-stands : goal.returns-in-Wr-clause-stands
+returns-in-Wr-clause-stands c s history channel h later =
+    noted_is c.args.self.now c.note_data-in-Wr.new.self s history c.args.cycle channel c.args.command _ h later c.in-Wr.is (c.note_data-in-Wr.ensures (Wr c.in-Wr.bank c.in-Wr.row c.in-Wr.column c.in-Wr.source) refl refl)
+
+pub returns-in-Wr-clause-ranks : goal.returns-in-Wr-clause-ranks
+returns-in-Wr-clause-ranks c = (c.note_data-in-Wr.ensures (Wr c.in-Wr.bank c.in-Wr.row c.in-Wr.column c.in-Wr.source) refl refl).rank_count
+
+pub returns-in-Pre-clause-stands : goal.returns-in-Pre-clause-stands
+returns-in-Pre-clause-stands c s history channel h later =
+    noted_is c.args.self.now c.note_pre.new.self s history c.args.cycle channel c.args.command _ h later c.in-Pre.is (c.note_pre.ensures c.in-Pre.source)
+
+pub returns-in-Pre-clause-ranks : goal.returns-in-Pre-clause-ranks
+returns-in-Pre-clause-ranks c = (c.note_pre.ensures c.in-Pre.source).rank_count
+
+pub returns-in-Prea-clause-stands : goal.returns-in-Prea-clause-stands
+returns-in-Prea-clause-stands c s history channel h later =
+    noted_is c.args.self.now c.note_prea.new.self s history c.args.cycle channel c.args.command _ h later c.in-Prea.is c.note_prea.ensures
+
+pub returns-in-Ref-clause-stands : goal.returns-in-Ref-clause-stands
+returns-in-Ref-clause-stands c s history channel h later =
+    noted_is c.args.self.now c.note_refresh.new.self s history c.args.cycle channel c.args.command _ h later c.in-Ref.is c.note_refresh.ensures

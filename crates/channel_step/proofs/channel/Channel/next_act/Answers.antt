@@ -1,4 +1,4 @@
-use Rattle.std.proofs.Common.{◌*◌, sym, subst, arith}
+use Rattle.std.proofs.Common.{sym, subst, arith}
 use Rattle.sim_base.specs.History.{issued_commands}
 use Rattle.queue.specs.View.{QueueView}
 use Rattle.channel_step.specs.Channels.{HeadsStand}

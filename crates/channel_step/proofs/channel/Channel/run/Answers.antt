@@ -1,7 +1,8 @@
-use Rattle.std.proofs.Common.{◌≡◌, ◌+◌, ◌-◌, ◌++◌, [], take, arith, rules, sym, subst}
+use Rattle.std.proofs.Common.{◌≡◌, ◌-◌, ◌++◌, [], length, take, sym, ap, subst, arith}
+use Rattle.std.proofs.lemmas.List.{length-drop, take_rest}
 use Rattle.sim_base.specs.Machine.{channel_run}
 use Rattle.channel_step.specs.Runs.{HasRun}
-use Rattle.channel_step.proofs.Running.{run-length, run-fit, run-begins, run-can_step, run-cycle, run-ends, run-stepped, run-can_go_on, run-gone_on}
+use Rattle.channel_step.proofs.Running.{run-length, run-fit, run-begins, run-ends, run-can_go_on, run-turned}
 use Rattle.channel_step.proofs.channel.Channel.run.Goals as goal
 
 pub loop-now-init : goal.loop-now-init
@@ -15,42 +16,30 @@ loop-now-init c = (
       (run-begins c.args.self s channel rows mail c.args.inbox.now c.args.from c.args.until h f)),
 )
 
-pub step-requires-clause-can_step : goal.step-requires-clause-can_step
-step-requires-clause-can_step c =
+pub turn-requires-clause-can_run : goal.turn-requires-clause-can_run
+turn-requires-clause-can_run c =
     let p = c.requires.can_run in
     let l = c.loop-now in
-    run-can_step l.self p.s p.channel p.rows p.mail c.args.inbox.now c.args.from l.now c.args.until l.arrived _ _ p.at l.invariant.1 (omega arith)
+    run-can_go_on l.self p.s p.channel p.rows p.mail c.args.inbox.now c.args.from l.now c.args.until l.arrived _ _ p.at l.invariant.1
     (l.invariant.3 p.s p.channel p.rows p.mail p.stands p.at p.fit)
-
-pub go_on-now-requires-clause-can_run : goal.go_on-now-requires-clause-can_run
-go_on-now-requires-clause-can_run c =
-    let p = c.requires.can_run in
-    let l = c.loop-now in
-    let h = l.invariant.3 p.s p.channel p.rows p.mail p.stands p.at p.fit in
-    let steps = (c.in_ok-due.ensures {u = tt}).stepped in
-    run-can_go_on c.step.new.self p.s p.channel p.rows p.mail c.args.inbox.now c.args.from (l.now + 1) c.args.until (l.arrived + c.in_ok-due.due) _ _ p.at (omega (arith, l.invariant.1))
-    (run-cycle l.self c.step.new.self p.s p.channel p.rows p.mail c.args.inbox.now c.args.from l.now c.args.until l.arrived c.in_ok-due.due c.in_ok-due.command _ _ _ _ p.at l.invariant.1 h
-    (run-stepped l.self c.step.new.self p.s p.channel p.rows p.mail c.args.inbox.now c.args.from l.now c.args.until l.arrived c.in_ok-due.due c.in_ok-due.command _ _ p.at l.invariant.1 c.loop-now-test.true h steps)
-    (c.in_ok-tell.ensures {u = tt}).commands (c.in_ok-tell.ensures {u = tt}).messages)
 
 pub loop-now-preserved : goal.loop-now-preserved
 loop-now-preserved c =
-    let l = c.loop-now in (
-      search rules,
-      omega (arith, l.invariant.1, c.go_on-now.ensures.from_now),
-      c.go_on-now.ensures.within,
+    let l = c.loop-now in
+    let turn = c.in_ok-turn.turn in
+    let done = c.in_ok-turn.ensures {u = tt} in (
+      omega (arith, l.invariant.0, done.some, ap length (take_rest c.args.inbox.now l.arrived), length-drop l.arrived c.args.inbox.now),
+      omega (arith, l.invariant.1, done.from_now),
+      omega (arith, done.within),
       λ s channel rows mail stands at f.
-          let h = l.invariant.3 s channel rows mail stands at f in
           let inbox = c.args.inbox.now in
-          let steps = (c.in_ok-due.ensures {u = tt}).stepped in
-          let len = run-length s channel rows (mail ++ inbox) c.args.from (l.now + 1) at (omega (arith, l.invariant.1)) in
-          let next = run-cycle l.self c.step.new.self s channel rows mail inbox c.args.from l.now c.args.until l.arrived c.in_ok-due.due c.in_ok-due.command _ _ _ _ at l.invariant.1 h
-          (run-stepped l.self c.step.new.self s channel rows mail inbox c.args.from l.now c.args.until l.arrived c.in_ok-due.due c.in_ok-due.command _ _ at l.invariant.1 c.loop-now-test.true h steps)
-          (c.in_ok-tell.ensures {u = tt}).commands (c.in_ok-tell.ensures {u = tt}).messages in
-          run-gone_on c.step.new.self c.go_on-now.new.self s channel rows mail inbox c.args.from (l.now + 1) c.args.until (l.arrived + c.in_ok-due.due) c.go_on-now.result _ _ at
-          (omega (arith, l.invariant.1)) c.go_on-now.ensures.from_now next
-          (c.go_on-now.ensures.skipped s channel (channel_run s channel rows (mail ++ inbox) (l.now + 1 - c.args.from)) (mail ++ take (l.arrived + c.in_ok-due.due) inbox) next.stands len
-          (run-fit c.step.new.self s channel rows mail inbox c.args.from (l.now + 1) c.args.until (l.arrived + c.in_ok-due.due) _ _ next)),
+          let h = l.invariant.3 s channel rows mail stands at f in
+          let before = channel_run s channel rows (mail ++ inbox) (l.now - c.args.from) in
+          let there = mail ++ take l.arrived inbox in
+          run-turned l.self c.turn.new.self s channel rows mail inbox c.args.from l.now c.args.until l.arrived turn.arrived turn.last turn.command _ _ _ _ at l.invariant.1 done.from_now h
+          (done.done s channel before there h.stands (run-length s channel rows (mail ++ inbox) c.args.from l.now at l.invariant.1)
+          (run-fit l.self s channel rows mail inbox c.args.from l.now c.args.until l.arrived _ _ h))
+          (c.in_ok-tell.ensures {u = tt}).commands (c.in_ok-tell.ensures {u = tt}).messages,
     )
 
 pub returns : goal.returns

@@ -6,38 +6,38 @@ use Rattle.heads.proofs.OneBank.{wants_narrower, never_hits, hits_narrower}
 use Rattle.heads.proofs.entry.KindHeads.after.Goals as goal
 
 pub returns-in-Some-Some : goal.returns-in-Some-Some
-returns-in-Some-Some c earlier within left first =
+returns-in-Some-Some c earlier within left fit calm first =
     let rs = c.args.queue.now.requests in
-    let bank = c.args.bank in
+    let bank = c.args.gap.bank in
     let write = c.args.write in
     let row = c.in-Some-Some.row in
-    let oldest = c.next_place-oldest.ensures earlier within left (none_at_start (wants bank write None) rs) first.oldest_is in
+    let oldest = c.next_place-oldest.ensures earlier within left fit calm (none_at_start (wants bank write None) rs) first.oldest_is in
     let least = none_before_first (asks bank write) rs c.in-Some-Some.least (sym c.in-Some-Some.is-1 ∙ oldest) in
     let old = subst (λ o. c.args.self.hit ≡ first_place (hits bank write o) earlier) c.in-Some-Some.is-0 first.hit_is in
     record {
       oldest_is = oldest;
       hit_is =
-          c.next_place-hit.ensures earlier within left (none_narrower (wants bank write (Some row)) (asks bank write) rs c.in-Some-Some.least (wants_narrower bank write row) least) old
+          c.next_place-hit.ensures earlier within left fit calm (none_narrower (wants bank write (Some row)) (asks bank write) rs c.in-Some-Some.least (wants_narrower bank write row) least) old
           ∙ ap (λ o. first_place (hits bank write o) rs) (sym c.in-Some-Some.is-0);
     }
 
 pub returns-in_default : goal.returns-in_default
-returns-in_default c earlier within left first =
+returns-in_default c earlier within left fit calm first =
     let rs = c.args.queue.now.requests in
-    let bank = c.args.bank in
+    let bank = c.args.gap.bank in
     let write = c.args.write in
-    let oldest = c.next_place-oldest.ensures earlier within left (none_at_start (wants bank write None) rs) first.oldest_is in
+    let oldest = c.next_place-oldest.ensures earlier within left fit calm (none_at_start (wants bank write None) rs) first.oldest_is in
     record {
       oldest_is = oldest;
       hit_is = none_narrower_all (hits bank write c.args.row) (asks bank write) rs (hits_narrower bank write c.args.row) (sym c.in_default.is-1 ∙ oldest);
     }
 
 pub returns-in_default-2 : goal.returns-in_default-2
-returns-in_default-2 c earlier within left first =
+returns-in_default-2 c earlier within left fit calm first =
     let rs = c.args.queue.now.requests in
-    let bank = c.args.bank in
+    let bank = c.args.gap.bank in
     let write = c.args.write in
     record {
-      oldest_is = c.next_place-oldest.ensures earlier within left (none_at_start (wants bank write None) rs) first.oldest_is;
+      oldest_is = c.next_place-oldest.ensures earlier within left fit calm (none_at_start (wants bank write None) rs) first.oldest_is;
       hit_is = none_everywhere (hits bank write None) rs (never_hits bank write) ∙ ap (λ o. first_place (hits bank write o) rs) (sym c.in_default.is-0);
     }

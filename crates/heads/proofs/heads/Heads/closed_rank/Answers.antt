@@ -24,14 +24,14 @@ loop-number-preserved c =
     elim c.if-number-rank.branch [
       | then-number-rank w ↦
           let h = w.closed.result in
-          let new : Heads = record { banks = with_item old.banks number h } in
+          let new : Heads = record { banks = with_item old.banks number h; waits = old.waits } in
           record {
             banks = ap bank_count w.self-is ∙ length-set old.banks.items number h ∙ before.banks;
             stands = λ requests open_rows stands.
                 let now = before.stands requests open_rows stands in
                 let exists : number < bank_count old = omega (arith, before.banks, c.len-number-end.ensures) in
                 let known = subst (AreHeads requests number) (sym w.index.ensures) (now.heads_are number w.index.result.now exists) in
-                let closed = row_stand old new requests (closed_before number c.args.rank open_rows) number None h refl exists now w.closed.ensures.row (w.closed.ensures.heads requests number known) in
+                let closed = row_stand old new requests (closed_before number c.args.rank open_rows) number None h refl refl exists now w.closed.ensures.row (w.closed.ensures.heads requests number known) in
                 subst (λ x. StandsFor x requests (closed_before (number + 1) c.args.rank open_rows)) (sym w.self-is)
                 (same_rows new requests (with_row number None (closed_before number c.args.rank open_rows)) (closed_before (number + 1) c.args.rank open_rows) closed
                 (λ bank there. closed_more number c.args.rank open_rows (eq-eqb (number / 16) c.args.rank w.if-number-rank.true) bank));

@@ -1,0 +1,42 @@
+-- An ACT of the own bank waits, and the words of the rank.
+use Rattle.std.proofs.Common.{None, length, refl, ap, arith}
+use Rattle.sim_base.specs.declared.command.Command.TheVariants.{Pre}
+use Rattle.sim_base.specs.declared.command.Kind.TheVariants as kind
+use Rattle.bank_ready.specs.Words.{relation_from}
+use Rattle.bank_ready.proofs.Bounds.{pre_to_act, pre_nothing}
+use Rattle.bank_ready.proofs.Noting.{own_inside, at_distances, raised-own, widened, left, put-row, put-rank}
+use Rattle.bank_ready.proofs.banks.Banks.note_pre.Goals as goal
+
+pub raise_own-requires : goal.raise_own-requires
+raise_own-requires c = own_inside _ _ _ c.own_number-own.ensures.inside (omega (arith, ap length c.deref_mut.ensures.value))
+
+pub note_row-requires : goal.note_row-requires
+note_row-requires c = own_inside _ _ _ c.own_number-own.ensures.inside (omega (arith, ap length c.deref_mut-2.ensures.value))
+
+pub returns : goal.returns
+returns c source =
+    let banks = c.args.self.now in
+    let t = c.deref-delays.result.now in
+    let cycle = c.args.cycle in
+    let bank = c.args.bank in
+    let command = Pre bank source in
+    let number = c.own_number-own.ensures.number in
+    let own = c.own_number-own.result in
+    let rows = put-row banks.rows c.deref_mut-2.result.now c.note_row.new.rows bank own None c.deref_mut-2.ensures.value c.note_row.auto.rows c.note_row.ensures number in
+    let ranks = put-rank banks.ranks c.deref_mut-3.result.now c.raise_rank_words.new.ranks t cycle bank.rank command c.deref_mut-3.ensures.value c.raise_rank_words.auto.ranks c.raise_rank_words.ensures refl refl in
+    at_distances banks _ t banks.delays.value cycle command c.deref-delays.ensures
+    (record {
+      delays = refl;
+      act =
+          widened _ _ _ _
+          (raised-own banks.act c.deref_mut.result.now c.raise_own.new.words t cycle command kind.Act bank own c.bound_until-to_act.result c.deref_mut.ensures.value c.raise_own.auto.words c.raise_own.ensures
+          refl number c.bound_until-to_act.ensures (pre_to_act t cycle))
+          (λ k. omega arith);
+      rd = left banks.rd.items _ (λ k. (pre_nothing t cycle (relation_from bank k)).0);
+      wr = left banks.wr.items _ (λ k. (pre_nothing t cycle (relation_from bank k)).1);
+      pre = left banks.pre.items _ (λ k. (pre_nothing t cycle (relation_from bank k)).2);
+      row_count = rows.count;
+      rows = rows.each;
+      rank_count = ranks.count;
+      ranks = ranks.each;
+    })

@@ -1,0 +1,195 @@
+use Rattle.std.proofs.Common.{Bool, ◌≡◌, ◌-◌, ◌++◌, length, take, None, sym, ap, subst, ◌∙◌, arith}
+use Rattle.std.specs.Prelude.{replicate, is_some}
+use Rattle.refresh.specs.Refreshes.{lowest_owed}
+use Rattle.queue.specs.View.{is_draining}
+use Rattle.fr_fcfs.specs.Choices.{IsFor}
+use Rattle.channel_step.specs.Queued.{Queued}
+use Rattle.channel_step.specs.declared.channel.Channel.{Channel}
+use Rattle.channel_step.specs.declared.counting.Seen.{Seen}
+use Rattle.channel_step.specs.Channels.{IsNextBefore}
+use Rattle.channel_step.proofs.Going.{goes, goes-end, waits, acts}
+use Rattle.channel_step.proofs.Skipping.{waited-stands}
+use Rattle.channel_step.proofs.Stretches.{length-idle}
+use Rattle.channel_step.proofs.channel.Channel.turn.Goals as goal
+
+pub look-requires : goal.look-requires
+look-requires c =
+    let p = c.requires.can_run in
+    let h = (c.in_ok-arrived.ensures {u = tt}).in_cycle p.s p.channel p.rows p.mail c.args.until p.stands p.at c.requires.span p.fit in
+    record { s = p.s; channel = p.channel; rows = p.rows; mail = p.mail ++ take c.in_ok-arrived.arrived c.args.inbox.now; is_in = h; at = p.at }
+
+pub wait-requires-clause-in_cycle : goal.wait-requires-clause-in_cycle
+wait-requires-clause-in_cycle c =
+    let p = c.requires.can_run in
+    let h = (c.in_ok-arrived.ensures {u = tt}).in_cycle p.s p.channel p.rows p.mail c.args.until p.stands p.at c.requires.span p.fit in
+    record { s = p.s; channel = p.channel; rows = p.rows; mail = p.mail ++ take c.in_ok-arrived.arrived c.args.inbox.now; is_in = h; at = sym h.cycle_is }
+
+pub wait-requires-clause-span : goal.wait-requires-clause-span
+wait-requires-clause-span c =
+    let p = c.requires.can_run in
+    let h = (c.in_ok-arrived.ensures {u = tt}).in_cycle p.s p.channel p.rows p.mail c.args.until p.stands p.at c.requires.span p.fit in
+    let i = (c.in-Some.ensures {u = tt}).next p.s p.channel p.rows (p.mail ++ take c.in_ok-arrived.arrived c.args.inbox.now) h p.at in
+    omega (arith, h.cycle_is, i.from_now)
+
+pub wait-requires-clause-until : goal.wait-requires-clause-until
+wait-requires-clause-until c =
+    let p = c.requires.can_run in
+    let arrived = c.in_ok-arrived.ensures {u = tt} in
+    let h = arrived.in_cycle p.s p.channel p.rows p.mail c.args.until p.stands p.at c.requires.span p.fit in
+    let g = goes c.arrive.new.self p.s p.channel p.rows p.mail c.args.inbox.now c.args.now c.args.until c.in_ok-arrived.arrived c.next_arrival-end.result h p.at p.fit c.requires.span arrived.some c.next_arrival-end.ensures in
+    let within = goes-end p.s p.channel p.rows p.mail c.args.inbox.now c.args.now c.args.until c.in_ok-arrived.arrived c.next_arrival-end.result g in
+    let i = (c.in-Some.ensures {u = tt}).next p.s p.channel p.rows (p.mail ++ take c.in_ok-arrived.arrived c.args.inbox.now) h p.at in
+    omega (arith, i.before_end, within.1, c.requires.until)
+
+pub refreshing-requires : goal.refreshing-requires
+refreshing-requires c =
+    let p = c.requires.can_run in
+    let arrived = c.in_ok-arrived.ensures {u = tt} in
+    let h = arrived.in_cycle p.s p.channel p.rows p.mail c.args.until p.stands p.at c.requires.span p.fit in
+    let there = p.mail ++ take c.in_ok-arrived.arrived c.args.inbox.now in
+    let g = goes c.arrive.new.self p.s p.channel p.rows p.mail c.args.inbox.now c.args.now c.args.until c.in_ok-arrived.arrived c.next_arrival-end.result h p.at p.fit c.requires.span arrived.some c.next_arrival-end.ensures in
+    let within = goes-end p.s p.channel p.rows p.mail c.args.inbox.now c.args.now c.args.until c.in_ok-arrived.arrived c.next_arrival-end.result g in
+    let i = (c.in-Some.ensures {u = tt}).next p.s p.channel p.rows there h p.at in
+    let k = c.wait.ensures.in_cycle p.s p.channel p.rows there h in
+    omega (arith, k.cycle_is, length-idle p.rows (c.in-Some.cycle - length p.rows), i.from_now, i.before_end, within.1, c.requires.until)
+
+-- what is seen, where it is known whether a refresh is due
+abbrev seen_with : Channel → Bool → Seen
+seen_with d refreshing = record { queued = length d.waiting.queue.requests; refreshing = refreshing; draining = is_draining d.waiting.queue }
+
+pub perform-requires-clause-seen : goal.perform-requires-clause-seen
+perform-requires-clause-seen c =
+    let p = c.requires.can_run in
+    let h = (c.in_ok-arrived.ensures {u = tt}).in_cycle p.s p.channel p.rows p.mail c.args.until p.stands p.at c.requires.span p.fit in
+    let there = p.mail ++ take c.in_ok-arrived.arrived c.args.inbox.now in
+    let i = (c.in-Some.ensures {u = tt}).next p.s p.channel p.rows there h p.at in
+    let d = c.wait.new.self in
+    let k = c.wait.ensures.in_cycle p.s p.channel p.rows there h in
+    let at : d.cycle ≡ c.in-Some.cycle = omega (arith, k.cycle_is, length-idle p.rows (c.in-Some.cycle - length p.rows), i.from_now) in
+    c.seen-seen.ensures ∙ ap (seen_with d) (c.refreshing.ensures ∙ ap (λ t. is_some (lowest_owed d.refresh t)) at)
+
+pub perform-requires-clause-chosen : goal.perform-requires-clause-chosen
+perform-requires-clause-chosen c =
+    let p = c.requires.can_run in
+    let h = (c.in_ok-arrived.ensures {u = tt}).in_cycle p.s p.channel p.rows p.mail c.args.until p.stands p.at c.requires.span p.fit in
+    let there = p.mail ++ take c.in_ok-arrived.arrived c.args.inbox.now in
+    let i = (c.in-Some.ensures {u = tt}).next p.s p.channel p.rows there h p.at in
+    let from = i.from_now in
+    record {
+      s = p.s;
+      channel = p.channel;
+      rows = p.rows ++ replicate (c.in-Some.cycle - length p.rows) None;
+      mail = there;
+      is_in = c.wait.ensures.in_cycle p.s p.channel p.rows there h;
+      at = omega (arith, length-idle p.rows (c.in-Some.cycle - length p.rows));
+      chosen = i.command_is;
+    }
+
+pub perform-requires-clause-now : goal.perform-requires-clause-now
+perform-requires-clause-now c =
+    let p = c.requires.can_run in
+    let arrived = c.in_ok-arrived.ensures {u = tt} in
+    let h = arrived.in_cycle p.s p.channel p.rows p.mail c.args.until p.stands p.at c.requires.span p.fit in
+    let g = goes c.arrive.new.self p.s p.channel p.rows p.mail c.args.inbox.now c.args.now c.args.until c.in_ok-arrived.arrived c.next_arrival-end.result h p.at p.fit c.requires.span arrived.some c.next_arrival-end.ensures in
+    let within = goes-end p.s p.channel p.rows p.mail c.args.inbox.now c.args.now c.args.until c.in_ok-arrived.arrived c.next_arrival-end.result g in
+    let i = (c.in-Some.ensures {u = tt}).next p.s p.channel p.rows (p.mail ++ take c.in_ok-arrived.arrived c.args.inbox.now) h p.at in
+    omega (arith, i.before_end, within.1, c.requires.until)
+
+pub perform-requires-clause-slot : goal.perform-requires-clause-slot
+perform-requires-clause-slot c = subst (λ (w : Queued). IsFor w.queue.requests c.in-Some.chosen) (sym c.wait.ensures.same_queue) (c.in-Some.ensures {u = tt}).place
+
+pub wait-requires-in-None-clause-in_cycle : goal.wait-requires-in-None-clause-in_cycle
+wait-requires-in-None-clause-in_cycle c =
+    let p = c.requires.can_run in
+    let h = (c.in_ok-arrived.ensures {u = tt}).in_cycle p.s p.channel p.rows p.mail c.args.until p.stands p.at c.requires.span p.fit in
+    record { s = p.s; channel = p.channel; rows = p.rows; mail = p.mail ++ take c.in_ok-arrived.arrived c.args.inbox.now; is_in = h; at = sym h.cycle_is }
+
+pub wait-requires-in-None-clause-span : goal.wait-requires-in-None-clause-span
+wait-requires-in-None-clause-span c =
+    let p = c.requires.can_run in
+    let arrived = c.in_ok-arrived.ensures {u = tt} in
+    let h = arrived.in_cycle p.s p.channel p.rows p.mail c.args.until p.stands p.at c.requires.span p.fit in
+    let g = goes c.arrive.new.self p.s p.channel p.rows p.mail c.args.inbox.now c.args.now c.args.until c.in_ok-arrived.arrived c.next_arrival-end.result h p.at p.fit c.requires.span arrived.some c.next_arrival-end.ensures in
+    let within = goes-end p.s p.channel p.rows p.mail c.args.inbox.now c.args.now c.args.until c.in_ok-arrived.arrived c.next_arrival-end.result g in
+    omega (arith, h.cycle_is, p.at, within.0)
+
+pub wait-requires-in-None-clause-until : goal.wait-requires-in-None-clause-until
+wait-requires-in-None-clause-until c =
+    let p = c.requires.can_run in
+    let arrived = c.in_ok-arrived.ensures {u = tt} in
+    let h = arrived.in_cycle p.s p.channel p.rows p.mail c.args.until p.stands p.at c.requires.span p.fit in
+    let g = goes c.arrive.new.self p.s p.channel p.rows p.mail c.args.inbox.now c.args.now c.args.until c.in_ok-arrived.arrived c.next_arrival-end.result h p.at p.fit c.requires.span arrived.some c.next_arrival-end.ensures in
+    let within = goes-end p.s p.channel p.rows p.mail c.args.inbox.now c.args.now c.args.until c.in_ok-arrived.arrived c.next_arrival-end.result g in
+    omega (arith, within.1, c.requires.until)
+
+pub overflow_sub-result : goal.overflow_sub-result
+overflow_sub-result c =
+    let p = c.requires.can_run in
+    let arrived = c.in_ok-arrived.ensures {u = tt} in
+    let h = arrived.in_cycle p.s p.channel p.rows p.mail c.args.until p.stands p.at c.requires.span p.fit in
+    let g = goes c.arrive.new.self p.s p.channel p.rows p.mail c.args.inbox.now c.args.now c.args.until c.in_ok-arrived.arrived c.next_arrival-end.result h p.at p.fit c.requires.span arrived.some c.next_arrival-end.ensures in
+    let within = goes-end p.s p.channel p.rows p.mail c.args.inbox.now c.args.now c.args.until c.in_ok-arrived.arrived c.next_arrival-end.result g in
+    omega (arith, within.0)
+
+pub returns-in-Some-clause-from_now : goal.returns-in-Some-clause-from_now
+returns-in-Some-clause-from_now c =
+    let p = c.requires.can_run in
+    let h = (c.in_ok-arrived.ensures {u = tt}).in_cycle p.s p.channel p.rows p.mail c.args.until p.stands p.at c.requires.span p.fit in
+    let i = (c.in-Some.ensures {u = tt}).next p.s p.channel p.rows (p.mail ++ take c.in_ok-arrived.arrived c.args.inbox.now) h p.at in
+    omega (arith, p.at, i.from_now)
+
+pub returns-in-Some-clause-within : goal.returns-in-Some-clause-within
+returns-in-Some-clause-within c =
+    let p = c.requires.can_run in
+    let arrived = c.in_ok-arrived.ensures {u = tt} in
+    let h = arrived.in_cycle p.s p.channel p.rows p.mail c.args.until p.stands p.at c.requires.span p.fit in
+    let g = goes c.arrive.new.self p.s p.channel p.rows p.mail c.args.inbox.now c.args.now c.args.until c.in_ok-arrived.arrived c.next_arrival-end.result h p.at p.fit c.requires.span arrived.some c.next_arrival-end.ensures in
+    let within = goes-end p.s p.channel p.rows p.mail c.args.inbox.now c.args.now c.args.until c.in_ok-arrived.arrived c.next_arrival-end.result g in
+    let i = (c.in-Some.ensures {u = tt}).next p.s p.channel p.rows (p.mail ++ take c.in_ok-arrived.arrived c.args.inbox.now) h p.at in
+    omega (arith, i.before_end, within.1)
+
+pub returns-in-Some-clause-done : goal.returns-in-Some-clause-done
+returns-in-Some-clause-done c s channel rows mail stands at f =
+    let arrived = c.in_ok-arrived.ensures {u = tt} in
+    let n = c.in_ok-arrived.arrived in
+    let there = mail ++ take n c.args.inbox.now in
+    let h = arrived.in_cycle s channel rows mail c.args.until stands at c.requires.span f in
+    let g = goes c.arrive.new.self s channel rows mail c.args.inbox.now c.args.now c.args.until n c.next_arrival-end.result h at f c.requires.span arrived.some c.next_arrival-end.ensures in
+    let i = (c.in-Some.ensures {u = tt}).next s channel rows there h at in
+    let k = c.wait.ensures.in_cycle s channel rows there h in
+    let from = i.from_now in
+    let then = rows ++ replicate (c.in-Some.cycle - length rows) None in
+    let len : length then ≡ c.in-Some.cycle = omega (arith, length-idle rows (c.in-Some.cycle - length rows)) in
+    acts c.wait.new.self c.perform.new.self s channel rows mail c.args.inbox.now c.args.now c.args.until n c.next_arrival-end.result c.in-Some.cycle c.in-Some.chosen.command g i k
+    (c.perform.ensures s channel then there k len i.command_is)
+
+pub returns-in-None-clause-from_now : goal.returns-in-None-clause-from_now
+returns-in-None-clause-from_now c =
+    let p = c.requires.can_run in
+    let arrived = c.in_ok-arrived.ensures {u = tt} in
+    let h = arrived.in_cycle p.s p.channel p.rows p.mail c.args.until p.stands p.at c.requires.span p.fit in
+    let g = goes c.arrive.new.self p.s p.channel p.rows p.mail c.args.inbox.now c.args.now c.args.until c.in_ok-arrived.arrived c.next_arrival-end.result h p.at p.fit c.requires.span arrived.some c.next_arrival-end.ensures in
+    let within = goes-end p.s p.channel p.rows p.mail c.args.inbox.now c.args.now c.args.until c.in_ok-arrived.arrived c.next_arrival-end.result g in
+    omega (arith, within.0)
+
+pub returns-in-None-clause-within : goal.returns-in-None-clause-within
+returns-in-None-clause-within c =
+    let p = c.requires.can_run in
+    let arrived = c.in_ok-arrived.ensures {u = tt} in
+    let h = arrived.in_cycle p.s p.channel p.rows p.mail c.args.until p.stands p.at c.requires.span p.fit in
+    let g = goes c.arrive.new.self p.s p.channel p.rows p.mail c.args.inbox.now c.args.now c.args.until c.in_ok-arrived.arrived c.next_arrival-end.result h p.at p.fit c.requires.span arrived.some c.next_arrival-end.ensures in
+    let within = goes-end p.s p.channel p.rows p.mail c.args.inbox.now c.args.now c.args.until c.in_ok-arrived.arrived c.next_arrival-end.result g in
+    omega (arith, within.0, within.1)
+
+pub returns-in-None-clause-done : goal.returns-in-None-clause-done
+returns-in-None-clause-done c s channel rows mail stands at f =
+    let arrived = c.in_ok-arrived.ensures {u = tt} in
+    let n = c.in_ok-arrived.arrived in
+    let there = mail ++ take n c.args.inbox.now in
+    let end = c.next_arrival-end.result in
+    let h = arrived.in_cycle s channel rows mail c.args.until stands at c.requires.span f in
+    let g = goes c.arrive.new.self s channel rows mail c.args.inbox.now c.args.now c.args.until n end h at f c.requires.span arrived.some c.next_arrival-end.ensures in
+    let within = goes-end s channel rows mail c.args.inbox.now c.args.now c.args.until n end g in
+    let idle = subst (IsNextBefore s channel rows there end) c.in-None.is (c.look.ensures.next s channel rows there h at) in
+    waits c.wait-in-None.new.self s channel rows mail c.args.inbox.now c.args.now c.args.until n end g idle
+    (waited-stands c.arrive.new.self c.wait-in-None.new.self s channel rows there (end - length rows) h (c.wait-in-None.ensures.in_cycle s channel rows there h) (omega (arith, within.0)))

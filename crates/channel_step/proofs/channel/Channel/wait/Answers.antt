@@ -1,0 +1,97 @@
+use Rattle.std.proofs.Common.{◌≡◌, ◌<◌, ◌≤◌, ◌++◌, length, ◌-◌, None, sym, ap, subst, ◌∙◌, arith}
+use Rattle.std.proofs.lemmas.Bool.{lt-leb, le-leb}
+use Rattle.std.specs.Prelude.{replicate, is_some}
+use Rattle.refresh.specs.Refreshes.{lowest_owed}
+use Rattle.statistics.specs.Channels.{ChannelFits}
+use Rattle.channel_step.specs.Channels.{IsInCycle, passed}
+use Rattle.channel_step.specs.declared.channel.Channel.{Channel}
+use Rattle.channel_step.proofs.Skipping.{passed_to, skips-first_fits, skips-second_fits, skips-in_cycle, skips-not_due, skips-due, skips-due_fits, waited-none}
+use Rattle.channel_step.proofs.channel.Channel.wait.Goals as goal
+use Rattle.channel_step.proofs.channel.Channel.wait.Goals.{then-self-due, else-self-due}
+
+pub pass-requires-clause-refreshing : goal.pass-requires-clause-refreshing
+pass-requires-clause-refreshing c =
+    let now = c.args.self.now.cycle in
+    let due = c.due_from-due.ensures in
+    let within = due.within in
+    sym (due.due now (omega arith) (omega arith) ∙ lt-leb c.due_from-due.result now c.if-self-due.true)
+
+pub pass-requires-clause-fits : goal.pass-requires-clause-fits
+pass-requires-clause-fits c =
+    let p = c.requires.in_cycle in
+    let due = c.due_from-due.ensures in
+    skips-first_fits c.args.self.now p.s p.channel p.rows p.mail c.args.until c.due_from-due.result
+    (record { in_cycle = p.is_in; from_now = due.from_now; within = due.within; early = c.requires.until; dues = due.due })
+
+pub pass-requires-then-due-until-clause-refreshing : goal.pass-requires-then-due-until-clause-refreshing
+pass-requires-then-due-until-clause-refreshing c =
+    let due = c.due_from-due.ensures in
+    let from = due.from_now in
+    let at = c.due_from-due.result in
+    elim c.if-self-due.branch [
+      | then-self-due w ↦
+          let here : w.pass.new.self.cycle ≡ at = ap (λ (d : Channel). d.cycle) w.pass.ensures in
+          let same = ap (λ (d : Channel). d.refresh) w.pass.ensures in
+          let is = ap (λ (d : Channel). is_some (lowest_owed d.refresh d.cycle)) (w.self-is ∙ w.pass.ensures) in
+          sym (is ∙ due.due at (omega arith) c.if-due-until.true ∙ le-leb at at (omega arith))
+      | else-self-due w ↦
+          let now = c.args.self.now.cycle in
+          let is = ap (λ (d : Channel). is_some (lowest_owed d.refresh d.cycle)) w.self-is in
+          let late : at ≤ now = omega (arith, w.if-self-due.false) in
+          let before : now < c.args.until = omega (arith, c.if-due-until.true) in
+          sym (is ∙ due.due now (omega arith) before ∙ le-leb at now late)
+    ]
+
+pub pass-requires-then-due-until-clause-until : goal.pass-requires-then-due-until-clause-until
+pass-requires-then-due-until-clause-until c =
+    let due = c.due_from-due.ensures in
+    elim c.if-self-due.branch [
+      | then-self-due w ↦ omega (arith, due.within, ap (λ (d : Channel). d.cycle) (w.self-is ∙ w.pass.ensures))
+      | else-self-due w ↦ omega (arith, c.requires.span, ap (λ (d : Channel). d.cycle) w.self-is)
+    ]
+
+pub pass-requires-then-due-until-clause-fits : goal.pass-requires-then-due-until-clause-fits
+pass-requires-then-due-until-clause-fits c =
+    let p = c.requires.in_cycle in
+    let due = c.due_from-due.ensures in
+    elim c.if-self-due.branch [
+      | then-self-due w ↦
+          subst (λ (d : Channel). ChannelFits (passed d c.args.until)) (sym (w.self-is ∙ w.pass.ensures))
+          (skips-second_fits c.args.self.now p.s p.channel p.rows p.mail c.args.until c.due_from-due.result
+          (record { in_cycle = p.is_in; from_now = due.from_now; within = due.within; early = c.requires.until; dues = due.due }))
+      | else-self-due w ↦
+          subst (λ (d : Channel). ChannelFits (passed d c.args.until)) (sym w.self-is)
+          (skips-due_fits c.args.self.now p.s p.channel p.rows p.mail c.args.until c.due_from-due.result
+          (record { in_cycle = p.is_in; from_now = due.from_now; within = due.within; early = c.requires.until; dues = due.due }) (omega (arith, w.if-self-due.false)))
+    ]
+
+pub returns-then-self-until-clause-in_cycle : goal.returns-then-self-until-clause-in_cycle
+returns-then-self-until-clause-in_cycle c s channel rows mail h = waited-none c.args.self.now s channel rows mail c.args.until c.if-self-until.true h
+
+pub returns-then-due-until-clause-in_cycle : goal.returns-then-due-until-clause-in_cycle
+returns-then-due-until-clause-in_cycle c s channel rows mail h =
+    let due = c.due_from-due.ensures in
+    subst (λ (e : Channel). IsInCycle e s channel (rows ++ replicate (c.args.until - length rows) None) mail) (sym c.pass-then-due-until.ensures)
+    (elim c.if-self-due.branch [
+      | then-self-due w ↦
+          subst (λ (d : Channel). IsInCycle (passed_to d c.args.until) s channel (rows ++ replicate (c.args.until - length rows) None) mail) (sym (w.self-is ∙ w.pass.ensures))
+          (skips-in_cycle c.args.self.now s channel rows mail c.args.until c.due_from-due.result
+          (record { in_cycle = h; from_now = due.from_now; within = due.within; early = c.requires.until; dues = due.due }))
+      | else-self-due w ↦
+          subst (λ (d : Channel). IsInCycle (passed_to d c.args.until) s channel (rows ++ replicate (c.args.until - length rows) None) mail) (sym w.self-is)
+          (skips-due c.args.self.now s channel rows mail c.args.until c.due_from-due.result
+          (record { in_cycle = h; from_now = due.from_now; within = due.within; early = c.requires.until; dues = due.due }) (omega (arith, w.if-self-due.false)))
+    ])
+
+pub returns-else-due-until-clause-in_cycle : goal.returns-else-due-until-clause-in_cycle
+returns-else-due-until-clause-in_cycle c s channel rows mail h =
+    let due = c.due_from-due.ensures in
+    elim c.if-self-due.branch [
+      | then-self-due w ↦
+          subst (λ (d : Channel). IsInCycle d s channel (rows ++ replicate (c.args.until - length rows) None) mail) (sym (w.self-is ∙ w.pass.ensures))
+          (skips-not_due c.args.self.now s channel rows mail c.args.until c.due_from-due.result
+          (record { in_cycle = h; from_now = due.from_now; within = due.within; early = c.requires.until; dues = due.due }) (omega (arith, c.if-due-until.false)))
+      | else-self-due w ↦
+          subst (λ (d : Channel). IsInCycle d s channel (rows ++ replicate (c.args.until - length rows) None) mail) (sym w.self-is)
+          (waited-none c.args.self.now s channel rows mail c.args.until (omega (arith, c.if-due-until.false, w.if-self-due.false, c.requires.span)) h)
+    ]

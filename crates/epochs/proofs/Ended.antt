@@ -1,0 +1,103 @@
+-- The state in which units are left.
+use Rattle.std.proofs.Common.{◌≡◌, ℕ, zero, suc, ◌+◌, ◌<◌, List, [], ◌∷◌, ◌++◌, length, map, get_or, slice_get, Option, Some, None, refl, sym, ap, ap₂, subst, ◌∙◌, add-one, zero-add, arith}
+use Rattle.std.specs.Prelude.{filter_map, flat_map}
+use Rattle.std.specs.List.{cons_option}
+use Rattle.std.specs.Option.{option_to_list}
+use Rattle.std.proofs.lemmas.List.Elements.{filter_map-append}
+use Rattle.std.proofs.lemmas.List.{ext_get_or}
+use Rattle.std.proofs.lemmas.List.FromFn.{map-range_with_len_more, length-map-range_with_len, get_or-map-range_with_len}
+use Rattle.std.proofs.lemmas.Option.{get_or_from_slice_get}
+use Rattle.sim_base.specs.Final.{due_left, banks, queue_left}
+use Rattle.sim_base.specs.Scheduling.{waiting, due}
+use Rattle.statistics.specs.Cores.{core_stats}
+use Rattle.statistics.specs.declared.final_state.OpenRow.{OpenRow}
+use Rattle.sim_base.specs.declared.message.Request.{Request}
+use Rattle.sim_base.specs.declared.message.Message.{Message}
+use Rattle.sim_base.specs.declared.command.CommandRow.{CommandRow}
+use Rattle.statistics.specs.declared.cores.CoreStats.{CoreStats}
+use Rattle.laws.specs.Commands.{history_of, rows_of}
+use Rattle.span_laws.proofs.ChannelsOn.{channels-end_alike}
+use Rattle.sim_base.specs.declared.config.Config.{Config}
+use Rattle.sim_base.specs.declared.trace.Entry.{Entry}
+use Rattle.sim_base.specs.History.{below, trace_of}
+use Rattle.sim_base.proofs.Below.{flat_map_below_more}
+use Rattle.statistics.specs.Runs.{credits_of, core_last, row_of_bank, open_rows_left, channel_last, last_of_core, last_of_channel}
+use Rattle.statistics.specs.Values.{LastCore, LastChannel, LastState, RunStats, RunOutcome}
+use Rattle.laws.proofs.Legal.{length-rows_of}
+use Rattle.core_window.specs.Views.{CoreView}
+use Rattle.span_laws.specs.Cores.{IsCoreAt, core_rows_of}
+use Rattle.span_laws.specs.Mail.{mail_before}
+use Rattle.span_laws.proofs.CoresOn.{cores-end_alike}
+use Rattle.sim_base.specs.Machine.{run}
+use Rattle.sim_base.specs.declared.message.Unit.TheVariants as unit
+
+pub map_more : {X : Type 0} (f : ℕ → X) (n : ℕ) → map f (below (n + 1)) ≡ map f (below n) ++ f n ∷ []
+map_more f n = map-range_with_len_more f 0 n n (zero-add n)
+
+pub flat_map_more : {X : Type 0} (f : ℕ → List X) (n : ℕ) → flat_map f (below (n + 1)) ≡ flat_map f (below n) ++ f n
+flat_map_more f n = ap (λ k. flat_map f (below k)) (add-one n) ∙ flat_map_below_more f n
+
+as_list : {X : Type 0} (r : Option X) → cons_option r [] ≡ option_to_list r
+as_list None = refl
+as_list (Some r) = refl
+
+-- what a function gives of the elements so far, with one more
+pub given_more : {X Y : Type 0} (g : X → Option Y) (f : ℕ → X) (n : ℕ) → filter_map g (map f (below (n + 1))) ≡ filter_map g (map f (below n)) ++ option_to_list (g (f n))
+given_more g f n =
+    ap (filter_map g) (map_more f n) ∙ filter_map-append g (map f (below n)) (f n ∷ []) ∙ ap (λ z. filter_map g (map f (below n)) ++ z) (as_list (g (f n)))
+
+-- and with one more list
+pub given_list : {X Y : Type 0} (g : X → Option Y) (f : ℕ → List X) (n : ℕ) → filter_map g (flat_map f (below (n + 1))) ≡ filter_map g (flat_map f (below n)) ++ filter_map g (f n)
+given_list g f n = ap (filter_map g) (flat_map_more f n) ∙ filter_map-append g (flat_map f (below n)) (f n)
+
+-- a list that has this at each place
+pub placed : {X : Type 0} (f : ℕ → X) (n : ℕ) (xs : List X) → length xs ≡ n → ((i : ℕ) → i < n → slice_get xs i ≡ Some (f i)) → xs ≡ map f (below n)
+placed f n xs e h =
+    let long : length (map f (below n)) ≡ n = length-map-range_with_len f 0 n in
+    ext_get_or (f 0) xs (map f (below n)) (e ∙ sym long)
+    (λ i l. let k : i < n = omega (arith, e, l) in
+    get_or_from_slice_get xs i (f i) (f 0) (h i k) ∙ sym (get_or-map-range_with_len f 0 n i i (f 0) k (zero-add i)))
+
+-- the state of a core, as it keeps it
+pub core_left_is : (s : Config) (traces : List (List Entry)) (core now : ℕ) (view : CoreView) → IsCoreAt s traces core now view
+    → ◌≡◌ {A = LastCore} (record { issued = view.stats.issued; retired = view.stats.retired; credits = view.credits }) (last_of_core s traces (run s traces now) core)
+unfolding core_last core_stats
+core_left_is s traces core now view h =
+    let rows = core_rows_of s traces now core in
+    let trace = trace_of traces core in
+    let mail = mail_before s traces now (unit.Core core) now in
+    ap₂ {C = LastCore} (λ (x : CoreStats) credits. record { issued = x.issued; retired = x.retired; credits = credits }) h.stats
+    (placed (credits_of s core trace rows mail) s.channels view.credits h.channels h.credits)
+    ∙ (cores-end_alike s traces now core).1
+
+-- the state of a channel, by what it keeps
+pub channel_left_is : (s : Config) (traces : List (List Entry)) (channel now : ℕ)
+    → ◌≡◌ {A = LastChannel} (record {
+      due = map (λ rank. due s rank (history_of s traces now channel) now) (below s.ranks);
+      open_rows = filter_map (row_of_bank (history_of s traces now channel)) (banks s);
+      queue = waiting (history_of s traces now channel) (mail_before s traces now (unit.Channel channel) now) (length (rows_of s traces now channel));
+    })
+    (last_of_channel s traces (run s traces now) channel)
+unfolding channel_last due_left open_rows_left queue_left
+channel_left_is s traces channel now =
+    let h = history_of s traces now channel in
+    ap {B = LastChannel} (λ n. record {
+      due = map (λ rank. due s rank h n) (below s.ranks);
+      open_rows = filter_map (row_of_bank h) (banks s);
+      queue = waiting h (mail_before s traces now (unit.Channel channel) now) (length (rows_of s traces now channel));
+    })
+    (sym (length-rows_of s traces now channel))
+    ∙ (channels-end_alike s traces now channel).1
+
+-- three lists that are the same leave the same
+pub left_of : {due due' : List ℕ} → {rows rows' : List OpenRow} → {queue queue' : List Request} → due ≡ due' → rows ≡ rows' → queue ≡ queue'
+    → ◌≡◌ {A = LastChannel} (record { due = due; open_rows = rows; queue = queue }) (record { due = due'; open_rows = rows'; queue = queue' })
+left_of e f g = cc
+
+pub state_of : {cores cores' : List LastCore} → {channels channels' : List LastChannel} → {flight flight' : List Message} → cores ≡ cores' → channels ≡ channels' → flight ≡ flight'
+    → ◌≡◌ {A = LastState} (record { cores = cores; channels = channels; in_flight = flight }) (record { cores = cores'; channels = channels'; in_flight = flight' })
+state_of e f g = cc
+
+pub outcome_is : {rows rows' : List CommandRow} → {stats stats' : RunStats} → {last last' : LastState} → (ranks : ℕ) → rows ≡ rows' → stats ≡ stats' → last ≡ last'
+    → ◌≡◌ {A = RunOutcome} (record { commands = rows; stats = stats; last = last; ranks = ranks }) (record { commands = rows'; stats = stats'; last = last'; ranks = ranks })
+outcome_is ranks e f g = cc

@@ -1,0 +1,90 @@
+-- The best offer so far.
+use Rattle.std.proofs.Common.{◌≡◌, ℕ, ◌<◌, ◌≤◌, Bool, true, false, cond, ltb, eqb, Option, Some, None, refl, sym, ap, subst, ◌∙◌, inl, inr, arith}
+use Rattle.std.proofs.lemmas.Bool.{cases_lt, cases_eq, eq-eqb, ne_eqb, lt-ltb, le-ltb, cond-true, cond-false}
+use Rattle.heads.specs.Moves.{earlier}
+use Rattle.fr_fcfs.specs.declared.offers.Offer.{Offer}
+use Rattle.fr_fcfs.specs.Offers.{goes_before, no_offer, if_within, IsBestOffer, IsBest, IsBestSoFar}
+use Rattle.fr_fcfs.proofs.Bests.{first_alone, better_is, second_alone_is, best_same}
+
+hit_or : (hit test : Bool) → test ≡ true → cond hit true test ≡ true
+hit_or true test is = refl
+hit_or false test is = is
+
+-- all offers go before what stands for none
+before_none : (room : ℕ) (o : Offer) → o.slot < room → o.cycle ≤ 18446744073709551615 → goes_before o (no_offer room) ≡ true
+before_none room o inside fits = elim (cases_eq o.cycle 18446744073709551615) [
+  | inl same ↦
+      cond-true (eqb o.cycle 18446744073709551615) (cond o.hit true (ltb o.slot room)) (ltb o.cycle 18446744073709551615) (eq-eqb o.cycle 18446744073709551615 same)
+      ∙ hit_or o.hit (ltb o.slot room) (lt-ltb o.slot room inside)
+  | inr apart ↦
+      cond-false (eqb o.cycle 18446744073709551615) (cond o.hit true (ltb o.slot room)) (ltb o.cycle 18446744073709551615) (ne_eqb o.cycle 18446744073709551615 apart)
+      ∙ lt-ltb o.cycle 18446744073709551615 (below o.cycle 18446744073709551615 fits apart)
+]
+  where
+    below : (m n : ℕ) → m ≤ n → (m ≡ n → ⊥) → m < n
+    below m n fits apart = elim (cases_lt m n) [
+      | inl less ↦ less
+      | inr more ↦ absurd (apart (omega arith))
+    ]
+
+-- an offer with a place among so many
+offer_within : (room : ℕ) (o : Offer) → o.slot < room → if_within room o ≡ Some o
+offer_within room o inside = cond-true (ltb o.slot room) (Some o) None (lt-ltb o.slot room inside)
+
+offer_without : (room : ℕ) (o : Offer) → room ≤ o.slot → if_within room o ≡ None
+offer_without room o outside = cond-false (ltb o.slot room) (Some o) None (le-ltb o.slot room outside)
+
+-- the offer that is the best, with a place among so many
+told : (room now : ℕ) (h r : ℕ → Option ℕ) (o : Offer) → o.slot < room → IsBestOffer now h r o → IsBestSoFar room now h r o
+told room now h r o inside best = record {
+  none = λ outside. absurd (omega arith);
+  best = subst (IsBest now h r) (sym (offer_within room o inside)) best;
+}
+
+picked : (room : ℕ) (flag : Bool) (a b : Offer) → a.slot < room → b.slot < room → (cond flag a b).slot < room
+picked room true a b in_a in_b = in_a
+picked room false a b in_a in_b = in_b
+
+-- before the first offer
+pub none_so_far : (room now : ℕ) (h r : ℕ → Option ℕ) → ((c : ℕ) → now ≤ c → h c ≡ None) → ((c : ℕ) → now ≤ c → r c ≡ None) → IsBestSoFar room now h r (no_offer room)
+none_so_far room now h r none_h none_r = record {
+  none = λ outside. refl;
+  best = subst (IsBest now h r) (sym (offer_without room (no_offer room) (omega arith))) (λ c from. (none_h c from, none_r c from));
+}
+
+-- with one offer more
+pub one_more : (room now : ℕ) (h r h2 r2 : ℕ → Option ℕ) (best o : Offer) → o.slot < room → o.cycle ≤ 18446744073709551615 → IsBestSoFar room now h r best → IsBestOffer now h2 r2 o
+    → IsBestSoFar room now (λ c. earlier (h c) (h2 c)) (λ c. earlier (r c) (r2 c)) (cond (goes_before o best) o best)
+one_more room now h r h2 r2 best o inside fits so_far offered = elim (cases_lt best.slot room) [
+  | inl within ↦
+      let first = subst (IsBest now h r) (offer_within room best within) so_far.best in
+      told room now (λ c. earlier (h c) (h2 c)) (λ c. earlier (r c) (r2 c)) (cond (goes_before o best) o best) (picked room (goes_before o best) o best inside within)
+      (better_is now h r h2 r2 best o (goes_before o best) refl first offered)
+  | inr outside ↦
+      let never = subst (IsBest now h r) (offer_without room best outside) so_far.best in
+      let goes : goes_before o best ≡ true = ap (goes_before o) (so_far.none outside) ∙ before_none room o inside fits in
+      subst (IsBestSoFar room now (λ c. earlier (h c) (h2 c)) (λ c. earlier (r c) (r2 c))) (sym (cond-true (goes_before o best) o best goes))
+      (told room now (λ c. earlier (h c) (h2 c)) (λ c. earlier (r c) (r2 c)) o inside (second_alone_is now h r h2 r2 (Some o) never offered))
+]
+
+-- the same places by other functions of the cycle
+pub so_far_same : (room now : ℕ) (h r h2 r2 : ℕ → Option ℕ) (o : Offer) → ((c : ℕ) → now ≤ c → h c ≡ h2 c) → ((c : ℕ) → now ≤ c → r c ≡ r2 c) → IsBestSoFar room now h r o
+    → IsBestSoFar room now h2 r2 o
+so_far_same room now h r h2 r2 o same_h same_r so_far = record {
+  none = so_far.none;
+  best = best_same now h r h2 r2 (if_within room o) same_h same_r so_far.best;
+}
+
+-- with a bank more that offers nothing
+pub none_more : (room now : ℕ) (h r h2 r2 : ℕ → Option ℕ) (o : Offer) → ((c : ℕ) → now ≤ c → h2 c ≡ None) → ((c : ℕ) → now ≤ c → r2 c ≡ None) → IsBestSoFar room now h r o
+    → IsBestSoFar room now (λ c. earlier (h c) (h2 c)) (λ c. earlier (r c) (r2 c)) o
+none_more room now h r h2 r2 o none_h none_r so_far =
+    so_far_same room now h r (λ c. earlier (h c) (h2 c)) (λ c. earlier (r c) (r2 c)) o (λ c from. sym (ap (earlier (h c)) (none_h c from) ∙ first_alone (h c)))
+    (λ c from. sym (ap (earlier (r c)) (none_r c from) ∙ first_alone (r c))) so_far
+
+-- what there is when all are looked at
+pub found : (room now : ℕ) (h r : ℕ → Option ℕ) (o : Offer) → o.slot < room → IsBestSoFar room now h r o → IsBest now h r (Some o)
+found room now h r o inside so_far = subst (IsBest now h r) (offer_within room o inside) so_far.best
+
+pub none_found : (room now : ℕ) (h r : ℕ → Option ℕ) (o : Offer) → room ≤ o.slot → IsBestSoFar room now h r o → IsBest now h r None
+none_found room now h r o outside so_far = subst (IsBest now h r) (offer_without room o outside) so_far.best

@@ -1,0 +1,238 @@
+-- Which requests wait for an older one of their line, with one request more and with one less.
+use Rattle.std.proofs.Common.{◌≡◌, ℕ, suc, ◌+◌, ◌<◌, Bool, true, false, not, cond, ◌&&◌, ◌||◌, eqb, ltb, ◌-◌, ◌≤◌, List, [], ◌∷◌, ◌++◌, length, take, drop, get_or, set, Option, Some, None, refl, sym, ap, ◌∙◌, inl, inr, arith, get_or-set_same, get_or-set_other}
+use Rattle.std.proofs.lemmas.Bool.{cases_Bool, cases_lt, and_parts, cond-false, le-ltb, true≢false, false≢true}
+use Rattle.std.proofs.lemmas.List.{length-take-le, length-set}
+use Rattle.std.proofs.lemmas.List.Folds.{list_any-append}
+use Rattle.std.proofs.Math.ListN.{get_or-eq_default}
+use Rattle.std.specs.List.{list_any, position, remove, zip}
+use Rattle.std.specs.Option.{option_map, is_none}
+use Rattle.sim_base.specs.Places.{is_line}
+use Rattle.sim_base.specs.Scheduling.{asks_for_line}
+use Rattle.sim_base.specs.declared.message.Request.{Request}
+use Rattle.sim_base.specs.declared.place.Place.{Place}
+use Rattle.lane_scan.specs.Marks.{mark}
+use Rattle.queue.specs.Columns.{bank_number, eligible_column}
+use Rattle.queue.proofs.Eligible.{marks_after, eligible_push, length-eligible, eligible_is, remove_at, around}
+use Rattle.queue.proofs.SameLine.{line_same}
+use Rattle.heads.specs.Heads.{asks, wants, passes, waits, entries, first_place, NoneWaits}
+use Rattle.heads.specs.Moves.{past, before}
+use Rattle.heads.proofs.Positions.{position-cons, before_some, before_here, before_past}
+use Rattle.heads.proofs.Entries.{zip-append, front, entries_with, entries_without, passes_mark, split_moved, left_front}
+
+or_parts : (a b : Bool) → (a || b) ≡ false → (a ≡ false) × (b ≡ false)
+or_parts true b none = absurd (true≢false none)
+or_parts false b none = (refl, none)
+
+or_none : (a b : Bool) → a ≡ false → b ≡ false → (a || b) ≡ false
+or_none true b none other = none
+or_none false b none other = other
+
+never : (t : Bool) → (t && false) ≡ false
+never true = refl
+never false = refl
+
+waits_mark : (bank : ℕ) (r : Request) (t : Bool) → waits bank (r, mark (not t)) ≡ (t && eqb (bank_number r.place) bank)
+waits_mark bank r true = refl
+waits_mark bank r false = refl
+
+-- one request more
+pub waits_push : (bank : ℕ) (older : List Request) (r : Request) → NoneWaits bank older → (asks_for_line r.place older && eqb (bank_number r.place) bank) ≡ false
+    → NoneWaits bank (older ++ r ∷ [])
+waits_push bank older r none here =
+    let asked = asks_for_line r.place older in
+    ap (λ ms. list_any (waits bank) (zip (older ++ r ∷ []) ms)) (eligible_push older r)
+    ∙ ap (list_any (waits bank)) (zip-append older (r ∷ []) (eligible_column older) (mark (not asked) ∷ []) (length-eligible older))
+    ∙ list_any-append (waits bank) (entries older) ((r, mark (not asked)) ∷ [])
+    ∙ or_none (list_any (waits bank) (entries older)) (waits bank (r, mark (not asked)) || false) none
+    (or_none (waits bank (r, mark (not asked))) false (waits_mark bank r asked ∙ here) refl)
+
+less_and : (a b e : Bool) → (a ≡ false → b ≡ false) → (a && e) ≡ false → (b && e) ≡ false
+less_and true b true less none = absurd (true≢false none)
+less_and true b false less none = never b
+less_and false b e less none = ap (λ t. t && e) (less refl)
+
+-- fewer wait where fewer lines were asked for
+fewer_wait : (bank : ℕ) (a b : Place → Bool) (rs : List Request) → ((p : Place) → a p ≡ false → b p ≡ false)
+    → list_any (waits bank) (zip rs (marks_after a rs)) ≡ false → list_any (waits bank) (zip rs (marks_after b rs)) ≡ false
+fewer_wait bank a b [] less none = refl
+fewer_wait bank a b (r ∷ rs) less none =
+    let parts = or_parts (waits bank (r, mark (not (a r.place)))) (list_any (waits bank) (zip rs (marks_after (λ p. a p || is_line r.place p) rs))) none in
+    or_none (waits bank (r, mark (not (b r.place)))) (list_any (waits bank) (zip rs (marks_after (λ p. b p || is_line r.place p) rs)))
+    (waits_mark bank r (b r.place) ∙ less_and (a r.place) (b r.place) (eqb (bank_number r.place) bank) (less r.place) (sym (waits_mark bank r (a r.place)) ∙ parts.0))
+    (fewer_wait bank (λ p. a p || is_line r.place p) (λ p. b p || is_line r.place p) rs
+    (λ p off. let both = or_parts (a p) (is_line r.place p) off in or_none (b p) (is_line r.place p) (less p both.0) both.1)
+    parts.1)
+
+-- what stands behind a request waits no more once it has left
+abbrev behind : List Request → Request → List Request → List (Request × ℕ)
+behind older r later = zip later (marks_after (λ p. asks_for_line p older || is_line r.place p) later)
+
+waits_split : (bank : ℕ) (older later : List Request) (r : Request) → NoneWaits bank (older ++ r ∷ later)
+    → (list_any (waits bank) (front older) ≡ false) × (list_any (waits bank) (behind older r later) ≡ false)
+waits_split bank older later r none =
+    let head : Request × ℕ = (r, mark (not (asks_for_line r.place older))) in
+    let whole = sym (ap (list_any (waits bank)) (entries_with older later r) ∙ list_any-append (waits bank) (front older) (head ∷ behind older r later)) ∙ none in
+    let parts = or_parts (list_any (waits bank) (front older)) (list_any (waits bank) (head ∷ behind older r later)) whole in
+    (parts.0, (or_parts (waits bank head) (list_any (waits bank) (behind older r later)) parts.1).1)
+
+less_asked : (older : List Request) (r : Request) (p : Place) → (asks_for_line p older || is_line r.place p) ≡ false → asks_for_line p older ≡ false
+less_asked older r p off = (or_parts (asks_for_line p older) (is_line r.place p) off).0
+
+-- a list round a request that leaves it
+split_at : (rs : List Request) (slot : ℕ) (r : Request) → slot < length rs → r ≡ get_or rs slot r
+    → (length (take slot rs) ≡ slot) × (rs ≡ take slot rs ++ r ∷ drop (slot + 1) rs) × (remove rs slot ≡ take slot rs ++ drop (slot + 1) rs)
+split_at rs slot r exists here =
+    let older = take slot rs in
+    let later = drop (slot + 1) rs in
+    let long : length older ≡ slot = length-take-le slot rs (omega arith) in
+    let whole : rs ≡ older ++ r ∷ later = around rs slot r exists ∙ ap (λ x. older ++ x ∷ later) (sym here) in
+    (long, whole, ap (λ xs. remove xs slot) whole ∙ remove_at older later r slot long)
+
+-- one request less
+pub waits_left : (bank : ℕ) (rs : List Request) (slot : ℕ) (r : Request) → slot < length rs → r ≡ get_or rs slot r → NoneWaits bank rs → NoneWaits bank (remove rs slot)
+waits_left bank rs slot r exists here none =
+    let older = take slot rs in
+    let later = drop (slot + 1) rs in
+    let split = split_at rs slot r exists here in
+    let parts = waits_split bank older later r (sym (ap (λ xs. list_any (waits bank) (entries xs)) split.1) ∙ none) in
+    ap (λ xs. list_any (waits bank) (entries xs)) split.2
+    ∙ ap (list_any (waits bank)) (entries_without older later)
+    ∙ list_any-append (waits bank) (front older) (zip later (marks_after (λ p. asks_for_line p older) later))
+    ∙ or_none (list_any (waits bank) (front older)) (list_any (waits bank) (zip later (marks_after (λ p. asks_for_line p older) later))) parts.0
+    (fewer_wait bank (λ p. asks_for_line p older || is_line r.place p) (λ p. asks_for_line p older) later (less_asked older r) parts.1)
+
+asked_by : (a e : Bool) → (a && e) ≡ false → e ≡ true → a ≡ false
+asked_by a true none is = and_true a none
+  where
+    and_true : (b : Bool) → (b && true) ≡ false → b ≡ false
+    and_true true none = none
+    and_true false none = refl
+asked_by a false none is = absurd (false≢true is)
+
+-- where none of a bank waits, its marks stay
+calm_marks : (bank : ℕ) (test : Request → Bool) (a b : Place → Bool) (rs : List Request) → ((x : Request) → test x ≡ true → eqb (bank_number x.place) bank ≡ true)
+    → ((p : Place) → a p ≡ false → b p ≡ false) → list_any (waits bank) (zip rs (marks_after a rs)) ≡ false
+    → position (passes test) (zip rs (marks_after a rs)) ≡ position (passes test) (zip rs (marks_after b rs))
+calm_marks bank test a b [] narrow less none = refl
+calm_marks bank test a b (r ∷ rs) narrow less none =
+    let next = λ (f : Place → Bool) (p : Place). f p || is_line r.place p in
+    let parts = or_parts (waits bank (r, mark (not (a r.place)))) (list_any (waits bank) (zip rs (marks_after (next a) rs))) none in
+    let rest = calm_marks bank test (next a) (next b) rs narrow
+    (λ p off. let both = or_parts (a p) (is_line r.place p) off in or_none (b p) (is_line r.place p) (less p both.0) both.1) parts.1 in
+    let head : (not (a r.place) && test r) ≡ (not (b r.place) && test r) = elim (cases_Bool (test r)) [
+      | inl is ↦
+          let first : a r.place ≡ false = asked_by (a r.place) (eqb (bank_number r.place) bank) (sym (waits_mark bank r (a r.place)) ∙ parts.0) (narrow r is) in
+          ap (λ t. not t && test r) (first ∙ sym (less r.place first))
+      | inr fails ↦ ap (λ t. not (a r.place) && t) fails ∙ never (not (a r.place)) ∙ sym (never (not (b r.place))) ∙ ap (λ t. not (b r.place) && t) (sym fails)
+    ] in
+    position-cons (passes test) (r, mark (not (a r.place))) (zip rs (marks_after (next a) rs))
+    ∙ (λ i. cond ((passes_mark test r (not (a r.place)) ∙ head ∙ sym (passes_mark test r (not (b r.place)))) i) (Some 0) (option_map suc (rest i)))
+    ∙ sym (position-cons (passes test) (r, mark (not (b r.place))) (zip rs (marks_after (next b) rs)))
+
+-- A request has left a bank of which none waits, and it was not the first that passes a test: the first place moves.
+later_place : (bank : ℕ) (test : Request → Bool) (rs : List Request) (slot : ℕ) (r : Request) → slot < length rs → r ≡ get_or rs slot r
+    → ((x : Request) → test x ≡ true → eqb (bank_number x.place) bank ≡ true) → NoneWaits bank rs → before (slot + 1) (first_place test rs) ≡ None
+    → first_place test (remove rs slot) ≡ past slot (first_place test rs)
+later_place bank test rs slot r exists here narrow none late =
+    let older = take slot rs in
+    let later = drop (slot + 1) rs in
+    let split = split_at rs slot r exists here in
+    let parts = waits_split bank older later r (sym (ap (λ xs. list_any (waits bank) (entries xs)) split.1) ∙ none) in
+    let same = calm_marks bank test (λ p. asks_for_line p older || is_line r.place p) (λ p. asks_for_line p older) later narrow (less_asked older r) parts.1 in
+    let whole = older ++ r ∷ later in
+    let late_whole : before (length older + 1) (first_place test whole) ≡ None =
+    ap (λ n. before (n + 1) (first_place test whole)) split.0 ∙ ap (λ xs. before (slot + 1) (first_place test xs)) (sym split.1) ∙ late in
+    ap (first_place test) split.2 ∙ split_moved test older later r late_whole same
+    ∙ ap (λ n. past n (first_place test whole)) split.0 ∙ ap (λ xs. past slot (first_place test xs)) (sym split.1)
+
+pub calm_place : (bank : ℕ) (test : Request → Bool) (rs : List Request) (slot : ℕ) (r : Request) (head : Option ℕ) → slot < length rs → r ≡ get_or rs slot r
+    → ((x : Request) → test x ≡ true → eqb (bank_number x.place) bank ≡ true) → NoneWaits bank rs → head ≡ first_place test rs → (head ≡ Some slot → ⊥)
+    → past slot head ≡ first_place test (remove rs slot)
+calm_place bank test rs slot r None exists here narrow none is apart =
+    sym (later_place bank test rs slot r exists here narrow none (ap (before (slot + 1)) (sym is)) ∙ ap (past slot) (sym is))
+calm_place bank test rs slot r (Some k) exists here narrow none is apart = elim (cases_lt k slot) [
+  | inl sooner ↦
+      let kept : before slot (first_place test (remove rs slot)) ≡ Some k =
+      left_front test rs slot r exists here ∙ ap (before slot) (sym is) ∙ before_here slot k sooner in
+      stays k sooner ∙ sym (before_some slot k (first_place test (remove rs slot)) kept).0
+  | inr late ↦
+      let other : k ≡ slot → ⊥ = λ same. apart (ap Some same) in
+      let behind_it : slot + 1 ≤ k = beyond k late other in
+      sym (later_place bank test rs slot r exists here narrow none (ap (before (slot + 1)) (sym is) ∙ before_past (slot + 1) k behind_it) ∙ ap (past slot) (sym is))
+]
+  where
+    stays : (k : ℕ) → k < slot → past slot (Some k) ≡ Some k
+    stays k sooner = ap Some (cond-false (ltb slot k) (k - 1) k (le-ltb slot k (omega arith)))
+
+    beyond : (k : ℕ) → slot ≤ k → (k ≡ slot → ⊥) → slot + 1 ≤ k
+    beyond k late other = elim (cases_lt slot k) [
+      | inl less ↦ omega arith
+      | inr more ↦ absurd (other (omega arith))
+    ]
+
+-- a request that is wanted is of the bank
+pub wants_bank : (bank : ℕ) (write : Bool) (row : Option ℕ) (x : Request) → wants bank write row x ≡ true → eqb (bank_number x.place) bank ≡ true
+wants_bank bank write row x is = (and_parts (eqb (bank_number x.place) bank) (cond write x.write (not x.write)) (asked row is)).0
+  where
+    asked : (row : Option ℕ) → wants bank write row x ≡ true → asks bank write x ≡ true
+    asked None is = is
+    asked (Some row) is = (and_parts (asks bank write x) (eqb x.place.row row) is).0
+
+first_none : (t : Bool) (o : Option ℕ) → cond t (Some 0) (option_map suc o) ≡ None → (t ≡ false) × (o ≡ None)
+first_none true o none = cc
+first_none false None none = (refl, refl)
+first_none false (Some k) none = cc
+
+bank_apart : (r : Request) (bank : ℕ) (asked : Bool) → (asked ≡ true → eqb (bank_number r.place) bank ≡ false) → (not asked && asks bank true r) ≡ false
+    → (not asked && asks bank false r) ≡ false → eqb (bank_number r.place) bank ≡ false
+bank_apart r bank true elsewhere no_write no_read = elsewhere refl
+bank_apart r bank false elsewhere no_write no_read = either (eqb (bank_number r.place) bank) r.write no_write no_read
+  where
+    either : (e w : Bool) → (e && w) ≡ false → (e && not w) ≡ false → e ≡ false
+    either false w no_write no_read = refl
+    either true true no_write no_read = no_write
+    either true false no_write no_read = no_read
+
+-- where none of a bank may be served, none asks for it, and so none waits
+none_of_bank : (bank : ℕ) (a : Place → Bool) (rs : List Request) → ((p : Place) → a p ≡ true → eqb (bank_number p) bank ≡ false)
+    → position (passes (asks bank true)) (zip rs (marks_after a rs)) ≡ None → position (passes (asks bank false)) (zip rs (marks_after a rs)) ≡ None
+    → list_any (waits bank) (zip rs (marks_after a rs)) ≡ false
+none_of_bank bank a [] elsewhere no_write no_read = refl
+none_of_bank bank a (r ∷ rs) elsewhere no_write no_read =
+    let next = λ (p : Place). a p || is_line r.place p in
+    let rest = zip rs (marks_after next rs) in
+    let head : Request × ℕ = (r, mark (not (a r.place))) in
+    let writes = first_none (passes (asks bank true) head) (position (passes (asks bank true)) rest) (sym (position-cons (passes (asks bank true)) head rest) ∙ no_write) in
+    let reads = first_none (passes (asks bank false) head) (position (passes (asks bank false)) rest) (sym (position-cons (passes (asks bank false)) head rest) ∙ no_read) in
+    let apart : eqb (bank_number r.place) bank ≡ false =
+    bank_apart r bank (a r.place) (elsewhere r.place) (sym (passes_mark (asks bank true) r (not (a r.place))) ∙ writes.0) (sym (passes_mark (asks bank false) r (not (a r.place))) ∙ reads.0) in
+    or_none (waits bank head) (list_any (waits bank) rest) (waits_mark bank r (a r.place) ∙ ap (λ t. a r.place && t) apart ∙ never (a r.place))
+    (none_of_bank bank next rs
+    (λ p is. elim (cases_Bool (a p)) [
+      | inl asked ↦ elsewhere p asked
+      | inr not_asked ↦
+          let line : is_line r.place p ≡ true = ap (λ t. t || is_line r.place p) (sym not_asked) ∙ is in
+          ap (λ q. eqb (bank_number q) bank) (sym (line_same r.place p line)) ∙ apart
+    ])
+    writes.1 reads.1)
+
+pub empty_waits : (bank : ℕ) (rs : List Request) → None ≡ first_place (asks bank true) rs → None ≡ first_place (asks bank false) rs → NoneWaits bank rs
+empty_waits bank rs no_write no_read =
+    let whole = ap (zip rs) (eligible_is rs) in
+    ap (list_any (waits bank)) whole
+    ∙ none_of_bank bank (λ p. false) rs (λ p is. absurd (false≢true is))
+    (ap (position (passes (asks bank true))) (sym whole) ∙ sym no_write) (ap (position (passes (asks bank false))) (sym whole) ∙ sym no_read)
+
+pub none_is : (o : Option ℕ) → is_none o ≡ true → o ≡ None
+none_is None is = refl
+none_is (Some k) is = absurd (false≢true is)
+
+-- which banks are noted
+pub noted_other : (xs : List Bool) (bank other : ℕ) (b : Bool) → (other ≡ bank → ⊥) → get_or (set xs bank b) other true ≡ false → get_or xs other true ≡ false
+noted_other xs bank other b apart is = sym (get_or-set_other xs bank other b true apart) ∙ is
+
+pub noted_here : (xs : List Bool) (bank : ℕ) → get_or (set xs bank true) bank true ≡ false → ⊥
+noted_here xs bank is = elim (cases_lt bank (length xs)) [
+  | inl within ↦ true≢false (sym (get_or-set_same xs bank true true within) ∙ is)
+  | inr past_all ↦ true≢false (sym (get_or-eq_default (set xs bank true) true (omega (arith, length-set xs bank true))) ∙ is)
+]

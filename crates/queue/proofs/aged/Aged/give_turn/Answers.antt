@@ -1,0 +1,46 @@
+-- The mark and the key of a request are written.
+use Rattle.std.proofs.Common.{true, ◌+◌, drop, set, refl, sym, ap, ◌∙◌}
+use Rattle.std.proofs.lemmas.List.{length-set, get_or-drop}
+use Rattle.queue.specs.Columns.{key_of, keys_of}
+use Rattle.queue.proofs.Dropped.{drop-set}
+use Rattle.queue.proofs.Kept.{keys_turned}
+use Rattle.queue.proofs.aged.Aged.give_turn.Goals as goal
+
+pub invariant_of-self : goal.invariant_of-self
+invariant_of-self c =
+    let a = c.self.inside in
+    let kept = c.self.invariant in
+    let at = c.args.at in
+    let place = a.start + at in
+    let rs = drop a.start a.requests.items in
+    let marks = drop a.start a.eligible.items in
+    let key_is = c.key.ensures ∙ ap (key_of true) (c.index.ensures ∙ sym (get_or-drop a.start a.requests.items at _)) in
+    let written = drop-set a.start at place a.keys.items c.key.result refl ∙ ap (set (drop a.start a.keys.items) at) key_is in
+    record {
+      begun = kept.begun;
+      banks_are = kept.banks_are;
+      rows_are = kept.rows_are;
+      kinds_are = kept.kinds_are;
+      keys_are = keys_turned (drop a.start a.keys.items) _ rs marks at _ kept.keys_are written ∙ ap (keys_of rs) (sym (drop-set a.start at place a.eligible.items 1 refl));
+      prints_are = kept.prints_are;
+      banks_long = kept.banks_long;
+      rows_long = kept.rows_long;
+      kinds_long = kept.kinds_long;
+      eligible_long = length-set a.eligible.items place 1 ∙ kept.eligible_long;
+      keys_long = length-set a.keys.items place c.key.result ∙ kept.keys_long;
+      prints_long = kept.prints_long;
+      within = kept.within;
+      enough = kept.enough;
+      request_room = kept.request_room;
+      bank_room = kept.bank_room;
+      row_room = kept.row_room;
+      kind_room = kept.kind_room;
+      eligible_room = kept.eligible_room;
+      key_room = kept.key_room;
+      print_room = kept.print_room;
+    }
+
+pub returns-clause-marks : goal.returns-clause-marks
+returns-clause-marks c =
+    let a = c.self.inside in
+    drop-set a.start c.args.at (a.start + c.args.at) a.eligible.items 1 refl ∙ ap (λ v. set v.marks c.args.at 1) c.self.view_is

@@ -1,0 +1,19 @@
+use Rattle.std.proofs.Common.{◌+◌, ◌<◌, length, arith}
+use Rattle.queue.proofs.Dropped.{come_next}
+use Rattle.queue.proofs.aged.move_each_down.Goals as goal
+
+pub loop-at-preserved : goal.loop-at-preserved
+loop-at-preserved c =
+    let l = c.loop-at in
+    let down = l.invariant in
+    let within : l.at + 1 < length c.args.requests.now = omega arith in (
+      within,
+      down.1,
+      come_next c.args.requests.now l.requests l.at _ within down.2,
+      come_next c.args.banks.now l.banks l.at 0 (omega (arith, within, c.requires.banks_long)) down.3,
+      come_next c.args.rows.now l.rows l.at 0 (omega (arith, within, c.requires.rows_long)) down.4,
+      come_next c.args.kinds.now l.kinds l.at 0 (omega (arith, within, c.requires.kinds_long)) down.5,
+      come_next c.args.eligible.now l.eligible l.at 0 (omega (arith, within, c.requires.eligible_long)) down.6,
+      come_next c.args.keys.now l.keys l.at 0 (omega (arith, within, c.requires.keys_long)) down.7,
+      come_next c.args.prints.now l.prints l.at 0 (omega (arith, within, c.requires.prints_long)) down.8,
+    )

@@ -1,0 +1,19 @@
+use Rattle.std.proofs.Common.{◌<◌, length, arith}
+use Rattle.queue.proofs.Dropped.{moved_next}
+use Rattle.queue.proofs.aged.move_each_up.Goals as goal
+
+pub loop-at-preserved : goal.loop-at-preserved
+loop-at-preserved c =
+    let l = c.loop-at in
+    let some = c.loop-at-test.true in
+    let moved = l.invariant in
+    let within : l.at < length c.args.requests.now = moved.0 in (
+      omega (arith, within),
+      moved_next c.args.requests.now l.requests l.at _ some within l.auto.requests moved.1,
+      moved_next c.args.banks.now l.banks l.at 0 some (omega (arith, within, c.requires.banks_long)) l.auto.banks moved.2,
+      moved_next c.args.rows.now l.rows l.at 0 some (omega (arith, within, c.requires.rows_long)) l.auto.rows moved.3,
+      moved_next c.args.kinds.now l.kinds l.at 0 some (omega (arith, within, c.requires.kinds_long)) l.auto.kinds moved.4,
+      moved_next c.args.eligible.now l.eligible l.at 0 some (omega (arith, within, c.requires.eligible_long)) l.auto.eligible moved.5,
+      moved_next c.args.keys.now l.keys l.at 0 some (omega (arith, within, c.requires.keys_long)) l.auto.keys moved.6,
+      moved_next c.args.prints.now l.prints l.at 0 some (omega (arith, within, c.requires.prints_long)) l.auto.prints moved.7,
+    )
