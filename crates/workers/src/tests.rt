@@ -175,9 +175,9 @@ fn a_machine_comes_to_its_limit(rt: HostRuntime) -> Result<(), Fail> {
     Ok(())
 }
 
-/// Two seats take the jobs in turn, in their order, and then find nothing.
+/// Six jobs are put on a board. No seat has taken one, so all six are missing.
 #[test]
-fn a_board_gives_each_job_once(rt: HostRuntime) -> Result<(), Fail> {
+fn jobs_that_no_seat_took_are_missing(rt: HostRuntime) -> Result<(), Fail> {
     let jobs = first_jobs(rt.alloc())?;
     if jobs.is_empty() {
         assert!(rt; false);
