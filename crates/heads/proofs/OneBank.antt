@@ -1,5 +1,5 @@
 -- The heads of one bank, with one request more and with one less.
-use Rattle.std.proofs.Common.{◌≡◌, ℕ, ◌<◌, Bool, true, false, not, cond, ◌&&◌, eqb, eq-eqb, List, [], ◌∷◌, ◌++◌, length, get_or, Option, Some, None, refl, sym, ap, ◌∙◌, inl, inr}
+use Rattle.std.proofs.Common.{◌≡◌, ℕ, ◌<◌, Bool, true, false, not, cond, ◌&&◌, eqb, eq-eqb, List, [], ◌∷◌, ◌++◌, length, get_or, Option, Some, None, refl, sym, ap, subst, ◌∙◌, inl, inr}
 use Rattle.std.proofs.lemmas.Bool.{cases_Bool, cond-true, cond-false, and_parts, and_from, true≢false, false_from_ne_true}
 use Rattle.std.specs.List.{remove}
 use Rattle.sim_base.specs.Places.{is_line}
@@ -11,8 +11,9 @@ use Rattle.queue.proofs.SameLine.{line_same}
 use Rattle.heads.specs.declared.entry.KindHeads.{KindHeads}
 use Rattle.heads.specs.declared.entry.BankHeads.{BankHeads}
 use Rattle.heads.specs.Heads.{asks, hits, first_place, AreFirst, AreHeads}
-use Rattle.heads.specs.Moves.{past, kind_past, bank_past}
+use Rattle.heads.specs.Moves.{past, kind_past, kind_moved, bank_moved}
 use Rattle.heads.proofs.Entries.{first_push, left_apart}
+use Rattle.heads.proofs.Searches.{none_narrower_all}
 
 else_none : (o : Option ℕ) → or_else o None ≡ o
 else_none (Some k) = refl
@@ -104,11 +105,30 @@ kind_left rs slot r bank write row h within here apart first = record {
       (λ x is. other_line r bank write apart x (and_parts (asks bank write x) (is_row x.place.row row) is).0));
 }
 
+pub hits_narrower : (bank : ℕ) (write : Bool) (row : Option ℕ) (x : Request) → asks bank write x ≡ false → hits bank write row x ≡ false
+hits_narrower bank write row x none = ap (λ b. b && is_row x.place.row row) none
+
+-- a kind without a first request has none for the open row, and no head to move
+moved_past : (slot : ℕ) (h : KindHeads) → (None ≡ h.oldest → None ≡ h.hit) → kind_past slot h ≡ kind_moved slot h
+moved_past slot h none = parts h.oldest h.hit none
+  where
+    parts : (oldest hit : Option ℕ) → (None ≡ oldest → None ≡ hit) → kind_past slot (record { oldest = oldest; hit = hit }) ≡ kind_moved slot (record { oldest = oldest; hit = hit })
+    parts (Some k) hit none = refl
+    parts None None none = refl
+    parts None (Some k) none = cc (none refl)
+
+kind_moved_left : (rs : List Request) (slot : ℕ) (r : Request) (bank : ℕ) (write : Bool) (row : Option ℕ) (h : KindHeads) → slot < length rs → r ≡ get_or rs slot r
+    → eqb (bank_number r.place) bank ≡ false → AreFirst rs bank write row h → AreFirst (remove rs slot) bank write row (kind_moved slot h)
+kind_moved_left rs slot r bank write row h within here apart first =
+    subst (AreFirst (remove rs slot) bank write row)
+    (moved_past slot h (λ none. none_narrower_all (hits bank write row) (asks bank write) rs (hits_narrower bank write row) (none ∙ first.oldest_is) ∙ sym first.hit_is))
+    (kind_left rs slot r bank write row h within here apart first)
+
 pub bank_left : (rs : List Request) (slot : ℕ) (r : Request) (bank : ℕ) (h : BankHeads) → slot < length rs → r ≡ get_or rs slot r
-    → eqb (bank_number r.place) bank ≡ false → AreHeads rs bank h → AreHeads (remove rs slot) bank (bank_past slot h)
+    → eqb (bank_number r.place) bank ≡ false → AreHeads rs bank h → AreHeads (remove rs slot) bank (bank_moved slot h)
 bank_left rs slot r bank h within here apart first = record {
-  reads_are = kind_left rs slot r bank false h.row h.reads within here apart first.reads_are;
-  writes_are = kind_left rs slot r bank true h.row h.writes within here apart first.writes_are;
+  reads_are = kind_moved_left rs slot r bank false h.row h.reads within here apart first.reads_are;
+  writes_are = kind_moved_left rs slot r bank true h.row h.writes within here apart first.writes_are;
 }
 
 -- a request for a row of a bank asks for the bank
@@ -121,6 +141,3 @@ never_hits bank write x = never_and (asks bank write x)
     never_and : (b : Bool) → (b && false) ≡ false
     never_and true = refl
     never_and false = refl
-
-pub hits_narrower : (bank : ℕ) (write : Bool) (row : Option ℕ) (x : Request) → asks bank write x ≡ false → hits bank write row x ≡ false
-hits_narrower bank write row x none = ap (λ b. b && is_row x.place.row row) none

@@ -14,7 +14,7 @@ use Rattle.queue.proofs.Eligible.{marks_after, length-marks, split_marks, around
 use Rattle.heads.specs.declared.entry.BankHeads.{BankHeads}
 use Rattle.heads.specs.declared.heads.Heads.{Heads}
 use Rattle.heads.specs.Heads.{asks, AreHeads, RowsFit, NoneWaits, bank_at, number_of}
-use Rattle.heads.specs.Moves.{bank_past}
+use Rattle.heads.specs.Moves.{bank_moved}
 use Rattle.heads.specs.Stands.{bank_count, heads_of, StandsFor, with_row, closed_in}
 use Rattle.heads.proofs.OneBank.{bank_kept, bank_left, asks_elsewhere}
 use Rattle.heads.proofs.Calm.{waits_push, waits_left, noted_other, noted_here}
@@ -168,7 +168,7 @@ All-remove P xs k all = All-append P (take k xs) (drop (suc k) xs) (All-take P k
 -- a request less
 pub served_stand : (old moved new : Heads) (rs : List Request) (slot : ℕ) (r : Request) (open_rows : ℕ → Option ℕ) (h : BankHeads) → slot < length rs → r ≡ get_or rs slot r
     → bank_number r.place < bank_count old → bank_count moved ≡ bank_count old
-    → ((k : ℕ) (d : BankHeads) → k < bank_count old → heads_of moved k d ≡ bank_past slot (heads_of old k d)) → new.banks.items ≡ set moved.banks.items (bank_number r.place) h
+    → ((k : ℕ) (d : BankHeads) → k < bank_count old → heads_of moved k d ≡ bank_moved slot (heads_of old k d)) → new.banks.items ≡ set moved.banks.items (bank_number r.place) h
     → StandsFor old rs open_rows → AreCalm new.waits.items (remove rs slot) → ((d : BankHeads) → h.row ≡ (heads_of old (bank_number r.place) d).row)
     → AreHeads (remove rs slot) (bank_number r.place) h → StandsFor new (remove rs slot) open_rows
 served_stand old moved new rs slot r open_rows h within request exists long each is stands calm row here =

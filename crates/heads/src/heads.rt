@@ -2,7 +2,7 @@
 
 ghost use Rattle.std.specs.Prelude.{◌≡◌, ◌<◌, ℕ, length, slice_index_or};
 ghost use Rattle.heads.specs.declared.entry.BankHeads.{BankHeads};
-ghost use Rattle.heads.specs.Moves.{past, kind_past, bank_past};
+ghost use Rattle.heads.specs.Moves.{past, kind_moved, bank_moved};
 
 use crate::entry::{BankHeads, KindHeads, bank_number, number_of};
 use crate::search::Gap;
@@ -44,18 +44,20 @@ fn move_head(head: &mut Option<usize>, slot: usize)
     }
 }
 
-/// Moves the heads of a kind past a place that a request has left.
+/// Moves the heads of a kind past a place that a request has left; a kind without a first request has no head to move.
 #[inline(always)]
 fn move_kind(heads: &mut KindHeads, slot: usize)
-    ensures { heads.new ≡ kind_past slot heads.old }
+    ensures { heads.new ≡ kind_moved slot heads.old }
 {
-    move_head(&mut heads.oldest, slot);
-    move_head(&mut heads.hit, slot);
+    if heads.oldest.is_some() {
+        move_head(&mut heads.oldest, slot);
+        move_head(&mut heads.hit, slot);
+    }
 }
 
 /// Moves the heads past a place, once a request has left it.
 fn move_past(banks: &mut [BankHeads], slot: usize)
-    ensures { (k : ℕ) (d : BankHeads) → k < length banks.old → slice_index_or banks.new k d ≡ bank_past slot (slice_index_or banks.old k d) }
+    ensures { (k : ℕ) (d : BankHeads) → k < length banks.old → slice_index_or banks.new k d ≡ bank_moved slot (slice_index_or banks.old k d) }
 {
     for heads in banks.iter_mut() {
         move_kind(&mut heads.reads, slot);

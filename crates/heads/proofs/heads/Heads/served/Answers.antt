@@ -7,7 +7,7 @@ use Rattle.queue.specs.Columns.{bank_number}
 use Rattle.heads.specs.declared.entry.BankHeads.{BankHeads}
 use Rattle.heads.specs.declared.heads.Heads.{Heads}
 use Rattle.heads.specs.Heads.{AreHeads, RowsFit, NoneWaits}
-use Rattle.heads.specs.Moves.{bank_past}
+use Rattle.heads.specs.Moves.{bank_moved}
 use Rattle.heads.specs.Stands.{StandsFor, bank_count, heads_of}
 use Rattle.heads.proofs.Stood.{All-remove, served_stand, calm_left}
 use Rattle.heads.proofs.heads.Heads.served.Goals as goal
@@ -37,8 +37,8 @@ returns-clause-stands c earlier open_rows within request left stands =
     let same : length c.move_past.new.banks ≡ bank_count old = omega (arith, ap length c.deref_mut.ensures.value, c.move_past.auto.banks) in
     let items_are : moved.banks.items ≡ c.move_past.new.banks =
     take_at c.move_past.new.banks (drop (length c.move_past.new.banks) old.banks.items) old.banks.len (omega (arith, old.banks.ok.0, same)) in
-    let each : (k : ℕ) (d : BankHeads) → k < bank_count old → heads_of moved k d ≡ bank_past c.args.slot (heads_of old k d) =
-    λ k d there. ap (λ xs. get_or xs k d) items_are ∙ c.move_past.ensures k d (omega (arith, ap length c.deref_mut.ensures.value)) ∙ ap (λ xs. bank_past c.args.slot (get_or xs k d)) c.deref_mut.ensures.value in
+    let each : (k : ℕ) (d : BankHeads) → k < bank_count old → heads_of moved k d ≡ bank_moved c.args.slot (heads_of old k d) =
+    λ k d there. ap (λ xs. get_or xs k d) items_are ∙ c.move_past.ensures k d (omega (arith, ap length c.deref_mut.ensures.value)) ∙ ap (λ xs. bank_moved c.args.slot (get_or xs k d)) c.deref_mut.ensures.value in
     c.note_empty.ensures.stands c.args.queue.now.requests open_rows
     (subst (λ rs. StandsFor new rs open_rows) (sym left)
     (served_stand old moved new earlier c.args.slot r open_rows h within (request r) exists (ap length items_are ∙ same) each
