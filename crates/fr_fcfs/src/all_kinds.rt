@@ -12,7 +12,7 @@ ghost use Rattle.heads.specs.Stands.{bank_count, StandsFor as HeadsStandFor};
 ghost use Rattle.fr_fcfs.specs.Requests.{IsInBanks, candidates_of};
 ghost use Rattle.fr_fcfs.specs.Offers.{all_kinds, going, offer_from, hits_in, rows_in, IsBest, IsBestSoFar, IsFirstReady};
 
-use crate::offers::{Offer, improved, ready, row_kind};
+use crate::offers::{Offer, improve, ready, row_kind};
 use bank_ready::banks::Banks;
 use heads::{BankHeads, Heads};
 use queue::Queue;
@@ -30,61 +30,50 @@ fn earlier(a: Option<usize>, b: Option<usize>) -> Option<usize>
     }
 }
 
-/// The best offer so far, with that of a head more, if there is one, whose need may be issued from a cycle on.
-#[inline]
-fn with_head(best: Offer, head: Option<usize>, hit: bool, ready: Cycle, now: Cycle) -> Offer
-    ensures { (room : ℕ) (hits rows head_hits head_rows : ℕ → Option ℕ) → IfSome head (λ slot. slot < room) → IsBestSoFar room now hits rows best
+/// Takes that of a head, if there is one, whose need may be issued from a cycle on, into the best offer so far.
+#[inline(always)]
+fn with_head(best: &mut Offer, head: Option<usize>, hit: bool, ready: Cycle, now: Cycle)
+    ensures { (room : ℕ) (hits rows head_hits head_rows : ℕ → Option ℕ) → IfSome head (λ slot. slot < room) → IsBestSoFar room now hits rows best.old
         → IsBest now head_hits head_rows (option_map (offer_from now ready hit) head)
-        → IsBestSoFar room now (λ cycle. earlier (hits cycle) (head_hits cycle)) (λ cycle. earlier (rows cycle) (head_rows cycle)) result }
+        → IsBestSoFar room now (λ cycle. earlier (hits cycle) (head_hits cycle)) (λ cycle. earlier (rows cycle) (head_rows cycle)) best.new }
 {
-    match head {
-        Some(slot) => improved(best, ready, hit, slot, now),
-        None => best,
+    if let Some(slot) = head {
+        improve(best, ready, hit, slot, now);
     }
 }
 
-/// The best offer so far, with those of a bank more that ask for its open row.
-#[inline]
-fn with_hits(best: Offer, heads: BankHeads, bank: usize, banks: &Banks, now: Cycle) -> Offer
+/// Takes those of a bank that ask for its open row into the best offer so far.
+#[inline(always)]
+fn with_hits(best: &mut Offer, heads: BankHeads, bank: usize, banks: &Banks, now: Cycle)
     requires { bank < 16 * rank_count banks.now }
     ensures { (s : Config) (history : List CommandRow) (requests : List Request) (hits rows : ℕ → Option ℕ) → BanksStandFor banks.now s history → AreHeads requests bank heads
-        → heads.row ≡ open_row (bank_at bank) history → All (IsInBanks (rank_count banks.now)) requests → IsBestSoFar (length requests) now hits rows best
-        → IsBestSoFar (length requests) now (λ cycle. earlier (hits cycle) (hits_in s history requests all_kinds bank cycle)) rows result }
+        → heads.row ≡ open_row (bank_at bank) history → All (IsInBanks (rank_count banks.now)) requests → IsBestSoFar (length requests) now hits rows best.old
+        → IsBestSoFar (length requests) now (λ cycle. earlier (hits cycle) (hits_in s history requests all_kinds bank cycle)) rows best.new }
 {
-    let reading = with_head(
-        best,
-        heads.reads.hit,
-        true,
-        ready(banks, bank, Kind::Rd),
-        now,
-    );
-    with_head(
-        reading,
-        heads.writes.hit,
-        true,
-        ready(banks, bank, Kind::Wr),
-        now,
-    )
+    let read = ready(banks, bank, Kind::Rd);
+    with_head(best, heads.reads.hit, true, read, now);
+    let write = ready(banks, bank, Kind::Wr);
+    with_head(best, heads.writes.hit, true, write, now);
 }
 
-/// The best offer so far, with one bank more. A row hit keeps the bank from being closed.
-#[inline]
-fn with_bank(best: Offer, heads: BankHeads, bank: usize, banks: &Banks, now: Cycle) -> Offer
+/// Takes one bank more into the best offer so far. A row hit keeps the bank from being closed.
+#[inline(always)]
+fn with_bank(best: &mut Offer, heads: BankHeads, bank: usize, banks: &Banks, now: Cycle)
     requires { bank < 16 * rank_count banks.now }
     ensures { (s : Config) (history : List CommandRow) (requests : List Request) (hits rows : ℕ → Option ℕ) → BanksStandFor banks.now s history → AreHeads requests bank heads
-        → heads.row ≡ open_row (bank_at bank) history → All (IsInBanks (rank_count banks.now)) requests → IsBestSoFar (length requests) now hits rows best
+        → heads.row ≡ open_row (bank_at bank) history → All (IsInBanks (rank_count banks.now)) requests → IsBestSoFar (length requests) now hits rows best.old
         → IsBestSoFar (length requests) now (λ cycle. earlier (hits cycle) (hits_in s history requests all_kinds bank cycle))
-        (λ cycle. earlier (rows cycle) (rows_in s history requests all_kinds bank cycle)) result }
+        (λ cycle. earlier (rows cycle) (rows_in s history requests all_kinds bank cycle)) best.new }
 {
     let oldest = earlier(heads.reads.oldest, heads.writes.oldest);
     if oldest.is_none() {
-        return best;
+        return;
     }
     if earlier(heads.reads.hit, heads.writes.hit).is_some() {
-        with_hits(best, heads, bank, banks, now)
+        with_hits(best, heads, bank, banks, now);
     } else {
         let ready = ready(banks, bank, row_kind(heads.row));
-        with_head(best, oldest, false, ready, now)
+        with_head(best, oldest, false, ready, now);
     }
 }
 
@@ -104,7 +93,7 @@ pub(crate) fn first_of_all(queue: &Queue, heads: &Heads, banks: &Banks, now: Cyc
         slot: room,
     };
     for bank in 0..heads.bank_count() {
-        best = with_bank(best, heads.of_bank(bank), bank, banks, now);
+        with_bank(&mut best, heads.of_bank(bank), bank, banks, now);
     }
     if best.slot < room { Some(best) } else { None }
 }

@@ -71,36 +71,36 @@ fn next_of_requests(
     }
 }
 
-/// The first cycle with a command, where a rank's refresh may be due from some cycle on and keeps all else waiting then, of which
-/// `next` is the first.
-#[inline]
+/// Takes the refresh of a rank, which may be due from some cycle on and keeps all else waiting then, into the first cycle with a
+/// command and that command. Nothing is written where they stay.
+#[inline(always)]
 fn with_refresh(
-    next: Option<(Cycle, Choice)>,
+    next: &mut Option<(Cycle, Choice)>,
     due: Option<Cycle>,
     banks: &Banks,
     rank: u32,
     groups: u32,
-) -> Option<(Cycle, Choice)>
+)
     requires rank { rank < rank_count banks.now }
     requires groups { groups ≤ 4 }
     ensures next { (s : Config) (history : List CommandRow) (commands rest : ℕ → Option Command) (now : ℕ) → BanksStandFor banks.now s history → s.groups ≡ groups
         → IfSome due (λ cycle. now ≤ cycle)
         → ((c : ℕ) → now ≤ c → commands c ≡ (if is_due_at due c then if_legal s history c (refresh_command s history rank) else rest c))
-        → IsNext rest now next → IsNext commands now result }
-    ensures place { (requests : List Request) → IfSome next (λ n. IsFor requests n.1) → IfSome result (λ n. IsFor requests n.1) }
+        → IsNext rest now next.old → IsNext commands now next.new }
+    ensures place { (requests : List Request) → IfSome next.old (λ n. IsFor requests n.1) → IfSome next.new (λ n. IsFor requests n.1) }
 {
     let Some(due) = due else {
-        return next;
+        return;
     };
-    match next {
-        Some((cycle, choice)) if cycle < due => Some((cycle, choice)),
+    match *next {
+        Some((cycle, _)) if cycle < due => {}
         _ => {
             let need = refresh_need(banks, rank, groups);
             let choice = Choice {
                 command: need.command,
                 slot: None,
             };
-            Some((due.max(need.ready), choice))
+            *next = Some((due.max(need.ready), choice));
         }
     }
 }
@@ -129,7 +129,7 @@ pub fn next(
     let mut rank = refresh.ranks();
     while 0 < rank {
         rank -= 1;
-        next = with_refresh(next, refresh.first_due(now, rank), banks, rank, groups);
+        with_refresh(&mut next, refresh.first_due(now, rank), banks, rank, groups);
     }
     next
 }

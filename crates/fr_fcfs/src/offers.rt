@@ -45,20 +45,21 @@ fn goes_before(a: Offer, b: Offer) -> bool
     a.slot < b.slot
 }
 
-/// The better of the best offer so far and one of a request whose need may be issued from a cycle on.
+/// Makes the best offer so far that of a request whose need may be issued from a cycle on, if that goes before. Its fields are written
+/// one by one, and only then, so that nothing is copied for a bank that does not improve it.
 #[inline(always)]
-pub(crate) fn improved(best: Offer, ready: Cycle, hit: bool, slot: usize, now: Cycle) -> Offer
-    ensures { result ≡ (if goes_before (offer_from now ready hit slot) best then offer_from now ready hit slot else best) }
+pub(crate) fn improve(best: &mut Offer, ready: Cycle, hit: bool, slot: usize, now: Cycle)
+    ensures { best.new ≡ (if goes_before (offer_from now ready hit slot) best.old then offer_from now ready hit slot else best.old) }
 {
     if best.cycle < ready {
-        return best;
+        return;
     }
     let cycle = now.max(ready);
-    let offer = Offer { cycle, hit, slot };
-    if !goes_before(offer, best) {
-        return best;
+    if goes_before(Offer { cycle, hit, slot }, *best) {
+        best.cycle = cycle;
+        best.hit = hit;
+        best.slot = slot;
     }
-    offer
 }
 
 /// From which cycle on a command of a kind may be issued to a bank.

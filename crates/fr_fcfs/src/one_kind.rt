@@ -13,7 +13,7 @@ ghost use Rattle.heads.specs.Stands.{bank_count, StandsFor as HeadsStandFor};
 ghost use Rattle.fr_fcfs.specs.Requests.{IsInBanks, candidates_of};
 ghost use Rattle.fr_fcfs.specs.Offers.{only, going, column_kind, hits_in, rows_in, IsBestSoFar, IsFirstReady};
 
-use crate::offers::{Offer, improved, ready, row_kind};
+use crate::offers::{Offer, improve, ready, row_kind};
 use bank_ready::banks::Banks;
 use heads::Heads;
 use queue::Queue;
@@ -29,36 +29,29 @@ fn column_kind(write: bool) -> Kind
     if write { Kind::Wr } else { Kind::Rd }
 }
 
-/// The best offer so far, with one bank more. A row hit keeps the bank from being closed.
+/// Takes one bank more into the best offer so far. A row hit keeps the bank from being closed.
 #[inline(always)]
-fn with_bank(
-    best: Offer,
-    heads: &Heads,
-    bank: usize,
-    write: bool,
-    banks: &Banks,
-    now: Cycle,
-) -> Offer
+fn with_bank(best: &mut Offer, heads: &Heads, bank: usize, write: bool, banks: &Banks, now: Cycle)
     requires heads { bank < bank_count heads.now }
     requires banks { bank < 16 * rank_count banks.now }
     ensures { (s : Config) (history : List CommandRow) (requests : List Request) (hits rows : ℕ → Option ℕ) → BanksStandFor banks.now s history
         → HeadsStandFor heads.now requests (λ bank. open_row (bank_at bank) history) → All (IsInBanks (rank_count banks.now)) requests
-        → IsBestSoFar (length requests) now hits rows best
+        → IsBestSoFar (length requests) now hits rows best.old
         → IsBestSoFar (length requests) now (λ cycle. earlier (hits cycle) (hits_in s history requests (only write) bank cycle))
-        (λ cycle. earlier (rows cycle) (rows_in s history requests (only write) bank cycle)) result }
+        (λ cycle. earlier (rows cycle) (rows_in s history requests (only write) bank cycle)) best.new }
 {
     let own = heads.of_kind(bank, write);
     let Some(oldest) = own.oldest else {
-        return best;
+        return;
     };
     match own.hit {
         Some(slot) => {
             let ready = ready(banks, bank, column_kind(write));
-            improved(best, ready, true, slot, now)
+            improve(best, ready, true, slot, now);
         }
         None => {
             let ready = ready(banks, bank, row_kind(heads.row_of(bank)));
-            improved(best, ready, false, oldest, now)
+            improve(best, ready, false, oldest, now);
         }
     }
 }
@@ -87,7 +80,7 @@ pub(crate) fn first_of_kind(
         slot: room,
     };
     for bank in 0..heads.bank_count() {
-        best = with_bank(best, heads, bank, write, banks, now);
+        with_bank(&mut best, heads, bank, write, banks, now);
     }
     if best.slot < room { Some(best) } else { None }
 }

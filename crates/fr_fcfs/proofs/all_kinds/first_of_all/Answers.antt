@@ -33,9 +33,9 @@ loop-bank-preserved c s history banks heads =
     let row = ap (λ x. x.row) (c.of_bank.ensures h) ∙ heads.rows_are bank h exists in
     so_far_same (length requests) c.args.now (λ cycle. earlier (place_below bank (hits cycle) requests) (hits_in s history requests all_kinds bank cycle))
     (λ cycle. earlier (place_below bank (rows cycle) requests) (rows_in s history requests all_kinds bank cycle)) (λ cycle. place_below (bank + 1) (hits cycle) requests)
-    (λ cycle. place_below (bank + 1) (rows cycle) requests) c.with_bank-best.result (λ cycle late. sym (place_more bank (hits cycle) requests))
+    (λ cycle. place_below (bank + 1) (rows cycle) requests) c.with_bank.new.best (λ cycle late. sym (place_more bank (hits cycle) requests))
     (λ cycle late. sym (place_more bank (rows cycle) requests))
-    (c.with_bank-best.ensures s history requests (λ cycle. place_below bank (hits cycle) requests) (λ cycle. place_below bank (rows cycle) requests) banks first row c.requires.places
+    (c.with_bank.ensures s history requests (λ cycle. place_below bank (hits cycle) requests) (λ cycle. place_below bank (rows cycle) requests) banks first row c.requires.places
     (c.loop-bank.invariant s history banks heads))
 
 pub returns-then-best-room-clause-first : goal.returns-then-best-room-clause-first

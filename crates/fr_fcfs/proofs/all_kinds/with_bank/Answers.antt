@@ -33,7 +33,7 @@ returns-then-is_none c s history requests hits rows stands first row_is places s
     let none : earlier h.reads.oldest h.writes.oldest ≡ None = sym c.earlier-oldest.ensures ∙ none_is c.earlier-oldest.result (c.is_none.ensures ∙ ap not c.if-is_none.true) in
     let reads = first_none h.reads.oldest h.writes.oldest none in
     let writes = second_none h.reads.oldest h.writes.oldest none in
-    none_more (length requests) c.args.now hits rows (hits_in s history requests all_kinds bank) (rows_in s history requests all_kinds bank) c.args.best
+    none_more (length requests) c.args.now hits rows (hits_in s history requests all_kinds bank) (rows_in s history requests all_kinds bank) c.args.best.now
     (λ cycle late. none_offered requests bank h (hits_now s history all_kinds cycle) first reads writes)
     (λ cycle late. none_offered requests bank h (rows_now s history requests all_kinds cycle) first reads writes) so_far
 
@@ -43,7 +43,7 @@ returns-then-is_some c s history requests hits rows stands first row_is places s
     let bank = c.args.bank in
     let some = ap is_some (sym c.earlier.ensures) ∙ sym c.is_some.ensures ∙ c.if-is_some.true in
     so_far_same (length requests) c.args.now (λ cycle. earlier (hits cycle) (hits_in s history requests all_kinds bank cycle)) rows
-    (λ cycle. earlier (hits cycle) (hits_in s history requests all_kinds bank cycle)) (λ cycle. earlier (rows cycle) (rows_in s history requests all_kinds bank cycle)) c.with_hits.result
+    (λ cycle. earlier (hits cycle) (hits_in s history requests all_kinds bank cycle)) (λ cycle. earlier (rows cycle) (rows_in s history requests all_kinds bank cycle)) c.with_hits.new.best
     (λ cycle late. refl)
     (λ cycle late. sym (ap (earlier (rows cycle)) (rows_withheld s history _ requests all_kinds bank h places first row_is some cycle) ∙ first_alone (rows cycle)))
     (c.with_hits.ensures s history requests hits rows stands first row_is places so_far)

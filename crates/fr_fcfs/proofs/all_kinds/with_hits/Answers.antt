@@ -19,18 +19,18 @@ returns c s history requests hits rows stands first row_is places so_far =
     let h = c.args.heads in
     let now = c.args.now in
     let bank = c.args.bank in
-    let read = c.ready.result in
-    let write = c.ready-2.result in
+    let read = c.ready-read.result in
+    let write = c.ready-write.result in
     let reads = λ (cycle : ℕ). cond (leb read cycle) h.reads.hit None in
     let writes = λ (cycle : ℕ). cond (leb write cycle) h.writes.hit None in
     so_far_same (length requests) now (λ cycle. earlier (earlier (hits cycle) (reads cycle)) (writes cycle)) (λ cycle. earlier (earlier (rows cycle) None) None)
-    (λ cycle. earlier (hits cycle) (hits_in s history requests all_kinds bank cycle)) rows c.with_head.result
+    (λ cycle. earlier (hits cycle) (hits_in s history requests all_kinds bank cycle)) rows c.with_head-2.new.best
     (λ cycle late.
     earlier_assoc (hits cycle) (reads cycle) (writes cycle)
     ∙ ap (earlier (hits cycle))
-    (sym (hits_are s history _ requests all_kinds bank h read write places first row_is (c.ready.ensures s history stands) (c.ready-2.ensures s history stands) cycle)))
+    (sym (hits_are s history _ requests all_kinds bank h read write places first row_is (c.ready-read.ensures s history stands) (c.ready-write.ensures s history stands) cycle)))
     (λ cycle late. first_alone (earlier (rows cycle) None) ∙ first_alone (rows cycle))
-    (c.with_head.ensures (length requests) (λ cycle. earlier (hits cycle) (reads cycle)) (λ cycle. earlier (rows cycle) None) writes (λ cycle. None)
+    (c.with_head-2.ensures (length requests) (λ cycle. earlier (hits cycle) (reads cycle)) (λ cycle. earlier (rows cycle) None) writes (λ cycle. None)
     (within _ requests h.writes.hit first.writes_are.hit_is)
-    (c.with_head-reading.ensures (length requests) hits rows reads (λ cycle. None) (within _ requests h.reads.hit first.reads_are.hit_is) so_far (hit_offer_is now read h.reads.hit))
+    (c.with_head.ensures (length requests) hits rows reads (λ cycle. None) (within _ requests h.reads.hit first.reads_are.hit_is) so_far (hit_offer_is now read h.reads.hit))
     (hit_offer_is now write h.writes.hit))

@@ -30,9 +30,9 @@ loop-bank-preserved c s history banks heads =
     let rows = λ (cycle : ℕ). rows_now s history requests (only write) cycle in
     so_far_same (length requests) c.args.now (λ cycle. earlier (place_below bank (hits cycle) requests) (hits_in s history requests (only write) bank cycle))
     (λ cycle. earlier (place_below bank (rows cycle) requests) (rows_in s history requests (only write) bank cycle)) (λ cycle. place_below (bank + 1) (hits cycle) requests)
-    (λ cycle. place_below (bank + 1) (rows cycle) requests) c.with_bank-best.result (λ cycle late. sym (place_more bank (hits cycle) requests))
+    (λ cycle. place_below (bank + 1) (rows cycle) requests) c.with_bank.new.best (λ cycle late. sym (place_more bank (hits cycle) requests))
     (λ cycle late. sym (place_more bank (rows cycle) requests))
-    (c.with_bank-best.ensures s history requests (λ cycle. place_below bank (hits cycle) requests) (λ cycle. place_below bank (rows cycle) requests) banks heads c.requires.places
+    (c.with_bank.ensures s history requests (λ cycle. place_below bank (hits cycle) requests) (λ cycle. place_below bank (rows cycle) requests) banks heads c.requires.places
     (c.loop-bank.invariant s history banks heads))
 
 pub returns-then-best-room-clause-first : goal.returns-then-best-room-clause-first
