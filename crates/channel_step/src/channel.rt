@@ -300,6 +300,10 @@ impl Channel {
             → IfOk result (λ due. IsInCycle self.new s channel rows (mail ++ take due inbox.now)) }
     {
         let due = due_count(inbox, now);
+        if due == 0 {
+            self.settle();
+            return Ok(0);
+        }
         let older = self.waiting.queue().len();
         self.waiting.admit(&inbox[..due])?;
         self.heads.arrived(older, self.waiting.queue());
