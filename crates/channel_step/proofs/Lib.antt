@@ -13,6 +13,7 @@ pub mod Stepping
 pub mod Running
 pub mod Starting
 pub mod Dues
+pub mod Entries
 pub mod Skipping
 pub mod Going
 pub mod Alone

@@ -19,7 +19,7 @@ ghost use Rattle.channel_step.specs.Runs.{CanStep, CanRun, CanSkip, HasRun, IsDo
 
 use crate::counting::{Seen, cycle_stats, drained};
 use crate::done::ChannelDone;
-use crate::noting::{note_heads, note_refresh, request_at};
+use crate::noting::{likely_places, note_heads, note_refresh, request_at};
 use crate::sending::tell;
 use crate::waiting::Waiting;
 use bank_ready::banks::Banks;
@@ -282,7 +282,8 @@ impl Channel {
             → StandsFor self.new s channel (rows ++ Some chosen.command ∷ []) mail }
     {
         let served = request_at(self.waiting.queue(), chosen.slot);
-        let hit = self.waiting.take(chosen);
+        let likely = likely_places(&self.heads, chosen.command);
+        let hit = self.waiting.take(chosen, likely);
         note_heads(&mut self.heads, self.waiting.queue(), chosen, served);
         self.banks.note(chosen.command, now);
         note_refresh(&mut self.refresh, chosen.command, now);
@@ -299,6 +300,10 @@ impl Channel {
             → IfOk result (λ due. IsInCycle self.new s channel rows (mail ++ take due inbox.now)) }
     {
         let due = due_count(inbox, now);
+        if due == 0 {
+            self.settle();
+            return Ok(0);
+        }
         let older = self.waiting.queue().len();
         self.waiting.admit(&inbox[..due])?;
         self.heads.arrived(older, self.waiting.queue());
@@ -346,6 +351,7 @@ impl Channel {
     /// Runs the channel over the cycles from `from` on and before `until`, in which these messages arrive, by arrival and then
     /// by link. The channel that comes back stands at `until`. On an error, which is want of memory alone, it is gone. It goes from
     /// one cycle in which something arrives or is issued to the next, and skips those between.
+    #[inline(never)]
     pub fn run(
         mut self,
         alloc: Global,
@@ -360,8 +366,8 @@ impl Channel {
             → StandsFor self s channel rows mail → length rows ≡ from → IsFit s channel rows mail inbox.now from until
             → IfOk result (λ done. IsDone done s channel rows mail inbox.now from until) }
     {
-        let mut commands = Vec::new(alloc);
-        let mut messages = Vec::new(alloc);
+        let mut commands = Vec::with_capacity(alloc, 16)?;
+        let mut messages = Vec::with_capacity(alloc, 16)?;
         let mut arrived = 0;
         let mut now = from;
         while now < until {

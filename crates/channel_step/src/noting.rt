@@ -45,6 +45,18 @@ pub(crate) fn request_at(queue: &Queue, slot: Option<usize>) -> Option<Request>
     }
 }
 
+/// The places where the request of an ACT likely waits: those of the oldest requests for its bank. Of another command it is none.
+pub(crate) fn likely_places(heads: &Heads, command: Command) -> [Option<usize>; 2] {
+    if let Command::Act { bank, .. } = command {
+        let number = (bank.rank as usize * 4 + bank.group as usize) * 4 + bank.bank as usize;
+        if number < heads.bank_count() {
+            let bank = heads.of_bank(number);
+            return [bank.reads.oldest, bank.writes.oldest];
+        }
+    }
+    [None, None]
+}
+
 /// Takes note in the heads of a request that has left its place in the queue, if one has.
 fn note_served(heads: &mut Heads, queue: &Queue, slot: Option<usize>, served: Option<Request>)
     requires { IfSome served (λ r. bank_number r.place < bank_count heads.old) }

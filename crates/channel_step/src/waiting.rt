@@ -1,9 +1,9 @@
 //! The requests that wait at a channel, and which of them an ACT was issued for.
 
-ghost use Rattle.std.specs.Prelude.{◌≡◌, ◌+◌, ◌<◌, ◌≤◌, [], ◌∷◌, position, length, IfOk, slice_index_or, true};
+ghost use Rattle.std.specs.Prelude.{◌≡◌, ◌+◌, ◌<◌, ◌≤◌, [], ◌∷◌, position, length, IfOk, IfSome, Some, slice_index_or, true};
 ghost use Rattle.std.specs.Option.{ForSome};
 ghost use Rattle.sim_base.specs.Scheduling.{is_source};
-ghost use Rattle.channel_step.specs.Past.{requests_of};
+ghost use Rattle.channel_step.specs.Past.{requests_of, Differ};
 ghost use Rattle.channel_step.specs.Queued.{no_requests, settled, joined_with, with_arrivals, without, with_mark, after, moves_unmarked};
 
 use fr_fcfs::choice::Choice;
@@ -94,18 +94,21 @@ impl Waiting {
         Ok(())
     }
 
-    /// Marks the request of an entry, if it waits.
-    fn mark(&mut self, source: Source)
+    /// Marks the request of an entry, if it waits: it likely waits at one of these places.
+    fn mark(&mut self, source: Source, likely: [Option<usize>; 2])
+        requires { Differ self.old.queue.requests }
         ensures { self.new ≡ with_mark self.old source }
     {
-        if let Some(slot) = place_of_entry(self.queue.requests(), source) {
+        if let Some(slot) = place_of_entry(self.queue.requests(), source, likely) {
             self.marks[slot] = true;
         }
     }
 
-    /// Does to the requests what a choice does, and tells whether it moves data that no ACT was issued for.
-    pub(crate) fn take(&mut self, choice: Choice) -> bool
-        requires { ForSome choice.slot (λ slot. slot < length self.old.queue.requests) }
+    /// Does to the requests what a choice does, and tells whether it moves data that no ACT was issued for. The request of an ACT
+    /// likely waits at one of these places.
+    pub(crate) fn take(&mut self, choice: Choice, likely: [Option<usize>; 2]) -> bool
+        requires slot { ForSome choice.slot (λ slot. slot < length self.old.queue.requests) }
+        requires differ { Differ self.old.queue.requests }
         ensures hit { result ≡ moves_unmarked self.old choice.slot }
         ensures rest { self.new ≡ after self.old choice.command choice.slot }
     {
@@ -113,7 +116,7 @@ impl Waiting {
             Some(slot) => !self.serve(slot),
             None => {
                 if let Command::Act { source, .. } = choice.command {
-                    self.mark(source);
+                    self.mark(source, likely);
                 }
                 false
             }
@@ -127,9 +130,32 @@ fn is_of_entry(request: &Request, source: Source) -> bool
     request.core == source.core && request.entry == source.entry
 }
 
-/// The place of the first of these requests that is of an entry.
-fn place_of_entry(requests: &[Request], source: Source) -> Option<usize>
+/// A place that is given, if the request there is of an entry, as no other one is.
+fn entry_at(requests: &[Request], place: Option<usize>, source: Source) -> Option<usize>
+    requires { Differ requests.now }
+    ensures { IfSome result (λ found. position (λ r. is_source r source) requests.now ≡ Some found) }
+{
+    let place = place?;
+    let request = requests.get(place)?;
+    if is_of_entry(request, source) {
+        Some(place)
+    } else {
+        None
+    }
+}
+
+/// The place of the first of these requests that is of an entry, no two of which are of one. It is sought at the likely places
+/// first.
+fn place_of_entry(requests: &[Request], source: Source, likely: [Option<usize>; 2]) -> Option<usize>
+    requires { Differ requests.now }
     ensures { result ≡ position (λ r. is_source r source) requests.now }
 {
+    let [first, second] = likely;
+    if let Some(place) = entry_at(requests, first, source) {
+        return Some(place);
+    }
+    if let Some(place) = entry_at(requests, second, source) {
+        return Some(place);
+    }
     requests.iter().position(|r| is_of_entry(r, source))
 }

@@ -11,10 +11,14 @@ use Rattle.statistics.specs.Channels.{ChannelFits}
 use Rattle.channel_step.specs.Channels.{StandsFor}
 use Rattle.channel_step.specs.declared.channel.Channel.{Channel}
 use Rattle.channel_step.proofs.Issuing.{row_of, counted, slot-below, leaves-hit, counted-fits, issued-stands, issued-before, command-rank, command-among, served-among, left-is, command-owed, seen-counted}
+use Rattle.channel_step.proofs.Cycle.{joined-differ}
 use Rattle.channel_step.proofs.channel.Channel.perform.Goals as goal
 
-pub take-hit-requires : goal.take-hit-requires
-take-hit-requires c = slot-below c.args.self.now.waiting.queue.requests c.args.chosen c.requires.slot
+pub take-hit-requires-clause-slot : goal.take-hit-requires-clause-slot
+take-hit-requires-clause-slot c = slot-below c.args.self.now.waiting.queue.requests c.args.chosen c.requires.slot
+
+pub take-hit-requires-clause-differ : goal.take-hit-requires-clause-differ
+take-hit-requires-clause-differ c = let p = c.requires.chosen in joined-differ _ _ _ _ p.s p.channel p.rows p.mail p.is_in.joined
 
 pub request_at-served-requires : goal.request_at-served-requires
 request_at-served-requires c =

@@ -11,8 +11,8 @@ loop-now-init c = (
   omega arith,
   omega arith,
   λ s channel rows mail h at f.
-      subst (λ x. HasRun c.args.self s channel rows mail c.args.inbox.now c.args.from c.args.from c.args.until 0 x c.new-messages.result.items) (sym c.new-commands.ensures.items)
-      (subst (λ x. HasRun c.args.self s channel rows mail c.args.inbox.now c.args.from c.args.from c.args.until 0 [] x) (sym c.new-messages.ensures.items)
+      subst (λ x. HasRun c.args.self s channel rows mail c.args.inbox.now c.args.from c.args.from c.args.until 0 x c.in_ok-messages.messages.items) (sym (c.in_ok-commands.ensures {u = tt}).items)
+      (subst (λ x. HasRun c.args.self s channel rows mail c.args.inbox.now c.args.from c.args.from c.args.until 0 [] x) (sym (c.in_ok-messages.ensures {u = tt}).items)
       (run-begins c.args.self s channel rows mail c.args.inbox.now c.args.from c.args.until h f)),
 )
 
