@@ -1,6 +1,6 @@
 -- Which requests wait for an older one of their line, with one request more and with one less.
 use Rattle.std.proofs.Common.{◌≡◌, ℕ, suc, ◌+◌, ◌<◌, Bool, true, false, not, cond, ◌&&◌, ◌||◌, eqb, ltb, ◌-◌, ◌≤◌, List, [], ◌∷◌, ◌++◌, length, take, drop, get_or, set, Option, Some, None, refl, sym, ap, ◌∙◌, inl, inr, arith, get_or-set_same, get_or-set_other}
-use Rattle.std.proofs.lemmas.Bool.{cases_Bool, cases_lt, and_parts, cond-false, le-ltb, true≢false, false≢true}
+use Rattle.std.proofs.lemmas.Bool.{cases_Bool, cases_lt, and_parts, cond-false, eq-eqb, ne_eqb, eqb-true, le-ltb, true≢false, false≢true}
 use Rattle.std.proofs.lemmas.List.{length-take-le, length-set}
 use Rattle.std.proofs.lemmas.List.Folds.{list_any-append}
 use Rattle.std.proofs.Math.ListN.{get_or-eq_default}
@@ -14,7 +14,7 @@ use Rattle.lane_scan.specs.Marks.{mark}
 use Rattle.queue.specs.Columns.{bank_number, eligible_column}
 use Rattle.queue.proofs.Eligible.{marks_after, eligible_push, length-eligible, eligible_is, remove_at, around}
 use Rattle.queue.proofs.SameLine.{line_same}
-use Rattle.heads.specs.Heads.{asks, wants, passes, waits, entries, first_place, NoneWaits}
+use Rattle.heads.specs.Heads.{asks, wants, passes, waits, kind_number, kind_of, entries, first_place, NoneWaits}
 use Rattle.heads.specs.Moves.{past, before}
 use Rattle.heads.proofs.Positions.{position-cons, before_some, before_here, before_past}
 use Rattle.heads.proofs.Entries.{zip-append, front, entries_with, entries_without, passes_mark, split_moved, left_front}
@@ -31,20 +31,20 @@ never : (t : Bool) → (t && false) ≡ false
 never true = refl
 never false = refl
 
-waits_mark : (bank : ℕ) (r : Request) (t : Bool) → waits bank (r, mark (not t)) ≡ (t && eqb (bank_number r.place) bank)
-waits_mark bank r true = refl
-waits_mark bank r false = refl
+waits_mark : (kind : ℕ) (r : Request) (t : Bool) → waits kind (r, mark (not t)) ≡ (t && eqb (kind_of r) kind)
+waits_mark kind r true = refl
+waits_mark kind r false = refl
 
 -- one request more
-pub waits_push : (bank : ℕ) (older : List Request) (r : Request) → NoneWaits bank older → (asks_for_line r.place older && eqb (bank_number r.place) bank) ≡ false
-    → NoneWaits bank (older ++ r ∷ [])
-waits_push bank older r none here =
+pub waits_push : (kind : ℕ) (older : List Request) (r : Request) → NoneWaits kind older → (asks_for_line r.place older && eqb (kind_of r) kind) ≡ false
+    → NoneWaits kind (older ++ r ∷ [])
+waits_push kind older r none here =
     let asked = asks_for_line r.place older in
-    ap (λ ms. list_any (waits bank) (zip (older ++ r ∷ []) ms)) (eligible_push older r)
-    ∙ ap (list_any (waits bank)) (zip-append older (r ∷ []) (eligible_column older) (mark (not asked) ∷ []) (length-eligible older))
-    ∙ list_any-append (waits bank) (entries older) ((r, mark (not asked)) ∷ [])
-    ∙ or_none (list_any (waits bank) (entries older)) (waits bank (r, mark (not asked)) || false) none
-    (or_none (waits bank (r, mark (not asked))) false (waits_mark bank r asked ∙ here) refl)
+    ap (λ ms. list_any (waits kind) (zip (older ++ r ∷ []) ms)) (eligible_push older r)
+    ∙ ap (list_any (waits kind)) (zip-append older (r ∷ []) (eligible_column older) (mark (not asked) ∷ []) (length-eligible older))
+    ∙ list_any-append (waits kind) (entries older) ((r, mark (not asked)) ∷ [])
+    ∙ or_none (list_any (waits kind) (entries older)) (waits kind (r, mark (not asked)) || false) none
+    (or_none (waits kind (r, mark (not asked))) false (waits_mark kind r asked ∙ here) refl)
 
 less_and : (a b e : Bool) → (a ≡ false → b ≡ false) → (a && e) ≡ false → (b && e) ≡ false
 less_and true b true less none = absurd (true≢false none)
@@ -52,14 +52,14 @@ less_and true b false less none = never b
 less_and false b e less none = ap (λ t. t && e) (less refl)
 
 -- fewer wait where fewer lines were asked for
-fewer_wait : (bank : ℕ) (a b : Place → Bool) (rs : List Request) → ((p : Place) → a p ≡ false → b p ≡ false)
-    → list_any (waits bank) (zip rs (marks_after a rs)) ≡ false → list_any (waits bank) (zip rs (marks_after b rs)) ≡ false
-fewer_wait bank a b [] less none = refl
-fewer_wait bank a b (r ∷ rs) less none =
-    let parts = or_parts (waits bank (r, mark (not (a r.place)))) (list_any (waits bank) (zip rs (marks_after (λ p. a p || is_line r.place p) rs))) none in
-    or_none (waits bank (r, mark (not (b r.place)))) (list_any (waits bank) (zip rs (marks_after (λ p. b p || is_line r.place p) rs)))
-    (waits_mark bank r (b r.place) ∙ less_and (a r.place) (b r.place) (eqb (bank_number r.place) bank) (less r.place) (sym (waits_mark bank r (a r.place)) ∙ parts.0))
-    (fewer_wait bank (λ p. a p || is_line r.place p) (λ p. b p || is_line r.place p) rs
+fewer_wait : (kind : ℕ) (a b : Place → Bool) (rs : List Request) → ((p : Place) → a p ≡ false → b p ≡ false)
+    → list_any (waits kind) (zip rs (marks_after a rs)) ≡ false → list_any (waits kind) (zip rs (marks_after b rs)) ≡ false
+fewer_wait kind a b [] less none = refl
+fewer_wait kind a b (r ∷ rs) less none =
+    let parts = or_parts (waits kind (r, mark (not (a r.place)))) (list_any (waits kind) (zip rs (marks_after (λ p. a p || is_line r.place p) rs))) none in
+    or_none (waits kind (r, mark (not (b r.place)))) (list_any (waits kind) (zip rs (marks_after (λ p. b p || is_line r.place p) rs)))
+    (waits_mark kind r (b r.place) ∙ less_and (a r.place) (b r.place) (eqb (kind_of r) kind) (less r.place) (sym (waits_mark kind r (a r.place)) ∙ parts.0))
+    (fewer_wait kind (λ p. a p || is_line r.place p) (λ p. b p || is_line r.place p) rs
     (λ p off. let both = or_parts (a p) (is_line r.place p) off in or_none (b p) (is_line r.place p) (less p both.0) both.1)
     parts.1)
 
@@ -67,13 +67,13 @@ fewer_wait bank a b (r ∷ rs) less none =
 abbrev behind : List Request → Request → List Request → List (Request × ℕ)
 behind older r later = zip later (marks_after (λ p. asks_for_line p older || is_line r.place p) later)
 
-waits_split : (bank : ℕ) (older later : List Request) (r : Request) → NoneWaits bank (older ++ r ∷ later)
-    → (list_any (waits bank) (front older) ≡ false) × (list_any (waits bank) (behind older r later) ≡ false)
-waits_split bank older later r none =
+waits_split : (kind : ℕ) (older later : List Request) (r : Request) → NoneWaits kind (older ++ r ∷ later)
+    → (list_any (waits kind) (front older) ≡ false) × (list_any (waits kind) (behind older r later) ≡ false)
+waits_split kind older later r none =
     let head : Request × ℕ = (r, mark (not (asks_for_line r.place older))) in
-    let whole = sym (ap (list_any (waits bank)) (entries_with older later r) ∙ list_any-append (waits bank) (front older) (head ∷ behind older r later)) ∙ none in
-    let parts = or_parts (list_any (waits bank) (front older)) (list_any (waits bank) (head ∷ behind older r later)) whole in
-    (parts.0, (or_parts (waits bank head) (list_any (waits bank) (behind older r later)) parts.1).1)
+    let whole = sym (ap (list_any (waits kind)) (entries_with older later r) ∙ list_any-append (waits kind) (front older) (head ∷ behind older r later)) ∙ none in
+    let parts = or_parts (list_any (waits kind) (front older)) (list_any (waits kind) (head ∷ behind older r later)) whole in
+    (parts.0, (or_parts (waits kind head) (list_any (waits kind) (behind older r later)) parts.1).1)
 
 less_asked : (older : List Request) (r : Request) (p : Place) → (asks_for_line p older || is_line r.place p) ≡ false → asks_for_line p older ≡ false
 less_asked older r p off = (or_parts (asks_for_line p older) (is_line r.place p) off).0
@@ -89,17 +89,17 @@ split_at rs slot r exists here =
     (long, whole, ap (λ xs. remove xs slot) whole ∙ remove_at older later r slot long)
 
 -- one request less
-pub waits_left : (bank : ℕ) (rs : List Request) (slot : ℕ) (r : Request) → slot < length rs → r ≡ get_or rs slot r → NoneWaits bank rs → NoneWaits bank (remove rs slot)
-waits_left bank rs slot r exists here none =
+pub waits_left : (kind : ℕ) (rs : List Request) (slot : ℕ) (r : Request) → slot < length rs → r ≡ get_or rs slot r → NoneWaits kind rs → NoneWaits kind (remove rs slot)
+waits_left kind rs slot r exists here none =
     let older = take slot rs in
     let later = drop (slot + 1) rs in
     let split = split_at rs slot r exists here in
-    let parts = waits_split bank older later r (sym (ap (λ xs. list_any (waits bank) (entries xs)) split.1) ∙ none) in
-    ap (λ xs. list_any (waits bank) (entries xs)) split.2
-    ∙ ap (list_any (waits bank)) (entries_without older later)
-    ∙ list_any-append (waits bank) (front older) (zip later (marks_after (λ p. asks_for_line p older) later))
-    ∙ or_none (list_any (waits bank) (front older)) (list_any (waits bank) (zip later (marks_after (λ p. asks_for_line p older) later))) parts.0
-    (fewer_wait bank (λ p. asks_for_line p older || is_line r.place p) (λ p. asks_for_line p older) later (less_asked older r) parts.1)
+    let parts = waits_split kind older later r (sym (ap (λ xs. list_any (waits kind) (entries xs)) split.1) ∙ none) in
+    ap (λ xs. list_any (waits kind) (entries xs)) split.2
+    ∙ ap (list_any (waits kind)) (entries_without older later)
+    ∙ list_any-append (waits kind) (front older) (zip later (marks_after (λ p. asks_for_line p older) later))
+    ∙ or_none (list_any (waits kind) (front older)) (list_any (waits kind) (zip later (marks_after (λ p. asks_for_line p older) later))) parts.0
+    (fewer_wait kind (λ p. asks_for_line p older || is_line r.place p) (λ p. asks_for_line p older) later (less_asked older r) parts.1)
 
 asked_by : (a e : Bool) → (a && e) ≡ false → e ≡ true → a ≡ false
 asked_by a true none is = and_true a none
@@ -110,18 +110,18 @@ asked_by a true none is = and_true a none
 asked_by a false none is = absurd (false≢true is)
 
 -- where none of a bank waits, its marks stay
-calm_marks : (bank : ℕ) (test : Request → Bool) (a b : Place → Bool) (rs : List Request) → ((x : Request) → test x ≡ true → eqb (bank_number x.place) bank ≡ true)
-    → ((p : Place) → a p ≡ false → b p ≡ false) → list_any (waits bank) (zip rs (marks_after a rs)) ≡ false
+calm_marks : (kind : ℕ) (test : Request → Bool) (a b : Place → Bool) (rs : List Request) → ((x : Request) → test x ≡ true → eqb (kind_of x) kind ≡ true)
+    → ((p : Place) → a p ≡ false → b p ≡ false) → list_any (waits kind) (zip rs (marks_after a rs)) ≡ false
     → position (passes test) (zip rs (marks_after a rs)) ≡ position (passes test) (zip rs (marks_after b rs))
-calm_marks bank test a b [] narrow less none = refl
-calm_marks bank test a b (r ∷ rs) narrow less none =
+calm_marks kind test a b [] narrow less none = refl
+calm_marks kind test a b (r ∷ rs) narrow less none =
     let next = λ (f : Place → Bool) (p : Place). f p || is_line r.place p in
-    let parts = or_parts (waits bank (r, mark (not (a r.place)))) (list_any (waits bank) (zip rs (marks_after (next a) rs))) none in
-    let rest = calm_marks bank test (next a) (next b) rs narrow
+    let parts = or_parts (waits kind (r, mark (not (a r.place)))) (list_any (waits kind) (zip rs (marks_after (next a) rs))) none in
+    let rest = calm_marks kind test (next a) (next b) rs narrow
     (λ p off. let both = or_parts (a p) (is_line r.place p) off in or_none (b p) (is_line r.place p) (less p both.0) both.1) parts.1 in
     let head : (not (a r.place) && test r) ≡ (not (b r.place) && test r) = elim (cases_Bool (test r)) [
       | inl is ↦
-          let first : a r.place ≡ false = asked_by (a r.place) (eqb (bank_number r.place) bank) (sym (waits_mark bank r (a r.place)) ∙ parts.0) (narrow r is) in
+          let first : a r.place ≡ false = asked_by (a r.place) (eqb (kind_of r) kind) (sym (waits_mark kind r (a r.place)) ∙ parts.0) (narrow r is) in
           ap (λ t. not t && test r) (first ∙ sym (less r.place first))
       | inr fails ↦ ap (λ t. not (a r.place) && t) fails ∙ never (not (a r.place)) ∙ sym (never (not (b r.place))) ∙ ap (λ t. not (b r.place) && t) (sym fails)
     ] in
@@ -130,27 +130,27 @@ calm_marks bank test a b (r ∷ rs) narrow less none =
     ∙ sym (position-cons (passes test) (r, mark (not (b r.place))) (zip rs (marks_after (next b) rs)))
 
 -- A request has left a bank of which none waits, and it was not the first that passes a test: the first place moves.
-later_place : (bank : ℕ) (test : Request → Bool) (rs : List Request) (slot : ℕ) (r : Request) → slot < length rs → r ≡ get_or rs slot r
-    → ((x : Request) → test x ≡ true → eqb (bank_number x.place) bank ≡ true) → NoneWaits bank rs → before (slot + 1) (first_place test rs) ≡ None
+later_place : (kind : ℕ) (test : Request → Bool) (rs : List Request) (slot : ℕ) (r : Request) → slot < length rs → r ≡ get_or rs slot r
+    → ((x : Request) → test x ≡ true → eqb (kind_of x) kind ≡ true) → NoneWaits kind rs → before (slot + 1) (first_place test rs) ≡ None
     → first_place test (remove rs slot) ≡ past slot (first_place test rs)
-later_place bank test rs slot r exists here narrow none late =
+later_place kind test rs slot r exists here narrow none late =
     let older = take slot rs in
     let later = drop (slot + 1) rs in
     let split = split_at rs slot r exists here in
-    let parts = waits_split bank older later r (sym (ap (λ xs. list_any (waits bank) (entries xs)) split.1) ∙ none) in
-    let same = calm_marks bank test (λ p. asks_for_line p older || is_line r.place p) (λ p. asks_for_line p older) later narrow (less_asked older r) parts.1 in
+    let parts = waits_split kind older later r (sym (ap (λ xs. list_any (waits kind) (entries xs)) split.1) ∙ none) in
+    let same = calm_marks kind test (λ p. asks_for_line p older || is_line r.place p) (λ p. asks_for_line p older) later narrow (less_asked older r) parts.1 in
     let whole = older ++ r ∷ later in
     let late_whole : before (length older + 1) (first_place test whole) ≡ None =
     ap (λ n. before (n + 1) (first_place test whole)) split.0 ∙ ap (λ xs. before (slot + 1) (first_place test xs)) (sym split.1) ∙ late in
     ap (first_place test) split.2 ∙ split_moved test older later r late_whole same
     ∙ ap (λ n. past n (first_place test whole)) split.0 ∙ ap (λ xs. past slot (first_place test xs)) (sym split.1)
 
-pub calm_place : (bank : ℕ) (test : Request → Bool) (rs : List Request) (slot : ℕ) (r : Request) (head : Option ℕ) → slot < length rs → r ≡ get_or rs slot r
-    → ((x : Request) → test x ≡ true → eqb (bank_number x.place) bank ≡ true) → NoneWaits bank rs → head ≡ first_place test rs → (head ≡ Some slot → ⊥)
+pub calm_place : (kind : ℕ) (test : Request → Bool) (rs : List Request) (slot : ℕ) (r : Request) (head : Option ℕ) → slot < length rs → r ≡ get_or rs slot r
+    → ((x : Request) → test x ≡ true → eqb (kind_of x) kind ≡ true) → NoneWaits kind rs → head ≡ first_place test rs → (head ≡ Some slot → ⊥)
     → past slot head ≡ first_place test (remove rs slot)
-calm_place bank test rs slot r None exists here narrow none is apart =
-    sym (later_place bank test rs slot r exists here narrow none (ap (before (slot + 1)) (sym is)) ∙ ap (past slot) (sym is))
-calm_place bank test rs slot r (Some k) exists here narrow none is apart = elim (cases_lt k slot) [
+calm_place kind test rs slot r None exists here narrow none is apart =
+    sym (later_place kind test rs slot r exists here narrow none (ap (before (slot + 1)) (sym is)) ∙ ap (past slot) (sym is))
+calm_place kind test rs slot r (Some k) exists here narrow none is apart = elim (cases_lt k slot) [
   | inl sooner ↦
       let kept : before slot (first_place test (remove rs slot)) ≡ Some k =
       left_front test rs slot r exists here ∙ ap (before slot) (sym is) ∙ before_here slot k sooner in
@@ -158,7 +158,7 @@ calm_place bank test rs slot r (Some k) exists here narrow none is apart = elim 
   | inr late ↦
       let other : k ≡ slot → ⊥ = λ same. apart (ap Some same) in
       let behind_it : slot + 1 ≤ k = beyond k late other in
-      sym (later_place bank test rs slot r exists here narrow none (ap (before (slot + 1)) (sym is) ∙ before_past (slot + 1) k behind_it) ∙ ap (past slot) (sym is))
+      sym (later_place kind test rs slot r exists here narrow none (ap (before (slot + 1)) (sym is) ∙ before_past (slot + 1) k behind_it) ∙ ap (past slot) (sym is))
 ]
   where
     stays : (k : ℕ) → k < slot → past slot (Some k) ≡ Some k
@@ -170,13 +170,33 @@ calm_place bank test rs slot r (Some k) exists here narrow none is apart = elim 
       | inr more ↦ absurd (other (omega arith))
     ]
 
--- a request that is wanted is of the bank
-pub wants_bank : (bank : ℕ) (write : Bool) (row : Option ℕ) (x : Request) → wants bank write row x ≡ true → eqb (bank_number x.place) bank ≡ true
-wants_bank bank write row x is = (and_parts (eqb (bank_number x.place) bank) (cond write x.write (not x.write)) (asked row is)).0
+-- a request that is wanted is of the bank and the kind
+same_kind : (write is_write : Bool) → cond write is_write (not is_write) ≡ true → is_write ≡ write
+same_kind true is_write is = is
+same_kind false true is = sym is
+same_kind false false is = refl
+
+pub wants_kind : (bank : ℕ) (write : Bool) (row : Option ℕ) (x : Request) → wants bank write row x ≡ true → eqb (kind_of x) (kind_number bank write) ≡ true
+wants_kind bank write row x is =
+    let parts = and_parts (eqb (bank_number x.place) bank) (cond write x.write (not x.write)) (asked row is) in
+    let bank_is : bank_number x.place ≡ bank = eqb-true (bank_number x.place) bank parts.0 in
+    let write_is : x.write ≡ write = same_kind write x.write parts.1 in
+    eq-eqb (kind_of x) (kind_number bank write) (λ i. kind_number (bank_is i) (write_is i))
   where
     asked : (row : Option ℕ) → wants bank write row x ≡ true → asks bank write x ≡ true
     asked None is = is
     asked (Some row) is = (and_parts (asks bank write x) (eqb x.place.row row) is).0
+
+kind_bank : (a b : ℕ) (v w : Bool) → kind_number a v ≡ kind_number b w → a ≡ b
+kind_bank a b true true same = omega arith
+kind_bank a b true false same = omega arith
+kind_bank a b false true same = omega arith
+kind_bank a b false false same = omega arith
+
+other_kind : (r : Request) (bank : ℕ) (write : Bool) → eqb (bank_number r.place) bank ≡ false → eqb (kind_of r) (kind_number bank write) ≡ false
+other_kind r bank write apart =
+    ne_eqb (kind_of r) (kind_number bank write)
+    (λ same. true≢false (sym (eq-eqb (bank_number r.place) bank (kind_bank (bank_number r.place) bank r.write write same)) ∙ apart))
 
 first_none : (t : Bool) (o : Option ℕ) → cond t (Some 0) (option_map suc o) ≡ None → (t ≡ false) × (o ≡ None)
 first_none true o none = cc
@@ -194,11 +214,11 @@ bank_apart r bank false elsewhere no_write no_read = either (eqb (bank_number r.
     either true false no_write no_read = no_read
 
 -- where none of a bank may be served, none asks for it, and so none waits
-none_of_bank : (bank : ℕ) (a : Place → Bool) (rs : List Request) → ((p : Place) → a p ≡ true → eqb (bank_number p) bank ≡ false)
+none_of_bank : (bank : ℕ) (write : Bool) (a : Place → Bool) (rs : List Request) → ((p : Place) → a p ≡ true → eqb (bank_number p) bank ≡ false)
     → position (passes (asks bank true)) (zip rs (marks_after a rs)) ≡ None → position (passes (asks bank false)) (zip rs (marks_after a rs)) ≡ None
-    → list_any (waits bank) (zip rs (marks_after a rs)) ≡ false
-none_of_bank bank a [] elsewhere no_write no_read = refl
-none_of_bank bank a (r ∷ rs) elsewhere no_write no_read =
+    → list_any (waits (kind_number bank write)) (zip rs (marks_after a rs)) ≡ false
+none_of_bank bank write a [] elsewhere no_write no_read = refl
+none_of_bank bank write a (r ∷ rs) elsewhere no_write no_read =
     let next = λ (p : Place). a p || is_line r.place p in
     let rest = zip rs (marks_after next rs) in
     let head : Request × ℕ = (r, mark (not (a r.place))) in
@@ -206,8 +226,8 @@ none_of_bank bank a (r ∷ rs) elsewhere no_write no_read =
     let reads = first_none (passes (asks bank false) head) (position (passes (asks bank false)) rest) (sym (position-cons (passes (asks bank false)) head rest) ∙ no_read) in
     let apart : eqb (bank_number r.place) bank ≡ false =
     bank_apart r bank (a r.place) (elsewhere r.place) (sym (passes_mark (asks bank true) r (not (a r.place))) ∙ writes.0) (sym (passes_mark (asks bank false) r (not (a r.place))) ∙ reads.0) in
-    or_none (waits bank head) (list_any (waits bank) rest) (waits_mark bank r (a r.place) ∙ ap (λ t. a r.place && t) apart ∙ never (a r.place))
-    (none_of_bank bank next rs
+    or_none (waits (kind_number bank write) head) (list_any (waits (kind_number bank write)) rest) (waits_mark (kind_number bank write) r (a r.place) ∙ ap (λ t. a r.place && t) (other_kind r bank write apart) ∙ never (a r.place))
+    (none_of_bank bank write next rs
     (λ p is. elim (cases_Bool (a p)) [
       | inl asked ↦ elsewhere p asked
       | inr not_asked ↦
@@ -216,18 +236,18 @@ none_of_bank bank a (r ∷ rs) elsewhere no_write no_read =
     ])
     writes.1 reads.1)
 
-pub empty_waits : (bank : ℕ) (rs : List Request) → None ≡ first_place (asks bank true) rs → None ≡ first_place (asks bank false) rs → NoneWaits bank rs
-empty_waits bank rs no_write no_read =
+pub empty_waits : (bank : ℕ) (write : Bool) (rs : List Request) → None ≡ first_place (asks bank true) rs → None ≡ first_place (asks bank false) rs → NoneWaits (kind_number bank write) rs
+empty_waits bank write rs no_write no_read =
     let whole = ap (zip rs) (eligible_is rs) in
-    ap (list_any (waits bank)) whole
-    ∙ none_of_bank bank (λ p. false) rs (λ p is. absurd (false≢true is))
+    ap (list_any (waits (kind_number bank write))) whole
+    ∙ none_of_bank bank write (λ p. false) rs (λ p is. absurd (false≢true is))
     (ap (position (passes (asks bank true))) (sym whole) ∙ sym no_write) (ap (position (passes (asks bank false))) (sym whole) ∙ sym no_read)
 
 pub none_is : (o : Option ℕ) → is_none o ≡ true → o ≡ None
 none_is None is = refl
 none_is (Some k) is = absurd (false≢true is)
 
--- which banks are noted
+-- which banks and kinds are noted
 pub noted_other : (xs : List Bool) (bank other : ℕ) (b : Bool) → (other ≡ bank → ⊥) → get_or (set xs bank b) other true ≡ false → get_or xs other true ≡ false
 noted_other xs bank other b apart is = sym (get_or-set_other xs bank other b true apart) ∙ is
 

@@ -13,7 +13,7 @@ use Rattle.queue.specs.Columns.{bank_number, eligible_column}
 use Rattle.queue.proofs.Eligible.{marks_after, length-marks, split_marks, around}
 use Rattle.heads.specs.declared.entry.BankHeads.{BankHeads}
 use Rattle.heads.specs.declared.heads.Heads.{Heads}
-use Rattle.heads.specs.Heads.{asks, AreHeads, RowsFit, NoneWaits, bank_at, number_of}
+use Rattle.heads.specs.Heads.{asks, AreHeads, RowsFit, NoneWaits, kind_of, bank_at, number_of}
 use Rattle.heads.specs.Moves.{bank_moved}
 use Rattle.heads.specs.Stands.{bank_count, heads_of, StandsFor, with_row, closed_in}
 use Rattle.heads.proofs.OneBank.{bank_kept, bank_left, asks_elsewhere}
@@ -53,7 +53,7 @@ set_each P xs n x within here others k d exists = elim (cases_eq k n) [
   | inr apart ↦ subst (P k) (sym (get_or-set_other xs n k x d apart)) (others k d exists apart)
 ]
 
--- banks that are not noted have none that waits
+-- banks and kinds that are not noted have none that waits
 abbrev pub AreCalm : List Bool → List Request → Type 0
 AreCalm noted requests = (bank : ℕ) → get_or noted bank true ≡ false → NoneWaits bank requests
 
@@ -120,7 +120,7 @@ joined_stand old new older r open_rows h is noted exists short stands first row 
     written old new older (older ++ r ∷ []) open_rows open_rows own h is exists stands
     (All-push (λ (x : Request). bank_number x.place < bank_count old) older r stands.within exists)
     (All-push (λ (x : Request). x.place.row < 2 ^ 32) older r stands.rows_fit short)
-    (λ bank calm. waits_push bank older r (stands.waits_are bank (ap (λ ws. get_or ws bank true) (sym noted) ∙ calm)) (ap (λ t. t && eqb (bank_number r.place) bank) first))
+    (λ bank calm. waits_push bank older r (stands.waits_are bank (ap (λ ws. get_or ws bank true) (sym noted) ∙ calm)) (ap (λ t. t && eqb (kind_of r) bank) first))
     (row h ∙ stands.rows_are own h exists, here)
     (λ other x apart known. (
       known.0,
@@ -135,10 +135,10 @@ joined_stand old new older r open_rows h is noted exists short stands first row 
 
 -- one that waits for an older one of its line, as is noted
 pub unjoined_stand : (old new : Heads) (older : List Request) (r : Request) (open_rows : ℕ → Option ℕ) → new.banks ≡ old.banks
-    → new.waits.items ≡ set old.waits.items (bank_number r.place) true → bank_number r.place < bank_count old → r.place.row < 2 ^ 32 → StandsFor old older open_rows
+    → new.waits.items ≡ set old.waits.items (kind_of r) true → bank_number r.place < bank_count old → r.place.row < 2 ^ 32 → StandsFor old older open_rows
     → asks_for_line r.place older ≡ true → StandsFor new (older ++ r ∷ []) open_rows
 unjoined_stand old new older r open_rows same noted exists short stands asked =
-    let own = bank_number r.place in
+    let own = kind_of r in
     let count : bank_count old ≡ bank_count new = ap (λ b. length b.items) (sym same) in
     stand new (older ++ r ∷ []) open_rows
     (fewer (older ++ r ∷ []) (bank_count old) (bank_count new) count (All-push (λ (x : Request). bank_number x.place < bank_count old) older r stands.within exists))
@@ -189,7 +189,7 @@ served_stand old moved new rs slot r open_rows h within request exists long each
     ))
     k d (omega (arith, long, more))))
 
--- banks of which none waits, once a request has left
+-- banks and kinds of which none waits, once a request has left
 pub calm_left : (noted : List Bool) (rs : List Request) (slot : ℕ) → slot < length rs → AreCalm noted rs → AreCalm noted (remove rs slot)
 calm_left noted rs slot within calm bank is = let item = item_at rs slot within in waits_left bank rs slot item.0 within item.1 (calm bank is)
 

@@ -5,7 +5,8 @@
 --     wants bank write row r      it does, and for this row if one is given
 --     RowsFit requests      each asks for a row whose number has 32 bits
 --     first_place test requests      the place of the first request that may be served and passes a test
---     NoneWaits bank requests      none that asks for a bank waits for an older one of its line
+--     kind_number bank write, kind_of r      the number of a bank and a kind, and of those that a request asks for
+--     NoneWaits kind requests      none that asks for a bank and a kind waits for an older one of its line
 --     AreHeads requests bank heads      each head of a bank is the place of the first such request
 use Rattle.std.specs.Prelude.{◌≡◌, ℕ, ◌+◌, ◌*◌, ◌/◌, ◌%◌, ◌^◌, ◌<◌, ◌==◌, Bool, true, false, not, ◌&&◌, List, All, position, Option, Some, None, if◌then◌else◌}
 use Rattle.std.specs.List.{list_any, zip}
@@ -54,13 +55,21 @@ entries requests = zip requests (eligible_column requests)
 abbrev pub first_place : (Request → Bool) → List Request → Option ℕ
 first_place test requests = position (passes test) (entries requests)
 
--- a request at a place asks for a bank, and waits for an older one of its line
-abbrev pub waits : ℕ → Request × ℕ → Bool
-waits bank e = not (is_marked e.1) && (bank_number e.0.place == bank)
+-- the number of a bank and a kind: twice that of the bank, and one more to write
+abbrev pub kind_number : ℕ → Bool → ℕ
+kind_number bank write = bank * 2 + (if write then 1 else 0)
 
--- no request that asks for a bank waits for an older one of its line
+-- the number of the bank and the kind of a request
+abbrev pub kind_of : Request → ℕ
+kind_of r = kind_number (bank_number r.place) r.write
+
+-- a request at a place asks for a bank and a kind, and waits for an older one of its line
+abbrev pub waits : ℕ → Request × ℕ → Bool
+waits kind e = not (is_marked e.1) && (kind_of e.0 == kind)
+
+-- no request that asks for a bank and a kind waits for an older one of its line
 abbrev pub NoneWaits : ℕ → List Request → Type 0
-NoneWaits bank requests = list_any (waits bank) (entries requests) ≡ false
+NoneWaits kind requests = list_any (waits kind) (entries requests) ≡ false
 
 -- the heads of a bank to read or to write, where this row is open
 pub record AreFirst (requests : List Request) (bank : ℕ) (write : Bool) (row : Option ℕ) (heads : KindHeads) : Type 0 where

@@ -25,7 +25,7 @@ pub record StandsFor (heads : Heads) (requests : List Request) (open_rows : ℕ 
   pub rows_fit : RowsFit requests
   pub rows_are : (bank : ℕ) (d : BankHeads) → bank < bank_count heads → (heads_of heads bank d).row ≡ open_rows bank
   pub heads_are : (bank : ℕ) (d : BankHeads) → bank < bank_count heads → AreHeads requests bank (heads_of heads bank d)
-  pub waits_are : (bank : ℕ) → slice_index_or heads.waits.items bank true ≡ false → NoneWaits bank requests
+  pub waits_are : (kind : ℕ) → slice_index_or heads.waits.items kind true ≡ false → NoneWaits kind requests
 
 -- the rows that are open once the bank with a number has this row
 abbrev pub with_row : ℕ → Option ℕ → (ℕ → Option ℕ) → ℕ → Option ℕ

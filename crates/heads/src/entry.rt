@@ -5,7 +5,7 @@ ghost use Rattle.sim_base.specs.Rules.{is_row};
 ghost use Rattle.sim_base.specs.Scheduling.{asks_for_line, or_else};
 ghost use Rattle.sim_base.specs.declared.message.Request.{Request};
 ghost use Rattle.queue.specs.Columns.{bank_number};
-ghost use Rattle.heads.specs.Heads.{bank_at, number_of, RowsFit, NoneWaits, AreFirst, AreHeads};
+ghost use Rattle.heads.specs.Heads.{bank_at, number_of, kind_number, RowsFit, NoneWaits, AreFirst, AreHeads};
 ghost use Rattle.heads.specs.Moves.{past};
 
 use crate::search::{Gap, first_from, next_place};
@@ -47,8 +47,17 @@ pub fn bank_at(number: usize) -> BankId
 pub(crate) fn bank_number(place: Place) -> usize
     ensures number { result ≡ bank_number place }
     ensures row { place.row < 2 ^ 32 }
+    ensures small { result < 2 ^ 40 }
 {
     (place.rank as usize * 4 + place.group as usize) * 4 + place.bank as usize
+}
+
+/// The number of the bank of a place, and of a kind: twice that of the bank, and one more to write.
+pub(crate) fn kind_number(place: Place, write: bool) -> usize
+    ensures { result ≡ kind_number (bank_number place) write }
+{
+    let twice = bank_number(place) * 2;
+    if write { twice + 1 } else { twice }
 }
 
 /// The number of a bank.
@@ -123,7 +132,7 @@ impl KindHeads {
     /// Once a request of the same bank has left its place in the queue.
     fn after(self, queue: &Queue, gap: Gap, write: bool, row: Option<u32>) -> KindHeads
         ensures { (earlier : List Request) → gap.slot < length earlier → queue.now.requests ≡ remove earlier gap.slot → RowsFit queue.now.requests
-            → (gap.calm ≡ true → NoneWaits gap.bank earlier) → AreFirst earlier gap.bank write row self → AreFirst queue.now.requests gap.bank write row result }
+            → (gap.calm ≡ true → NoneWaits (kind_number gap.bank write) earlier) → AreFirst earlier gap.bank write row self → AreFirst queue.now.requests gap.bank write row result }
     {
         let oldest = next_place(self.oldest, queue, gap, 0, write, None);
         let hit = match (row, oldest) {
@@ -169,16 +178,25 @@ impl BankHeads {
         }
     }
 
-    /// Once a request of this bank has left its place in the queue.
-    pub(crate) fn after(self, queue: &Queue, gap: Gap) -> BankHeads
+    /// Once a request of this bank has left its place in the queue, where it may be known that no read waited, and no write.
+    pub(crate) fn after(self, queue: &Queue, gap: Gap, calm_writes: bool) -> BankHeads
         ensures row { result.row ≡ self.row }
         ensures heads { (earlier : List Request) → gap.slot < length earlier → queue.now.requests ≡ remove earlier gap.slot → RowsFit queue.now.requests
-            → (gap.calm ≡ true → NoneWaits gap.bank earlier) → AreHeads earlier gap.bank self → AreHeads queue.now.requests gap.bank result }
+            → (gap.calm ≡ true → NoneWaits (kind_number gap.bank false) earlier) → (calm_writes ≡ true → NoneWaits (kind_number gap.bank true) earlier)
+            → AreHeads earlier gap.bank self → AreHeads queue.now.requests gap.bank result }
     {
         BankHeads {
             row: self.row,
             reads: self.reads.after(queue, gap, false, self.row),
-            writes: self.writes.after(queue, gap, true, self.row),
+            writes: self.writes.after(
+                queue,
+                Gap {
+                    calm: calm_writes,
+                    ..gap
+                },
+                true,
+                self.row,
+            ),
         }
     }
 

@@ -4,19 +4,19 @@ ghost use Rattle.std.specs.Prelude.{◌≡◌, ◌<◌, ℕ, length, slice_index
 ghost use Rattle.heads.specs.declared.entry.BankHeads.{BankHeads};
 ghost use Rattle.heads.specs.Moves.{past, kind_moved, bank_moved};
 
-use crate::entry::{BankHeads, KindHeads, bank_number, number_of};
+use crate::entry::{BankHeads, KindHeads, bank_number, kind_number, number_of};
 use crate::search::Gap;
 use queue::Queue;
 use sim_base::command::Command;
 use sim_base::message::Request;
-use sim_base::place::BankId;
+use sim_base::place::{BankId, Place};
 use std::alloc::{AllocError, Global};
 
 /// Of each bank of a channel, by number, the first requests that may be served, to read and to write, and the row that is open.
 #[derive(Drop)]
 pub struct Heads {
     banks: Vec<BankHeads>,
-    /// Of each bank, whether some request for it may wait for an older one of its line.
+    /// Of each bank and kind, by number, whether some such request may wait for an older one of its line.
     waits: Vec<bool>,
 }
 
@@ -83,7 +83,7 @@ impl Heads {
     {
         Ok(Heads {
             banks: vec![in alloc; NONE; banks]?,
-            waits: vec![in alloc; false; banks]?,
+            waits: vec![in alloc; false; banks.saturating_mul(2)]?,
         })
     }
 
@@ -135,34 +135,36 @@ impl Heads {
         false
     }
 
-    /// Whether it is known that no request for a bank waits for an older one of its line.
-    fn is_calm(&self, bank: usize) -> bool
-        ensures { result ≡ not (slice_index_or self.now.waits.items bank true) }
+    /// Whether it is known that no request for a bank and of a kind waits for an older one of its line.
+    fn is_calm(&self, kind: usize) -> bool
+        ensures { result ≡ not (slice_index_or self.now.waits.items kind true) }
     {
-        match self.waits.get(bank) {
+        match self.waits.get(kind) {
             Some(waits) => !*waits,
             None => false,
         }
     }
 
-    /// Notes whether some request for a bank may wait for an older one of its line.
-    fn set_waits(&mut self, bank: usize, waits: bool)
+    /// Notes whether some request for a bank and of a kind may wait for an older one of its line.
+    fn set_waits(&mut self, kind: usize, waits: bool)
         ensures banks { self.new.banks ≡ self.old.banks }
-        ensures waits { self.new.waits.items ≡ slice_set self.old.waits.items bank waits }
+        ensures waits { self.new.waits.items ≡ slice_set self.old.waits.items kind waits }
     {
-        if bank < self.waits.len() {
-            self.waits[bank] = waits;
+        if kind < self.waits.len() {
+            self.waits[kind] = waits;
         }
     }
 
-    /// Notes that no request for a bank waits, where none of the bank may be served.
-    fn note_empty(&mut self, bank: usize)
-        requires { bank < bank_count self.old }
+    /// Notes that no request for the bank of a place waits, where none of the bank may be served.
+    fn note_empty(&mut self, place: Place)
+        requires { bank_number place < bank_count self.old }
         ensures banks { bank_count self.new ≡ bank_count self.old }
         ensures stands { (requests : List Request) (open_rows : ℕ → Option ℕ) → StandsFor self.old requests open_rows → StandsFor self.new requests open_rows }
     {
+        let bank = bank_number(place);
         if self.banks[bank].is_empty() {
-            self.set_waits(bank, false);
+            self.set_waits(kind_number(place, false), false);
+            self.set_waits(kind_number(place, true), false);
         }
     }
 
@@ -177,7 +179,7 @@ impl Heads {
         if first_of_line {
             self.banks[bank] = self.banks[bank].joined(request, slot);
         } else {
-            self.set_waits(bank, true);
+            self.set_waits(kind_number(request.place, request.write), true);
         }
     }
 
@@ -202,11 +204,12 @@ impl Heads {
             → queue.now.requests ≡ remove earlier slot → StandsFor self.old earlier open_rows → StandsFor self.new queue.now.requests open_rows }
     {
         let bank = bank_number(request.place);
-        let calm = self.is_calm(bank);
-        let own = self.banks[bank].after(queue, Gap { slot, bank, calm });
+        let calm = self.is_calm(kind_number(request.place, false));
+        let calm_writes = self.is_calm(kind_number(request.place, true));
+        let own = self.banks[bank].after(queue, Gap { slot, bank, calm }, calm_writes);
         move_past(&mut self.banks, slot);
         self.banks[bank] = own;
-        self.note_empty(bank);
+        self.note_empty(request.place);
     }
 
     /// Takes note of a row that has been opened in a bank.

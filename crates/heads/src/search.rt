@@ -4,7 +4,7 @@ ghost use Rattle.std.specs.Prelude.{◌≡◌, ℕ, ◌<◌, ◌≤◌, ◌%◌,
 ghost use Rattle.sim_base.specs.declared.message.Request.{Request};
 ghost use Rattle.lane_scan.specs.Marks.{is_match};
 ghost use Rattle.queue.specs.Columns.{bank_number, key_mask, key_wanted};
-ghost use Rattle.heads.specs.Heads.{wants, passes, first_place, RowsFit, NoneWaits};
+ghost use Rattle.heads.specs.Heads.{wants, passes, first_place, RowsFit, NoneWaits, kind_number};
 ghost use Rattle.heads.specs.Moves.{NoneBefore};
 
 use crate::entry::{bank_number, past};
@@ -17,7 +17,7 @@ use sim_base::message::Request;
 pub(crate) struct Gap {
     pub(crate) slot: usize,
     pub(crate) bank: usize,
-    /// Whether it is known that no request of the bank waited for an older one of its line.
+    /// Whether it is known that no request of the bank and a kind waited for an older one of its line.
     pub(crate) calm: bool,
 }
 
@@ -88,7 +88,8 @@ pub(crate) fn first_from(
 }
 
 /// The first such request, once one of its bank has left the queue: the same as before, if that stands before the place that
-/// became free, and else none before that place nor before `least`. Where none of the bank waited, no other has its turn.
+/// became free, and else none before that place nor before `least`. Where none of the bank and the kind waited, no other has
+/// its turn.
 pub(crate) fn next_place(
     head: Option<usize>,
     queue: &Queue,
@@ -98,7 +99,7 @@ pub(crate) fn next_place(
     row: Option<u32>,
 ) -> Option<usize>
     ensures { (earlier : List Request) → gap.slot < length earlier → queue.now.requests ≡ remove earlier gap.slot → RowsFit queue.now.requests
-        → (gap.calm ≡ true → NoneWaits gap.bank earlier) → NoneBefore (wants gap.bank write row) queue.now.requests least
+        → (gap.calm ≡ true → NoneWaits (kind_number gap.bank write) earlier) → NoneBefore (wants gap.bank write row) queue.now.requests least
         → head ≡ first_place (wants gap.bank write row) earlier → result ≡ first_place (wants gap.bank write row) queue.now.requests }
 {
     if gap.calm && head != Some(gap.slot) {

@@ -2,12 +2,12 @@
 use Rattle.std.proofs.lemmas.Bool.{true≢false, eq-eqb}
 use Rattle.std.specs.Option.{option_eq}
 use Rattle.std.proofs.Common.{◌≡◌, Some, None, not, eqb, refl, sym, ap, subst, ◌∙◌, arith}
-use Rattle.heads.specs.Heads.{wants, first_place}
+use Rattle.heads.specs.Heads.{wants, first_place, kind_number}
 use Rattle.heads.specs.Moves.{before, NoneBefore}
 use Rattle.heads.proofs.Positions.{before_some, before_here, before_past}
 use Rattle.heads.proofs.Entries.{left_front, none_before}
 use Rattle.heads.proofs.Searches.{none_max}
-use Rattle.heads.proofs.Calm.{calm_place, wants_bank}
+use Rattle.heads.proofs.Calm.{calm_place, wants_kind}
 use Rattle.heads.proofs.Stood.{item_at}
 use Rattle.heads.proofs.search.next_place.Goals as goal
 use Rattle.heads.proofs.search.next_place.Goals.{in_default-via-in-Some+else-place-gap, in_default-via-in_default}
@@ -44,5 +44,5 @@ returns-then-ne c earlier within left fit calm none is =
     let apart : c.args.head ≡ Some slot → ⊥ = λ same.
     true≢false (sym c.if-ne.true ∙ c.ne.ensures ∙ ap (λ h. not (option_eq eqb h (Some slot))) same ∙ ap not (eq-eqb slot slot refl)) in
     c.past.ensures
-    ∙ calm_place c.args.gap.bank test earlier slot item.0 c.args.head within item.1 (wants_bank c.args.gap.bank c.args.write c.args.row) (calm c.if-gap.true) is apart
+    ∙ calm_place (kind_number c.args.gap.bank c.args.write) test earlier slot item.0 c.args.head within item.1 (wants_kind c.args.gap.bank c.args.write c.args.row) (calm c.if-gap.true) is apart
     ∙ ap (first_place test) (sym left)

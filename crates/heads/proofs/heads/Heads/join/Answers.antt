@@ -31,5 +31,5 @@ pub returns-else-first_of_line-clause-stands : goal.returns-else-first_of_line-c
 returns-else-first_of_line-clause-stands c older open_rows long is stands =
     let r = c.args.request in
     unjoined_stand c.args.self.now c.set_waits.new.self older r open_rows c.set_waits.ensures.banks
-    (c.set_waits.ensures.waits ∙ ap (λ n. set c.args.self.now.waits.items n true) c.bank_number-bank.ensures.number) c.requires c.bank_number-bank.ensures.row stands
+    (c.set_waits.ensures.waits ∙ ap (λ n. set c.args.self.now.waits.items n true) c.kind_number.ensures) c.requires c.bank_number-bank.ensures.row stands
     (not_not (asks_for_line r.place older) ∙ ap not (sym is ∙ c.if-first_of_line.false))

@@ -6,7 +6,7 @@ use Rattle.sim_base.specs.declared.message.Request.{Request}
 use Rattle.queue.specs.Columns.{bank_number}
 use Rattle.heads.specs.declared.entry.BankHeads.{BankHeads}
 use Rattle.heads.specs.declared.heads.Heads.{Heads}
-use Rattle.heads.specs.Heads.{AreHeads, RowsFit, NoneWaits}
+use Rattle.heads.specs.Heads.{AreHeads, RowsFit, NoneWaits, kind_number}
 use Rattle.heads.specs.Moves.{bank_moved}
 use Rattle.heads.specs.Stands.{StandsFor, bank_count, heads_of}
 use Rattle.heads.proofs.Stood.{All-remove, served_stand, calm_left}
@@ -30,10 +30,13 @@ returns-clause-stands c earlier open_rows within request left stands =
     let read : c.index.result.now ≡ heads_of old own c.index.result.now = c.index.ensures ∙ ap (λ n. heads_of old n c.index.result.now) number in
     let known = subst (AreHeads earlier own) (sym read) (stands.heads_are own c.index.result.now exists) in
     let fit = subst RowsFit (sym left) (All-remove (λ (x : Request). x.place.row < 2 ^ 32) earlier c.args.slot stands.rows_fit) in
-    let calm : c.is_calm-calm.result ≡ true → NoneWaits c.bank_number-bank.result earlier =
-    λ is. stands.waits_are c.bank_number-bank.result (not_true (get_or old.waits.items c.bank_number-bank.result true) (sym c.is_calm-calm.ensures ∙ is)) in
+    let kind : (write : Bool) → kind_number own write ≡ kind_number c.bank_number-bank.result write = λ write. ap (λ n. kind_number n write) (sym number) in
+    let calm : c.is_calm-calm.result ≡ true → NoneWaits (kind_number c.bank_number-bank.result false) earlier =
+    λ is. subst (λ n. NoneWaits n earlier) (c.kind_number.ensures ∙ kind false) (stands.waits_are c.kind_number.result (not_true (get_or old.waits.items c.kind_number.result true) (sym c.is_calm-calm.ensures ∙ is))) in
+    let calm_writes : c.is_calm-calm_writes.result ≡ true → NoneWaits (kind_number c.bank_number-bank.result true) earlier =
+    λ is. subst (λ n. NoneWaits n earlier) (c.kind_number-2.ensures ∙ kind true) (stands.waits_are c.kind_number-2.result (not_true (get_or old.waits.items c.kind_number-2.result true) (sym c.is_calm-calm_writes.ensures ∙ is))) in
     let here = subst (λ n. AreHeads c.args.queue.now.requests n h) number
-    (c.after-own.ensures.heads earlier within left fit calm (subst (λ n. AreHeads earlier n c.index.result.now) (sym number) known)) in
+    (c.after-own.ensures.heads earlier within left fit calm calm_writes (subst (λ n. AreHeads earlier n c.index.result.now) (sym number) known)) in
     let same : length c.move_past.new.banks ≡ bank_count old = omega (arith, ap length c.deref_mut.ensures.value, c.move_past.auto.banks) in
     let items_are : moved.banks.items ≡ c.move_past.new.banks =
     take_at c.move_past.new.banks (drop (length c.move_past.new.banks) old.banks.items) old.banks.len (omega (arith, old.banks.ok.0, same)) in
