@@ -1,10 +1,10 @@
 -- The request of an entry among requests of different entries.
-use Rattle.std.proofs.Common.{◌≡◌, ℕ, zero, suc, ◌+◌, ◌<◌, Bool, true, false, cond, nat_lt, List, [], ◌∷◌, length, Option, Some, None, refl, sym, ap, subst, ◌∙◌, arith}
+use Rattle.std.proofs.Common.{◌≡◌, ℕ, zero, suc, ◌+◌, ◌<◌, true, false, cond, nat_lt, List, [], ◌∷◌, length, Some, None, ap, subst, ◌∙◌, arith}
 use Rattle.std.specs.Prelude.{not, position, slice_get}
 use Rattle.std.specs.List.{AllByRecursion as Each, position_or_len}
 use Rattle.std.proofs.lemmas.Bool.{cond-true, lt-ltb}
 use Rattle.std.proofs.lemmas.Bool.Decides.{nat_tests}
-use Rattle.sim_base.specs.Scheduling.{is_source, source_of}
+use Rattle.sim_base.specs.Scheduling.{is_source}
 use Rattle.sim_base.specs.declared.command.Source.{Source}
 use Rattle.sim_base.specs.declared.message.Request.{Request}
 use Rattle.channel_step.specs.Past.{IsOther, Differ}
