@@ -2,6 +2,7 @@
 use Rattle.std.proofs.Common.{◌≡◌, ℕ, ◌≤◌, ◌↔◌, true, false, leb, max, List, Some, None, refl, arith}
 use Rattle.std.specs.Prelude.{IsTrue}
 use Rattle.std.proofs.lemmas.Bool.{and_parts, and_from, leb-true, le-leb}
+use Rattle.sim_base.specs.declared.config.Config.{Config}
 use Rattle.sim_base.specs.declared.timing.Timing.{Timing}
 use Rattle.sim_base.specs.declared.place.BankId.{BankId}
 use Rattle.sim_base.specs.declared.command.Kind.{Kind}
@@ -12,7 +13,7 @@ use Rattle.sim_base.specs.declared.command.CommandRow.{CommandRow}
 use Rattle.sim_base.specs.Rules.{is_kind, kind_of, rank_of, bank_of, keeps_distances, recent_acts, is_allowed}
 use Rattle.bank_ready.specs.Ready.{ready_from, window_ends}
 use Rattle.bank_ready.specs.Words.{names_rank, window_from}
-use Rattle.bank_ready.specs.Stands.{Ascends}
+use Rattle.bank_ready.specs.Stands.{IsAllowedFrom, Ascends}
 use Rattle.bank_ready.proofs.Readiness.{ready_from-keeps}
 use Rattle.bank_ready.proofs.Window.{three-ahead, recent_acts-ahead, window_ends-ascending}
 
@@ -77,6 +78,15 @@ pub allowed-act : (t : Timing) (history : List CommandRow) (now : ℕ) (command 
     ↔ IsTrue (is_allowed t history now command)
 allowed-act t history now command bank up e f =
     rw (← f, ← rank_of-bank command bank f, ← e) (act t history now command up (rw e refl))
+
+-- a command that is no ACT is allowed no sooner than all before it allow it
+pub no-sooner : (s : Config) (history : List CommandRow) (command : Command) (cycle : ℕ) (later : Kind) (floor : ℕ)
+    → kind_of command ≡ later → is_kind later kind.Act ≡ false → IsAllowedFrom s history command cycle
+    → floor ≤ ready_from s.timing history later (rank_of command) (bank_of command) → floor ≤ cycle
+no-sooner s history command cycle later floor e h from le =
+    let ready = (other s.timing history cycle command (rw e h)).1 ((from cycle).0 (omega arith)) in
+    let floored : floor ≤ ready_from s.timing history (kind_of command) (rank_of command) (bank_of command) = rw e le in
+    omega (arith, ready, floored)
 
 pub allowed-rank : (t : Timing) (history : List CommandRow) (now : ℕ) (command : Command) (later : Kind) (rank : ℕ)
     → kind_of command ≡ later → rank_of command ≡ rank → names_rank later ≡ true → is_kind later kind.Act ≡ false

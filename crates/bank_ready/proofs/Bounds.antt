@@ -81,6 +81,15 @@ data_same t cycle Wr Pre e l = cc
 data_same t cycle Wr Prea e l = cc
 data_same t cycle Wr Ref e l = cc
 
+-- so no relation of their banks holds back less than a least cycle of three
+pub data_least : (t : Timing) (cycle : ℕ) (earlier later : Kind) (least : ℕ) (relation : Relation) → moves_data earlier ≡ true → moves_data later ≡ true
+    → least ≤ held_until t cycle earlier later SameGroup → least ≤ held_until t cycle earlier later OtherGroup → least ≤ held_until t cycle earlier later OtherRank
+    → least ≤ held_until t cycle earlier later relation
+data_least t cycle earlier later least SameBank e l group other rank = rw (data_same t cycle earlier later e l) group
+data_least t cycle earlier later least SameGroup e l group other rank = group
+data_least t cycle earlier later least OtherGroup e l group other rank = other
+data_least t cycle earlier later least OtherRank e l group other rank = rank
+
 -- an ACT holds back another in its bank at least as long as in its group, and not in another rank
 pub act_grows : (t : Timing) (cycle : ℕ) → held_until t cycle Act Act SameGroup ≤ held_until t cycle Act Act SameBank
 unfolding held_until hold is_bound gap

@@ -1,5 +1,5 @@
 -- What a command makes of a column, from what was done to its words.
-use Rattle.std.proofs.Common.{◌≡◌, ℕ, ◌/◌, ◌<◌, ◌≤◌, ◌∙◌, Bool, true, false, cond, eqb, max, List, length, get_or, Option, Some, refl, sym, ap, subst, arith, inl, inr}
+use Rattle.std.proofs.Common.{◌≡◌, ℕ, ◌*◌, ◌/◌, ◌<◌, ◌≤◌, ◌∙◌, Bool, true, false, cond, eqb, max, List, length, get_or, Option, Some, refl, sym, ap, subst, arith, inl, inr}
 use Rattle.std.specs.Prelude.{IfSome}
 use Rattle.std.proofs.lemmas.Bool.{cases_Bool, eqb-true, cond-true, cond-false}
 use Rattle.std.proofs.lemmas.List.{with_items_is, get_or_read}
@@ -18,12 +18,12 @@ use Rattle.sim_base.specs.declared.command.Command.TheVariants.{Act, Rd, Wr, Pre
 use Rattle.sim_base.specs.declared.command.Source.{Source}
 use Rattle.sim_base.specs.Rules.{is_kind, kind_of, rank_of, bank_of, row_after}
 use Rattle.bank_ready.specs.Ready.{held_until}
-use Rattle.bank_ready.specs.Words.{bank_at, is_own, relation_from, moves_data, no_acts, pushed, word_until, rank_raised, rank_state_after, act_pushed}
+use Rattle.bank_ready.specs.Words.{bank_at, is_own, relation_from, group_relation_from, moves_data, no_acts, pushed, word_until, rank_raised, rank_state_after, act_pushed}
 use Rattle.bank_ready.specs.Noted.{IsRaised, window_word, IsNoted}
 use Rattle.bank_ready.specs.declared.words.RankState.{RankState}
 use Rattle.bank_ready.specs.declared.banks.Banks.{Banks}
-use Rattle.bank_ready.proofs.Bounds.{IsOwn, rank_alone, data_no_act}
-use Rattle.bank_ready.proofs.Places.{own_raised}
+use Rattle.bank_ready.proofs.Bounds.{IsOwn, rank_alone, data_no_act, data_same}
+use Rattle.bank_ready.proofs.Places.{own_raised, data_joint, group_rank}
 
 -- a bank that there is lies in the columns
 pub own_inside : (own : Option ℕ) (n m : ℕ) → IfSome own (λ k. k < n) → n ≤ m → IfSome own (λ k. k < m)
@@ -48,20 +48,63 @@ put v lent ys change is long each =
       each = λ k d l. ap (λ xs. get_or xs k d) items ∙ each k d (rw is l) ∙ ap (λ xs. change k (get_or xs k d)) is;
     }
 
--- the same of a column whose words were raised
-pub raised : {Z : Type 0} (v : Vec ℕ Z) (lent ys : List ℕ) (until : ℕ → ℕ) → lent ≡ v.items → length ys ≡ length lent
-    → ((k d : ℕ) → k < length lent → get_or ys k d ≡ max (get_or lent k d) (until k)) → IsRaised v.items (with_items v ys).items until
-raised v lent ys until is long each =
+-- a column whose words were raised by their places
+pub record IsLifted (before after : List ℕ) (until : ℕ → ℕ) : Type 0 where
+  pub count : length after ≡ length before
+  pub each : (k : ℕ) → k < length before → get_or after k 0 ≡ max (get_or before k 0) (until k)
+
+pub lifted : {Z : Type 0} (v : Vec ℕ Z) (lent ys : List ℕ) (until : ℕ → ℕ) → lent ≡ v.items → length ys ≡ length lent
+    → ((k d : ℕ) → k < length lent → get_or ys k d ≡ max (get_or lent k d) (until k)) → IsLifted v.items (with_items v ys).items until
+lifted v lent ys until is long each =
     let all = put v lent ys (λ k x. max x (until k)) is long each in
-    record { count = all.count; each = all.each }
+    record { count = all.count; each = λ k l. all.each k 0 l }
 
--- a column that is left as it is, where no word is to be raised
-pub left : (xs : List ℕ) (until : ℕ → ℕ) → ((k : ℕ) → until k ≡ 0) → IsRaised xs xs until
-left xs until none = record { count = refl; each = λ k d l. omega (arith, none k) }
+-- Words of banks that have no part in their groups', as their column says.
+pub alone : (n : ℕ) (xs ys : List ℕ) (u until : ℕ → ℕ) → IsLifted xs ys u → length xs ≡ n → ((k : ℕ) → u k ≡ until k)
+    → IsRaised n (λ k. get_or xs k 0) (λ k. get_or ys k 0) until
+alone n xs ys u until h count e = record { each = λ k l. h.each k (rw count l) ∙ ap (max (get_or xs k 0)) (e k) }
 
--- a column that is raised to the same cycles in other words
-pub widened : (xs ys : List ℕ) (until same : ℕ → ℕ) → IsRaised xs ys until → ((k : ℕ) → until k ≡ same k) → IsRaised xs ys same
-widened xs ys until same h e = record { count = h.count; each = λ k d l. h.each k d l ∙ ap (max (get_or xs k d)) (e k) }
+-- The later ones of the words of banks and of their groups, where both were raised.
+pub joint : (ranks : ℕ) (xs ys groups after : List ℕ) (u v until : ℕ → ℕ) → IsLifted xs ys u → IsLifted groups after v
+    → length xs ≡ 16 * ranks → length groups ≡ 4 * ranks → ((k : ℕ) → max (u k) (v (k / 4)) ≡ until k)
+    → IsRaised (16 * ranks) (λ k. max (get_or xs k 0) (get_or groups (k / 4) 0)) (λ k. max (get_or ys k 0) (get_or after (k / 4) 0)) until
+joint ranks xs ys groups after u v until own group count group_count e =
+    record {
+      each = λ k l.
+          let in_own : k < length xs = rw count l in
+          let in_groups : k / 4 < length groups = rw group_count (omega arith) in
+          let raised : get_or ys k 0 ≡ max (get_or xs k 0) (u k) = own.each k in_own in
+          let group_raised : get_or after (k / 4) 0 ≡ max (get_or groups (k / 4) 0) (v (k / 4)) = group.each (k / 4) in_groups in
+          omega (arith, e k);
+    }
+
+-- The same where the words of the banks alone were raised, where those of the groups alone were, and where none was.
+pub joint-own : (ranks : ℕ) (xs ys groups : List ℕ) (u until : ℕ → ℕ) → IsLifted xs ys u → length xs ≡ 16 * ranks → ((k : ℕ) → u k ≡ until k)
+    → IsRaised (16 * ranks) (λ k. max (get_or xs k 0) (get_or groups (k / 4) 0)) (λ k. max (get_or ys k 0) (get_or groups (k / 4) 0)) until
+joint-own ranks xs ys groups u until own count e =
+    record {
+      each = λ k l.
+          let in_own : k < length xs = rw count l in
+          let raised : get_or ys k 0 ≡ max (get_or xs k 0) (u k) = own.each k in_own in
+          omega (arith, e k);
+    }
+
+pub joint-groups : (ranks : ℕ) (xs groups after : List ℕ) (v until : ℕ → ℕ) → IsLifted groups after v → length groups ≡ 4 * ranks → ((k : ℕ) → v (k / 4) ≡ until k)
+    → IsRaised (16 * ranks) (λ k. max (get_or xs k 0) (get_or groups (k / 4) 0)) (λ k. max (get_or xs k 0) (get_or after (k / 4) 0)) until
+joint-groups ranks xs groups after v until group count e =
+    record {
+      each = λ k l.
+          let in_groups : k / 4 < length groups = rw count (omega arith) in
+          let raised : get_or after (k / 4) 0 ≡ max (get_or groups (k / 4) 0) (v (k / 4)) = group.each (k / 4) in_groups in
+          omega (arith, e k);
+    }
+
+-- What holds for all banks, raised to a cycle up to which each is held back.
+pub floor-raised : (before after least until : ℕ) → after ≡ max before least → least ≤ until → after ≤ max before until
+floor-raised before after least until is le = omega arith
+
+pub left : (n : ℕ) (word until : ℕ → ℕ) → ((k : ℕ) → until k ≡ 0) → IsRaised n word word until
+left n word until none = record { each = λ k l. omega (arith, none k) }
 
 -- the relation of a command that names a bank
 pub word-bank : (t : Timing) (cycle : ℕ) (command : Command) (later : Kind) (bank : BankId) (k : ℕ) → bank_of command ≡ Some bank
@@ -78,44 +121,41 @@ word-bank t cycle (Prea rank) later bank k e = cc
 word-bank t cycle (Ref rank) later bank k e = cc
 
 -- a column in which the own bank's word alone was raised
-pub raised-own : {Z : Type 0} (v : Vec ℕ Z) (lent ys : List ℕ) (t : Timing) (cycle : ℕ) (command : Command) (later : Kind) (bank : BankId) (own : Option ℕ) (until : ℕ)
+pub lifted-own : {Z : Type 0} (v : Vec ℕ Z) (lent ys : List ℕ) (bank : BankId) (own : Option ℕ) (until : ℕ)
     → lent ≡ v.items → length ys ≡ length lent → ((k d : ℕ) → get_or ys k d ≡ max (get_or lent k d) (cond (is_own own k) until 0))
-    → bank_of command ≡ Some bank → ((k : ℕ) → is_own own k ≡ is_bank (bank_at k) bank) → until ≡ held_until t cycle (kind_of command) later SameBank
-    → IsOwn (held_until t cycle (kind_of command) later)
-    → IsRaised v.items (with_items v ys).items (word_until t cycle command later)
-raised-own v lent ys t cycle command later bank own until is long each names number u alone =
-    raised v lent ys (word_until t cycle command later) is long
-    (λ k d l.
-    let x = get_or lent k d in
-    each k d ∙ ap (λ b. max x (cond b until 0)) (number k) ∙ ap (λ n. max x (cond (is_bank (bank_at k) bank) n 0)) u
-    ∙ own_raised (held_until t cycle (kind_of command) later) bank k x alone.same_group alone.other_group alone.other_rank
-    ∙ ap (max x) (word-bank t cycle command later bank k names))
+    → ((k : ℕ) → is_own own k ≡ is_bank (bank_at k) bank)
+    → IsLifted v.items (with_items v ys).items (λ k. cond (is_bank (bank_at k) bank) until 0)
+lifted-own v lent ys bank own until is long each number =
+    lifted v lent ys (λ k. cond (is_bank (bank_at k) bank) until 0) is long
+    (λ k d l. each k d ∙ ap (λ b. max (get_or lent k d) (cond b until 0)) (number k))
 
--- a column that a command raised by the relation of the banks
-pub raised-data : {Z : Type 0} (v : Vec ℕ Z) (lent ys : List ℕ) (t : Timing) (cycle : ℕ) (command : Command) (earlier later : Kind) (bank : BankId)
-    → lent ≡ v.items → length ys ≡ length lent
-    → ((k d : ℕ) → k < length lent → get_or ys k d ≡ max (get_or lent k d) (held_until t cycle earlier later (relation_from bank k)))
-    → kind_of command ≡ earlier → bank_of command ≡ Some bank → IsRaised v.items (with_items v ys).items (word_until t cycle command later)
-raised-data v lent ys t cycle command earlier later bank is long each of names =
-    raised v lent ys (word_until t cycle command later) is long
-    (λ k d l.
-    let x = get_or lent k d in
-    each k d l ∙ ap (λ e. max x (held_until t cycle e later (relation_from bank k))) (sym of) ∙ ap (max x) (word-bank t cycle command later bank k names))
+-- that word by the relation of the banks
+pub own-word : (t : Timing) (cycle : ℕ) (command : Command) (later : Kind) (bank : BankId) (until k : ℕ) → bank_of command ≡ Some bank
+    → until ≡ held_until t cycle (kind_of command) later SameBank → IsOwn (held_until t cycle (kind_of command) later)
+    → cond (is_bank (bank_at k) bank) until 0 ≡ word_until t cycle command later k
+own-word t cycle command later bank until k names u only =
+    ap (λ n. cond (is_bank (bank_at k) bank) n 0) u
+    ∙ own_raised (held_until t cycle (kind_of command) later) bank k only.same_group only.other_group only.other_rank
+    ∙ word-bank t cycle command later bank k names
 
--- a word of a rank's banks
-pub rank-word : (f : Relation → ℕ) (b : Bool) (x : ℕ) → f OtherRank ≡ 0 → max x (cond b (f SameBank) 0) ≡ max x (f (cond b SameBank OtherRank))
-rank-word f true x r = refl
-rank-word f false x r = omega arith
+-- a word by the relation of the groups
+pub data-word : (t : Timing) (cycle : ℕ) (command : Command) (earlier later : Kind) (bank : BankId) (k : ℕ) → kind_of command ≡ earlier → bank_of command ≡ Some bank
+    → moves_data earlier ≡ true → moves_data later ≡ true
+    → held_until t cycle earlier later (group_relation_from bank (k / 4)) ≡ word_until t cycle command later k
+data-word t cycle command earlier later bank k of names e l =
+    data_joint (held_until t cycle earlier later) bank k (data_same t cycle earlier later e l)
+    ∙ ap (λ (x : Kind). held_until t cycle x later (relation_from bank k)) (sym of)
+    ∙ word-bank t cycle command later bank k names
 
--- a column in which the words of a rank's banks were raised
-pub raised-rank : {Z : Type 0} (v : Vec ℕ Z) (lent ys : List ℕ) (f : Relation → ℕ) (rank until : ℕ) (same : ℕ → ℕ) → lent ≡ v.items → length ys ≡ length lent
-    → ((k d : ℕ) → get_or ys k d ≡ max (get_or lent k d) (cond (eqb rank (k / 16)) until 0)) → until ≡ f SameBank → f OtherRank ≡ 0
-    → ((k : ℕ) → f (cond (eqb rank (k / 16)) SameBank OtherRank) ≡ same k) → IsRaised v.items (with_items v ys).items same
-raised-rank v lent ys f rank until same is long each u r e =
-    raised v lent ys same is long
-    (λ k d l.
-    let x = get_or lent k d in
-    each k d ∙ ap (λ n. max x (cond (eqb rank (k / 16)) n 0)) u ∙ rank-word f (eqb rank (k / 16)) x r ∙ ap (max x) (e k))
+-- a word of a rank's banks, and of its groups
+pub rank-word : (f : Relation → ℕ) (b : Bool) (until : ℕ) → until ≡ f SameBank → f OtherRank ≡ 0 → cond b until 0 ≡ f (cond b SameBank OtherRank)
+rank-word f true until u r = u
+rank-word f false until u r = sym r
+
+pub group-rank-word : (f : Relation → ℕ) (rank until k : ℕ) → until ≡ f SameBank → f OtherRank ≡ 0
+    → cond (eqb rank (k / 4 / 4)) until 0 ≡ f (cond (eqb rank (k / 16)) SameBank OtherRank)
+group-rank-word f rank until k u r =
+    ap (λ (n : ℕ). cond (eqb rank n) until 0) (group_rank k) ∙ rank-word f (eqb rank (k / 16)) until u r
 
 -- the ACTs of a rank wait for the window
 pub window-of-act : (banks : Banks) (bank : BankId) (row : ℕ) (source : Source) (k end : ℕ) (state : RankState) → bank.rank < length banks.ranks.items

@@ -1,20 +1,24 @@
 -- What one command more makes of all that a `Banks` keeps.
---     IsRaised before after until      each word of a column is raised to a cycle by its place
+--     IsRaised count before after until      each word of the banks below a number is raised to a cycle by the bank's number
 --     window_word banks command k      from which cycle on a command leaves room for one ACT more of the bank with a number
+--     IsFloorRaised t cycle command later before after      a cycle before which no command of a kind is allowed is not raised too far
 --     IsNoted banks after t cycle command      one command more is noted, by these distances
-use Rattle.std.specs.Prelude.{◌≡◌, ℕ, ◌/◌, ◌<◌, max, List, length, slice_index_or, Option, if◌then◌else◌}
+use Rattle.std.specs.Prelude.{◌≡◌, ℕ, ◌*◌, ◌/◌, ◌<◌, ◌≤◌, max, length, slice_index_or, Option, if◌then◌else◌}
 use Rattle.sim_base.specs.declared.timing.Timing.{Timing}
+use Rattle.sim_base.specs.declared.place.BankId.{BankId}
 use Rattle.sim_base.specs.declared.command.Command.{Command}
+use Rattle.sim_base.specs.declared.command.Kind.{Kind}
 use Rattle.sim_base.specs.declared.command.Kind.TheVariants.{Act, Rd, Wr, Pre}
-use Rattle.sim_base.specs.Rules.{row_after}
-use Rattle.bank_ready.specs.Words.{bank_at, word_until, acts_in, no_acts, rank_state_after}
+use Rattle.sim_base.specs.Rules.{kind_of, row_after}
+use Rattle.timing.specs.Relation.{relation_to}
+use Rattle.bank_ready.specs.Ready.{held_until}
+use Rattle.bank_ready.specs.Words.{act_word, rd_word, wr_word, pre_word, bank_at, word_until, acts_in, no_acts, rank_state_after}
 use Rattle.bank_ready.specs.declared.words.RankState.{RankState}
 use Rattle.bank_ready.specs.declared.banks.Banks.{Banks}
 
--- each word of a column is raised to a cycle by its place
-pub record IsRaised (before after : List ℕ) (until : ℕ → ℕ) : Type 0 where
-  pub count : length after ≡ length before
-  pub each : (k d : ℕ) → k < length before → slice_index_or after k d ≡ max (slice_index_or before k d) (until k)
+-- each word of the banks below this number is raised to a cycle by the bank's number
+pub record IsRaised (count : ℕ) (before after until : ℕ → ℕ) : Type 0 where
+  pub each : (k : ℕ) → k < count → after k ≡ max (before k) (until k)
 
 -- from which cycle on an ACT more of the bank with this number is not the fifth one within the four-activate window, after this one:
 -- from the end of that one on which is then the oldest of the last four
@@ -22,13 +26,20 @@ abbrev pub window_word : Banks → Command → ℕ → ℕ
 window_word banks command k =
     if acts_in command (k / 16) then (slice_index_or banks.ranks.items (k / 16) (record { prea = 0; refresh = 0; window = no_acts })).window.second else 0
 
--- one command more is noted in each column and each rank, by these distances
+-- a cycle before which no command of a kind is allowed is raised no further than this command holds back each one of the kind
+abbrev pub IsFloorRaised : Timing → ℕ → Command → Kind → ℕ → ℕ → Type 0
+IsFloorRaised t cycle command later before after =
+    (rank : ℕ) (bank : Option BankId) → after ≤ max before (held_until t cycle (kind_of command) later (relation_to command rank bank))
+
+-- one command more is noted in the words of each bank, its row and each rank, by these distances
 pub record IsNoted (banks after : Banks) (t : Timing) (cycle : ℕ) (command : Command) : Type 0 where
   pub delays : after.delays ≡ banks.delays
-  pub act : IsRaised banks.act.items after.act.items (λ k. max (word_until t cycle command Act k) (window_word banks command k))
-  pub rd : IsRaised banks.rd.items after.rd.items (word_until t cycle command Rd)
-  pub wr : IsRaised banks.wr.items after.wr.items (word_until t cycle command Wr)
-  pub pre : IsRaised banks.pre.items after.pre.items (word_until t cycle command Pre)
+  pub act : IsRaised (16 * length banks.ranks.items) (act_word banks) (act_word after) (λ k. max (word_until t cycle command Act k) (window_word banks command k))
+  pub rd : IsRaised (16 * length banks.ranks.items) (rd_word banks) (rd_word after) (word_until t cycle command Rd)
+  pub wr : IsRaised (16 * length banks.ranks.items) (wr_word banks) (wr_word after) (word_until t cycle command Wr)
+  pub pre : IsRaised (16 * length banks.ranks.items) (pre_word banks) (pre_word after) (word_until t cycle command Pre)
+  pub rd_floor : IsFloorRaised t cycle command Rd banks.rd_floor after.rd_floor
+  pub wr_floor : IsFloorRaised t cycle command Wr banks.wr_floor after.wr_floor
   pub row_count : length after.rows.items ≡ length banks.rows.items
   pub rows : (k : ℕ) (d : Option ℕ) → k < length banks.rows.items → slice_index_or after.rows.items k d ≡ row_after (bank_at k) (slice_index_or banks.rows.items k d) command
   pub rank_count : length after.ranks.items ≡ length banks.ranks.items

@@ -2,16 +2,21 @@
 --     rank_count banks      how many ranks it was made for
 --     IsAllowedFrom s history command cycle      from which cycle on a command is allowed after a history
 --     Ascends history      each command is later than those before it
+--     IsFloor t history later cycle      no command of a kind is allowed before a cycle
 --     StandsFor banks s history      all that it keeps is what the commands of a history make of it
-use Rattle.std.specs.Prelude.{◌≡◌, ℕ, ◌*◌, ◌<◌, ◌≤◌, ◌↔◌, IsTrue, List, [], ◌∷◌, map, length}
+use Rattle.std.specs.Prelude.{◌≡◌, ℕ, ◌*◌, ◌<◌, ◌≤◌, ◌↔◌, IsTrue, Option, List, [], ◌∷◌, map, length}
 use Rattle.std.specs.List.{AllByRecursion as Each}
 use Rattle.sim_base.specs.declared.config.Config.{Config}
+use Rattle.sim_base.specs.declared.timing.Timing.{Timing}
+use Rattle.sim_base.specs.declared.place.BankId.{BankId}
 use Rattle.sim_base.specs.declared.command.Command.{Command}
+use Rattle.sim_base.specs.declared.command.Kind.{Kind}
 use Rattle.sim_base.specs.declared.command.Kind.TheVariants.{Rd, Wr, Pre}
 use Rattle.sim_base.specs.declared.command.CommandRow.{CommandRow}
 use Rattle.sim_base.specs.History.{below}
 use Rattle.sim_base.specs.Rules.{is_allowed, open_row}
-use Rattle.bank_ready.specs.Words.{act_word_from, word_from, rank_state_from, bank_at}
+use Rattle.bank_ready.specs.Ready.{ready_from}
+use Rattle.bank_ready.specs.Words.{act_word, rd_word, wr_word, pre_word, act_word_from, word_from, rank_state_from, bank_at}
 use Rattle.bank_ready.specs.declared.banks.Banks.{Banks}
 
 -- how many ranks it was made for
@@ -27,15 +32,22 @@ abbrev pub Ascends : List CommandRow → Type 0
 Ascends [] = Unit {0}
 Ascends (i ∷ history) = Each (λ (j : CommandRow). i.cycle < j.cycle) history × Ascends history
 
+-- none of them allows a command of this kind before a cycle, whatever bank it names
+abbrev pub IsFloor : Timing → List CommandRow → Kind → ℕ → Type 0
+IsFloor t history later floor = (rank : ℕ) (bank : Option BankId) → floor ≤ ready_from t history later rank bank
+
 -- Commands whose cycles ascend made each word the least cycle from which on none of them holds back such a command, an ACT's also
--- by the four-activate window, each row the one that is open, and each window the last four ACTs of its rank.
+-- by the four-activate window, each floor a cycle before which they allow no such command in any bank, each row the one that is open,
+-- and each window the last four ACTs of its rank.
 pub record StandsFor (banks : Banks) (s : Config) (history : List CommandRow) : Type 0 where
   pub timing : banks.delays.value ≡ s.timing
   pub ranks : rank_count banks ≡ s.ranks
-  pub act_words : banks.act.items ≡ map (act_word_from s.timing history) (below (16 * s.ranks))
-  pub rd_words : banks.rd.items ≡ map (word_from s.timing history Rd) (below (16 * s.ranks))
-  pub wr_words : banks.wr.items ≡ map (word_from s.timing history Wr) (below (16 * s.ranks))
-  pub pre_words : banks.pre.items ≡ map (word_from s.timing history Pre) (below (16 * s.ranks))
+  pub act_words : (k : ℕ) → k < 16 * s.ranks → act_word banks k ≡ act_word_from s.timing history k
+  pub rd_words : (k : ℕ) → k < 16 * s.ranks → rd_word banks k ≡ word_from s.timing history Rd k
+  pub wr_words : (k : ℕ) → k < 16 * s.ranks → wr_word banks k ≡ word_from s.timing history Wr k
+  pub pre_words : (k : ℕ) → k < 16 * s.ranks → pre_word banks k ≡ word_from s.timing history Pre k
+  pub rd_floor : IsFloor s.timing history Rd banks.rd_floor
+  pub wr_floor : IsFloor s.timing history Wr banks.wr_floor
   pub rows : banks.rows.items ≡ map (λ k. open_row (bank_at k) history) (below (16 * s.ranks))
   pub rank_states : banks.ranks.items ≡ map (rank_state_from s.timing history) (below s.ranks)
   pub ascending : Ascends history

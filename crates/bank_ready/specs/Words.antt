@@ -1,7 +1,8 @@
 -- What a bank and a rank keep of a history.
 --     bank_at k, number_of bank      the bank with a number, and the number of a bank
 --     is_own own k      a number is that of a bank, if there is such a bank
---     relation_from bank k      how a bank lies to the one with a number
+--     relation_from bank k, group_relation_from bank k      how a bank lies to the one with a number, and to the group with a number
+--     act_word banks k, rd_word banks k, wr_word banks k, pre_word banks k      what is kept of the bank with a number
 --     names_bank kind, names_rank kind, moves_data kind      a command of this kind names a bank, or a rank alone, or moves data
 --     pushed window end      the last four ACTs of a rank after one more
 --     window_from t rank history      the last four ACTs of a rank
@@ -9,20 +10,21 @@
 --     rank_state_from t history rank      what the commands of a history make of a rank
 --     word_until t cycle command later k      from which cycle on one command no longer holds back another of a bank
 --     rank_raised t cycle earlier state, rank_state_after t cycle command rank state      what one command more makes of a rank
-use Rattle.std.specs.Prelude.{ℕ, ◌+◌, ◌*◌, ◌/◌, ◌%◌, ◌==◌, ◌&&◌, max, Bool, true, false, List, fold, Option, Some, None, if◌then◌else◌}
+use Rattle.std.specs.Prelude.{ℕ, ◌+◌, ◌*◌, ◌/◌, ◌%◌, ◌==◌, ◌&&◌, max, Bool, true, false, List, slice_index_or, fold, Option, Some, None, if◌then◌else◌}
 use Rattle.sim_base.specs.declared.timing.Timing.{Timing}
 use Rattle.sim_base.specs.declared.place.BankId.{BankId}
 use Rattle.sim_base.specs.declared.command.Command.{Command}
 use Rattle.sim_base.specs.declared.command.Kind.{Kind}
 use Rattle.sim_base.specs.declared.command.Kind.TheVariants.{Act, Rd, Wr, Pre, Prea, Ref}
 use Rattle.sim_base.specs.declared.command.Relation.{Relation}
-use Rattle.sim_base.specs.declared.command.Relation.TheVariants.{SameBank, OtherRank}
+use Rattle.sim_base.specs.declared.command.Relation.TheVariants.{SameBank, SameGroup, OtherGroup, OtherRank}
 use Rattle.sim_base.specs.declared.command.CommandRow.{CommandRow}
 use Rattle.sim_base.specs.Rules.{is_kind, kind_of, rank_of, relation_in_rank}
 use Rattle.timing.specs.Relation.{relation_to}
 use Rattle.bank_ready.specs.Ready.{held_until, ready_from, window_ends}
 use Rattle.bank_ready.specs.declared.words.Window.{Window}
 use Rattle.bank_ready.specs.declared.words.RankState.{RankState}
+use Rattle.bank_ready.specs.declared.banks.Banks.{Banks}
 
 -- the bank with this number, each rank having places for four groups of four banks
 abbrev pub bank_at : ℕ → BankId
@@ -40,6 +42,24 @@ is_own None k = false
 -- how a bank lies to the one with this number
 abbrev pub relation_from : BankId → ℕ → Relation
 relation_from bank k = if bank.rank == k / 16 then relation_in_rank (Some bank) (Some (bank_at k)) else OtherRank
+
+-- how a bank lies to the group with this number, each rank having places for four groups: to a bank of its own group as to another
+abbrev pub group_relation_from : BankId → ℕ → Relation
+group_relation_from bank k = if bank.rank == k / 4 then (if bank.group == k % 4 then SameGroup else OtherGroup) else OtherRank
+
+-- From which cycle on each command of the bank with this number is held back no more, as it is kept: for an ACT, a RD and a WR by the
+-- later one of the bank's own word and of its group's.
+abbrev pub act_word : Banks → ℕ → ℕ
+act_word banks k = max (slice_index_or banks.act.items k 0) (slice_index_or banks.act_groups.items (k / 4) 0)
+
+abbrev pub rd_word : Banks → ℕ → ℕ
+rd_word banks k = max (slice_index_or banks.rd.items k 0) (slice_index_or banks.rd_groups.items (k / 4) 0)
+
+abbrev pub wr_word : Banks → ℕ → ℕ
+wr_word banks k = max (slice_index_or banks.wr.items k 0) (slice_index_or banks.wr_groups.items (k / 4) 0)
+
+abbrev pub pre_word : Banks → ℕ → ℕ
+pre_word banks k = slice_index_or banks.pre.items k 0
 
 -- a command of this kind names a bank
 abbrev pub names_bank : Kind → Bool

@@ -5,7 +5,7 @@ ghost use Rattle.std.specs.Prelude.{◌≡◌, ◌+◌, ◌*◌, ◌^◌, ◌<�
 use crate::delays::Delays;
 use crate::words::{
     RankState, Window, bound_until, close_rank, note_act_in_rank, note_row, number_of, own_number,
-    raise_acts, raise_data, raise_own, raise_rank, raise_rank_words,
+    raise_acts, raise_data, raise_own, raise_rank, raise_rank_groups, raise_rank_words,
 };
 use sim_base::command::{Command, Kind, Relation};
 use sim_base::config::Config;
@@ -17,18 +17,28 @@ use std::alloc::{AllocError, Global};
 #[derive(Drop)]
 pub struct Banks {
     delays: Box<Delays>,
-    /// The least cycle from which on each command of a bank is held back no more, by the bank's number.
+    /// The least cycle from which on each command of a bank is held back no more, by the bank's number: for an ACT, a RD and a WR
+    /// the later one of the bank's own and of that of its group, by the group's number among those of all ranks.
     act: Vec<Cycle>,
+    act_groups: Vec<Cycle>,
     rd: Vec<Cycle>,
+    rd_groups: Vec<Cycle>,
     wr: Vec<Cycle>,
+    wr_groups: Vec<Cycle>,
     pre: Vec<Cycle>,
+    /// A cycle before which no RD is allowed in any bank, and one before which no WR is.
+    rd_floor: Cycle,
+    wr_floor: Cycle,
     /// The open rows, by the bank's number.
     rows: Vec<Option<u32>>,
     ranks: Vec<RankState>,
     ghost few: { length ranks.items ≤ 4 },
     ghost all_acts: { length act.items ≡ 16 * length ranks.items },
+    ghost all_act_groups: { length act_groups.items ≡ 4 * length ranks.items },
     ghost all_rds: { length rd.items ≡ 16 * length ranks.items },
+    ghost all_rd_groups: { length rd_groups.items ≡ 4 * length ranks.items },
     ghost all_wrs: { length wr.items ≡ 16 * length ranks.items },
+    ghost all_wr_groups: { length wr_groups.items ≡ 4 * length ranks.items },
     ghost all_pres: { length pre.items ≡ 16 * length ranks.items },
     ghost all_rows: { length rows.items ≡ 16 * length ranks.items },
 }
@@ -50,7 +60,7 @@ fn unused_rank() -> RankState
 }
 
 impl Banks {
-    ghost use Rattle.std.specs.Prelude.{ℕ, ◌≡◌, ◌+◌, ◌*◌, ◌^◌, ◌<◌, List, [], ◌∷◌, ◌++◌, All, Some, None, IsTrue, IfOk};
+    ghost use Rattle.std.specs.Prelude.{ℕ, ◌≡◌, ◌+◌, ◌*◌, ◌^◌, ◌<◌, ◌≤◌, List, [], ◌∷◌, ◌++◌, All, Some, None, IsTrue, IfOk};
     ghost use Rattle.sim_base.specs.declared.config.Config.{Config};
     ghost use Rattle.sim_base.specs.declared.command.Command.{Command};
     ghost use Rattle.sim_base.specs.declared.command.CommandRow.{CommandRow};
@@ -69,9 +79,14 @@ impl Banks {
         Ok(Banks {
             delays: Box::new(alloc, Delays::of(config))?,
             act: vec![in alloc; 0; 16 * ranks]?,
+            act_groups: vec![in alloc; 0; 4 * ranks]?,
             rd: vec![in alloc; 0; 16 * ranks]?,
+            rd_groups: vec![in alloc; 0; 4 * ranks]?,
             wr: vec![in alloc; 0; 16 * ranks]?,
+            wr_groups: vec![in alloc; 0; 4 * ranks]?,
             pre: vec![in alloc; 0; 16 * ranks]?,
+            rd_floor: 0,
+            wr_floor: 0,
             rows: vec![in alloc; None; 16 * ranks]?,
             ranks: vec![in alloc; unused_rank(); ranks]?,
         })
@@ -88,9 +103,9 @@ impl Banks {
             → IsAllowedFrom s history command result }
     {
         match kind {
-            Kind::Act => self.act[bank],
-            Kind::Rd => self.rd[bank],
-            Kind::Wr => self.wr[bank],
+            Kind::Act => self.act[bank].max(self.act_groups[bank / 4]),
+            Kind::Rd => self.rd[bank].max(self.rd_groups[bank / 4]),
+            Kind::Wr => self.wr[bank].max(self.wr_groups[bank / 4]),
             Kind::Pre => self.pre[bank],
             Kind::Prea | Kind::Ref => unreachable!(),
         }
@@ -110,6 +125,20 @@ impl Banks {
             → IsAllowedFrom s history command result }
     {
         self.earliest_in(kind, number_of(bank))
+    }
+
+    /// A cycle before which no command of this kind, which moves data, is allowed in any bank.
+    #[inline(always)]
+    pub fn data_floor(&self, kind: Kind) -> Cycle
+        requires kind { IsTrue (moves_data kind) }
+        ensures least { (s : Config) (history : List CommandRow) (command : Command) (cycle : ℕ)
+            → StandsFor self.now s history → kind_of command ≡ kind → IsAllowedFrom s history command cycle → result ≤ cycle }
+    {
+        match kind {
+            Kind::Rd => self.rd_floor,
+            Kind::Wr => self.wr_floor,
+            Kind::Act | Kind::Pre | Kind::Prea | Kind::Ref => unreachable!(),
+        }
     }
 
     /// The least cycle from which on a PREA or a REF of a rank is held back no more.
@@ -152,8 +181,8 @@ impl Banks {
         self.open_row_in(number_of(bank))
     }
 
-    /// Notes an ACT, in its bank, in the words of ACTs of its rank and in those of the whole rank.
-    #[inline(never)]
+    /// Notes an ACT, in its bank, in the words of ACTs of the groups of its rank and in those of the whole rank.
+    #[inline(always)]
     #[tactic(auto, unfolding(sim_base::specs::Rules::is_bound))]
     fn note_act(&mut self, bank: BankId, row: u32, cycle: Cycle)
         requires rank { bank.rank < rank_count self.old }
@@ -163,10 +192,12 @@ impl Banks {
         let delays = &*self.delays;
         let own = own_number(bank);
         let end = self.ranks[bank.rank as usize].window.second;
+        let to_act = bound_until(delays, cycle, Kind::Act, Kind::Act, Relation::SameBank);
         let to_rd = bound_until(delays, cycle, Kind::Act, Kind::Rd, Relation::SameBank);
         let to_wr = bound_until(delays, cycle, Kind::Act, Kind::Wr, Relation::SameBank);
         let to_pre = bound_until(delays, cycle, Kind::Act, Kind::Pre, Relation::SameBank);
-        raise_acts(delays, &mut self.act, bank, own, cycle, end);
+        raise_acts(delays, &mut self.act_groups, bank, cycle, end);
+        raise_own(&mut self.act, own, to_act);
         raise_own(&mut self.rd, own, to_rd);
         raise_own(&mut self.wr, own, to_wr);
         raise_own(&mut self.pre, own, to_pre);
@@ -175,8 +206,9 @@ impl Banks {
         note_act_in_rank(delays, &mut self.ranks, bank.rank, cycle, last);
     }
 
-    /// Notes a RD or a WR, in its bank, in the words of RDs and WRs of each rank and in those of the whole rank.
-    #[inline(never)]
+    /// Notes a RD or a WR, in its bank, in the words of RDs and WRs of the groups of each rank, in what holds for all banks, and in
+    /// the words of the whole rank.
+    #[inline(always)]
     #[tactic(auto, using(crate::proofs::Bounds::data_pre_bound))]
     fn note_data(&mut self, kind: Kind, bank: BankId, cycle: Cycle)
         requires kind { IsTrue (moves_data kind) }
@@ -187,14 +219,16 @@ impl Banks {
         let delays = &*self.delays;
         let own = own_number(bank);
         let to_pre = bound_until(delays, cycle, kind, Kind::Pre, Relation::SameBank);
-        raise_data(delays, &mut self.rd, bank, cycle, kind, Kind::Rd);
-        raise_data(delays, &mut self.wr, bank, cycle, kind, Kind::Wr);
+        let to_rd = raise_data(delays, &mut self.rd_groups, bank, cycle, kind, Kind::Rd);
+        let to_wr = raise_data(delays, &mut self.wr_groups, bank, cycle, kind, Kind::Wr);
+        self.rd_floor = self.rd_floor.max(to_rd);
+        self.wr_floor = self.wr_floor.max(to_wr);
         raise_own(&mut self.pre, own, to_pre);
         raise_rank_words(delays, &mut self.ranks, bank.rank, cycle, kind);
     }
 
     /// Notes a PRE, in its bank and in the words of its rank.
-    #[inline(never)]
+    #[inline(always)]
     #[tactic(auto, unfolding(sim_base::specs::Rules::is_bound))]
     fn note_pre(&mut self, bank: BankId, cycle: Cycle)
         requires rank { bank.rank < rank_count self.old }
@@ -209,7 +243,7 @@ impl Banks {
         raise_rank_words(delays, &mut self.ranks, bank.rank, cycle, Kind::Pre);
     }
 
-    /// Notes a PREA, in each bank of its rank and in the words of the whole rank.
+    /// Notes a PREA, in each bank and each group of its rank and in the words of the whole rank.
     #[inline(never)]
     #[tactic(auto, unfolding(sim_base::specs::Rules::is_bound))]
     fn note_prea(&mut self, rank: u32, cycle: Cycle)
@@ -219,12 +253,12 @@ impl Banks {
     {
         let delays = &*self.delays;
         let to_act = bound_until(delays, cycle, Kind::Prea, Kind::Act, Relation::SameBank);
-        raise_rank(&mut self.act, rank, to_act);
+        raise_rank_groups(&mut self.act_groups, rank, to_act);
         close_rank(&mut self.rows, rank);
         raise_rank_words(delays, &mut self.ranks, rank, cycle, Kind::Prea);
     }
 
-    /// Notes a REF, in each bank of its rank and in the words of the whole rank.
+    /// Notes a REF, in each bank and each group of its rank and in the words of the whole rank.
     #[inline(never)]
     #[tactic(auto, unfolding(sim_base::specs::Rules::is_bound))]
     fn note_refresh(&mut self, rank: u32, cycle: Cycle)
@@ -235,7 +269,7 @@ impl Banks {
         let delays = &*self.delays;
         let to_act = bound_until(delays, cycle, Kind::Ref, Kind::Act, Relation::SameBank);
         let to_pre = bound_until(delays, cycle, Kind::Ref, Kind::Pre, Relation::SameBank);
-        raise_rank(&mut self.act, rank, to_act);
+        raise_rank_groups(&mut self.act_groups, rank, to_act);
         raise_rank(&mut self.pre, rank, to_pre);
         raise_rank_words(delays, &mut self.ranks, rank, cycle, Kind::Ref);
     }

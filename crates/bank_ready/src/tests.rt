@@ -120,6 +120,30 @@ fn fifth_act_waits_for_the_window(rt: HostRuntime) -> Result<(), Fail> {
     Ok(())
 }
 
+/// A RD in cycle 50: 4 cycles to a RD of another group, and 5 to a WR of another rank, are the least to any bank. An ACT and a REF
+/// change neither.
+#[test]
+fn floors_are_the_least_of_all_banks(rt: HostRuntime) -> Result<(), Fail> {
+    let config = config(rt.alloc(), 3)?;
+    let mut banks = Banks::new(rt.alloc(), &config)?;
+    assert_eq!(rt; banks.data_floor(Kind::Rd), 0);
+    banks.note(act(bank(0, 0, 0)), 2);
+    assert_eq!(rt; banks.data_floor(Kind::Rd), 0);
+    let read = Command::Rd {
+        bank: bank(0, 0, 0),
+        row: 0,
+        column: 0,
+        source: Source { core: 0, entry: 0 },
+    };
+    banks.note(read, 50);
+    assert_eq!(rt; banks.data_floor(Kind::Rd), 54);
+    assert_eq!(rt; banks.data_floor(Kind::Wr), 55);
+    banks.note(Command::Ref { rank: 1 }, 52);
+    assert_eq!(rt; banks.data_floor(Kind::Rd), 54);
+    assert_eq!(rt; banks.data_floor(Kind::Wr), 55);
+    Ok(())
+}
+
 /// Where a write's data begins so late that the distance between ranks is 0, the earlier command still holds the later one back
 /// in its own cycle.
 #[test]

@@ -1,11 +1,13 @@
-//! What a channel keeps of the commands that were issued: columns with a word for each bank, and what it keeps of each rank.
+//! What a channel keeps of the commands that were issued: columns with a word for each bank or for each group, and what it keeps
+//! of each rank.
 
 ghost use Rattle.std.specs.Prelude.{◌≡◌, ◌+◌, ◌*◌, ◌/◌, ◌%◌, ◌^◌, ◌<◌, ◌≤◌, ◌==◌, max, ℕ, IsTrue, IfSome, None, Option, length, slice_index_or, if◌then◌else◌};
 ghost use Rattle.sim_base.specs.Places.{is_bank};
+ghost use Rattle.sim_base.specs.declared.command.Relation.{Relation};
 ghost use Rattle.sim_base.specs.Rules.{is_bound};
 ghost use Rattle.bank_ready.specs.Ready.{held_until};
 ghost use Rattle.bank_ready.specs.declared.words.RankState.{RankState};
-ghost use Rattle.bank_ready.specs.Words.{moves_data, relation_from, is_own, bank_at, number_of, act_pushed, rank_raised};
+ghost use Rattle.bank_ready.specs.Words.{moves_data, group_relation_from, is_own, bank_at, number_of, act_pushed, rank_raised};
 
 use crate::delays::Delays;
 use sim_base::command::{Kind, Relation};
@@ -99,7 +101,7 @@ pub(crate) fn raise_own(words: &mut [Cycle], own: Option<usize>, until: Cycle)
     }
 }
 
-/// Raises the words of the banks of a rank, those of one group to one cycle and the others to another.
+/// Raises the words of the groups of a rank, that of one group to one cycle and the others to another.
 #[inline(always)]
 pub(crate) fn raise_groups(
     words: &mut [Cycle],
@@ -108,22 +110,19 @@ pub(crate) fn raise_groups(
     same_group: Cycle,
     other_group: Cycle,
 )
-    requires { 16 * rank + 16 ≤ length words.old }
+    requires { 4 * rank + 4 ≤ length words.old }
     ensures { (k d : ℕ) → slice_index_or words.new k d
-        ≡ max (slice_index_or words.old k d) (if rank == k / 16 then (if group == k / 4 % 4 then same_group else other_group) else 0) }
+        ≡ max (slice_index_or words.old k d) (if rank == k / 4 then (if group == k % 4 then same_group else other_group) else 0) }
 {
-    if same_group == other_group {
-        raise_rank(words, rank, same_group);
-        return;
-    }
-    let first = 16 * rank as usize;
+    let first = 4 * rank as usize;
     for other in 0..4 {
         let until = if other == group {
             same_group
         } else {
             other_group
         };
-        raise::<4>(words, first + 4 * other as usize, until);
+        let word = &mut words[first + other as usize];
+        *word = (*word).max(until);
     }
 }
 
@@ -136,23 +135,62 @@ pub(crate) fn raise_rank(words: &mut [Cycle], rank: u32, until: Cycle)
     raise::<16>(words, 16 * rank as usize, until);
 }
 
-/// Raises the words of all banks of the other ranks to a cycle.
+/// Raises the words of all groups of a rank to a cycle.
 #[inline(always)]
-pub(crate) fn raise_other_ranks(words: &mut [Cycle], rank: u32, until: Cycle)
-    requires { length words.old % 16 ≡ 0 }
-    ensures { (k d : ℕ) → k < length words.old
-        → slice_index_or words.new k d ≡ max (slice_index_or words.old k d) (if rank == k / 16 then 0 else until) }
+pub(crate) fn raise_rank_groups(words: &mut [Cycle], rank: u32, until: Cycle)
+    requires { 4 * rank + 4 ≤ length words.old }
+    ensures { (k d : ℕ) → slice_index_or words.new k d ≡ max (slice_index_or words.old k d) (if rank == k / 4 then until else 0) }
 {
-    for other in 0..words.len() / 16 {
-        if other != rank as usize {
-            raise::<16>(words, 16 * other, until);
-        }
+    raise::<4>(words, 4 * rank as usize, until);
+}
+
+/// Raises the words of all groups, those of one rank to one cycle and the others to another.
+#[inline(always)]
+pub(crate) fn raise_ranks(words: &mut [Cycle], rank: u32, same_rank: Cycle, other_rank: Cycle)
+    requires { length words.old % 4 ≡ 0 }
+    ensures { (k d : ℕ) → k < length words.old
+        → slice_index_or words.new k d ≡ max (slice_index_or words.old k d) (if rank == k / 4 then same_rank else other_rank) }
+{
+    for other in 0..words.len() / 4 {
+        let until = if other == rank as usize {
+            same_rank
+        } else {
+            other_rank
+        };
+        raise::<4>(words, 4 * other, until);
     }
 }
 
-/// Raises the words of a kind of command that moves data after another one, which was issued to a bank.
+/// Raises the words of all groups, that of the group of a bank to one cycle, those of the others of its rank to another, and those
+/// of the other ranks to a third.
 #[inline(always)]
-#[tactic(auto, using(crate::proofs::Bounds::data_bound, crate::proofs::Bounds::data_same, crate::proofs::Places::data_raised))]
+pub(crate) fn raise_all_groups(
+    words: &mut [Cycle],
+    bank: BankId,
+    same_group: Cycle,
+    other_group: Cycle,
+    other_rank: Cycle,
+)
+    requires inside { 4 * bank.rank + 4 ≤ length words.old }
+    requires whole { length words.old % 4 ≡ 0 }
+    ensures { (k d : ℕ) → k < length words.old → slice_index_or words.new k d
+        ≡ max (slice_index_or words.old k d)
+        (if bank.rank == k / 4 then (if bank.group == k % 4 then same_group else other_group) else other_rank) }
+{
+    if bank.group < 4 {
+        let own = 4 * bank.rank as usize + bank.group as usize;
+        let until = words[own].max(same_group);
+        raise_ranks(words, bank.rank, other_group, other_rank);
+        words[own] = until;
+    } else {
+        raise_ranks(words, bank.rank, other_group, other_rank);
+    }
+}
+
+/// Raises the words of the groups for a kind of command that moves data after another one, which was issued to a bank. Gives the
+/// least of the cycles up to which that one holds them back: in its own group, in another group and in another rank.
+#[inline(always)]
+#[tactic(auto, using(crate::proofs::Bounds::data_bound, crate::proofs::Bounds::data_least, crate::proofs::Places::data_raised))]
 pub(crate) fn raise_data(
     delays: &Delays,
     words: &mut [Cycle],
@@ -160,42 +198,40 @@ pub(crate) fn raise_data(
     cycle: Cycle,
     earlier: Kind,
     later: Kind,
-)
+) -> Cycle
     requires earlier { IsTrue (moves_data earlier) }
     requires later { IsTrue (moves_data later) }
     requires cycle { cycle < 2 ^ 62 }
-    requires inside { 16 * bank.rank + 16 ≤ length words.old }
-    requires whole { length words.old % 16 ≡ 0 }
-    ensures { (k d : ℕ) → k < length words.old → slice_index_or words.new k d
-        ≡ max (slice_index_or words.old k d) (held_until delays.now cycle earlier later (relation_from bank k)) }
+    requires inside { 4 * bank.rank + 4 ≤ length words.old }
+    requires whole { length words.old % 4 ≡ 0 }
+    ensures words { (k d : ℕ) → k < length words.old → slice_index_or words.new k d
+        ≡ max (slice_index_or words.old k d) (held_until delays.now cycle earlier later (group_relation_from bank k)) }
+    ensures least { (relation : Relation) → result ≤ held_until delays.now cycle earlier later relation }
 {
     let same_group = bound_until(delays, cycle, earlier, later, Relation::SameGroup);
     let other_group = bound_until(delays, cycle, earlier, later, Relation::OtherGroup);
     let other_rank = bound_until(delays, cycle, earlier, later, Relation::OtherRank);
-    raise_groups(words, bank.rank, bank.group, same_group, other_group);
-    raise_other_ranks(words, bank.rank, other_rank);
+    raise_all_groups(words, bank, same_group, other_group, other_rank);
+    same_group.min(other_group).min(other_rank)
 }
 
-/// Raises the words of ACTs after an ACT of a bank, and those of its rank to the end of a four-activate window as well.
+/// Raises the words of the groups for ACTs after an ACT of a bank, and those of its rank to the end of a four-activate window as
+/// well.
 #[inline(always)]
-#[tactic(auto, unfolding(sim_base::specs::Rules::is_bound), using(crate::proofs::Bounds::act_grows, crate::proofs::Bounds::act_other_rank, crate::proofs::Places::act_raised))]
+#[tactic(auto, unfolding(sim_base::specs::Rules::is_bound), using(crate::proofs::Bounds::act_other_rank, crate::proofs::Places::act_raised))]
 pub(crate) fn raise_acts(
     delays: &Delays,
     words: &mut [Cycle],
     bank: BankId,
-    own: Option<usize>,
     cycle: Cycle,
     end: Cycle,
 )
     requires cycle { cycle < 2 ^ 62 }
-    requires inside { 16 * bank.rank + 16 ≤ length words.old }
-    requires own { (k : ℕ) → is_own own k ≡ is_bank (bank_at k) bank }
-    requires own_inside { IfSome own (λ k. k < length words.old) }
+    requires inside { 4 * bank.rank + 4 ≤ length words.old }
     ensures { (k d : ℕ) → slice_index_or words.new k d
         ≡ max (slice_index_or words.old k d)
-        (max (held_until delays.now cycle Kind.Act Kind.Act (relation_from bank k)) (if bank.rank == k / 16 then end else 0)) }
+        (max (held_until delays.now cycle Kind.Act Kind.Act (group_relation_from bank k)) (if bank.rank == k / 4 then end else 0)) }
 {
-    let same_bank = bound_until(delays, cycle, Kind::Act, Kind::Act, Relation::SameBank);
     let same_group = bound_until(delays, cycle, Kind::Act, Kind::Act, Relation::SameGroup);
     let other_group = bound_until(delays, cycle, Kind::Act, Kind::Act, Relation::OtherGroup);
     raise_groups(
@@ -205,7 +241,6 @@ pub(crate) fn raise_acts(
         same_group.max(end),
         other_group.max(end),
     );
-    raise_own(words, own, same_bank);
 }
 
 /// Notes the row of one bank, if there is such a bank.

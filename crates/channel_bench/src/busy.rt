@@ -1,4 +1,4 @@
-//! A channel whose queue is kept full, and one to which nothing comes.
+//! A channel whose queue is kept full, span by span and then anew in one span, and one to which nothing comes.
 
 use crate::machine::Machine;
 use crate::traffic::Traffic;
@@ -22,13 +22,27 @@ pub struct Busy {
     pub nanoseconds: u64,
 }
 
+/// What a channel did that was run span by span, and one that was run over all these cycles in one span.
+#[derive(Clone, Copy)]
+pub struct Runs {
+    pub spans: Busy,
+    pub at_once: Busy,
+}
+
+/// A channel that was run, and what it did.
+#[derive(Drop)]
+struct Ran {
+    fed: FedChannel,
+    busy: Busy,
+}
+
 /// The nanoseconds since the start, at most 2^64 - 1.
 fn since(rt: &impl Clock, start: Instant) -> Result<u64> {
     Ok(u64::try_from(start.elapsed(rt)?.as_nanos()).unwrap_or(u64::MAX))
 }
 
 /// Runs a channel, span by span, until it has issued so many commands. At each span as many requests come as there is room for.
-pub fn run_busy(rt: &impl Clock, alloc: Global, machine: Machine, commands: u64) -> Result<Busy> {
+fn run_spans(rt: &impl Clock, alloc: Global, machine: Machine, commands: u64) -> Result<Ran> {
     let config = machine.config(alloc)?;
     let mut fed = FedChannel::start(alloc, &config, 0)?;
     let mut traffic = Traffic::new();
@@ -48,11 +62,36 @@ pub fn run_busy(rt: &impl Clock, alloc: Global, machine: Machine, commands: u64)
         issued = issued.wrapping_add(done.commands.len() as u64);
         fed = done.channel;
     }
-    Ok(Busy {
+    let busy = Busy {
         commands: issued,
         cycles: fed.now(),
         stats: fed.stats(),
         nanoseconds,
+    };
+    Ok(Ran { fed, busy })
+}
+
+/// Runs a channel anew over all cycles that were run, in one span.
+#[inline(never)]
+fn run_at_once(rt: &impl Clock, alloc: Global, fed: &FedChannel) -> Result<Busy> {
+    let start = Instant::now(rt)?;
+    let done = fed.replay(alloc)?;
+    let nanoseconds = since(rt, start)?;
+    Ok(Busy {
+        commands: done.commands.len() as u64,
+        cycles: done.channel.now(),
+        stats: done.channel.stats(),
+        nanoseconds,
+    })
+}
+
+/// Runs a channel, span by span, until it has issued so many commands, and then one anew over all these cycles, in one span.
+pub fn run_busy(rt: &impl Clock, alloc: Global, machine: Machine, commands: u64) -> Result<Runs> {
+    let ran = run_spans(rt, alloc, machine, commands)?;
+    let at_once = run_at_once(rt, alloc, &ran.fed)?;
+    Ok(Runs {
+        spans: ran.busy,
+        at_once,
     })
 }
 

@@ -1,13 +1,14 @@
-//! Runs a channel whose queue is kept full, with room for 32 requests and for 1,024, for some 2,000 commands each, and then one to
-//! which nothing comes, and prints what they did. Where the argument is `time`, for some 20,000 commands each, and how long that
-//! took; where it is `short`, `long` or `idle`, so for one of the three alone.
+//! Runs a channel whose queue is kept full, with room for 32 requests and for 1,024, for some 2,000 commands each, span by span and
+//! then anew over all these cycles in one span, and then one to which nothing comes, and prints what they did. Where the argument
+//! is `time`, for some 20,000 commands each, and how long that took; where it is `short`, `long` or `idle`, so for one of the three
+//! alone.
 #![tactic(auto)]
 
 mod busy;
 mod machine;
 mod traffic;
 
-use crate::busy::{run_busy, run_idle};
+use crate::busy::{Busy, run_busy, run_idle};
 use crate::machine::Machine;
 use anyhow::Result;
 use sim_base::message::Cycle;
@@ -45,7 +46,13 @@ const NO_REFRESH: Machine = Machine {
 /// Cycles in which nothing arrives: a trillion.
 const IDLE_CYCLES: Cycle = 1_000_000_000_000;
 
-/// Runs a machine whose queue is kept full for so many commands, and prints what it did.
+/// Prints how long the commands of a run took, each.
+fn show_time(rt: &impl Print, busy: Busy) -> Result<()> {
+    println!(rt; "{} ns a command", busy.nanoseconds / busy.commands.max(1))?;
+    Ok(())
+}
+
+/// Runs a machine whose queue is kept full for so many commands, span by span and then in one span, and prints what it did.
 fn show_busy(
     rt: &(impl Print + Clock),
     alloc: Global,
@@ -53,7 +60,8 @@ fn show_busy(
     commands: u64,
     is_timed: bool,
 ) -> Result<()> {
-    let busy = run_busy(rt, alloc, machine, commands)?;
+    let runs = run_busy(rt, alloc, machine, commands)?;
+    let busy = runs.spans;
     println!(rt;
         "room for {}: {} commands in {} cycles, {} ACT, {} RD, {} WR, {} row hits",
         machine.room(),
@@ -65,7 +73,11 @@ fn show_busy(
         busy.stats.hits
     )?;
     if is_timed {
-        println!(rt; "{} ns a command", busy.nanoseconds / busy.commands.max(1))?;
+        show_time(rt, busy)?;
+    }
+    println!(rt; "in one span: {} commands", runs.at_once.commands)?;
+    if is_timed {
+        show_time(rt, runs.at_once)?;
     }
     Ok(())
 }

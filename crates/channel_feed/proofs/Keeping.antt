@@ -36,6 +36,7 @@ use Rattle.channel_feed.specs.Fits.{may_come_all, firsts_after_all}
 use Rattle.channel_feed.specs.Kept.{IsAsked, IsNamed, IsKept}
 use Rattle.channel_feed.specs.Rows.{rows_of}
 use Rattle.channel_feed.proofs.Comes.{IsNew, HasMore, come-carry, come-by_age, come-in_span, come-more, asked-more, come-new, come-asked, come-length, other, come-differ}
+use Rattle.channel_feed.proofs.Replaying.{issued-none, ran-none, ran-more}
 use Rattle.channel_feed.proofs.Rows.{rows_of-issued, length-rows_of}
 use Rattle.channel_feed.specs.declared.fit.Turn.{Turn}
 
@@ -199,6 +200,8 @@ kept-asked channel s number now firsts commands mail inbox until h test =
         named = Each-weaker (λ (i : CommandRow). IsNamed firsts i.command) (λ (i : CommandRow). IsNamed later i.command) (λ i k. named-more firsts later more i.command k) commands h.named;
         cores = come-length s number until turn firsts inbox test ∙ h.cores;
         in_time = h.in_time;
+        ran = h.ran;
+        came = h.came;
       },
       come-asked s number until turn firsts inbox test,
     )
@@ -207,14 +210,11 @@ pub rows_of-none : rows_of 0 [] ≡ []
 unfolding rows_of
 rows_of-none = refl
 
-issued-none : (channel : ℕ) → issued_commands channel [] ≡ []
-unfolding issued_commands
-issued-none channel = refl
-
 -- before the first cycle
 pub kept-start : (channel : Channel) (s : Config) (number : ℕ) (firsts : List ℕ) → StandsFor channel s number [] [] → length firsts ≡ s.cores
     → IsKept channel s number 0 firsts [] []
 kept-start channel s number firsts h l =
+    let none = ran-none s number in
     record {
       stands = subst (λ rows. StandsFor channel s number rows []) (sym rows_of-none) h;
       issued = ap (issued_commands number) rows_of-none ∙ issued-none number;
@@ -222,6 +222,8 @@ kept-start channel s number firsts h l =
       named = tt;
       cores = l;
       in_time = lit≤ tt;
+      ran = rows_of-none ∙ none.ran;
+      came = none.came;
     }
 
 -- what it stands for when a run is over
@@ -237,9 +239,10 @@ rows-done c s number now firsts commands mail inbox until done h l d =
 
 -- after a run
 pub kept-done : (c : Channel) (s : Config) (number now : ℕ) (firsts : List ℕ) (commands : List CommandRow) (mail inbox : List Message) (until : ℕ) (done : ChannelDone) → IsKept c s number now firsts commands mail
-    → Each (IsAsked firsts) (requests_of inbox) → now ≤ until → until ≤ 2 ^ 62 → IsDone done s number (rows_of now commands) mail inbox now until
+    → Each (IsAsked firsts) (requests_of inbox) → now ≤ until → until ≤ 2 ^ 62 → IsFit s number (rows_of now commands) mail inbox now until
+    → IsDone done s number (rows_of now commands) mail inbox now until
     → IsKept done.channel s number until firsts (commands ++ done.commands.items) (mail ++ inbox)
-kept-done c s number now firsts commands mail inbox until done h a l e d =
+kept-done c s number now firsts commands mail inbox until done h a l e fit d =
     let rows = rows_of now commands in
     let run = channel_run s number rows (mail ++ inbox) (until - now) in
     let same : rows_of until (commands ++ done.commands.items) ≡ run = rows-done c s number now firsts commands mail inbox until done h l d in
@@ -248,6 +251,7 @@ kept-done c s number now firsts commands mail inbox until done h a l e d =
     subst (Each (IsAsked firsts)) (sym (requests-append mail inbox)) (Each-append (IsAsked firsts) (requests_of mail) (requests_of inbox) h.asked a) in
     let P = λ (source : Source). source.entry < slice_index_or firsts source.core 0 in
     let Q = λ (i : CommandRow). IfSome (source_in i.command) P in
+    let all_ran = ran-more s number rows mail inbox now until (record { ran = h.ran; came = h.came }) fit l in
     record {
       stands = subst (λ x. StandsFor done.channel s number x (mail ++ inbox)) (sym same) d.stands;
       issued = ap (issued_commands number) same ∙ all;
@@ -255,6 +259,8 @@ kept-done c s number now firsts commands mail inbox until done h a l e d =
       named = subst (Each Q) all (run-named P s number rows (mail ++ inbox) (until - now) asked (subst (Each Q) (sym h.issued) h.named));
       cores = h.cores;
       in_time = e;
+      ran = same ∙ all_ran.ran;
+      came = all_ran.came;
     }
 
 -- messages that are fit let the channel be run

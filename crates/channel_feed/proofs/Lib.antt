@@ -1,5 +1,6 @@
 pub mod Rows
 pub mod Comes
+pub mod Replaying
 pub mod Keeping
 pub mod Feeding
 pub mod Skipping

@@ -1,25 +1,30 @@
 -- A fed channel that skips cycles.
-use Rattle.std.proofs.Common.{◌≡◌, ℕ, ◌+◌, ◌-◌, ◌^◌, ◌<◌, ◌≤◌, Bool, true, false, leb, ◌&&◌, List, ◌++◌, length, Option, Some, None, refl, sym, ap, ap₂, subst, ◌∙◌, arith}
+use Rattle.std.proofs.Common.{◌≡◌, ℕ, ◌+◌, ◌-◌, ◌^◌, ◌<◌, ◌≤◌, Bool, true, false, leb, ◌&&◌, List, [], ◌++◌, length, Option, Some, None, refl, sym, ap, ap₂, subst, ◌∙◌, arith}
 use Rattle.std.specs.Prelude.{is_some, replicate}
 use Rattle.std.proofs.lemmas.Bool.{leb-true, le-leb, and_parts}
 use Rattle.std.proofs.lemmas.Bool.Decides.{nat_tests}
+use Rattle.std.proofs.lemmas.List.{append-nil}
 use Rattle.sim_base.specs.History.{issued_commands}
-use Rattle.sim_base.specs.Scheduling.{choice}
+use Rattle.sim_base.specs.Machine.{channel_run}
+use Rattle.sim_base.specs.Scheduling.{waiting, choice}
 use Rattle.sim_base.specs.declared.config.Config.{Config}
 use Rattle.sim_base.specs.declared.command.Command.{Command}
 use Rattle.sim_base.specs.declared.command.CommandRow.{CommandRow}
 use Rattle.sim_base.specs.declared.message.Message.{Message}
+use Rattle.sim_base.specs.declared.message.Request.{Request}
 use Rattle.fr_fcfs.specs.Cycles.{IsFirstCycle}
 use Rattle.channel_step.specs.Channels.{StandsFor}
-use Rattle.channel_step.specs.Fit.{IsIdle}
+use Rattle.channel_step.specs.Fit.{queue_room, IsFit, IsIdle}
 use Rattle.channel_step.specs.Runs.{CanSkip}
 use Rattle.channel_step.specs.declared.channel.Channel.{Channel}
-use Rattle.channel_step.proofs.Stretches.{length-idle, idle-issued}
+use Rattle.channel_step.proofs.Stretches.{length-idle, idle-issued, idle-run}
 use Rattle.channel_feed.specs.Kept.{IsKept}
 use Rattle.channel_feed.specs.Rows.{rows_of}
 use Rattle.channel_feed.specs.Fed.{rows_fed, mail_fed, MaySkipTo}
 use Rattle.channel_feed.specs.Skips.{is_idle_until, may_skip}
 use Rattle.channel_feed.specs.declared.fed.FedChannel.{FedChannel}
+use Rattle.channel_feed.proofs.Keeping.{kept-fit}
+use Rattle.channel_feed.proofs.Replaying.{Ran, ran-more}
 use Rattle.channel_feed.proofs.Rows.{rows_of-issued, length-rows_of}
 
 -- the first cycle in which a channel issues a command, if nothing arrives
@@ -68,11 +73,32 @@ rows-skip c s number now firsts commands mail until h l =
     let len : length all ≡ until = omega arith in
     ap₂ rows_of (sym len) (sym (idle-issued number rows (until - now) ∙ h.issued)) ∙ rows_of-issued number all
 
+-- there is room for those that wait
+waits-room : (c : Channel) (s : Config) (number now : ℕ) (firsts : List ℕ) (commands : List CommandRow) (mail : List Message) → IsKept c s number now firsts commands mail
+    → length (waiting (issued_commands number (rows_of now commands)) mail now) ≤ queue_room s
+waits-room c s number now firsts commands mail h =
+    let queue : c.waiting.queue.requests ≡ waiting (issued_commands number (rows_of now commands)) mail now =
+    h.stands.recalls.queue_is ∙ ap (waiting (issued_commands number (rows_of now commands)) mail) (length-rows_of now commands) in
+    subst (λ (q : List Request). length q ≤ queue_room s) queue h.stands.made_for.within
+
+-- a run over cycles in which nothing arrives and nothing is issued
+ran-idle : (c : Channel) (s : Config) (number now : ℕ) (firsts : List ℕ) (commands : List CommandRow) (mail : List Message) (until : ℕ) → IsKept c s number now firsts commands mail
+    → now ≤ until → IsIdle s number (rows_of now commands) mail (until - now) → Ran s number (rows_of now commands ++ replicate (until - now) None) mail until
+ran-idle c s number now firsts commands mail until h l i =
+    let rows = rows_of now commands in
+    let none : mail ++ [] ≡ mail = append-nil mail in
+    let room : length (waiting (issued_commands number rows) mail now) ≤ queue_room s = waits-room c s number now firsts commands mail h in
+    let fit : IsFit s number rows mail [] now until = kept-fit c s number now firsts commands mail [] until h refl (omega arith) in
+    let all : Ran s number (channel_run s number rows (mail ++ []) (until - now)) (mail ++ []) until = ran-more s number rows mail [] now until (record { ran = h.ran; came = h.came }) fit l in
+    subst (λ r. Ran s number r mail until) (idle-run s number rows mail (until - now) i)
+    (subst (λ ms. Ran s number (channel_run s number rows ms (until - now)) ms until) none all)
+
 -- after a skip
 pub kept-skip : (c d : Channel) (s : Config) (number now : ℕ) (firsts : List ℕ) (commands : List CommandRow) (mail : List Message) (until : ℕ) → IsKept c s number now firsts commands mail
-    → now ≤ until → until ≤ 2 ^ 62 → StandsFor d s number (rows_of now commands ++ replicate (until - now) None) mail → IsKept d s number until firsts commands mail
-kept-skip c d s number now firsts commands mail until h l e stands =
+    → now ≤ until → until ≤ 2 ^ 62 → IsIdle s number (rows_of now commands) mail (until - now) → StandsFor d s number (rows_of now commands ++ replicate (until - now) None) mail → IsKept d s number until firsts commands mail
+kept-skip c d s number now firsts commands mail until h l e i stands =
     let same = rows-skip c s number now firsts commands mail until h l in
+    let all = ran-idle c s number now firsts commands mail until h l i in
     record {
       stands = subst (λ x. StandsFor d s number x mail) (sym same) stands;
       issued = ap (issued_commands number) same ∙ idle-issued number (rows_of now commands) (until - now) ∙ h.issued;
@@ -80,6 +106,8 @@ kept-skip c d s number now firsts commands mail until h l e stands =
       named = h.named;
       cores = h.cores;
       in_time = e;
+      ran = same ∙ all.ran;
+      came = all.came;
     }
 
 -- a channel that is idle may skip

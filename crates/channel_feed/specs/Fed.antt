@@ -7,15 +7,18 @@
 --     MaySkipTo fed until      it may move on to a cycle
 --     IsOfPast fed s channel rows mail      it is that channel, with that past
 --     IsFedDone s channel from rows mail inbox until done      what comes back from a run
+--     IsReplayed fed done      what comes back from a run over all cycles so far
 use Rattle.std.specs.Prelude.{◌≡◌, ℕ, ◌+◌, ◌-◌, ◌≤◌, ◌^◌, nat_le, Bool, ◌&&◌, List, ◌++◌, length, Option}
 use Rattle.std.specs.List.{AllByRecursion as Each}
-use Rattle.sim_base.specs.History.{issued_commands}
+use Rattle.sim_base.specs.History.{issued_commands, channel_messages}
 use Rattle.sim_base.specs.Machine.{channel_run}
 use Rattle.sim_base.specs.Scheduling.{waiting}
 use Rattle.sim_base.specs.declared.config.Config.{Config}
 use Rattle.sim_base.specs.declared.command.Command.{Command}
 use Rattle.sim_base.specs.declared.message.Message.{Message}
 use Rattle.sim_base.specs.declared.message.Request.{Request}
+use Rattle.channel_step.specs.Channels.{StandsFor}
+use Rattle.channel_step.specs.declared.done.ChannelDone.{ChannelDone}
 use Rattle.channel_step.specs.Fit.{queue_room, IsFit, IsIdle}
 use Rattle.channel_step.specs.Past.{requests_of}
 use Rattle.channel_step.specs.Runs.{IsDone}
@@ -85,3 +88,10 @@ pub record IsOfPast (fed : FedChannel) (s : Config) (channel : ℕ) (rows : List
 pub record IsFedDone (s : Config) (channel from : ℕ) (rows : List (Option Command)) (mail inbox : List Message) (until : ℕ) (done : FedChannelDone) : Type 0 where
   pub past : IsOfPast done.channel s channel (channel_run s channel rows (mail ++ inbox) (until - from)) (mail ++ inbox)
   pub done_is : IsDone (record { channel = done.channel.channel; commands = done.commands; messages = done.messages }) s channel rows mail inbox from until
+
+-- What comes back from a run over all cycles so far, in one span, stands for all that was done and all messages that came. The
+-- commands and messages are all that were issued and sent.
+pub record IsReplayed (fed : FedChannel) (done : ChannelDone) : Type 0 where
+  pub stands : StandsFor done.channel fed.config fed.number (rows_fed fed) (mail_fed fed)
+  pub commands_are : done.commands.items ≡ issued_commands fed.number (rows_fed fed)
+  pub messages_are : done.messages.items ≡ channel_messages fed.config fed.number (rows_fed fed)

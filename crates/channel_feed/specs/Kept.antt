@@ -1,6 +1,7 @@
 -- What a fed channel keeps.
 --     IsAsked firsts r      the entry of a request was asked for
 --     IsNamed firsts command      the entry in whose name a command is issued was asked for, if there is one
+--     CameFit s number mail now      the messages that came were fit together, from the first cycle on
 --     IsKept channel s number now firsts commands mail      a channel stands for its commands and its mail
 use Rattle.std.specs.Prelude.{◌≡◌, ℕ, ◌<◌, ◌≤◌, ◌^◌, List, [], ◌∷◌, length, slice_index_or, Option, Some, None}
 use Rattle.std.specs.Coded.{×_prop, Unit-prop}
@@ -9,6 +10,7 @@ use Rattle.std.specs.Option.{IfSome}
 use Rattle.std.proofs.Props.{props}
 use Rattle.sim_base.specs.Counts.{source_in}
 use Rattle.sim_base.specs.History.{issued_commands}
+use Rattle.sim_base.specs.Machine.{channel_run}
 use Rattle.sim_base.specs.declared.config.Config.{Config}
 use Rattle.sim_base.specs.declared.command.Command.{Command}
 use Rattle.sim_base.specs.declared.command.CommandRow.{CommandRow}
@@ -17,6 +19,7 @@ use Rattle.sim_base.specs.declared.message.Message.{Message}
 use Rattle.sim_base.specs.declared.message.Request.{Request}
 use Rattle.bank_ready.specs.Stands.{Ascends}
 use Rattle.channel_step.specs.Channels.{StandsFor}
+use Rattle.channel_step.specs.Fit.{ComeByAge, IsFit}
 use Rattle.channel_step.specs.Past.{requests_of, Differ, IsRequestIn}
 use Rattle.channel_step.specs.declared.channel.Channel.{Channel}
 use Rattle.channel_feed.specs.Rows.{rows_of}
@@ -29,8 +32,12 @@ IsAsked firsts r = r.entry < slice_index_or firsts r.core 0
 abbrev pub IsNamed : List ℕ → Command → Type 0
 IsNamed firsts command = IfSome (source_in command) (λ (source : Source). source.entry < slice_index_or firsts source.core 0)
 
+-- all messages that came before a cycle were fit for a channel that had done nothing
+abbrev pub CameFit : Config → ℕ → List Message → ℕ → Type 0
+CameFit s number mail now = IsFit s number [] [] mail 0 now
+
 -- A channel stands for its commands so far, each in its cycle, and the messages that came; what they ask for and what the
--- commands name was asked for.
+-- commands name was asked for. With these messages, which are fit together, a run from the first cycle on does the same.
 pub record IsKept (channel : Channel) (s : Config) (number now : ℕ) (firsts : List ℕ) (commands : List CommandRow) (mail : List Message) : Type 0 where
   pub stands : StandsFor channel s number (rows_of now commands) mail
   pub issued : issued_commands number (rows_of now commands) ≡ commands
@@ -38,6 +45,8 @@ pub record IsKept (channel : Channel) (s : Config) (number now : ℕ) (firsts : 
   pub named : Each (λ (i : CommandRow). IsNamed firsts i.command) commands
   pub cores : length firsts ≡ s.cores
   pub in_time : now ≤ 2 ^ 62
+  pub ran : rows_of now commands ≡ channel_run s number [] mail now
+  pub came : CameFit s number mail now
 
 Differ-prop : (rs : List Request) → IsProp (Differ rs)
 Differ-prop [] = Unit-prop
@@ -54,6 +63,13 @@ IsRequestIn-prop s channel m None = hlevel props
 StandsFor-prop : (c : Channel) (s : Config) (channel : ℕ) (rows : List (Option Command)) (mail : List Message) → IsProp (StandsFor c s channel rows mail)
 StandsFor-prop c s channel rows mail = hlevel (props, Differ-prop, Ascends-prop, IsRequestIn-prop)
 
+ComeByAge-prop : (ms : List Message) → IsProp (ComeByAge ms)
+ComeByAge-prop [] = Unit-prop
+ComeByAge-prop (m ∷ ms) = ×_prop (hlevel props) (ComeByAge-prop ms)
+
+CameFit-prop : (s : Config) (number : ℕ) (mail : List Message) (now : ℕ) → IsProp (CameFit s number mail now)
+CameFit-prop s number mail now = hlevel (props, Differ-prop, ComeByAge-prop, IsRequestIn-prop)
+
 -- there is one proof of it at most
 pub IsKept-prop : (channel : Channel) (s : Config) (number now : ℕ) (firsts : List ℕ) (commands : List CommandRow) (mail : List Message) → IsProp (IsKept channel s number now firsts commands mail)
-IsKept-prop channel s number now firsts commands mail = hlevel (props, StandsFor-prop)
+IsKept-prop channel s number now firsts commands mail = hlevel (props, StandsFor-prop, CameFit-prop)

@@ -8,6 +8,7 @@ ghost use Rattle.channel_feed.specs.Kept.{IsKept, IsKept-prop};
 use crate::fault::FeedFault;
 use crate::fit::may_come_all;
 use channel_step::channel::Channel;
+use channel_step::done::ChannelDone;
 use sim_base::command::CommandRow;
 use sim_base::config::Config;
 use sim_base::message::{ChannelId, Cycle, Message};
@@ -46,7 +47,7 @@ impl FedChannel {
     ghost use Rattle.fr_fcfs.specs.Cycles.{IsFirstCycle};
     ghost use Rattle.statistics.specs.Channels.{channel_stats};
     ghost use Rattle.channel_feed.specs.declared.fault.FeedFault.TheVariants.{Unfit};
-    ghost use Rattle.channel_feed.specs.Fed.{rows_fed, mail_fed, has_room, fits, IsAskedMore, MayRun, MaySkipTo, IsOfPast, IsFedDone};
+    ghost use Rattle.channel_feed.specs.Fed.{rows_fed, mail_fed, has_room, fits, IsAskedMore, MayRun, MaySkipTo, IsOfPast, IsFedDone, IsReplayed};
 
     /// The channel with a number, of a machine with this configuration, before the first cycle. Where the machine has no such
     /// channel, no message fits it. Only memory can be refused.
@@ -226,6 +227,15 @@ impl FedChannel {
             return Err(FeedFault::Memory);
         };
         Ok(done)
+    }
+
+    /// Runs a channel anew over all cycles before the one where this channel stands, in one span, with all messages that came. It
+    /// stands for the same past then, and what comes back has all commands and messages of that past. Only memory can be refused.
+    pub fn replay(&self, alloc: Global) -> Result<ChannelDone, AllocError>
+        ensures { IfOk result (λ done. IsReplayed self.now done) }
+    {
+        let channel = Channel::start(alloc, &self.config, self.number)?;
+        channel.run(alloc, &self.mail, 0, self.cycle)
     }
 }
 

@@ -288,3 +288,34 @@ fn cycles_that_are_skipped(rt: HostRuntime) -> Result<(), Fail> {
     );
     Ok(())
 }
+
+// One Read comes in the first span and one in the third, and then cycles are skipped. The second one hits the row that the first
+// one opened.
+#[test]
+fn a_replay_does_what_the_spans_did(rt: HostRuntime) -> Result<(), Fail> {
+    let alloc = rt.alloc();
+    let config = read_config(alloc, SMALL.as_bytes())?;
+    let mut run = run_spans(alloc, &config, &[3, 6])?;
+    let done = run.fed.run(alloc, &[message(read(1, 8))], 40)?;
+    run.commands.extend_from_slice(&done.commands)?;
+    run.messages.extend_from_slice(&done.messages)?;
+    let fed = done.channel.skip(64)?;
+    let replay = fed.replay(alloc)?;
+    assert_eq!(rt; replay.commands.len(), 3);
+    assert_eq!(rt; replay.commands.as_slice(), run.commands.as_slice());
+    assert_eq!(rt; replay.messages.as_slice(), run.messages.as_slice());
+    assert_eq!(rt; replay.channel.stats(), fed.stats());
+    assert_eq!(rt; replay.channel.now(), 64);
+    Ok(())
+}
+
+#[test]
+fn a_replay_of_no_cycle(rt: HostRuntime) -> Result<(), Fail> {
+    let alloc = rt.alloc();
+    let config = read_config(alloc, SMALL.as_bytes())?;
+    let replay = FedChannel::start(alloc, &config, 0)?.replay(alloc)?;
+    assert!(rt; replay.commands.is_empty());
+    assert!(rt; replay.messages.is_empty());
+    assert_eq!(rt; replay.channel.now(), 0);
+    Ok(())
+}

@@ -17,3 +17,4 @@ pub mod Entries
 pub mod Skipping
 pub mod Going
 pub mod Alone
+pub mod Draining

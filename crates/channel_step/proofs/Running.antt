@@ -1,17 +1,17 @@
 -- A channel over a span, from one cycle in which something happens to the next.
-use Rattle.std.proofs.Common.{◌≡◌, ℕ, ◌+◌, ◌-◌, ◌<◌, ◌≤◌, List, [], ◌∷◌, ◌++◌, length, take, drop, Option, refl, sym, ap, ap₂, subst, ◌∙◌, arith}
+use Rattle.std.proofs.Common.{◌≡◌, ℕ, ◌+◌, ◌-◌, ◌<◌, ◌≤◌, List, [], ◌∷◌, ◌++◌, length, take, drop, Option, refl, sym, ap, subst, ◌∙◌, arith}
 use Rattle.std.specs.List.{AllByRecursion as Each}
 use Rattle.std.proofs.Math.Seq.{take-add}
 use Rattle.std.proofs.lemmas.List.{append-nil, append_assoc, take-append-drop, drop-drop, length-drop, take_rest}
 use Rattle.sim_base.specs.declared.config.Config.{Config}
-use Rattle.sim_base.specs.History.{issued_commands, channel_messages, messages_at}
+use Rattle.sim_base.specs.History.{issued_commands, channel_messages}
 use Rattle.sim_base.specs.Machine.{channel_run}
 use Rattle.sim_base.specs.declared.command.Command.{Command}
 use Rattle.sim_base.specs.declared.command.CommandRow.{CommandRow}
 use Rattle.sim_base.specs.declared.message.Message.{Message}
 use Rattle.channel_step.specs.Fit.{IsFit}
 use Rattle.channel_step.specs.Channels.{StandsFor}
-use Rattle.channel_step.specs.Runs.{issued_in, HasRun, CanRun}
+use Rattle.channel_step.specs.Runs.{HasRun, HasTurned, CanRun}
 use Rattle.channel_step.specs.declared.channel.Channel.{Channel}
 use Rattle.channel_step.proofs.Spans.{length-channel_run, channel_run-more}
 
@@ -72,15 +72,15 @@ run-can_go_on c s channel rows mail inbox from now until arrived commands messag
       fit = run-fit c s channel rows mail inbox from now until arrived commands messages h;
     }
 
--- when it has gone on, as it is told
-pub run-turned : (c d : Channel) (s : Config) (channel : ℕ) (rows : List (Option Command)) (mail inbox : List Message) (from now until arrived n last : ℕ) (o : Option Command)
+-- when it has gone on, with what is added
+pub run-turned : (c d : Channel) (s : Config) (channel : ℕ) (rows : List (Option Command)) (mail inbox : List Message) (from now until arrived n last : ℕ)
     (commands more_commands : List CommandRow) (messages more_messages : List Message) → length rows ≡ from → from ≤ now → now ≤ last
     → HasRun c s channel rows mail inbox from now until arrived commands messages
-    → HasRun d s channel (channel_run s channel rows (mail ++ inbox) (now - from)) (mail ++ take arrived inbox) (rest_of inbox arrived) now (last + 1) until n
-    (issued_in channel last o) (messages_at s channel last o)
-    → more_commands ≡ commands ++ issued_in d.number last o → more_messages ≡ messages ++ messages_at d.config d.number last o
+    → HasTurned d s channel (channel_run s channel rows (mail ++ inbox) (now - from)) (mail ++ take arrived inbox) (rest_of inbox arrived) now (last + 1) until n
+    commands more_commands messages more_messages
     → HasRun d s channel rows mail inbox from (last + 1) until (arrived + n) more_commands more_messages
-run-turned c d s channel rows mail inbox from now until arrived n last o commands more_commands messages more_messages at l m h k e f =
+run-turned c d s channel rows mail inbox from now until arrived n last commands more_commands messages more_messages at l m h turned =
+    let k = turned.has_run in
     let all = mail ++ inbox in
     let there = mail ++ take arrived inbox in
     let before = channel_run s channel rows all (now - from) in
@@ -93,8 +93,6 @@ run-turned c d s channel rows mail inbox from now until arrived n last o command
     let arrived_are : mail ++ take (arrived + n) inbox ≡ there ++ take n (rest_of inbox arrived) =
     ap (λ x. mail ++ x) (take-add arrived n inbox) ∙ sym (append_assoc mail (take arrived inbox) (take n (drop arrived inbox))) ∙ ap (λ x. there ++ take n x) (sym rest) in
     let left : drop (arrived + n) inbox ≡ drop n (rest_of inbox arrived) = sym (drop-drop n arrived inbox) ∙ ap (drop n) (sym rest) in
-    let number : d.number ≡ channel = k.stands.made_for.number_is in
-    let config : d.config ≡ s = k.stands.made_for.config_is in
     let some = k.some in
     record {
       stands = subst (λ r. StandsFor d s channel r (mail ++ take (arrived + n) inbox)) (sym rows_are)
@@ -105,12 +103,12 @@ run-turned c d s channel rows mail inbox from now until arrived n last o command
       some = omega (arith, h.some, ap length rest, length-drop arrived inbox);
       commands_are =
           ap (issued_commands channel) rows_are ∙ k.commands_are
-          ∙ ap₂ (λ x i. x ++ issued_in i last o) h.commands_are (sym number)
-          ∙ append_assoc (issued_commands channel rows) commands (issued_in d.number last o)
-          ∙ ap (λ x. issued_commands channel rows ++ x) (sym e);
+          ∙ ap (λ x. x ++ turned.issued) h.commands_are
+          ∙ append_assoc (issued_commands channel rows) commands turned.issued
+          ∙ ap (λ x. issued_commands channel rows ++ x) (sym turned.commands_are);
       messages_are =
           ap (channel_messages s channel) rows_are ∙ k.messages_are
-          ∙ ap₂ (λ x (i : Config × ℕ). x ++ messages_at i.0 i.1 last o) h.messages_are (λ j. (sym config j, sym number j))
-          ∙ append_assoc (channel_messages s channel rows) messages (messages_at d.config d.number last o)
-          ∙ ap (λ x. channel_messages s channel rows ++ x) (sym f);
+          ∙ ap (λ x. x ++ turned.sent) h.messages_are
+          ∙ append_assoc (channel_messages s channel rows) messages turned.sent
+          ∙ ap (λ x. channel_messages s channel rows ++ x) (sym turned.messages_are);
     }

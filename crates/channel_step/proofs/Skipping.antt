@@ -280,7 +280,7 @@ skips-first_fits c s channel rows mail until due h =
     let early = h.early in
     pass-fits c s channel rows mail due h.in_cycle (there-before c s channel rows mail h.in_cycle) (skips-alike c s channel rows mail until due h) h.from_now (omega arith)
 
-skips-second : (c : Channel) (s : Config) (channel : ℕ) (rows : List (Option Command)) (mail : List Message) (until due : ℕ) → Skips c s channel rows mail until due
+pub skips-second : (c : Channel) (s : Config) (channel : ℕ) (rows : List (Option Command)) (mail : List Message) (until due : ℕ) → Skips c s channel rows mail until due
     → IsInCycle (passed_to c due) s channel (rows ++ replicate (due - c.cycle) None) mail
 skips-second c s channel rows mail until due h =
     pass-in_cycle c s channel rows mail due h.in_cycle (there-before c s channel rows mail h.in_cycle) (skips-alike c s channel rows mail until due h) h.from_now

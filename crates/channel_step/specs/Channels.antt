@@ -5,10 +5,11 @@
 --     HasRank c rank, HasBank c bank      a channel of a machine with this rank, or with this bank
 --     IsInCycle c s channel rows mail      the same in the cycle after these rows, when what arrives in it has joined the queue
 --     IsNextBefore s channel rows mail end next      the next command before a cycle, and when it is issued, if there is one
+--     CountsDrains c      cycles of draining are counted where the channel ever drains
 --     seen_of c now      what is seen of a channel in a cycle
 --     idle_cycle c now      the statistics of a cycle in which a channel issues nothing
 --     passed c until      its statistics after such cycles
-use Rattle.std.specs.Prelude.{◌≡◌, ℕ, ◌-◌, ◌*◌, ◌<◌, ◌≤◌, false, List, ◌++◌, length, replicate, is_some, Option, Some, None}
+use Rattle.std.specs.Prelude.{◌≡◌, ℕ, ◌-◌, ◌*◌, ◌<◌, ◌≤◌, false, List, ◌++◌, length, replicate, is_some, nat_lt, Option, Some, None}
 use Rattle.sim_base.specs.declared.config.Config.{Config}
 use Rattle.sim_base.specs.History.{issued_commands}
 use Rattle.sim_base.specs.Rules.{open_row}
@@ -118,6 +119,10 @@ pub record IsNextIn (s : Config) (channel : ℕ) (rows : List (Option Command)) 
 abbrev pub IsNextBefore : Config → ℕ → List (Option Command) → List Message → ℕ → Option (ℕ × Choice) → Type 0
 IsNextBefore s channel rows mail end (Some next) = IsNextIn s channel rows mail end next.0 next.1.command
 IsNextBefore s channel rows mail end None = IsIdle s channel rows mail (end - length rows)
+
+-- cycles of draining are counted just where the channel ever drains its writes
+abbrev pub CountsDrains : Channel → Type 0
+CountsDrains c = is_some c.stats.draining ≡ nat_lt 0 c.config.write_high
 
 -- what is seen of a channel in a cycle, before it issues a command
 abbrev pub seen_of : Channel → ℕ → Seen

@@ -2,6 +2,7 @@
 --     issued_in channel now o      the command of a cycle as a list of rows
 --     first_arrival inbox until      when the first of these messages arrives
 --     HasRun c s channel rows mail inbox from now until arrived commands messages      what the cycles so far leave
+--     HasTurned c s channel rows mail inbox now then until arrived commands commands_then messages messages_then      what one turn leaves
 --     IsDone done s channel rows mail inbox from until      and for all cycles of a span
 --     CanRun c inbox from until      a channel stands for a past after which messages are fit for a span
 --     CanStep c inbox now      they are fit for a span that begins with this cycle
@@ -37,6 +38,15 @@ pub record HasRun (c : Channel) (s : Config) (channel : ℕ) (rows : List (Optio
   pub some : arrived ≤ length inbox
   pub commands_are : issued_commands channel (channel_run s channel rows (mail ++ inbox) (now - from)) ≡ issued_commands channel rows ++ commands
   pub messages_are : channel_messages s channel (channel_run s channel rows (mail ++ inbox) (now - from)) ≡ channel_messages s channel rows ++ messages
+
+-- After some more cycles, from one on and before another, the same holds, and what came more was added to these commands and
+-- messages.
+pub record HasTurned (c : Channel) (s : Config) (channel : ℕ) (rows : List (Option Command)) (mail inbox : List Message) (now then until arrived : ℕ) (commands commands_then : List CommandRow) (messages messages_then : List Message) : Type 0 where
+  pub issued : List CommandRow
+  pub sent : List Message
+  pub has_run : HasRun c s channel rows mail inbox now then until arrived issued sent
+  pub commands_are : commands_then ≡ commands ++ issued
+  pub messages_are : messages_then ≡ messages ++ sent
 
 -- What comes back stands for the rows of the channel's run over the span and for all messages that were sent to it. The commands
 -- and messages are those of the longer rows beyond those of the earlier ones.

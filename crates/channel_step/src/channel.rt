@@ -1,7 +1,7 @@
 //! A channel that is run alone over a span of cycles.
 
-ghost use Rattle.std.specs.Prelude.{◌≡◌, ℕ, ◌+◌, ◌-◌, ◌<◌, ◌≤◌, ◌^◌, ◌==◌, take, take_while, ◌++◌, List, [], ◌∷◌, length, Option, Some, None, replicate, is_some, nat_le, IfSome, IfOk};
-ghost use Rattle.sim_base.specs.History.{issued_commands, messages_at};
+ghost use Rattle.std.specs.Prelude.{◌≡◌, ℕ, ◌+◌, ◌-◌, ◌*◌, ◌<◌, ◌≤◌, ◌^◌, ◌==◌, take, take_while, ◌++◌, List, [], ◌∷◌, length, Option, Some, None, replicate, is_some, nat_le, IfSome, IfOk};
+ghost use Rattle.sim_base.specs.History.{issued_commands};
 ghost use Rattle.sim_base.specs.Rules.{open_row};
 ghost use Rattle.sim_base.specs.Scheduling.{choice, due, waiting};
 ghost use Rattle.sim_base.specs.declared.config.Config.{Config};
@@ -13,11 +13,11 @@ ghost use Rattle.fr_fcfs.specs.Choices.{IsFor};
 ghost use Rattle.fr_fcfs.specs.Cycles.{IsFirstCycle};
 ghost use Rattle.statistics.specs.Channels.{channel_stats, channel_joined, ChannelFits};
 ghost use Rattle.channel_step.specs.Counted.{cycle_with_hit};
-ghost use Rattle.channel_step.specs.Channels.{StandsFor, HasRank, HasBank, IsInCycle, IsInSomeCycle, IsChosen, IsNextBefore, seen_of, passed};
-ghost use Rattle.channel_step.specs.Fit.{IsFit, IsIdle};
-ghost use Rattle.channel_step.specs.Runs.{CanStep, CanRun, CanSkip, HasRun, IsDone, StandsAt, issued_in, first_arrival};
+ghost use Rattle.channel_step.specs.Channels.{StandsFor, HasRank, HasBank, IsInCycle, IsInSomeCycle, IsChosen, IsNextBefore, CountsDrains, seen_of, passed};
+ghost use Rattle.channel_step.specs.Fit.{queue_room, IsFit, IsIdle};
+ghost use Rattle.channel_step.specs.Runs.{CanStep, CanRun, CanSkip, HasTurned, IsDone, StandsAt, first_arrival};
 
-use crate::counting::{Seen, cycle_stats, drained};
+use crate::counting::{Seen, drained};
 use crate::done::ChannelDone;
 use crate::noting::{likely_places, note_heads, note_refresh, request_at};
 use crate::sending::tell;
@@ -26,7 +26,7 @@ use bank_ready::banks::Banks;
 use fr_fcfs::choice::{Choice, next, wake};
 use heads::Heads;
 use refresh::Refresh;
-use sim_base::command::Command;
+use sim_base::command::{Command, CommandRow};
 use sim_base::config::Config;
 use sim_base::message::{ChannelId, Cycle, Message, Request};
 use sim_base::place::BankId;
@@ -47,12 +47,11 @@ pub struct Channel {
     heads: Heads,
 }
 
-/// What a channel did from one cycle to another, the last that is over: how many messages arrived, and what it issued in the last.
+/// What a channel did from one cycle to another, the last that is over: how many messages arrived.
 #[derive(Clone, Copy)]
 struct Turn {
     arrived: usize,
     last: Cycle,
-    command: Option<Command>,
 }
 
 impl Channel {
@@ -60,8 +59,7 @@ impl Channel {
     pub fn start(alloc: Global, config: &Config, number: ChannelId) -> Result<Channel, AllocError>
         ensures { IfOk result (λ channel. StandsFor channel config.now number [] []) }
     {
-        let credits = config.read_credits as usize + config.write_credits as usize;
-        let room = usize::from(config.cores) * credits;
+        let room = room_of(config);
         let mut stats = ChannelStats::new();
         stats.draining = drained(config, 0);
         Ok(Channel {
@@ -72,7 +70,7 @@ impl Channel {
             banks: Banks::new(alloc, config)?,
             refresh: Refresh::new(config.timing.n_refi, config.ranks),
             stats,
-            heads: Heads::with_room(alloc, 16 * config.ranks as usize)?,
+            heads: Heads::with_room(alloc, banks_of(config))?,
         })
     }
 
@@ -169,39 +167,35 @@ impl Channel {
         }
     }
 
-    /// Adds what the cycles before `until` count, which are then over.
-    fn add(&mut self, counted: ChannelStats, until: Cycle)
-        requires { ChannelFits (channel_joined self.old.stats counted) }
-        ensures { self.new ≡ record self.old { cycle = until; stats = channel_joined self.old.stats counted } }
+    /// Counts a cycle in which a command is issued, which moves data of a row hit or not. The cycle is then over.
+    fn count(&mut self, seen: Seen, command: &Command, hit: bool)
+        requires cycle { self.old.cycle < 2 ^ 62 }
+        requires drains { CountsDrains self.old }
+        requires fits { ChannelFits (channel_joined self.old.stats (cycle_with_hit self.old.config seen.queued seen.refreshing seen.draining (Some command.now) hit)) }
+        ensures { self.new ≡ record self.old { cycle = self.old.cycle + 1; stats = channel_joined self.old.stats (cycle_with_hit self.old.config seen.queued seen.refreshing seen.draining (Some command.now) hit) } }
     {
         let stats = &mut self.stats;
-        *stats = stats.joined(counted);
+        stats.add_cycles(1, seen.queued, seen.refreshing, seen.draining);
+        stats.add_command(command.kind(), hit);
         let cycle = &mut self.cycle;
-        *cycle = until;
-    }
-
-    /// Counts a cycle, which is then over.
-    fn count(&mut self, seen: Seen, command: Option<Command>, hit: bool)
-        requires cycle { self.old.cycle < 2 ^ 62 }
-        requires fits { ChannelFits (channel_joined self.old.stats (cycle_with_hit self.old.config seen.queued seen.refreshing seen.draining command hit)) }
-        ensures { self.new ≡ record self.old { cycle = self.old.cycle + 1; stats = channel_joined self.old.stats (cycle_with_hit self.old.config seen.queued seen.refreshing seen.draining command hit) } }
-    {
-        let cycle = cycle_stats(&self.config, seen, command, hit);
-        self.add(cycle, self.cycle + 1);
+        *cycle += 1;
     }
 
     /// Counts the cycles before `until`, in each of which is seen what is seen in the next one, and nothing is issued. They are
     /// then over.
     fn pass(&mut self, refreshing: bool, until: Cycle)
-        requires until { self.old.cycle ≤ until }
+        requires until { self.old.cycle < until }
         requires refreshing { refreshing ≡ is_some (lowest_owed self.old.refresh self.old.cycle) }
+        requires drains { CountsDrains self.old }
         requires fits { ChannelFits (passed self.old until) }
         ensures { self.new ≡ record self.old { cycle = until; stats = passed self.old until } }
     {
         let seen = self.seen(refreshing);
-        let each = cycle_stats(&self.config, seen, None, false);
         let cycles = until - self.cycle;
-        self.add(each.times(cycles), until);
+        let stats = &mut self.stats;
+        stats.add_cycles(cycles, seen.queued, seen.refreshing, seen.draining);
+        let cycle = &mut self.cycle;
+        *cycle = until;
     }
 
     /// The first cycle before `until` from which on a refresh is due, as long as no REF is issued; `until`, where there is none.
@@ -272,14 +266,14 @@ impl Channel {
     }
 
     /// Does what was chosen for a cycle, and counts the cycle.
-    fn perform(&mut self, chosen: Choice, seen: Seen, now: Cycle)
-        requires chosen { IsChosen self.old now chosen.command }
+    fn perform(&mut self, chosen: &Choice, seen: Seen, now: Cycle)
+        requires chosen { IsChosen self.old now chosen.now.command }
         requires now { now < 2 ^ 62 }
-        requires slot { IsFor self.old.waiting.queue.requests chosen }
+        requires slot { IsFor self.old.waiting.queue.requests chosen.now }
         requires seen { seen ≡ seen_of self.old now }
         ensures { (s : Config) (channel : ℕ) (rows : List (Option Command)) (mail : List Message)
-            → IsInCycle self.old s channel rows mail → length rows ≡ now → Some chosen.command ≡ choice s channel rows mail
-            → StandsFor self.new s channel (rows ++ Some chosen.command ∷ []) mail }
+            → IsInCycle self.old s channel rows mail → length rows ≡ now → Some chosen.now.command ≡ choice s channel rows mail
+            → StandsFor self.new s channel (rows ++ Some chosen.now.command ∷ []) mail }
     {
         let served = request_at(self.waiting.queue(), chosen.slot);
         let likely = likely_places(&self.heads, chosen.command);
@@ -287,7 +281,7 @@ impl Channel {
         note_heads(&mut self.heads, self.waiting.queue(), chosen, served);
         self.banks.note(chosen.command, now);
         note_refresh(&mut self.refresh, chosen.command, now);
-        self.count(seen, Some(chosen.command), hit);
+        self.count(seen, &chosen.command, hit);
     }
 
     /// Takes in those of these messages that arrive in a cycle, and settles whether the channel drains its writes in it. Tells how
@@ -311,8 +305,17 @@ impl Channel {
     }
 
     /// Goes on from a cycle, where the channel stands, over the next one in which it issues a command, or over all before the next
-    /// one in which something arrives, if that comes first; and no further than `until`.
-    fn turn(&mut self, inbox: &[Message], now: Cycle, until: Cycle) -> Result<Turn, AllocError>
+    /// one in which something arrives, if that comes first; and no further than `until`. What it issues and sends is added to the
+    /// commands and messages. On an error some of it may be missing.
+    #[inline(always)]
+    fn turn(
+        &mut self,
+        inbox: &[Message],
+        now: Cycle,
+        until: Cycle,
+        commands: &mut Vec<CommandRow>,
+        messages: &mut Vec<Message>,
+    ) -> Result<Turn, AllocError>
         requires can_run { CanRun self.old inbox.now now until }
         requires span { now < until }
         requires until { until ≤ 2 ^ 62 }
@@ -321,8 +324,8 @@ impl Channel {
         ensures within { IfOk result (λ turn. turn.last < until) }
         ensures done { (s : Config) (channel : ℕ) (rows : List (Option Command)) (mail : List Message)
             → StandsFor self.old s channel rows mail → length rows ≡ now → IsFit s channel rows mail inbox.now now until
-            → IfOk result (λ turn. HasRun self.new s channel rows mail inbox.now now (turn.last + 1) until turn.arrived
-            (issued_in channel turn.last turn.command) (messages_at s channel turn.last turn.command)) }
+            → IfOk result (λ turn. HasTurned self.new s channel rows mail inbox.now now (turn.last + 1) until turn.arrived
+            commands.old.items commands.new.items messages.old.items messages.new.items) }
     {
         let arrived = self.arrive(inbox, now)?;
         let end = next_arrival(&inbox[arrived..], until);
@@ -330,11 +333,18 @@ impl Channel {
             Some((cycle, chosen)) => {
                 self.wait(cycle);
                 let seen = self.seen(self.refreshing());
-                self.perform(chosen, seen, cycle);
+                self.perform(&chosen, seen, cycle);
+                tell(
+                    &self.config,
+                    self.number,
+                    cycle,
+                    &chosen.command,
+                    commands,
+                    messages,
+                )?;
                 Ok(Turn {
                     arrived,
                     last: cycle,
-                    command: Some(chosen.command),
                 })
             }
             None => {
@@ -342,7 +352,6 @@ impl Channel {
                 Ok(Turn {
                     arrived,
                     last: end - 1,
-                    command: None,
                 })
             }
         }
@@ -366,21 +375,13 @@ impl Channel {
             → StandsFor self s channel rows mail → length rows ≡ from → IsFit s channel rows mail inbox.now from until
             → IfOk result (λ done. IsDone done s channel rows mail inbox.now from until) }
     {
-        let mut commands = Vec::with_capacity(alloc, 16)?;
-        let mut messages = Vec::with_capacity(alloc, 16)?;
+        let mut commands = Vec::with_capacity(alloc, inbox.len().saturating_mul(3).max(16))?;
+        let mut messages = Vec::with_capacity(alloc, inbox.len().saturating_mul(2).max(16))?;
         let mut arrived = 0;
         let mut now = from;
         while now < until {
-            let turn = self.turn(&inbox[arrived..], now, until)?;
+            let turn = self.turn(&inbox[arrived..], now, until, &mut commands, &mut messages)?;
             arrived += turn.arrived;
-            tell(
-                &self.config,
-                self.number,
-                turn.last,
-                turn.command,
-                &mut commands,
-                &mut messages,
-            )?;
             now = turn.last + 1;
         }
         Ok(ChannelDone {
@@ -389,6 +390,23 @@ impl Channel {
             messages,
         })
     }
+}
+
+/// The places of a channel's queue: as many as there are credits.
+fn room_of(config: &Config) -> usize
+    ensures room { result ≡ queue_room config.now }
+    ensures most { result ≤ 8192 }
+{
+    let credits = config.read_credits as usize + config.write_credits as usize;
+    usize::from(config.cores) * credits
+}
+
+/// The banks of a channel.
+fn banks_of(config: &Config) -> usize
+    ensures banks { result ≡ 16 * config.now.ranks }
+    ensures most { result ≤ 64 }
+{
+    16 * config.ranks as usize
 }
 
 /// How many of these messages arrive in a cycle, as the first ones.

@@ -75,13 +75,13 @@ fn note_served(heads: &mut Heads, queue: &Queue, slot: Option<usize>, served: Op
 }
 
 /// Takes note of a choice in the heads, once the request that it serves, if it serves one, has left the queue.
-pub(crate) fn note_heads(heads: &mut Heads, queue: &Queue, choice: Choice, served: Option<Request>)
+pub(crate) fn note_heads(heads: &mut Heads, queue: &Queue, choice: &Choice, served: Option<Request>)
     requires bank { IfSome served (λ r. bank_number r.place < bank_count heads.old) }
-    requires among { ForSome (bank_of choice.command) (IsAmong heads.old) }
+    requires among { ForSome (bank_of choice.now.command) (IsAmong heads.old) }
     ensures banks { bank_count heads.new ≡ bank_count heads.old }
-    ensures stands { (earlier : List Request) (open_rows : ℕ → Option ℕ) → served ≡ option_and_then (slice_get earlier) choice.slot
-        → ForSome choice.slot (λ k. k < length earlier) → queue.now.requests ≡ requests_left earlier choice.slot → HeadsStandFor heads.old earlier open_rows
-        → HeadsStandFor heads.new queue.now.requests (λ bank. row_after (bank_at bank) (open_rows bank) choice.command) }
+    ensures stands { (earlier : List Request) (open_rows : ℕ → Option ℕ) → served ≡ option_and_then (slice_get earlier) choice.now.slot
+        → ForSome choice.now.slot (λ k. k < length earlier) → queue.now.requests ≡ requests_left earlier choice.now.slot → HeadsStandFor heads.old earlier open_rows
+        → HeadsStandFor heads.new queue.now.requests (λ bank. row_after (bank_at bank) (open_rows bank) choice.now.command) }
 {
     note_served(heads, queue, choice.slot, served);
     heads.noted(choice.command, queue);

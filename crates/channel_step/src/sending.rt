@@ -1,6 +1,6 @@
 //! What a channel sends.
 
-ghost use Rattle.std.specs.Prelude.{◌≡◌, ◌<◌, ◌^◌, ◌++◌, IfOk};
+ghost use Rattle.std.specs.Prelude.{◌≡◌, ◌<◌, ◌^◌, ◌++◌, IfOk, Some};
 ghost use Rattle.sim_base.specs.History.{reply, credit, messages_of, messages_at};
 ghost use Rattle.channel_step.specs.Runs.{issued_in};
 
@@ -51,13 +51,13 @@ pub(crate) fn send(
     config: &Config,
     channel: ChannelId,
     now: Cycle,
-    command: Command,
+    command: &Command,
     messages: &mut Vec<Message>,
 ) -> Result<(), AllocError>
     requires { now < 2 ^ 62 }
-    ensures { IfOk result (λ u. messages.new.items ≡ messages.old.items ++ messages_of config.now channel now command) }
+    ensures { IfOk result (λ u. messages.new.items ≡ messages.old.items ++ messages_of config.now channel now command.now) }
 {
-    match command {
+    match *command {
         Command::Rd { source, .. } => {
             messages.push(reply_to(config, channel, now, source))?;
             messages.push(credit_for(config, channel, now, false, source))?;
@@ -70,27 +70,24 @@ pub(crate) fn send(
     Ok(())
 }
 
-/// Adds what a channel does in a cycle to its commands, and what it sends to its messages. On an error some of it may be
-/// missing.
+/// Adds a command that a channel issues in a cycle to its commands, and what it then sends to its messages. On an error some of
+/// it may be missing.
 pub(crate) fn tell(
     config: &Config,
     channel: ChannelId,
     now: Cycle,
-    command: Option<Command>,
+    command: &Command,
     commands: &mut Vec<CommandRow>,
     messages: &mut Vec<Message>,
 ) -> Result<(), AllocError>
     requires { now < 2 ^ 62 }
-    ensures commands { IfOk result (λ u. commands.new.items ≡ commands.old.items ++ issued_in channel now command) }
-    ensures messages { IfOk result (λ u. messages.new.items ≡ messages.old.items ++ messages_at config.now channel now command) }
+    ensures commands { IfOk result (λ u. commands.new.items ≡ commands.old.items ++ issued_in channel now (Some command.now)) }
+    ensures messages { IfOk result (λ u. messages.new.items ≡ messages.old.items ++ messages_at config.now channel now (Some command.now)) }
 {
-    if let Some(command) = command {
-        commands.push(CommandRow {
-            cycle: now,
-            channel,
-            command,
-        })?;
-        send(config, channel, now, command, messages)?;
-    }
-    Ok(())
+    commands.push(CommandRow {
+        cycle: now,
+        channel,
+        command: *command,
+    })?;
+    send(config, channel, now, command, messages)
 }

@@ -1,6 +1,6 @@
 //! The requests that wait at a channel, and which of them an ACT was issued for.
 
-ghost use Rattle.std.specs.Prelude.{◌≡◌, ◌+◌, ◌<◌, ◌≤◌, [], ◌∷◌, position, length, IfOk, IfSome, Some, slice_index_or, true};
+ghost use Rattle.std.specs.Prelude.{◌≡◌, ◌+◌, ◌-◌, ◌^◌, ◌<◌, ◌≤◌, [], ◌∷◌, position, length, IfOk, IfSome, Some, slice_index_or, true};
 ghost use Rattle.std.specs.Option.{ForSome};
 ghost use Rattle.sim_base.specs.Scheduling.{is_source};
 ghost use Rattle.channel_step.specs.Past.{requests_of, Differ};
@@ -38,6 +38,7 @@ impl Waiting {
         high: u32,
         low: u32,
     ) -> Result<Self, AllocError>
+        requires room { room < 2 ^ 16 - 1 }
         ensures { IfOk result (λ w. w ≡ no_requests room high low) }
     {
         Ok(Waiting {
@@ -82,6 +83,7 @@ impl Waiting {
     }
 
     /// Takes in the requests that arrive in a cycle, and settles whether the channel drains its writes in it.
+    #[inline(never)]
     #[tactic(auto, using(crate::proofs::Waits::joined_none, crate::proofs::Waits::joined_more, crate::proofs::Waits::joined_room))]
     pub(crate) fn admit(&mut self, new: &[Message]) -> Result<(), AllocError>
         requires { length self.old.queue.requests + length new.now ≤ self.old.queue.room }
@@ -95,6 +97,7 @@ impl Waiting {
     }
 
     /// Marks the request of an entry, if it waits: it likely waits at one of these places.
+    #[inline(never)]
     fn mark(&mut self, source: Source, likely: [Option<usize>; 2])
         requires { Differ self.old.queue.requests }
         ensures { self.new ≡ with_mark self.old source }
@@ -106,11 +109,11 @@ impl Waiting {
 
     /// Does to the requests what a choice does, and tells whether it moves data that no ACT was issued for. The request of an ACT
     /// likely waits at one of these places.
-    pub(crate) fn take(&mut self, choice: Choice, likely: [Option<usize>; 2]) -> bool
-        requires slot { ForSome choice.slot (λ slot. slot < length self.old.queue.requests) }
+    pub(crate) fn take(&mut self, choice: &Choice, likely: [Option<usize>; 2]) -> bool
+        requires slot { ForSome choice.now.slot (λ slot. slot < length self.old.queue.requests) }
         requires differ { Differ self.old.queue.requests }
-        ensures hit { result ≡ moves_unmarked self.old choice.slot }
-        ensures rest { self.new ≡ after self.old choice.command choice.slot }
+        ensures hit { result ≡ moves_unmarked self.old choice.now.slot }
+        ensures rest { self.new ≡ after self.old choice.now.command choice.now.slot }
     {
         match choice.slot {
             Some(slot) => !self.serve(slot),

@@ -57,3 +57,14 @@ limits_cycles cores texts cycles workers h =
     by true true k =
         let e : leb cycles 1000000000000 ≡ true = passed (leb cycles 1000000000000) Cycles tt k in
         grind (arith, nat_tests)
+
+pub limits_workers : (cores texts cycles workers : ℕ) → limits_of cores texts cycles workers ≡ Ok tt → (1 ≤ workers) × (workers ≤ 64)
+unfolding limits_of
+limits_workers cores texts cycles workers h = by (eqb texts cores) (leb 1 workers) (leb workers 64) refl refl h
+  where
+    by : (x y z : Bool) → leb 1 workers ≡ y → leb workers 64 ≡ z → (unless x TraceCount >>= (λ _. unless (y && z) Workers >>= (λ _. unless (leb cycles 1000000000000) Cycles))) ≡ Ok tt
+        → (1 ≤ workers) × (workers ≤ 64)
+    by false y z e f k = absurd (cc)
+    by true false z e f k = absurd (cc)
+    by true true false e f k = absurd (cc)
+    by true true true e f k = (grind (arith, nat_tests), grind (arith, nat_tests))

@@ -8,3 +8,4 @@ pub mod WalkFacts
 pub mod TraceLists
 pub mod Inputs
 pub mod Judged
+pub mod Outcomes

@@ -14,10 +14,12 @@ use crate::perform::{REFUSED, perform};
 use sim_base::fault::Fault;
 use std::io::ErrorKind;
 use std::process::ExitCode;
+use std::sync::Wait;
+use std::thread::Threads;
 use std::{env, io};
 
-// Hands the words, the files and the streams of the host over.
-fn perform_words(rt: &HostRuntime) -> io::Result<u8> {
+// Hands the words, the files, the streams and the threads of the host over.
+fn perform_words<T: Threads + Wait + Sync>(rt: &HostRuntime, threads: &T) -> io::Result<u8> {
     let arguments: Vec<String> = env::args(rt)?.collect(rt.alloc())?;
     let words: Vec<&str> = arguments
         .iter()
@@ -26,7 +28,14 @@ fn perform_words(rt: &HostRuntime) -> io::Result<u8> {
     let mut files = HostFiles { rt };
     let mut print = rt.stdout();
     let mut errors = rt.stderr();
-    Ok(perform(rt.alloc(), &words, &mut files, &mut print, &mut errors))
+    Ok(perform(
+        threads,
+        rt.alloc(),
+        &words,
+        &mut files,
+        &mut print,
+        &mut errors,
+    ))
 }
 
 // Why the words of the command line could not be had.
@@ -38,7 +47,7 @@ fn words_fault(error: &io::Error) -> Fault {
 }
 
 fn main(rt: HostRuntime) -> ExitCode {
-    match perform_words(&rt) {
+    match perform_words(&rt, &rt) {
         Ok(status) => ExitCode::from(status),
         Err(error) => {
             let fault = words_fault(&error);

@@ -3,7 +3,7 @@
 ghost use Rattle.std.specs.Prelude.{◌≡◌, ◌≤◌, IfOk};
 
 use crate::files::FileSet;
-use crate::runs::simulate_plain;
+use crate::runs::simulate;
 use crate::words::{Ask, read_words};
 use address_map::place_of;
 use reports::{write_commands, write_final, write_stats};
@@ -14,6 +14,8 @@ use sim_base::message::Cycle;
 use statistics::outcome::Outcome;
 use std::alloc::Global;
 use std::io::Write;
+use std::sync::Wait;
+use std::thread::Threads;
 
 /// The status of a program that did what it was asked.
 const DONE: u8 = 0;
@@ -75,7 +77,8 @@ fn write_tables<F: FileSet>(
 }
 
 // `run CONFIG --cycles N --workers N --out DIR TRACE...`
-fn perform_run<F: FileSet>(
+fn perform_run<R: Threads + Wait + Sync, F: FileSet>(
+    rt: &R,
     alloc: Global,
     files: &mut F,
     config: &str,
@@ -86,7 +89,7 @@ fn perform_run<F: FileSet>(
 ) -> Result<(), Fault> {
     let config = files.read(alloc, config)?;
     let texts = read_texts(alloc, files, traces)?;
-    let run = simulate_plain(alloc, &config, &texts, cycles, workers)?;
+    let run = simulate(rt, alloc, &config, &texts, cycles, workers)?;
     write_tables(alloc, files, out, &run)
 }
 
@@ -140,7 +143,8 @@ fn perform_check<F: FileSet, P: Write>(
 }
 
 // What the words ask for, and the status.
-fn answer<F: FileSet, P: Write>(
+fn answer<R: Threads + Wait + Sync, F: FileSet, P: Write>(
+    rt: &R,
     alloc: Global,
     words: &[&str],
     files: &mut F,
@@ -155,7 +159,7 @@ fn answer<F: FileSet, P: Write>(
             workers,
             out,
             traces,
-        } => perform_run(alloc, files, config, cycles, workers, out, &traces)?,
+        } => perform_run(rt, alloc, files, config, cycles, workers, out, &traces)?,
         Ask::Check { config, commands } => {
             return perform_check(alloc, files, print, config, commands);
         }
@@ -166,8 +170,9 @@ fn answer<F: FileSet, P: Write>(
 }
 
 /// Does what the words ask for, of which the first is the program's name, and gives the status: 0 done, 1 a table that breaks
-/// a rule, 2 refused. A refusal is one line on `errors`: `fault N: ...`.
-pub fn perform<F: FileSet, P: Write, E: Write>(
+/// a rule, 2 refused. A run's workers are threads of `rt`. A refusal is one line on `errors`: `fault N: ...`.
+pub fn perform<R: Threads + Wait + Sync, F: FileSet, P: Write, E: Write>(
+    rt: &R,
     alloc: Global,
     words: &[&str],
     files: &mut F,
@@ -176,7 +181,7 @@ pub fn perform<F: FileSet, P: Write, E: Write>(
 ) -> u8
     ensures { result ≤ 2 }
 {
-    match answer(alloc, words, files, print) {
+    match answer(rt, alloc, words, files, print) {
         Ok(status) => status,
         Err(fault) => {
             let _ = writeln!(errors, "{fault}");

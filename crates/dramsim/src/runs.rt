@@ -1,6 +1,8 @@
 //! A run of the simulator, from the bytes of its input.
 
-ghost use Rattle.std.specs.Prelude.{◌≡◌, ◌≢◌, ◌≤◌, ◌==◌, ◌&&◌, nat_le, length, vec_len, map, Ok, Err, IfOk, IfErr};
+ghost use Rattle.std.specs.Prelude.{◌≡◌, ◌≢◌, ◌≤◌, ◌^◌, ◌==◌, ◌&&◌, nat_le, length, vec_len, map, Ok, Err, IfOk, IfErr};
+ghost use Rattle.sim_base.specs.Document.{document_of};
+ghost use Rattle.sim_base.specs.Values.{values_of};
 ghost use Rattle.dramsim.specs.Runs.{unless, limits_of, traces_of, input_of, IsRunOf, IsJudgedLegal};
 
 use cpu_trace::reader::read_trace;
@@ -12,6 +14,10 @@ use sim_base::fault::Fault;
 use sim_base::message::{CoreId, Cycle};
 use statistics::outcome::Outcome;
 use std::alloc::Global;
+use std::sync::Wait;
+use std::thread::Threads;
+use workers::gate::Open;
+use workers::machine::run_machine;
 
 /// The greatest limit of a run, in cycles.
 pub const MOST_CYCLES: Cycle = 1_000_000_000_000;
@@ -60,7 +66,6 @@ fn check_limits(cores: u16, texts: usize, cycles: Cycle, workers: u64) -> Result
 }
 
 // The traces of the cores, in their order.
-
 fn read_traces(alloc: Global, texts: &[Vec<u8>]) -> Result<Vec<Trace>, Fault>
     requires { length texts.now ≤ 256 }
     ensures ok { IfOk result (λ v. traces_of 0 (map (λ t. t.items) texts.now) ≡ Ok v.items) }
@@ -81,22 +86,20 @@ fn read_traces(alloc: Global, texts: &[Vec<u8>]) -> Result<Vec<Trace>, Fault>
     Ok(traces)
 }
 
-/// Runs the one-clock machine that a configuration and one trace a core describe, for at most `cycles` cycles, and gives
-/// its commands, its statistics and the state in which it ends.
-///
-/// The input is tested in this order: the configuration, the number of traces, the number of workers (1 to 64, not used yet),
-/// the limit (at most 10^12 cycles), and the traces by core. The first fault is answered. `Fault::Memory` may come at any time,
-/// and the run itself is refused by nothing else. The table of its commands is legal, as `check` reads it under the same
-/// configuration.
-pub fn simulate_plain(
+// The configuration and the traces, after all tests of a run's input.
+fn read_input(
     alloc: Global,
     config: &[u8],
     texts: &[Vec<u8>],
     cycles: Cycle,
     workers: u64,
-) -> Result<Outcome, Fault>
-    ensures run { IfOk result (IsRunOf config.now (map (λ t. t.items) texts.now) cycles workers) }
-    ensures legal { IfOk result (IsJudgedLegal config.now) }
+) -> Result<(Config, Vec<Trace>), Fault>
+    ensures configured { IfOk result (λ r. document_of config.now ≡ Ok (values_of r.0)) }
+    ensures traces { IfOk result (λ r. traces_of 0 (map (λ t. t.items) texts.now) ≡ Ok r.1.items) }
+    ensures input { IfOk result (λ r. input_of config.now (map (λ t. t.items) texts.now) cycles workers ≡ Ok r.1.items) }
+    ensures count { IfOk result (λ r. vec_len r.1 ≡ r.0.cores) }
+    ensures workers { IfOk result (λ _. (1 ≤ workers) × (workers ≤ 64)) }
+    ensures cycles { IfOk result (λ _. cycles ≤ 10 ^ 12) }
     ensures refused { IfErr result (λ e. e ≢ Fault.Memory → input_of config.now (map (λ t. t.items) texts.now) cycles workers ≡ Err e) }
 {
     let config = match read_config(alloc, config) {
@@ -108,6 +111,53 @@ pub fn simulate_plain(
     }
     let traces = match read_traces(alloc, texts) {
         Ok(traces) => traces,
+        Err(fault) => return Err(fault),
+    };
+    Ok((config, traces))
+}
+
+/// Runs the machine that a configuration and one trace a core describe, for at most `cycles` cycles, and gives its commands, its
+/// statistics and the state in which it ends. Each phase is run by so many workers at most, 1 to 64, each in a thread of its
+/// own; with one worker, in the thread of the caller. What comes out does not depend on them.
+///
+/// The input is tested in this order: the configuration, the number of traces, the number of workers (1 to 64), the limit (at
+/// most 10^12 cycles), and the traces by core. The first fault is answered. `Fault::Memory` may come at any time, and the run
+/// itself is refused by nothing but this and `Fault::WorkerStart`. The table of its commands is legal, as `check` reads it under
+/// the same configuration.
+pub fn simulate<R: Threads + Wait + Sync>(
+    rt: &R,
+    alloc: Global,
+    config: &[u8],
+    texts: &[Vec<u8>],
+    cycles: Cycle,
+    workers: u64,
+) -> Result<Outcome, Fault>
+    ensures run { IfOk result (IsRunOf config.now (map (λ t. t.items) texts.now) cycles workers) }
+    ensures legal { IfOk result (IsJudgedLegal config.now) }
+    ensures refused { IfErr result (λ e. e ≢ Fault.Memory → e ≢ Fault.WorkerStart → input_of config.now (map (λ t. t.items) texts.now) cycles workers ≡ Err e) }
+{
+    let (config, traces) = match read_input(alloc, config, texts, cycles, workers) {
+        Ok(input) => input,
+        Err(fault) => return Err(fault),
+    };
+    run_machine(rt, alloc, &Open, workers as usize, &config, traces, cycles)
+}
+
+/// The same run by the one-clock machine, one cycle after the other, with no workers: their number is only tested. Tests compare
+/// with it.
+pub fn simulate_plain(
+    alloc: Global,
+    config: &[u8],
+    texts: &[Vec<u8>],
+    cycles: Cycle,
+    workers: u64,
+) -> Result<Outcome, Fault>
+    ensures run { IfOk result (IsRunOf config.now (map (λ t. t.items) texts.now) cycles workers) }
+    ensures legal { IfOk result (IsJudgedLegal config.now) }
+    ensures refused { IfErr result (λ e. e ≢ Fault.Memory → input_of config.now (map (λ t. t.items) texts.now) cycles workers ≡ Err e) }
+{
+    let (config, traces) = match read_input(alloc, config, texts, cycles, workers) {
+        Ok(input) => input,
         Err(fault) => return Err(fault),
     };
     let Ok(outcome) = run_plain(alloc, &config, &traces, cycles) else {

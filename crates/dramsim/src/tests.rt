@@ -6,7 +6,9 @@ use sim_base::fault::Fault;
 use std::alloc::{AllocError, Global};
 use std::io;
 use std::io::{ErrorKind, Write};
+use std::sync::Wait;
 use std::test::Fail;
+use std::thread::Threads;
 
 mod checks;
 mod tables;
@@ -193,14 +195,15 @@ fn words_of_run<'x>(
 }
 
 // A run over these files, and over a configuration and traces that are added to them.
-fn run_over(
-    alloc: Global,
+fn run_over<R: Threads + Wait + Sync + AllocGlobal>(
+    rt: &R,
     mut files: MemoryFiles,
     config: &str,
     traces: &[&str],
     cycles: &str,
     workers: &str,
 ) -> Result<Ended, Fail> {
+    let alloc = rt.alloc();
     files.add(alloc, "c.toml", config)?;
     let mut words = words_of_run(alloc, cycles, workers)?;
     for trace in traces {
@@ -209,19 +212,19 @@ fn run_over(
         words.push(name)?;
     }
     let named: Vec<&str> = words.iter().map(|word| word.as_str()).collect(alloc)?;
-    end_of(alloc, &named, files)
+    end_of(rt, &named, files)
 }
 
-fn run_program(
-    alloc: Global,
+fn run_program<R: Threads + Wait + Sync + AllocGlobal>(
+    rt: &R,
     config: &str,
     traces: &[&str],
     cycles: &str,
     workers: &str,
 ) -> Result<Ended, Fail> {
     run_over(
-        alloc,
-        MemoryFiles::new(alloc),
+        rt,
+        MemoryFiles::new(rt.alloc()),
         config,
         traces,
         cycles,
@@ -229,10 +232,15 @@ fn run_program(
     )
 }
 
-fn end_of(alloc: Global, words: &[&str], mut files: MemoryFiles) -> Result<Ended, Fail> {
+fn end_of<R: Threads + Wait + Sync + AllocGlobal>(
+    rt: &R,
+    words: &[&str],
+    mut files: MemoryFiles,
+) -> Result<Ended, Fail> {
+    let alloc = rt.alloc();
     let mut print = Vec::new(alloc);
     let mut errors = Vec::new(alloc);
-    let status = perform(alloc, words, &mut files, &mut print, &mut errors);
+    let status = perform(rt, alloc, words, &mut files, &mut print, &mut errors);
     Ok(Ended {
         status,
         print,
@@ -242,13 +250,13 @@ fn end_of(alloc: Global, words: &[&str], mut files: MemoryFiles) -> Result<Ended
 }
 
 // The files of a run that succeeds and prints nothing.
-fn files_of(
-    alloc: Global,
+fn files_of<R: Threads + Wait + Sync + AllocGlobal>(
+    rt: &R,
     config: &str,
     traces: &[&str],
     cycles: &str,
 ) -> Result<MemoryFiles, Fail> {
-    let ended = run_program(alloc, config, traces, cycles, "1")?;
+    let ended = run_program(rt, config, traces, cycles, "1")?;
     if ended.status != 0 || !ended.print.is_empty() || !ended.errors.is_empty() {
         return Err(Fail::from("the run was refused"));
     }
@@ -256,8 +264,13 @@ fn files_of(
 }
 
 // Its table of commands.
-fn table_of(alloc: Global, config: &str, traces: &[&str], cycles: &str) -> Result<String, Fail> {
-    files_of(alloc, config, traces, cycles)?.text_at(alloc, "d/commands.csv")
+fn table_of<R: Threads + Wait + Sync + AllocGlobal>(
+    rt: &R,
+    config: &str,
+    traces: &[&str],
+    cycles: &str,
+) -> Result<String, Fail> {
+    files_of(rt, config, traces, cycles)?.text_at(rt.alloc(), "d/commands.csv")
 }
 
 // The kinds of a table's commands, with their cycles.
@@ -272,17 +285,23 @@ fn summary_of(alloc: Global, table: &str) -> Result<String, AllocError> {
     Ok(text)
 }
 
-fn commands_of(alloc: Global, config: &str, traces: &[&str], cycles: &str) -> Result<String, Fail> {
-    let table = table_of(alloc, config, traces, cycles)?;
+fn commands_of<R: Threads + Wait + Sync + AllocGlobal>(
+    rt: &R,
+    config: &str,
+    traces: &[&str],
+    cycles: &str,
+) -> Result<String, Fail> {
+    let alloc = rt.alloc();
+    let table = table_of(rt, config, traces, cycles)?;
     Ok(summary_of(alloc, table.as_str())?)
 }
 
 #[test]
 fn one_read(rt: HostRuntime) -> Result<(), Fail> {
-    let table = table_of(rt.alloc(), PROFILE_S, &["0 0\n"], "16")?;
+    let table = table_of(&rt, PROFILE_S, &["0 0\n"], "16")?;
     let want = format!(in rt.alloc(); "{HEADER}2,0,ACT,0,0,0,,0,0\n5,0,RD,0,0,0,0,0,0\n")?;
     assert!(rt; table.as_str() == want.as_str());
-    let short = table_of(rt.alloc(), PROFILE_S, &["0 0\n"], "3")?;
+    let short = table_of(&rt, PROFILE_S, &["0 0\n"], "3")?;
     let want = format!(in rt.alloc(); "{HEADER}2,0,ACT,0,0,0,,0,0\n")?;
     assert!(rt; short.as_str() == want.as_str());
     Ok(())
@@ -290,28 +309,27 @@ fn one_read(rt: HostRuntime) -> Result<(), Fail> {
 
 #[test]
 fn rows_of_one_core(rt: HostRuntime) -> Result<(), Fail> {
-    let alloc = rt.alloc();
     let s = PROFILE_S;
-    let hits = commands_of(alloc, s, &["0 0\n0 64\n"], "32")?;
+    let hits = commands_of(&rt, s, &["0 0\n0 64\n"], "32")?;
     assert!(rt; hits.as_str() == "ACT 2, RD 5, RD 10, ");
-    let groups = commands_of(alloc, s, &["0 0\n0 8192\n"], "64")?;
+    let groups = commands_of(&rt, s, &["0 0\n0 8192\n"], "64")?;
     assert!(rt; groups.as_str() == "ACT 2, ACT 4, RD 5, RD 9, ");
-    let conflict = commands_of(alloc, s, &["0 0\n0 65536\n0 64\n0 128\n"], "64")?;
+    let conflict = commands_of(&rt, s, &["0 0\n0 65536\n0 64\n0 128\n"], "64")?;
     assert!(rt; conflict.as_str() == "ACT 2, RD 5, RD 10, RD 15, PRE 17, ACT 20, RD 23, ");
-    let write = commands_of(alloc, s, &["0 0 8192\n"], "64")?;
+    let write = commands_of(&rt, s, &["0 0 8192\n"], "64")?;
     assert!(rt; write.as_str() == "ACT 2, ACT 4, RD 5, WR 12, ");
-    let line = commands_of(alloc, s, &["0 0 64\n0 64\n"], "64")?;
+    let line = commands_of(&rt, s, &["0 0 64\n0 64\n"], "64")?;
     assert!(rt; line.as_str() == "ACT 2, RD 5, WR 12, RD 21, ");
-    let empty = table_of(alloc, s, &[""], "0")?;
+    let empty = table_of(&rt, s, &[""], "0")?;
     assert!(rt; empty.as_str() == HEADER);
-    let high = commands_of(alloc, s, &["0 0\n0 4294967296\n"], "64")?;
+    let high = commands_of(&rt, s, &["0 0\n0 4294967296\n"], "64")?;
     assert!(rt; high.as_str() == "ACT 2, RD 5, RD 10, ");
     Ok(())
 }
 
 #[test]
 fn plain_entries_come_first(rt: HostRuntime) -> Result<(), Fail> {
-    let table = table_of(rt.alloc(), PROFILE_S, &["3 0\n"], "64")?;
+    let table = table_of(&rt, PROFILE_S, &["3 0\n"], "64")?;
     let want = format!(in rt.alloc(); "{HEADER}3,0,ACT,0,0,0,,0,3\n6,0,RD,0,0,0,0,0,3\n")?;
     assert!(rt; table.as_str() == want.as_str());
     Ok(())
@@ -322,22 +340,22 @@ fn rows_with_other_numbers(rt: HostRuntime) -> Result<(), Fail> {
     let alloc = rt.alloc();
     let credits = profile_s(alloc, &["read_credits = 8"], "")?;
     let trace = "0 0\n0 8192\n0 16384\n0 24576\n0 32768\n";
-    let acts = commands_of(alloc, credits.as_str(), &[trace], "64")?;
+    let acts = commands_of(&rt, credits.as_str(), &[trace], "64")?;
     assert!(rt;
         acts.as_str() == "ACT 2, ACT 4, RD 5, ACT 6, ACT 8, RD 9, RD 13, ACT 14, RD 17, RD 21, "
     );
     let one = profile_s(alloc, &["read_credits = 1"], "")?;
-    let waits = commands_of(alloc, one.as_str(), &["0 0\n0 64\n"], "32")?;
+    let waits = commands_of(&rt, one.as_str(), &["0 0\n0 64\n"], "32")?;
     assert!(rt; waits.as_str() == "ACT 2, RD 5, RD 10, ");
     let link = profile_s(
         alloc,
         &["read_credits = 1"],
         "[[link]]\nid = 2\nlatency = 1\n",
     )?;
-    let sooner = commands_of(alloc, link.as_str(), &["0 0\n0 64\n"], "32")?;
+    let sooner = commands_of(&rt, link.as_str(), &["0 0\n0 64\n"], "32")?;
     assert!(rt; sooner.as_str() == "ACT 2, RD 5, RD 10, ");
     let window = profile_s(alloc, &["window = 1"], "")?;
-    let narrow = commands_of(alloc, window.as_str(), &["0 0\n0 64\n"], "64")?;
+    let narrow = commands_of(&rt, window.as_str(), &["0 0\n0 64\n"], "64")?;
     assert!(rt; narrow.as_str() == "ACT 2, RD 5, RD 17, ");
     Ok(())
 }
@@ -346,11 +364,11 @@ fn rows_with_other_numbers(rt: HostRuntime) -> Result<(), Fail> {
 fn rows_with_refresh(rt: HostRuntime) -> Result<(), Fail> {
     let alloc = rt.alloc();
     let refresh = profile_s(alloc, &["nREFI = 100"], "")?;
-    let alone = commands_of(alloc, refresh.as_str(), &[""], "250")?;
+    let alone = commands_of(&rt, refresh.as_str(), &[""], "250")?;
     assert!(rt; alone.as_str() == "REF 100, REF 200, ");
-    let open = commands_of(alloc, refresh.as_str(), &["0 0\n"], "150")?;
+    let open = commands_of(&rt, refresh.as_str(), &["0 0\n"], "150")?;
     assert!(rt; open.as_str() == "ACT 2, RD 5, PREA 100, REF 103, ");
-    let late = commands_of(alloc, refresh.as_str(), &["192 0\n"], "150")?;
+    let late = commands_of(&rt, refresh.as_str(), &["192 0\n"], "150")?;
     assert!(rt; late.as_str() == "ACT 98, PREA 106, REF 109, ACT 129, RD 132, ");
     Ok(())
 }
@@ -359,13 +377,13 @@ fn rows_with_refresh(rt: HostRuntime) -> Result<(), Fail> {
 fn rows_of_two_cores(rt: HostRuntime) -> Result<(), Fail> {
     let alloc = rt.alloc();
     let two = profile_s(alloc, &["cores = 2"], "")?;
-    let table = table_of(alloc, two.as_str(), &["0 0\n", "0 64\n"], "64")?;
+    let table = table_of(&rt, two.as_str(), &["0 0\n", "0 64\n"], "64")?;
     let want = format!(in alloc;
         "{HEADER}2,0,ACT,0,0,0,,0,0\n5,0,RD,0,0,0,0,0,0\n10,0,RD,0,0,0,1,1,0\n"
     )?;
     assert!(rt; table.as_str() == want.as_str());
     let link = profile_s(alloc, &["cores = 2"], "[[link]]\nid = 0\nlatency = 4\n")?;
-    let table = table_of(alloc, link.as_str(), &["0 0\n", "0 64\n"], "64")?;
+    let table = table_of(&rt, link.as_str(), &["0 0\n", "0 64\n"], "64")?;
     let want = format!(in alloc;
         "{HEADER}2,0,ACT,0,0,0,,1,0\n5,0,RD,0,0,0,1,1,0\n10,0,RD,0,0,0,0,0,0\n"
     )?;
@@ -377,7 +395,7 @@ fn rows_of_two_cores(rt: HostRuntime) -> Result<(), Fail> {
 fn two_channels(rt: HostRuntime) -> Result<(), Fail> {
     let alloc = rt.alloc();
     let two = profile_s(alloc, &["channels = 2"], "")?;
-    let table = table_of(alloc, two.as_str(), &["0 0\n0 64\n"], "64")?;
+    let table = table_of(&rt, two.as_str(), &["0 0\n0 64\n"], "64")?;
     let want = format!(in alloc;
         "{HEADER}2,0,ACT,0,0,0,,0,0\n3,1,ACT,0,0,0,,0,1\n5,0,RD,0,0,0,0,0,0\n6,1,RD,0,0,0,0,0,1\n"
     )?;
@@ -391,12 +409,12 @@ fn rows_of_two_ranks(rt: HostRuntime) -> Result<(), Fail> {
     let fields =
         "fields = [\"channel\", \"column\", \"rank\", \"group\", \"bank\", \"row\"]\nranks = 2\nnRTRS = 2";
     let ranks = profile_s(alloc, &[fields], "")?;
-    let reads = commands_of(alloc, ranks.as_str(), &["0 0\n0 8192\n"], "64")?;
+    let reads = commands_of(&rt, ranks.as_str(), &["0 0\n0 8192\n"], "64")?;
     assert!(rt; reads.as_str() == "ACT 2, ACT 3, RD 5, RD 11, ");
-    let write = commands_of(alloc, ranks.as_str(), &["0 0 8192\n"], "64")?;
+    let write = commands_of(&rt, ranks.as_str(), &["0 0 8192\n"], "64")?;
     assert!(rt; write.as_str() == "ACT 2, ACT 3, RD 5, WR 12, ");
     let refresh = profile_s(alloc, &[fields, "nREFI = 100"], "")?;
-    let due = commands_of(alloc, refresh.as_str(), &["0 0\n0 8192\n"], "150")?;
+    let due = commands_of(&rt, refresh.as_str(), &["0 0\n0 8192\n"], "150")?;
     assert!(rt;
         due.as_str() == "ACT 2, ACT 3, RD 5, RD 11, PREA 100, REF 103, PREA 104, REF 107, "
     );
@@ -407,13 +425,13 @@ fn rows_of_two_ranks(rt: HostRuntime) -> Result<(), Fail> {
 fn rows_with_a_drain(rt: HostRuntime) -> Result<(), Fail> {
     let alloc = rt.alloc();
     let two = profile_s(alloc, &[], "write_high = 2\nwrite_low = 0\n")?;
-    let reads_first = commands_of(alloc, two.as_str(), &["0 0 8192\n"], "64")?;
+    let reads_first = commands_of(&rt, two.as_str(), &["0 0 8192\n"], "64")?;
     assert!(rt; reads_first.as_str() == "ACT 2, RD 5, ACT 6, WR 12, ");
     let one = profile_s(alloc, &[], "write_high = 1\nwrite_low = 0\n")?;
-    let writes_first = commands_of(alloc, one.as_str(), &["0 0 8192\n"], "64")?;
+    let writes_first = commands_of(&rt, one.as_str(), &["0 0 8192\n"], "64")?;
     assert!(rt; writes_first.as_str() == "ACT 2, ACT 4, WR 7, RD 15, ");
     let four = profile_s(alloc, &[], "write_high = 4\nwrite_low = 0\n")?;
-    let same_line = commands_of(alloc, four.as_str(), &["0 0 64\n0 64\n"], "64")?;
+    let same_line = commands_of(&rt, four.as_str(), &["0 0 64\n0 64\n"], "64")?;
     assert!(rt; same_line.as_str() == "ACT 2, RD 5, WR 12, RD 21, ");
     Ok(())
 }
@@ -422,14 +440,14 @@ fn rows_with_a_drain(rt: HostRuntime) -> Result<(), Fail> {
 fn rows_that_end_drained(rt: HostRuntime) -> Result<(), Fail> {
     let alloc = rt.alloc();
     let drained = profile_s(alloc, &[], "end = \"drained\"\n")?;
-    let read = commands_of(alloc, drained.as_str(), &["0 0\n"], "1000")?;
+    let read = commands_of(&rt, drained.as_str(), &["0 0\n"], "1000")?;
     assert!(rt; read.as_str() == "ACT 2, RD 5, ");
-    let line = commands_of(alloc, drained.as_str(), &["0 0 64\n0 64\n"], "1000")?;
+    let line = commands_of(&rt, drained.as_str(), &["0 0 64\n0 64\n"], "1000")?;
     assert!(rt; line.as_str() == "ACT 2, RD 5, WR 12, RD 21, ");
-    let short = commands_of(alloc, drained.as_str(), &["0 0\n"], "3")?;
+    let short = commands_of(&rt, drained.as_str(), &["0 0\n"], "3")?;
     assert!(rt; short.as_str() == "ACT 2, ");
     let refresh = profile_s(alloc, &["nREFI = 100"], "end = \"drained\"\n")?;
-    let none = table_of(alloc, refresh.as_str(), &[""], "250")?;
+    let none = table_of(&rt, refresh.as_str(), &[""], "250")?;
     assert!(rt; none.as_str() == HEADER);
     let slow = [
         "request_latency = 10",
@@ -438,19 +456,20 @@ fn rows_that_end_drained(rt: HostRuntime) -> Result<(), Fail> {
         "nREFI = 40",
     ];
     let late = profile_s(alloc, &slow, "end = \"drained\"\n")?;
-    let ends = commands_of(alloc, late.as_str(), &["16 0\n"], "200")?;
+    let ends = commands_of(&rt, late.as_str(), &["16 0\n"], "200")?;
     assert!(rt; ends.as_str() == "ACT 18, RD 21, ");
     Ok(())
 }
 
-fn refusal_of(
-    alloc: Global,
+fn refusal_of<R: Threads + Wait + Sync + AllocGlobal>(
+    rt: &R,
     config: &str,
     traces: &[&str],
     cycles: &str,
     workers: &str,
 ) -> Result<String, Fail> {
-    let ended = run_program(alloc, config, traces, cycles, workers)?;
+    let alloc = rt.alloc();
+    let ended = run_program(rt, config, traces, cycles, workers)?;
     if ended.status != 2 || !ended.print.is_empty() {
         return Err(Fail::from("the run was not refused"));
     }
@@ -465,14 +484,13 @@ fn refusal_of(
 
 #[test]
 fn refuses_traces(rt: HostRuntime) -> Result<(), Fail> {
-    let alloc = rt.alloc();
-    let few = refusal_of(alloc, PROFILE_S, &["3\n"], "64", "1")?;
+    let few = refusal_of(&rt, PROFILE_S, &["3\n"], "64", "1")?;
     assert!(rt; few.as_str() == "fault 5: trace 0 line 1 too-few\n");
-    let many = refusal_of(alloc, PROFILE_S, &["1 2 3 4\n"], "64", "1")?;
+    let many = refusal_of(&rt, PROFILE_S, &["1 2 3 4\n"], "64", "1")?;
     assert!(rt; many.as_str() == "fault 5: trace 0 line 1 too-many\n");
-    let word = refusal_of(alloc, PROFILE_S, &["1 x\n"], "64", "1")?;
+    let word = refusal_of(&rt, PROFILE_S, &["1 x\n"], "64", "1")?;
     assert!(rt; word.as_str() == "fault 5: trace 0 line 1 not-a-number\n");
-    let large = refusal_of(alloc, PROFILE_S, &["0 18446744073709551616\n"], "64", "1")?;
+    let large = refusal_of(&rt, PROFILE_S, &["0 18446744073709551616\n"], "64", "1")?;
     assert!(rt; large.as_str() == "fault 5: trace 0 line 1 too-large\n");
     Ok(())
 }
@@ -481,17 +499,17 @@ fn refuses_traces(rt: HostRuntime) -> Result<(), Fail> {
 fn refuses_configurations(rt: HostRuntime) -> Result<(), Fail> {
     let alloc = rt.alloc();
     let two = profile_s(alloc, &["cores = 2"], "")?;
-    let count = refusal_of(alloc, two.as_str(), &["0 0\n"], "64", "1")?;
+    let count = refusal_of(&rt, two.as_str(), &["0 0\n"], "64", "1")?;
     assert!(rt; count.as_str() == "fault 7: trace count\n");
     let zero = profile_s(alloc, &["request_latency = 0"], "")?;
-    let range = refusal_of(alloc, zero.as_str(), &["0 0\n"], "64", "1")?;
+    let range = refusal_of(&rt, zero.as_str(), &["0 0\n"], "64", "1")?;
     assert!(rt; range.as_str() == "fault 3: configuration range request_latency\n");
     let often = profile_s(alloc, &["nREFI = 34"], "")?;
-    let relation = refusal_of(alloc, often.as_str(), &["0 0\n"], "64", "1")?;
+    let relation = refusal_of(&rt, often.as_str(), &["0 0\n"], "64", "1")?;
     assert!(rt; relation.as_str() == "fault 4: configuration relation 6\n");
     let enough = profile_s(alloc, &["nREFI = 35"], "")?;
     assert_eq!(rt;
-        run_program(alloc, enough.as_str(), &["0 0\n"], "64", "1")?.status,
+        run_program(&rt, enough.as_str(), &["0 0\n"], "64", "1")?.status,
         0
     );
     Ok(())
@@ -499,37 +517,40 @@ fn refuses_configurations(rt: HostRuntime) -> Result<(), Fail> {
 
 #[test]
 fn refuses_limits_and_words(rt: HostRuntime) -> Result<(), Fail> {
-    let alloc = rt.alloc();
-    let none = refusal_of(alloc, PROFILE_S, &["0 0\n"], "64", "0")?;
+    let none = refusal_of(&rt, PROFILE_S, &["0 0\n"], "64", "0")?;
     assert!(rt; none.as_str() == "fault 8: workers\n");
-    let many = refusal_of(alloc, PROFILE_S, &["0 0\n"], "64", "65")?;
+    let many = refusal_of(&rt, PROFILE_S, &["0 0\n"], "64", "65")?;
     assert!(rt; many.as_str() == "fault 8: workers\n");
-    let long = refusal_of(alloc, PROFILE_S, &["0 0\n"], "1000000000001", "1")?;
+    let long = refusal_of(&rt, PROFILE_S, &["0 0\n"], "1000000000001", "1")?;
     assert!(rt; long.as_str() == "fault 9: cycles\n");
-    let words = refusal_of(alloc, PROFILE_S, &["0 0\n"], "ten", "1")?;
+    let words = refusal_of(&rt, PROFILE_S, &["0 0\n"], "ten", "1")?;
     assert!(rt; words.as_str() == "fault 14: command line\n");
-    let missing = refusal_of(alloc, PROFILE_S, &[], "64", "1")?;
+    let missing = refusal_of(&rt, PROFILE_S, &[], "64", "1")?;
     assert!(rt; missing.as_str() == "fault 14: command line\n");
     Ok(())
 }
 
-fn map_of(alloc: Global, config: &str, address: &str) -> Result<Ended, Fail> {
+fn map_of<R: Threads + Wait + Sync + AllocGlobal>(
+    rt: &R,
+    config: &str,
+    address: &str,
+) -> Result<Ended, Fail> {
+    let alloc = rt.alloc();
     let mut files = MemoryFiles::new(alloc);
     files.add(alloc, "c.toml", config)?;
-    end_of(alloc, &["dramsim", "map", "c.toml", address], files)
+    end_of(rt, &["dramsim", "map", "c.toml", address], files)
 }
 
 #[test]
 fn maps_addresses(rt: HostRuntime) -> Result<(), Fail> {
-    let alloc = rt.alloc();
-    let last = map_of(alloc, PROFILE_S, "18446744073709551615")?;
+    let last = map_of(&rt, PROFILE_S, "18446744073709551615")?;
     assert_eq!(rt; last.status, 0);
     assert!(rt;
         last.print.as_slice() == b"channel 0 group 1 bank 3 row 65535 column 127\n".as_slice()
     );
-    let other = map_of(alloc, PROFILE_S, "8192")?;
+    let other = map_of(&rt, PROFILE_S, "8192")?;
     assert!(rt; other.print.as_slice() == b"channel 0 group 1 bank 0 row 0 column 0\n".as_slice());
-    let word = map_of(alloc, PROFILE_S, "8k")?;
+    let word = map_of(&rt, PROFILE_S, "8k")?;
     assert_eq!(rt; word.status, 2);
     assert!(rt; word.errors.as_slice() == b"fault 14: command line\n".as_slice());
     Ok(())
@@ -539,7 +560,7 @@ fn maps_addresses(rt: HostRuntime) -> Result<(), Fail> {
 fn refuses_a_file_that_is_not_there(rt: HostRuntime) -> Result<(), Fail> {
     let alloc = rt.alloc();
     let files = MemoryFiles::new(alloc);
-    let gone = end_of(alloc, &["dramsim", "map", "c.toml", "0"], files)?;
+    let gone = end_of(&rt, &["dramsim", "map", "c.toml", "0"], files)?;
     assert_eq!(rt; gone.status, 2);
     assert!(rt; gone.errors.as_slice() == b"fault 13: read\n".as_slice());
     Ok(())

@@ -9,3 +9,4 @@ pub mod Arranged
 pub mod Counted
 pub mod Tabled
 pub mod Ended
+pub mod Lasting

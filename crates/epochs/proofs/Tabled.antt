@@ -1,11 +1,11 @@
 -- Tables in order, put together.
-use Rattle.std.proofs.Common.{◌≡◌, ℕ, zero, suc, ◌+◌, ◌-◌, ◌<◌, ◌≤◌, Bool, true, false, cond, eqb, ltb, List, [], ◌∷◌, ◌++◌, length, take, drop, get_or, refl, sym, ap, ap₂, subst, ◌∙◌, append_assoc, drop-cons, zero-add, add-one, ◌⊎◌, inl, inr, arith}
-use Rattle.std.specs.Prelude.{filter, take_while}
-use Rattle.std.specs.List.{AllByRecursion as Each, AllPairs, prefix_len}
+use Rattle.std.proofs.Common.{◌≡◌, ℕ, suc, ◌+◌, ◌-◌, ◌<◌, ◌≤◌, Bool, true, false, eqb, List, [], ◌∷◌, ◌++◌, length, take, drop, get_or, refl, sym, ap, ap₂, subst, ◌∙◌, append_assoc, drop-cons, add-one, ◌⊎◌, inl, inr, arith}
+use Rattle.std.specs.Prelude.{filter}
+use Rattle.std.specs.List.{AllByRecursion as Each, prefix_len}
 use Rattle.std.proofs.Math.Seq.{take-append_seam, drop-append_seam}
 use Rattle.std.proofs.lemmas.List.{drop-drop, length-drop, take_all}
 use Rattle.std.proofs.Math.ListN.{drop_of_length-le}
-use Rattle.std.proofs.lemmas.Bool.{cond-true, cond-false, cases_lt, eq-eqb, ne_eqb}
+use Rattle.std.proofs.lemmas.Bool.{cond-true, cond-false, cases_lt, ne_eqb}
 use Rattle.std.proofs.lemmas.Bool.Decides.{nat_tests}
 use Rattle.std.proofs.lemmas.List.Elements.{All-from_get_or, All-from_recursion, recursion_from_All, filter-append}
 use Rattle.std.proofs.lemmas.List.Folds.{length-prefix_len}
@@ -23,7 +23,7 @@ use Rattle.laws.specs.Tables.{rows_on, stands_before, IsOrdered}
 use Rattle.laws.proofs.Tabled.{rows_on-commands, tables_are_ordered}
 use Rattle.span_laws.proofs.Merged.{tables-start, tables-go_on}
 use Rattle.epochs.specs.Tables.{count_before, merged}
-use Rattle.epochs.proofs.Filters.{Each-both, Each-taken, filter-all}
+use Rattle.epochs.proofs.Filters.{Each-both, Each-taken}
 
 -- what stands for a row where there is none
 abbrev pub no_row : CommandRow

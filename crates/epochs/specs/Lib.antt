@@ -7,3 +7,4 @@ pub mod Merging
 pub mod Seats
 pub mod Ordered
 pub mod Tables
+pub mod Drained

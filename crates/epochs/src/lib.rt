@@ -3,6 +3,7 @@
 #![tactic(auto)]
 
 mod counts;
+mod drained;
 mod ending;
 pub mod job;
 mod machine;

@@ -1,6 +1,7 @@
 //! What is simulated.
 
-ghost use Rattle.std.specs.Prelude.{◌≡◌, ◌+◌, ◌<◌};
+ghost use Rattle.std.specs.Prelude.{◌≡◌, ◌+◌, ◌<◌, length};
+ghost use Rattle.sim_base.specs.History.{trace_of};
 ghost use Rattle.epochs.specs.Units.{unit_at, unit_count};
 
 use cpu_trace::trace::Trace;
@@ -12,6 +13,18 @@ use sim_base::message::{ChannelId, CoreId, Unit};
 pub(crate) struct Machine {
     pub config: Config,
     pub traces: Vec<Trace>,
+}
+
+impl Machine {
+    /// How many entries the trace of a core has.
+    pub(crate) fn trace_len(&self, core: usize) -> u64
+        ensures { result ≡ length (trace_of self.now.traces.items core) }
+    {
+        match self.traces.get(core) {
+            Some(trace) => trace.len(),
+            None => 0,
+        }
+    }
 }
 
 /// The unit at a place: the cores come first, and then the channels, each by number.

@@ -20,6 +20,7 @@ use links::flight::Links;
 use sim_base::config::Config;
 use sim_base::message::{Cycle, Unit};
 use std::alloc::{AllocError, Global};
+use std::fmt;
 use std::sync::Arc;
 
 /// Why results were not put together.
@@ -33,6 +34,21 @@ pub enum MergeFault {
     Stranger(usize),
     /// There is no memory.
     Memory,
+}
+
+impl fmt::Display for MergeFault {
+    fn fmt<W: fmt::Write>(&self, f: &mut fmt::Formatter<W>) -> fmt::Result {
+        match self {
+            MergeFault::Missing(unit) => write!(f, "{unit} has no result"),
+            MergeFault::Double(place) => {
+                write!(f, "the result at place {place} is the second of its unit")
+            }
+            MergeFault::Stranger(place) => {
+                write!(f, "the result at place {place} is of no job of the phase")
+            }
+            MergeFault::Memory => write!(f, "there is no memory"),
+        }
+    }
 }
 
 /// The units of the results of a phase, which stand by their places. Their messages go into the links.

@@ -9,6 +9,7 @@ use crate::planning::{Planned, plan};
 use crate::sim::Sim;
 use sim_base::message::Cycle;
 use std::alloc::{AllocError, Global};
+use std::fmt;
 
 /// An order in which the results of a phase come back.
 pub trait Order {
@@ -26,6 +27,17 @@ pub enum RunFault {
     Memory,
     /// The results of a phase could not be put together.
     Merge(MergeFault),
+}
+
+impl fmt::Display for RunFault {
+    fn fmt<W: fmt::Write>(&self, f: &mut fmt::Formatter<W>) -> fmt::Result {
+        match self {
+            RunFault::Memory => write!(f, "there is no memory"),
+            RunFault::Merge(fault) => {
+                write!(f, "the results of a phase do not go together: {fault}")
+            }
+        }
+    }
 }
 
 /// The results of jobs, in their order. Only memory can be refused.

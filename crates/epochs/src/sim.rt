@@ -1,13 +1,15 @@
 //! All units of a machine between two spans.
 
-ghost use Rattle.std.specs.Prelude.{◌≡◌, ◌<◌, ◌≤◌, ◌^◌, ◌+◌, ℕ, List, [], length, IfOk, OnOk};
+ghost use Rattle.std.specs.Prelude.{◌≡◌, ◌<◌, ◌≤◌, ◌^◌, ◌+◌, ℕ, false, List, [], length, IfOk, OnOk};
 ghost use Rattle.sim_base.specs.declared.trace.Entry.{Entry};
-ghost use Rattle.sim_base.specs.Machine.{run};
+ghost use Rattle.sim_base.specs.Machine.{run, is_over};
 ghost use Rattle.statistics.specs.Runs.{stats_of, final_of, outcome_of};
 ghost use Rattle.epochs.specs.Units.{unit_count};
 ghost use Rattle.epochs.specs.Parts.{StandAt, IsSim};
+ghost use Rattle.epochs.specs.Drained.{GoesOn};
 
 use crate::counts::{stats_of_channels, stats_of_cores};
+use crate::drained::{all_finished, cores_until, flight_until};
 use crate::ending::{channels_left, cores_left};
 use crate::machine::Machine;
 use crate::part::Part;
@@ -123,6 +125,28 @@ impl Sim {
         ensures { result ≡ self.entry.now.now }
     {
         self.now
+    }
+
+    /// Whether the run is over: each trace is retired, each message has arrived, and each request is served.
+    pub fn is_over(&self) -> bool
+        ensures { result ≡ is_over self.entry.now.machine self.entry.now.traces (run self.entry.now.machine self.entry.now.traces self.entry.now.now) }
+    {
+        self.links.is_empty() && all_finished(&self.machine, &self.parts)
+    }
+
+    /// A later cycle, at most the limit, before whose last cycle the run is surely not over. A run takes each core as many cycles as
+    /// it needs to retire what is left of its trace, by its width in each, and what is in flight the cycles up to the first
+    /// arrival.
+    pub fn surely_until(&self, limit: Cycle) -> Cycle
+        requires before { self.now.now < limit }
+        requires goes_on { is_over self.now.machine self.now.traces (run self.now.machine self.now.traces self.now.now) ≡ false }
+        ensures some { self.entry.now.now < result }
+        ensures within { result ≤ limit }
+        ensures goes_on { GoesOn self.entry.now.machine self.entry.now.traces self.entry.now.now result }
+    {
+        let cores = cores_until(&self.machine, self.now, &self.parts);
+        let flight = flight_until(&self.links, self.now);
+        cores.max(flight).max(self.now + 1).min(limit)
     }
 
     /// The statistics of the cycles that are over. Only memory can be refused.

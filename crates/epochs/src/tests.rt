@@ -1,13 +1,15 @@
-//! A core that reads one line, as it is worked out by hand.
+//! Small runs, as they are worked out by hand, and what faults say.
 
-ghost use Rattle.std.specs.Prelude.{◌≡◌, IfOk};
+ghost use Rattle.std.specs.Prelude.{◌≡◌, ◌≤◌, ◌^◌, length, IfOk};
 
 use crate::job::Done;
-use crate::ordered::{Order, run_in_order};
+use crate::merging::MergeFault;
+use crate::ordered::{Order, RunFault, run_in_order};
 use crate::part::Part;
 use crate::sim::Sim;
 use cpu_trace::trace::Trace;
 use sim_base::config::Config;
+use sim_base::message::{Cycle, Unit};
 use sim_base::overrides::Overrides;
 use sim_base::place::{Field, FieldOrder};
 use sim_base::timing::Timing;
@@ -142,5 +144,94 @@ fn one_line_is_left(rt: HostRuntime) -> Result<(), Fail> {
     assert_eq!(rt; (flight.len(), arrivals), (2, (Some(7), Some(15))));
     assert_eq!(rt; open, Some((1, 0)));
     assert_eq!(rt; core, Some((1, 0)));
+    Ok(())
+}
+
+/// Whether the run of a core with these entries is over before a cycle, and the cycle up to which it surely goes on, where it
+/// is not.
+fn seen_at(
+    alloc: Global,
+    entries: &[Entry],
+    cycle: Cycle,
+    limit: Cycle,
+) -> Result<(bool, Option<Cycle>), AllocError>
+    requires long { length entries.now ≤ 2 ^ 62 }
+    requires early { cycle ≤ 10 ^ 12 }
+{
+    let config = config(alloc)?;
+    let trace = Trace::from_entries(alloc, entries)?;
+    let traces = Vec::from_array(alloc, [trace])?;
+    let sim = Sim::start(alloc, &config, traces)?;
+    let Ok(sim) = run_in_order(sim, alloc, cycle, &mut AsTheyCome) else {
+        return Ok((false, None));
+    };
+    if sim.is_over() {
+        return Ok((true, None));
+    }
+    if sim.now() < limit {
+        Ok((false, Some(sim.surely_until(limit))))
+    } else {
+        Ok((false, None))
+    }
+}
+
+/// The same read: the credit arrives in cycle 7 and the reply in cycle 15, in which the read retires.
+#[test]
+fn one_line_ends(rt: HostRuntime) -> Result<(), Fail> {
+    let read = [Entry::Read(0)];
+    let first = seen_at(rt.alloc(), &read, 0, 100)?;
+    assert_eq!(rt; first, (false, Some(1)));
+    let credit = seen_at(rt.alloc(), &read, 6, 100)?;
+    assert_eq!(rt; credit, (false, Some(8)));
+    let limited = seen_at(rt.alloc(), &read, 6, 7)?;
+    assert_eq!(rt; limited, (false, Some(7)));
+    let reply = seen_at(rt.alloc(), &read, 15, 100)?;
+    assert_eq!(rt; reply, (false, Some(16)));
+    let end = seen_at(rt.alloc(), &read, 16, 100)?;
+    assert_eq!(rt; end, (true, None));
+    Ok(())
+}
+
+/// Nine entries that need no memory are issued in the cycles from 0 to 4, and each retires in the cycle after.
+#[test]
+fn plain_entries_end(rt: HostRuntime) -> Result<(), Fail> {
+    let plain = [Entry::Plain; 9];
+    let first = seen_at(rt.alloc(), &plain, 0, 100)?;
+    assert_eq!(rt; first, (false, Some(5)));
+    let last = seen_at(rt.alloc(), &plain, 5, 100)?;
+    assert_eq!(rt; last, (false, Some(6)));
+    let end = seen_at(rt.alloc(), &plain, 6, 100)?;
+    assert_eq!(rt; end, (true, None));
+    Ok(())
+}
+
+#[test]
+fn faults_are_told(rt: HostRuntime) -> Result<(), Fail> {
+    let alloc = rt.alloc();
+    let faults = [
+        (MergeFault::Missing(Unit::Core(3)), "core 3 has no result"),
+        (
+            MergeFault::Double(5),
+            "the result at place 5 is the second of its unit",
+        ),
+        (
+            MergeFault::Stranger(7),
+            "the result at place 7 is of no job of the phase",
+        ),
+        (MergeFault::Memory, "there is no memory"),
+    ];
+    for (fault, text) in faults {
+        assert_eq!(rt; fault.to_string(alloc)?.as_str(), text);
+    }
+    let merge = RunFault::Merge(MergeFault::Missing(Unit::Channel(0)));
+    let told = merge.to_string(alloc)?;
+    assert_eq!(rt;
+        told.as_str(),
+        "the results of a phase do not go together: channel 0 has no result"
+    );
+    assert_eq!(rt;
+        RunFault::Memory.to_string(alloc)?.as_str(),
+        "there is no memory"
+    );
     Ok(())
 }

@@ -5,6 +5,7 @@ pub mod Bests
 pub mod BankOffers
 pub mod Below
 pub mod SoFar
+pub mod Beside
 pub mod Favoured
 pub mod OneKind
 pub mod Waking

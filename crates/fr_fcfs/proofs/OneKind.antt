@@ -1,23 +1,41 @@
 -- What one bank offers where only requests to write may be served, or only requests to read.
-use Rattle.std.proofs.Common.{◌≡◌, ℕ, Bool, true, false, not, cond, ◌&&◌, eqb, leb, List, Some, None, refl, sym, ap, ◌∙◌}
+use Rattle.std.proofs.Common.{◌≡◌, ℕ, ◌*◌, ◌<◌, ◌≤◌, Bool, true, false, not, cond, ◌&&◌, eqb, leb, eq-eqb, List, length, Option, Some, None, refl, sym, ap, subst, ◌∙◌, inl, inr, arith}
+use Rattle.std.proofs.lemmas.Bool.{cases_Bool, and_parts, false_from_ne_true}
 use Rattle.std.specs.List.{All}
-use Rattle.std.specs.Option.{is_some}
+use Rattle.std.specs.Option.{is_some, IfSome}
 use Rattle.sim_base.specs.declared.config.Config.{Config}
+use Rattle.sim_base.specs.declared.command.Command.{Command}
 use Rattle.sim_base.specs.declared.command.CommandRow.{CommandRow}
+use Rattle.sim_base.specs.declared.command.Kind.{Kind}
+use Rattle.sim_base.specs.declared.command.Kind.TheVariants as kind
 use Rattle.sim_base.specs.declared.message.Request.{Request}
-use Rattle.sim_base.specs.Rules.{is_legal, open_row, is_row}
+use Rattle.sim_base.specs.Places.{bank_in}
+use Rattle.sim_base.specs.Rules.{is_legal, is_allowed, is_kind, finds_its_banks, open_row, is_row, kind_of, bank_of}
 use Rattle.sim_base.specs.Scheduling.{needed, ready_hit}
+use Rattle.bank_ready.specs.Ready.{ready_from}
+use Rattle.bank_ready.specs.Stands.{IsAllowedFrom}
+use Rattle.bank_ready.proofs.Allowed.{allowed-other}
 use Rattle.queue.specs.Columns.{bank_number}
 use Rattle.heads.specs.declared.entry.BankHeads.{BankHeads}
 use Rattle.heads.specs.declared.entry.KindHeads.{KindHeads}
 use Rattle.heads.specs.Heads.{bank_at, asks, hits, first_place, AreFirst, AreHeads}
-use Rattle.heads.proofs.Searches.{none_narrower_all}
+use Rattle.heads.specs.Moves.{earlier}
+use Rattle.heads.proofs.Searches.{none_everywhere, none_narrower_all}
+use Rattle.fr_fcfs.specs.declared.offers.Offer.{Offer}
 use Rattle.fr_fcfs.specs.Requests.{IsInBanks, is_hit}
-use Rattle.fr_fcfs.specs.Offers.{is_of, only, column_kind, hit_head, oldest_head, hits_now, hits_in, rows_in, offer_from, row_kind, IsReadyFrom, IsBestOffer}
+use Rattle.fr_fcfs.specs.Offers.{is_of, only, column_kind, hit_head, oldest_head, hits_now, hits_in, rows_in, offer_from, row_kind, IsReadyFrom, IsBestOffer, IsBestSoFar}
 use Rattle.fr_fcfs.proofs.Booleans.{and_false, and_true}
+use Rattle.fr_fcfs.proofs.Legal.{needed_bank}
 use Rattle.fr_fcfs.proofs.Firsts.{same_among, place_if}
 use Rattle.fr_fcfs.proofs.Bests.{first_alone, hit_offer_is, row_offer_is, best_same}
-use Rattle.fr_fcfs.proofs.BankOffers.{row_hit_is, hit_kind, legal_then, rows_are, rows_withheld, no_hits}
+use Rattle.fr_fcfs.proofs.BankOffers.{bank_is, row_hit_is, hit_kind, legal_then, rows_are, rows_withheld, no_hits}
+use Rattle.fr_fcfs.proofs.Below.{none_is}
+use Rattle.fr_fcfs.proofs.Favoured.{within}
+use Rattle.fr_fcfs.proofs.SoFar.{IsTaken, one_more, so_far_same}
+
+-- heads of a bank that there is not
+pub nowhere : BankHeads
+nowhere = record { row = None; reads = record { oldest = None; hit = None }; writes = record { oldest = None; hit = None } }
 
 -- the heads of a bank to write, or to read
 abbrev pub kind_heads : Bool → BankHeads → KindHeads
@@ -107,3 +125,110 @@ kind_row s history ranks requests write bank h ready now slot places first row_i
     sym
     (rows_are s history ranks requests (only write) bank h ready places first row_is from (ap is_some (hit_only write h ∙ none)) c
     ∙ ap (λ o. cond (leb ready c) o None) (oldest_only write h ∙ oldest))) (row_offer_is now ready (Some slot))
+
+-- the best offer so far with the head of a bank, where none asks for its open row
+pub row_more : (s : Config) (history : List CommandRow) (ranks : ℕ) (requests : List Request) (write : Bool) (bank : ℕ) (h : BankHeads) (ready now : ℕ) (hits rows : ℕ → Option ℕ)
+    (best after : Offer) → ready ≤ 18446744073709551615 → now ≤ 18446744073709551615 → All (IsInBanks ranks) requests → AreHeads requests bank h
+    → h.row ≡ open_row (bank_at bank) history → IsReadyFrom s history (bank_at bank) (row_kind h.row) ready → is_some (kind_heads write h).hit ≡ false
+    → (head : Option ℕ) → (kind_heads write h).oldest ≡ head → IsTaken head now ready false best after → IsBestSoFar (length requests) now hits rows best
+    → IsBestSoFar (length requests) now hits (λ c. earlier (rows c) (rows_in s history requests (only write) bank c)) after
+row_more s history ranks requests write bank h ready now hits rows best after ready_fits now_fits places first row_is from no_hit None oldest step so_far =
+    so_far_same (length requests) now hits rows hits (λ c. earlier (rows c) (rows_in s history requests (only write) bank c)) after (λ c late. refl)
+    (λ c late. sym (ap (earlier (rows c)) (kind_none s history requests write bank h first oldest c).1 ∙ first_alone (rows c)))
+    (subst (IsBestSoFar (length requests) now hits rows) (sym (step.none refl)) so_far)
+row_more s history ranks requests write bank h ready now hits rows best after ready_fits now_fits places first row_is from no_hit (Some slot) oldest step so_far =
+    let none = none_is (kind_heads write h).hit no_hit in
+    let inside : slot < length requests = subst (λ o. IfSome o (λ k. k < length requests)) oldest (within _ requests (kind_heads write h).oldest (kind_first write requests bank h first).oldest_is) in
+    so_far_same (length requests) now (λ c. earlier (hits c) (hits_in s history requests (only write) bank c)) (λ c. earlier (rows c) (rows_in s history requests (only write) bank c)) hits
+    (λ c. earlier (rows c) (rows_in s history requests (only write) bank c)) after
+    (λ c late. ap (earlier (hits c)) (no_hits s history ranks requests (only write) bank h places first row_is (hit_only write h ∙ none) c) ∙ first_alone (hits c)) (λ c late. refl)
+    (subst (IsBestSoFar (length requests) now (λ c. earlier (hits c) (hits_in s history requests (only write) bank c)) (λ c. earlier (rows c) (rows_in s history requests (only write) bank c)))
+    (sym (step.some slot refl))
+    (one_more (length requests) now hits rows (hits_in s history requests (only write) bank) (rows_in s history requests (only write) bank) best (offer_from now ready false slot) inside (omega arith) so_far
+    (kind_row s history ranks requests write bank h ready now slot places first row_is from none oldest)))
+
+-- the same with its row hit
+pub hit_more : (s : Config) (history : List CommandRow) (ranks : ℕ) (requests : List Request) (write : Bool) (bank : ℕ) (h : BankHeads) (ready now : ℕ) (hits rows : ℕ → Option ℕ)
+    (best after : Offer) → ready ≤ 18446744073709551615 → now ≤ 18446744073709551615 → All (IsInBanks ranks) requests → AreHeads requests bank h
+    → h.row ≡ open_row (bank_at bank) history → IsReadyFrom s history (bank_at bank) (column_kind write) ready
+    → (head : Option ℕ) → (kind_heads write h).hit ≡ head → IsTaken head now ready true best after → IsBestSoFar (length requests) now hits rows best
+    → IsBestSoFar (length requests) now (λ c. earlier (hits c) (hits_in s history requests (only write) bank c)) rows after
+hit_more s history ranks requests write bank h ready now hits rows best after ready_fits now_fits places first row_is from None hit step so_far =
+    so_far_same (length requests) now hits rows (λ c. earlier (hits c) (hits_in s history requests (only write) bank c)) rows after
+    (λ c late. sym (ap (earlier (hits c)) (no_hits s history ranks requests (only write) bank h places first row_is (hit_only write h ∙ hit) c) ∙ first_alone (hits c))) (λ c late. refl)
+    (subst (IsBestSoFar (length requests) now hits rows) (sym (step.none refl)) so_far)
+hit_more s history ranks requests write bank h ready now hits rows best after ready_fits now_fits places first row_is from (Some slot) hit step so_far =
+    let inside : slot < length requests = subst (λ o. IfSome o (λ k. k < length requests)) hit (within _ requests (kind_heads write h).hit (kind_first write requests bank h first).hit_is) in
+    so_far_same (length requests) now (λ c. earlier (hits c) (hits_in s history requests (only write) bank c)) (λ c. earlier (rows c) (rows_in s history requests (only write) bank c))
+    (λ c. earlier (hits c) (hits_in s history requests (only write) bank c)) rows after (λ c late. refl)
+    (λ c late. ap (earlier (rows c)) (rows_withheld s history ranks requests (only write) bank h places first row_is (ap is_some (hit_only write h ∙ hit)) c) ∙ first_alone (rows c))
+    (subst (IsBestSoFar (length requests) now (λ c. earlier (hits c) (hits_in s history requests (only write) bank c)) (λ c. earlier (rows c) (rows_in s history requests (only write) bank c)))
+    (sym (step.some slot refl))
+    (one_more (length requests) now hits rows (hits_in s history requests (only write) bank) (rows_in s history requests (only write) bank) best (offer_from now ready true slot) inside (omega arith) so_far
+    (kind_hit s history ranks requests write bank h ready now slot places first row_is from hit)))
+
+-- a bank that is not asked for, or has a row hit, offers nothing else
+pub row_none : (s : Config) (history : List CommandRow) (ranks : ℕ) (requests : List Request) (write : Bool) (bank : ℕ) (h : BankHeads) → All (IsInBanks ranks) requests
+    → AreHeads requests bank h → h.row ≡ open_row (bank_at bank) history → (is_some (kind_heads write h).oldest && not (is_some (kind_heads write h).hit)) ≡ false → (cycle : ℕ)
+    → rows_in s history requests (only write) bank cycle ≡ None
+row_none s history ranks requests write bank h places first row_is left cycle = elim (cases_Bool (is_some (kind_heads write h).hit)) [
+  | inl hit ↦ rows_withheld s history ranks requests (only write) bank h places first row_is (ap is_some (hit_only write h) ∙ hit) cycle
+  | inr no_hit ↦
+      let none : is_some (kind_heads write h).oldest ≡ false =
+      sym (and_true (is_some (kind_heads write h).oldest)) ∙ ap (λ b. is_some (kind_heads write h).oldest && not b) (sym no_hit) ∙ left in
+      (kind_none s history requests write bank h first (none_is (kind_heads write h).oldest none) cycle).1
+]
+
+-- a bank with no row hit
+pub hit_none : (s : Config) (history : List CommandRow) (ranks : ℕ) (requests : List Request) (write : Bool) (bank : ℕ) (h : BankHeads) → All (IsInBanks ranks) requests
+    → AreHeads requests bank h → h.row ≡ open_row (bank_at bank) history → is_some (kind_heads write h).hit ≡ false → (cycle : ℕ)
+    → hits_in s history requests (only write) bank cycle ≡ None
+hit_none s history ranks requests write bank h places first row_is none cycle =
+    no_hits s history ranks requests (only write) bank h places first row_is (hit_only write h ∙ none_is (kind_heads write h).hit none) cycle
+
+-- no command of a kind to some bank of so many ranks is allowed before this cycle
+abbrev pub IsFloor : Config → List CommandRow → ℕ → Kind → ℕ → Type 0
+IsFloor s history ranks k floor =
+    (command : Command) (cycle bank : ℕ) → kind_of command ≡ k → bank_of command ≡ Some (bank_at bank) → bank < 16 * ranks → IsAllowedFrom s history command cycle → floor ≤ cycle
+
+same_kind : (w k : Bool) → cond w k (not k) ≡ true → w ≡ k
+same_kind true true is = refl
+same_kind true false is = sym is
+same_kind false true is = is
+same_kind false false is = refl
+
+column_other : (k : Bool) → is_kind (column_kind k) kind.Act ≡ false
+column_other true = refl
+column_other false = refl
+
+allowed_too : (s : Config) (history : List CommandRow) (cycle : ℕ) (command : Command) → is_legal s history cycle command ≡ true → is_allowed s.timing history cycle command ≡ true
+unfolding is_legal
+allowed_too s history cycle command legal = (and_parts (finds_its_banks s history command) (is_allowed s.timing history cycle command) legal).1
+
+number_in : (ranks : ℕ) (r : Request) → IsInBanks ranks r → bank_number r.place < 16 * ranks
+number_in ranks r places = omega (arith, places.rank, places.group, places.bank)
+
+hit_after : (s : Config) (history : List CommandRow) (ranks : ℕ) (r : Request) (write : Bool) (floor cycle : ℕ) → IsInBanks ranks r → IsFloor s history ranks (column_kind write) floor
+    → hits_now s history (only write) cycle r ≡ true → floor ≤ cycle
+unfolding ready_hit needed
+hit_after s history ranks r write floor cycle in_banks least now_is =
+    let outer = and_parts (is_of (only write) r) (ready_hit s history cycle r) now_is in
+    let parts = and_parts (is_hit history r) (is_legal s history cycle (needed history r)) outer.1 in
+    let bank = bank_number r.place in
+    let command = needed history r in
+    let kind_is : kind_of command ≡ column_kind write = hit_kind history r parts.0 ∙ ap column_kind (same_kind r.write write outer.0) in
+    let bank_is_at : bank_of command ≡ Some (bank_at bank) = needed_bank (open_row (bank_in r.place) history) r ∙ ap Some (bank_is ranks r bank in_banks (eq-eqb bank bank refl)) in
+    let allowed = λ (now : ℕ). allowed-other s.timing history now command (column_kind write) (bank_at bank) kind_is bank_is_at (column_other write) in
+    let late = (allowed cycle).1 (allowed_too s history cycle command parts.1) in
+    let floor_is = least command (ready_from s.timing history (column_kind write) (bank_at bank).rank (Some (bank_at bank))) bank kind_is bank_is_at (number_in ranks r in_banks) allowed in
+    omega (arith, late, floor_is)
+
+-- no row hit is ready before it
+pub hits_before : (s : Config) (history : List CommandRow) (ranks : ℕ) (requests : List Request) (write : Bool) (floor : ℕ) → All (IsInBanks ranks) requests
+    → IsFloor s history ranks (column_kind write) floor → (cycle : ℕ) → cycle < floor → first_place (hits_now s history (only write) cycle) requests ≡ None
+hits_before s history ranks requests write floor places least cycle early =
+    same_among (hits_now s history (only write) cycle) (λ r. false) (IsInBanks ranks) requests places
+    (λ r in_banks.
+    false_from_ne_true (hits_now s history (only write) cycle r)
+    (λ now_is. let late = hit_after s history ranks r write floor cycle in_banks least now_is in absurd (omega arith)))
+    ∙ sym (none_everywhere (λ r. false) requests (λ r. refl))

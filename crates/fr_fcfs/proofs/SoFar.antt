@@ -1,9 +1,9 @@
 -- The best offer so far.
-use Rattle.std.proofs.Common.{◌≡◌, ℕ, ◌<◌, ◌≤◌, Bool, true, false, cond, ltb, eqb, Option, Some, None, refl, sym, ap, subst, ◌∙◌, inl, inr, arith}
+use Rattle.std.proofs.Common.{◌≡◌, ℕ, ◌<◌, ◌≤◌, Bool, true, false, cond, ltb, eqb, max, Option, Some, None, refl, sym, ap, subst, ◌∙◌, inl, inr, arith}
 use Rattle.std.proofs.lemmas.Bool.{cases_lt, cases_eq, eq-eqb, ne_eqb, lt-ltb, le-ltb, cond-true, cond-false}
 use Rattle.heads.specs.Moves.{earlier}
 use Rattle.fr_fcfs.specs.declared.offers.Offer.{Offer}
-use Rattle.fr_fcfs.specs.Offers.{goes_before, no_offer, if_within, IsBestOffer, IsBest, IsBestSoFar}
+use Rattle.fr_fcfs.specs.Offers.{goes_before, no_offer, if_within, offer_from, IsAt, IsBestOffer, IsBest, IsBestSoFar}
 use Rattle.fr_fcfs.proofs.Bests.{first_alone, better_is, second_alone_is, best_same}
 
 hit_or : (hit test : Bool) → test ≡ true → cond hit true test ≡ true
@@ -88,3 +88,55 @@ found room now h r o inside so_far = subst (IsBest now h r) (offer_within room o
 
 pub none_found : (room now : ℕ) (h r : ℕ → Option ℕ) (o : Offer) → room ≤ o.slot → IsBestSoFar room now h r o → IsBest now h r None
 none_found room now h r o outside so_far = subst (IsBest now h r) (offer_without room o outside) so_far.best
+
+-- hits that are ready only after the best offer change nothing
+pub hits_late : (room now floor : ℕ) (hits rows : ℕ → Option ℕ) (o : Offer) → o.cycle < floor → floor ≤ 18446744073709551615 → ((c : ℕ) → c < floor → hits c ≡ None)
+    → IsBestSoFar room now (λ c. None) rows o → IsBestSoFar room now hits rows o
+hits_late room now floor hits rows o late fits none so_far = elim (cases_lt o.slot room) [
+  | inl within ↦
+      let best = subst (IsBest now (λ c. None) rows) (offer_within room o within) so_far.best in
+      told room now hits rows o within
+      (record {
+        from_now = best.from_now;
+        none_before = λ c from before. (none c (omega arith), (best.none_before c from before).1);
+        then_is = subst (λ x. IsAt o.hit x (rows o.cycle) o.slot) (sym (none o.cycle late)) best.then_is;
+      })
+  | inr outside ↦
+      let last : o.cycle ≡ 18446744073709551615 = ap (λ x. x.cycle) (so_far.none outside) in
+      absurd (omega arith)
+]
+
+-- a head whose need may be issued from a cycle on is taken where that goes before the best offer so far
+pub record IsTaken (head : Option ℕ) (now ready : ℕ) (hit : Bool) (best after : Offer) : Type 0 where
+  pub some : (slot : ℕ) → head ≡ Some slot → after ≡ cond (goes_before (offer_from now ready hit slot) best) (offer_from now ready hit slot) best
+  pub none : head ≡ None → after ≡ best
+
+later_stays : (now ready slot : ℕ) (hit : Bool) (best : Offer) → best.cycle < ready → goes_before (offer_from now ready hit slot) best ≡ false
+later_stays now ready slot hit best late =
+    cond-false (eqb (max now ready) best.cycle) (cond hit (cond best.hit (ltb slot best.slot) true) (cond best.hit false (ltb slot best.slot))) (ltb (max now ready) best.cycle)
+    (ne_eqb (max now ready) best.cycle (λ e. omega arith))
+    ∙ le-ltb (max now ready) best.cycle (omega arith)
+
+-- none is where that is later than the best offer
+pub not_taken : (head : Option ℕ) (now ready : ℕ) (hit : Bool) (best : Offer) → best.cycle < ready → IsTaken head now ready hit best best
+not_taken head now ready hit best late = record {
+  some = λ slot is. sym (cond-false (goes_before (offer_from now ready hit slot) best) (offer_from now ready hit slot) best (later_stays now ready slot hit best late));
+  none = λ is. refl;
+}
+
+-- one that there is
+pub taken : (head : Option ℕ) (now ready slot : ℕ) (hit : Bool) (best after : Offer) → head ≡ Some slot
+    → after ≡ cond (goes_before (offer_from now ready hit slot) best) (offer_from now ready hit slot) best → IsTaken head now ready hit best after
+taken head now ready slot hit best after is after_is = record {
+  some = λ other other_is.
+      let same : slot ≡ other = cc in
+      after_is ∙ ap (λ k. cond (goes_before (offer_from now ready hit k) best) (offer_from now ready hit k) best) same;
+  none = λ none. let never : Some slot ≡ None = sym is ∙ none in cc;
+}
+
+-- none, where there is none
+pub none_taken : (head : Option ℕ) (now ready : ℕ) (hit : Bool) (best : Offer) → head ≡ None → IsTaken head now ready hit best best
+none_taken head now ready hit best is = record {
+  some = λ slot some. let never : None ≡ Some slot = sym is ∙ some in cc;
+  none = λ none. refl;
+}

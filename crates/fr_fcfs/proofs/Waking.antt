@@ -1,5 +1,5 @@
 -- The first cycle with a command.
-use Rattle.std.proofs.Common.{◌≡◌, ℕ, zero, suc, ◌+◌, ◌<◌, ◌≤◌, cond, ltb, leb, max, List, Option, Some, None, refl, sym, ap, ◌∙◌, inl, inr, arith}
+use Rattle.std.proofs.Common.{◌≡◌, ℕ, zero, suc, ◌+◌, ◌<◌, ◌≤◌, cond, ltb, leb, max, false, List, Option, Some, None, refl, sym, ap, ◌∙◌, inl, inr, arith}
 use Rattle.std.proofs.lemmas.Bool.{cases_Bool, cases_lt, le-leb, lt-leb, cond-true, cond-false}
 use Rattle.std.specs.List.{find, range_with_len}
 use Rattle.std.specs.Option.{is_some}
@@ -7,8 +7,9 @@ use Rattle.sim_base.specs.declared.config.Config.{Config}
 use Rattle.sim_base.specs.declared.command.Command.{Command}
 use Rattle.sim_base.specs.declared.command.CommandRow.{CommandRow}
 use Rattle.sim_base.specs.declared.message.Request.{Request}
-use Rattle.sim_base.specs.Scheduling.{first_ready, due, refresh_command, if_legal, choice_between}
-use Rattle.refresh.specs.Refreshes.{is_due_at, IsDueFrom}
+use Rattle.sim_base.specs.Scheduling.{first_ready, due, refresh_command, if_legal, choice_between, lowest_due}
+use Rattle.refresh.specs.Refreshes.{RefreshCounts, lowest_owed, is_due_at, IsDueFrom, StandsFor}
+use Rattle.refresh.proofs.Due.{lowest_due_from_owed, none_owed_before}
 use Rattle.fr_fcfs.specs.declared.choice.Choice.{Choice}
 use Rattle.fr_fcfs.specs.Requests.{IsLegalFrom}
 use Rattle.fr_fcfs.specs.Cycles.{IsFirst, IsNextAt, IsNext}
@@ -121,3 +122,17 @@ first_cycle commands now cycle command next = record {
   holds_then = ap is_some next.then_is;
   not_before = λ c from before. ap is_some (next.none_before c from before);
 }
+
+-- where no refresh is due by the cycle of the first command of the requests, that goes first
+pub next_quiet : (s : Config) (history : List CommandRow) (requests : List Request) (counts : RefreshCounts) (now cycle : ℕ) (command : Command) → StandsFor counts s history
+    → is_some (lowest_owed counts cycle) ≡ false → IsNextAt (λ c. first_ready s history c requests) now cycle command
+    → IsNextAt (λ c. choice_between s history c requests (lowest_due s history c)) now cycle command
+next_quiet s history requests counts now cycle command stands none first = record {
+  from_now = first.from_now;
+  then_is = quiet cycle (omega arith) ∙ first.then_is;
+  none_before = λ c from before. quiet c (omega arith) ∙ first.none_before c from before;
+}
+  where
+    quiet : (c : ℕ) → c ≤ cycle → choice_between s history c requests (lowest_due s history c) ≡ first_ready s history c requests
+    quiet c early =
+        ap (choice_between s history c requests) (lowest_due_from_owed counts s history c stands ∙ none_owed_before counts c cycle early none) ∙ chosen_last s history requests 0 c

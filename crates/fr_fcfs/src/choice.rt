@@ -126,6 +126,11 @@ pub fn next(
     ensures place { IfSome result (λ next. IsFor queue.now.requests next.1) }
 {
     let mut next = next_of_requests(queue, heads, banks, now);
+    if let Some((cycle, _)) = next {
+        if !refresh.is_due_by(cycle) {
+            return next;
+        }
+    }
     let mut rank = refresh.ranks();
     while 0 < rank {
         rank -= 1;

@@ -1,19 +1,18 @@
 -- Which requests wait for an older one of their line, with one request more and with one less.
-use Rattle.std.proofs.Common.{◌≡◌, ℕ, suc, ◌+◌, ◌<◌, Bool, true, false, not, cond, ◌&&◌, ◌||◌, eqb, ltb, ◌-◌, ◌≤◌, List, [], ◌∷◌, ◌++◌, length, take, drop, get_or, set, Option, Some, None, refl, sym, ap, ◌∙◌, inl, inr, arith, get_or-set_same, get_or-set_other}
-use Rattle.std.proofs.lemmas.Bool.{cases_Bool, cases_lt, and_parts, cond-false, eq-eqb, ne_eqb, eqb-true, le-ltb, true≢false, false≢true}
+use Rattle.std.proofs.Common.{◌≡◌, ℕ, suc, ◌+◌, ◌*◌, ◌<◌, Bool, true, false, not, cond, ◌&&◌, ◌||◌, eqb, ltb, ◌-◌, ◌≤◌, List, [], ◌∷◌, ◌++◌, length, take, drop, get_or, set, Option, Some, None, refl, sym, ap, ◌∙◌, inl, inr, arith, get_or-set_same, get_or-set_other}
+use Rattle.std.proofs.lemmas.Bool.{cases_Bool, cases_lt, and_parts, cond-false, eq-eqb, eqb-true, le-ltb, true≢false, false≢true}
 use Rattle.std.proofs.lemmas.List.{length-take-le, length-set}
 use Rattle.std.proofs.lemmas.List.Folds.{list_any-append}
 use Rattle.std.proofs.Math.ListN.{get_or-eq_default}
 use Rattle.std.specs.List.{list_any, position, remove, zip}
-use Rattle.std.specs.Option.{option_map, is_none}
+use Rattle.std.specs.Option.{option_map}
 use Rattle.sim_base.specs.Places.{is_line}
 use Rattle.sim_base.specs.Scheduling.{asks_for_line}
 use Rattle.sim_base.specs.declared.message.Request.{Request}
 use Rattle.sim_base.specs.declared.place.Place.{Place}
 use Rattle.lane_scan.specs.Marks.{mark}
 use Rattle.queue.specs.Columns.{bank_number, eligible_column}
-use Rattle.queue.proofs.Eligible.{marks_after, eligible_push, length-eligible, eligible_is, remove_at, around}
-use Rattle.queue.proofs.SameLine.{line_same}
+use Rattle.queue.proofs.Eligible.{marks_after, eligible_push, length-eligible, remove_at, around}
 use Rattle.heads.specs.Heads.{asks, wants, passes, waits, kind_number, kind_of, entries, first_place, NoneWaits}
 use Rattle.heads.specs.Moves.{past, before}
 use Rattle.heads.proofs.Positions.{position-cons, before_some, before_here, before_past}
@@ -187,65 +186,23 @@ wants_kind bank write row x is =
     asked None is = is
     asked (Some row) is = (and_parts (asks bank write x) (eqb x.place.row row) is).0
 
-kind_bank : (a b : ℕ) (v w : Bool) → kind_number a v ≡ kind_number b w → a ≡ b
+pub kind_bank : (a b : ℕ) (v w : Bool) → kind_number a v ≡ kind_number b w → a ≡ b
 kind_bank a b true true same = omega arith
 kind_bank a b true false same = omega arith
 kind_bank a b false true same = omega arith
 kind_bank a b false false same = omega arith
 
-other_kind : (r : Request) (bank : ℕ) (write : Bool) → eqb (bank_number r.place) bank ≡ false → eqb (kind_of r) (kind_number bank write) ≡ false
-other_kind r bank write apart =
-    ne_eqb (kind_of r) (kind_number bank write)
-    (λ same. true≢false (sym (eq-eqb (bank_number r.place) bank (kind_bank (bank_number r.place) bank r.write write same)) ∙ apart))
-
-first_none : (t : Bool) (o : Option ℕ) → cond t (Some 0) (option_map suc o) ≡ None → (t ≡ false) × (o ≡ None)
-first_none true o none = cc
-first_none false None none = (refl, refl)
-first_none false (Some k) none = cc
-
-bank_apart : (r : Request) (bank : ℕ) (asked : Bool) → (asked ≡ true → eqb (bank_number r.place) bank ≡ false) → (not asked && asks bank true r) ≡ false
-    → (not asked && asks bank false r) ≡ false → eqb (bank_number r.place) bank ≡ false
-bank_apart r bank true elsewhere no_write no_read = elsewhere refl
-bank_apart r bank false elsewhere no_write no_read = either (eqb (bank_number r.place) bank) r.write no_write no_read
+pub kind_write : (a b : ℕ) (v w : Bool) → kind_number a v ≡ kind_number b w → v ≡ w
+kind_write a b true true same = refl
+kind_write a b true false same = absurd (odd a b same)
   where
-    either : (e w : Bool) → (e && w) ≡ false → (e && not w) ≡ false → e ≡ false
-    either false w no_write no_read = refl
-    either true true no_write no_read = no_write
-    either true false no_write no_read = no_read
-
--- where none of a bank may be served, none asks for it, and so none waits
-none_of_bank : (bank : ℕ) (write : Bool) (a : Place → Bool) (rs : List Request) → ((p : Place) → a p ≡ true → eqb (bank_number p) bank ≡ false)
-    → position (passes (asks bank true)) (zip rs (marks_after a rs)) ≡ None → position (passes (asks bank false)) (zip rs (marks_after a rs)) ≡ None
-    → list_any (waits (kind_number bank write)) (zip rs (marks_after a rs)) ≡ false
-none_of_bank bank write a [] elsewhere no_write no_read = refl
-none_of_bank bank write a (r ∷ rs) elsewhere no_write no_read =
-    let next = λ (p : Place). a p || is_line r.place p in
-    let rest = zip rs (marks_after next rs) in
-    let head : Request × ℕ = (r, mark (not (a r.place))) in
-    let writes = first_none (passes (asks bank true) head) (position (passes (asks bank true)) rest) (sym (position-cons (passes (asks bank true)) head rest) ∙ no_write) in
-    let reads = first_none (passes (asks bank false) head) (position (passes (asks bank false)) rest) (sym (position-cons (passes (asks bank false)) head rest) ∙ no_read) in
-    let apart : eqb (bank_number r.place) bank ≡ false =
-    bank_apart r bank (a r.place) (elsewhere r.place) (sym (passes_mark (asks bank true) r (not (a r.place))) ∙ writes.0) (sym (passes_mark (asks bank false) r (not (a r.place))) ∙ reads.0) in
-    or_none (waits (kind_number bank write) head) (list_any (waits (kind_number bank write)) rest) (waits_mark (kind_number bank write) r (a r.place) ∙ ap (λ t. a r.place && t) (other_kind r bank write apart) ∙ never (a r.place))
-    (none_of_bank bank write next rs
-    (λ p is. elim (cases_Bool (a p)) [
-      | inl asked ↦ elsewhere p asked
-      | inr not_asked ↦
-          let line : is_line r.place p ≡ true = ap (λ t. t || is_line r.place p) (sym not_asked) ∙ is in
-          ap (λ q. eqb (bank_number q) bank) (sym (line_same r.place p line)) ∙ apart
-    ])
-    writes.1 reads.1)
-
-pub empty_waits : (bank : ℕ) (write : Bool) (rs : List Request) → None ≡ first_place (asks bank true) rs → None ≡ first_place (asks bank false) rs → NoneWaits (kind_number bank write) rs
-empty_waits bank write rs no_write no_read =
-    let whole = ap (zip rs) (eligible_is rs) in
-    ap (list_any (waits (kind_number bank write))) whole
-    ∙ none_of_bank bank write (λ p. false) rs (λ p is. absurd (false≢true is))
-    (ap (position (passes (asks bank true))) (sym whole) ∙ sym no_write) (ap (position (passes (asks bank false))) (sym whole) ∙ sym no_read)
-
-pub none_is : (o : Option ℕ) → is_none o ≡ true → o ≡ None
-none_is None is = refl
-none_is (Some k) is = absurd (false≢true is)
+    odd : (a b : ℕ) → a * 2 + 1 ≡ b * 2 + 0 → ⊥
+    odd a b same = omega arith
+kind_write a b false true same = absurd (even a b same)
+  where
+    even : (a b : ℕ) → a * 2 + 0 ≡ b * 2 + 1 → ⊥
+    even a b same = omega arith
+kind_write a b false false same = refl
 
 -- which banks and kinds are noted
 pub noted_other : (xs : List Bool) (bank other : ℕ) (b : Bool) → (other ≡ bank → ⊥) → get_or (set xs bank b) other true ≡ false → get_or xs other true ≡ false

@@ -1,8 +1,11 @@
+pub mod Bits
 pub mod Positions
 pub mod Entries
 pub mod Searches
-pub mod Keyed
 pub mod Calm
 pub mod SomeKind
 pub mod OneBank
 pub mod Stood
+pub mod Words
+pub mod Tagged
+pub mod Counted

@@ -1,5 +1,5 @@
 -- The heads of one bank, with one request more and with one less.
-use Rattle.std.proofs.Common.{◌≡◌, ℕ, ◌<◌, Bool, true, false, not, cond, ◌&&◌, eqb, eq-eqb, List, [], ◌∷◌, ◌++◌, length, get_or, Option, Some, None, refl, sym, ap, subst, ◌∙◌, inl, inr}
+use Rattle.std.proofs.Common.{◌≡◌, ℕ, ◌<◌, Bool, true, false, not, cond, ◌&&◌, eqb, eq-eqb, List, [], ◌∷◌, ◌++◌, length, get_or, Option, Some, None, refl, sym, ap, ◌∙◌, inl, inr}
 use Rattle.std.proofs.lemmas.Bool.{cases_Bool, cond-true, cond-false, and_parts, and_from, true≢false, false_from_ne_true}
 use Rattle.std.specs.List.{remove}
 use Rattle.sim_base.specs.Places.{is_line}
@@ -9,11 +9,9 @@ use Rattle.sim_base.specs.declared.message.Request.{Request}
 use Rattle.queue.specs.Columns.{bank_number}
 use Rattle.queue.proofs.SameLine.{line_same}
 use Rattle.heads.specs.declared.entry.KindHeads.{KindHeads}
-use Rattle.heads.specs.declared.entry.BankHeads.{BankHeads}
-use Rattle.heads.specs.Heads.{asks, hits, first_place, AreFirst, AreHeads}
-use Rattle.heads.specs.Moves.{past, kind_past, kind_moved, bank_moved}
+use Rattle.heads.specs.Heads.{asks, hits, first_place, AreFirst}
+use Rattle.heads.specs.Moves.{past, kind_past}
 use Rattle.heads.proofs.Entries.{first_push, left_apart}
-use Rattle.heads.proofs.Searches.{none_narrower_all}
 
 else_none : (o : Option ℕ) → or_else o None ≡ o
 else_none (Some k) = refl
@@ -62,26 +60,12 @@ kind_joined older r bank slot write row hit h j long asked is hit_is oldest_join
       ];
     }
 
--- heads of a bank that a new request is not for
-pub bank_kept : (older : List Request) (r : Request) (bank : ℕ) (h : BankHeads) → ((write : Bool) → (not (asks_for_line r.place older) && asks bank write r) ≡ false)
-    → AreHeads older bank h → AreHeads (older ++ r ∷ []) bank h
-bank_kept older r bank h none first = record {
-  reads_are = kind_kept older r bank false h.row h.reads (none false) first.reads_are;
-  writes_are = kind_kept older r bank true h.row h.writes (none true) first.writes_are;
-}
-
 -- a request asks for its own bank, to do what it does
 pub asks_own : (r : Request) (bank : ℕ) → bank ≡ bank_number r.place → asks bank r.write r ≡ true
 asks_own r bank is =
     let here : eqb (bank_number r.place) bank ≡ true = eq-eqb (bank_number r.place) bank (sym is) in
     let kind : (w : Bool) → cond w w (not w) ≡ true = λ w. elim w as (λ v. cond v v (not v) ≡ true) [ true ↦ refl | false ↦ refl ] in
     and_from (eqb (bank_number r.place) bank) (cond r.write r.write (not r.write)) here (kind r.write)
-
-pub asks_other_kind : (r : Request) (bank : ℕ) → asks bank (not r.write) r ≡ false
-asks_other_kind r bank =
-    let kind : (w b : Bool) → (b && cond (not w) w (not w)) ≡ false =
-    λ w b. elim b as (λ c. (c && cond (not w) w (not w)) ≡ false) [ true ↦ elim w as (λ v. cond (not v) v (not v) ≡ false) [ true ↦ refl | false ↦ refl ] | false ↦ refl ] in
-    kind r.write (eqb (bank_number r.place) bank)
 
 pub asks_elsewhere : (r : Request) (bank : ℕ) (write : Bool) → eqb (bank_number r.place) bank ≡ false → asks bank write r ≡ false
 asks_elsewhere r bank write apart = ap (λ b. b && cond write r.write (not r.write)) apart
@@ -93,7 +77,7 @@ other_line r bank write apart x is =
     (λ same. true≢false (sym there.0 ∙ ap (λ p. eqb (bank_number p) bank) (sym (line_same r.place x.place same)) ∙ apart))
 
 -- heads of a kind, once a request of another bank has left
-kind_left : (rs : List Request) (slot : ℕ) (r : Request) (bank : ℕ) (write : Bool) (row : Option ℕ) (h : KindHeads) → slot < length rs → r ≡ get_or rs slot r
+pub kind_left : (rs : List Request) (slot : ℕ) (r : Request) (bank : ℕ) (write : Bool) (row : Option ℕ) (h : KindHeads) → slot < length rs → r ≡ get_or rs slot r
     → eqb (bank_number r.place) bank ≡ false → AreFirst rs bank write row h → AreFirst (remove rs slot) bank write row (kind_past slot h)
 kind_left rs slot r bank write row h within here apart first = record {
   oldest_is =
@@ -107,29 +91,6 @@ kind_left rs slot r bank write row h within here apart first = record {
 
 pub hits_narrower : (bank : ℕ) (write : Bool) (row : Option ℕ) (x : Request) → asks bank write x ≡ false → hits bank write row x ≡ false
 hits_narrower bank write row x none = ap (λ b. b && is_row x.place.row row) none
-
--- a kind without a first request has none for the open row, and no head to move
-moved_past : (slot : ℕ) (h : KindHeads) → (None ≡ h.oldest → None ≡ h.hit) → kind_past slot h ≡ kind_moved slot h
-moved_past slot h none = parts h.oldest h.hit none
-  where
-    parts : (oldest hit : Option ℕ) → (None ≡ oldest → None ≡ hit) → kind_past slot (record { oldest = oldest; hit = hit }) ≡ kind_moved slot (record { oldest = oldest; hit = hit })
-    parts (Some k) hit none = refl
-    parts None None none = refl
-    parts None (Some k) none = cc (none refl)
-
-kind_moved_left : (rs : List Request) (slot : ℕ) (r : Request) (bank : ℕ) (write : Bool) (row : Option ℕ) (h : KindHeads) → slot < length rs → r ≡ get_or rs slot r
-    → eqb (bank_number r.place) bank ≡ false → AreFirst rs bank write row h → AreFirst (remove rs slot) bank write row (kind_moved slot h)
-kind_moved_left rs slot r bank write row h within here apart first =
-    subst (AreFirst (remove rs slot) bank write row)
-    (moved_past slot h (λ none. none_narrower_all (hits bank write row) (asks bank write) rs (hits_narrower bank write row) (none ∙ first.oldest_is) ∙ sym first.hit_is))
-    (kind_left rs slot r bank write row h within here apart first)
-
-pub bank_left : (rs : List Request) (slot : ℕ) (r : Request) (bank : ℕ) (h : BankHeads) → slot < length rs → r ≡ get_or rs slot r
-    → eqb (bank_number r.place) bank ≡ false → AreHeads rs bank h → AreHeads (remove rs slot) bank (bank_moved slot h)
-bank_left rs slot r bank h within here apart first = record {
-  reads_are = kind_moved_left rs slot r bank false h.row h.reads within here apart first.reads_are;
-  writes_are = kind_moved_left rs slot r bank true h.row h.writes within here apart first.writes_are;
-}
 
 -- a request for a row of a bank asks for the bank
 pub wants_narrower : (bank : ℕ) (write : Bool) (row : ℕ) (x : Request) → asks bank write x ≡ false → hits bank write (Some row) x ≡ false

@@ -46,7 +46,7 @@ none_max test rs a b before_a before_b k d sooner exists = elim (cases_lt k a) [
   | inr late ↦ before_b k d (omega arith) exists
 ]
 
-and_weaker : (m a b : Bool) → (b ≡ false → a ≡ false) → (m && b) ≡ false → (m && a) ≡ false
+pub and_weaker : (m a b : Bool) → (b ≡ false → a ≡ false) → (m && b) ≡ false → (m && a) ≡ false
 and_weaker true a b weaker none = weaker none
 and_weaker false a b weaker none = refl
 

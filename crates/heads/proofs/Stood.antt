@@ -1,23 +1,26 @@
 -- What the heads of all banks stand for, when those of one bank change.
-use Rattle.std.proofs.Common.{◌≡◌, ℕ, zero, suc, ◌+◌, ◌/◌, ◌%◌, ◌^◌, ◌<◌, ◌≤◌, Bool, true, false, not, cond, ◌&&◌, ◌||◌, eqb, ltb, List, [], ◌∷◌, ◌++◌, length, get_or, set, take, drop, Option, None, refl, sym, ap, subst, ◌∙◌, inl, inr, arith, get_or-set_same, get_or-set_other}
+use Rattle.std.proofs.Common.{◌≡◌, ℕ, zero, suc, ◌+◌, ◌*◌, ◌/◌, ◌%◌, ◌^◌, ◌<◌, ◌≤◌, Bool, true, false, not, cond, ◌&&◌, ◌||◌, eqb, ltb, List, [], ◌∷◌, ◌++◌, length, get_or, set, take, drop, replicate, Option, Some, None, refl, sym, ap, subst, ◌∙◌, inl, inr, arith, get_or-set_same, get_or-set_other}
 use Rattle.std.proofs.lemmas.Bool.{cases_lt, cases_eq, eq-eqb, ne_eqb, cond-true, cond-false, lt-ltb, le-ltb, and_from, and_parts, eqb-true, false_from_ne_true}
-use Rattle.std.proofs.lemmas.List.{get_or_default, get_or_at, length-set, length-take-le, take_more}
+use Rattle.std.proofs.lemmas.List.{get_or-replicate, length-replicate, get_or_default, get_or_at, length-set, length-take-le, take_more}
 use Rattle.std.proofs.lemmas.List.Elements.{All-push, All-append, All-take, All-drop}
 use Rattle.std.specs.List.{remove, All}
 use Rattle.sim_base.specs.Places.{is_bank, is_line}
 use Rattle.sim_base.specs.declared.place.BankId.{BankId}
-use Rattle.sim_base.specs.Scheduling.{asks_for_line}
+use Rattle.sim_base.specs.Rules.{is_row}
+use Rattle.sim_base.specs.Scheduling.{asks_for_line, or_else}
 use Rattle.sim_base.specs.declared.message.Request.{Request}
 use Rattle.lane_scan.specs.Marks.{mark, is_marked}
 use Rattle.queue.specs.Columns.{bank_number, eligible_column}
 use Rattle.queue.proofs.Eligible.{marks_after, length-marks, split_marks, around}
 use Rattle.heads.specs.declared.entry.BankHeads.{BankHeads}
 use Rattle.heads.specs.declared.heads.Heads.{Heads}
-use Rattle.heads.specs.Heads.{asks, AreHeads, RowsFit, NoneWaits, kind_of, bank_at, number_of}
-use Rattle.heads.specs.Moves.{bank_moved}
+use Rattle.heads.specs.Heads.{asks, AreFirst, AreHeads, RowsFit, NoneWaits, kind_number, kind_of, bank_at, number_of}
+use Rattle.heads.specs.Moves.{kind_past}
+use Rattle.heads.specs.Places.{head_in, kind_in}
 use Rattle.heads.specs.Stands.{bank_count, heads_of, StandsFor, with_row, closed_in}
-use Rattle.heads.proofs.OneBank.{bank_kept, bank_left, asks_elsewhere}
-use Rattle.heads.proofs.Calm.{waits_push, waits_left, noted_other, noted_here}
+use Rattle.heads.proofs.OneBank.{kind_kept, kind_joined, kind_left, asks_own}
+use Rattle.heads.proofs.Counted.{AreCounted}
+use Rattle.heads.proofs.Calm.{waits_push, waits_left, noted_other, noted_here, wants_kind, kind_bank, kind_write}
 
 -- an item that a list has at a place
 pub item_at : {X : Type 0} (xs : List X) (k : ℕ) → k < length xs → (x : X) × (x ≡ get_or xs k x)
@@ -41,47 +44,61 @@ pub left_more : {X : Type 0} (xs ys : List X) (i : ℕ) (y : X) → ((k : ℕ) (
     → get_or (set ys i y) k d ≡ get_or xs k d
 left_more xs ys i y left k d late = let apart : k ≡ i → ⊥ = λ same. omega arith in get_or-set_other ys i k y d apart ∙ left k d (omega arith)
 
--- what is known of a bank
-abbrev pub IsBank : List Request → (ℕ → Option ℕ) → ℕ → BankHeads → Type 0
-IsBank requests open_rows bank h = (h.row ≡ open_rows bank) × AreHeads requests bank h
-
--- each item of a list of which one was written
-pub set_each : {X : Type 0} (P : ℕ → X → Type 0) (xs : List X) (n : ℕ) (x : X) → n < length xs → P n x
-    → ((k : ℕ) (d : X) → k < length xs → (k ≡ n → ⊥) → P k (get_or xs k d)) → (k : ℕ) (d : X) → k < length xs → P k (get_or (set xs n x) k d)
-set_each P xs n x within here others k d exists = elim (cases_eq k n) [
-  | inl same ↦ subst (λ j. P j (get_or (set xs n x) j d)) (sym same) (subst (P n) (sym (get_or-set_same xs n x d within)) here)
-  | inr apart ↦ subst (P k) (sym (get_or-set_other xs n k x d apart)) (others k d exists apart)
-]
-
 -- banks and kinds that are not noted have none that waits
 abbrev pub AreCalm : List Bool → List Request → Type 0
 AreCalm noted requests = (bank : ℕ) → get_or noted bank true ≡ false → NoneWaits bank requests
 
--- heads of which each bank is known
-pub stand : (heads : Heads) (requests : List Request) (open_rows : ℕ → Option ℕ) → All (λ r. bank_number r.place < bank_count heads) requests → RowsFit requests
-    → AreCalm heads.waits.items requests → ((bank : ℕ) (d : BankHeads) → bank < bank_count heads → IsBank requests open_rows bank (heads_of heads bank d)) → StandsFor heads requests open_rows
-stand heads requests open_rows within fit calm each = record {
-  within = within;
-  rows_fit = fit;
-  waits_are = calm;
-  rows_are = λ bank d exists. (each bank d exists).0;
-  heads_are = λ bank d exists. (each bank d exists).1;
-}
+-- What heads stand for, of their parts.
+pub record AreStanding (rows : List (Option ℕ)) (words : List ℕ) (noted : List Bool) (requests : List Request) (open_rows : ℕ → Option ℕ) : Type 0 where
+  pub within : All (λ r. bank_number r.place < length rows) requests
+  pub fit : RowsFit requests
+  pub opened : (bank : ℕ) → bank < length rows → get_or rows bank None ≡ open_rows bank
+  pub first : (bank : ℕ) (write : Bool) → bank < length rows → AreFirst requests bank write (open_rows bank) (kind_in words (kind_number bank write))
+  pub calm : AreCalm noted requests
 
-fewer : (requests : List Request) (m n : ℕ) → m ≡ n → All (λ r. bank_number r.place < m) requests → All (λ r. bank_number r.place < n) requests
-fewer requests m n same within = subst (λ k. All (λ (r : Request). bank_number r.place < k) requests) same within
+pub heads_read : (heads : Heads) (bank : ℕ) (d : BankHeads) → bank < bank_count heads
+    → record { row = get_or heads.rows.items bank None; reads = kind_in heads.places.words.items (kind_number bank false); writes = kind_in heads.places.words.items (kind_number bank true) }
+    ≡ heads_of heads bank d
+heads_read heads bank d exists = sym (cond-true (ltb bank (bank_count heads)) _ d (lt-ltb bank (bank_count heads) exists))
 
--- where the heads of one bank are written
-pub written : (old new : Heads) (requests more : List Request) (before after : ℕ → Option ℕ) (bank : ℕ) (h : BankHeads) → new.banks.items ≡ set old.banks.items bank h
-    → bank < bank_count old → StandsFor old requests before → All (λ r. bank_number r.place < bank_count old) more → RowsFit more → AreCalm new.waits.items more → IsBank more after bank h
-    → ((other : ℕ) (x : BankHeads) → (other ≡ bank → ⊥) → IsBank requests before other x → IsBank more after other x) → StandsFor new more after
-written old new requests more open_before open_after bank h is exists stands within fit calm here others =
-    let long : bank_count old ≡ bank_count new = sym (ap length is ∙ length-set old.banks.items bank h) in
-    stand new more open_after (fewer more (bank_count old) (bank_count new) long within) fit calm
-    (λ k d there.
-    subst (λ xs. IsBank more open_after k (get_or xs k d)) (sym is)
-    (set_each (IsBank more open_after) old.banks.items bank h exists here
-    (λ j e within_j apart. others j (get_or old.banks.items j e) apart (stands.rows_are j e within_j, stands.heads_are j e within_j)) k d (omega (arith, long))))
+pub to_parts : (heads : Heads) (requests : List Request) (open_rows : ℕ → Option ℕ) → StandsFor heads requests open_rows
+    → AreStanding heads.rows.items heads.places.words.items heads.waits.items requests open_rows
+to_parts heads requests open_rows stands =
+    let none : BankHeads = record { row = None; reads = record { oldest = None; hit = None }; writes = record { oldest = None; hit = None } } in
+    let opened : (bank : ℕ) → bank < bank_count heads → get_or heads.rows.items bank None ≡ open_rows bank =
+    λ bank exists. ap (λ h. h.row) (heads_read heads bank none exists) ∙ stands.rows_are bank none exists in
+    let known : (bank : ℕ) → bank < bank_count heads → AreHeads requests bank _ =
+    λ bank exists. subst (AreHeads requests bank) (sym (heads_read heads bank none exists)) (stands.heads_are bank none exists) in
+    record {
+      within = stands.within;
+      fit = stands.rows_fit;
+      opened = opened;
+      first = λ bank write exists.
+          subst (λ row. AreFirst requests bank write row (kind_in heads.places.words.items (kind_number bank write))) (opened bank exists) (of_kind bank write exists (known bank exists));
+      calm = stands.waits_are;
+    }
+  where
+    of_kind : (bank : ℕ) (write : Bool) → bank < bank_count heads
+        → AreHeads requests bank (record { row = get_or heads.rows.items bank None; reads = kind_in heads.places.words.items (kind_number bank false); writes = kind_in heads.places.words.items (kind_number bank true) })
+        → AreFirst requests bank write (get_or heads.rows.items bank None) (kind_in heads.places.words.items (kind_number bank write))
+    of_kind bank true exists are = are.writes_are
+    of_kind bank false exists are = are.reads_are
+
+pub from_parts : (heads : Heads) (requests : List Request) (open_rows : ℕ → Option ℕ)
+    → AreStanding heads.rows.items heads.places.words.items heads.waits.items requests open_rows
+    → AreCounted heads.counts.items requests → StandsFor heads requests open_rows
+from_parts heads requests open_rows parts counted =
+    let first : (bank : ℕ) (write : Bool) → bank < bank_count heads
+    → AreFirst requests bank write (get_or heads.rows.items bank None) (kind_in heads.places.words.items (kind_number bank write)) =
+    λ bank write exists. subst (λ row. AreFirst requests bank write row (kind_in heads.places.words.items (kind_number bank write))) (sym (parts.opened bank exists)) (parts.first bank write exists) in
+    record {
+      within = parts.within;
+      rows_fit = parts.fit;
+      rows_are = λ bank d exists. sym (ap (λ h. h.row) (heads_read heads bank d exists)) ∙ parts.opened bank exists;
+      heads_are = λ bank d exists. subst (AreHeads requests bank) (heads_read heads bank d exists) (record { reads_are = first bank false exists; writes_are = first bank true exists });
+      waits_are = parts.calm;
+      counts_are = counted;
+    }
 
 -- the mark of a request
 mark_at : (rs : List Request) (slot : ℕ) (r : Request) (marks : List ℕ) → slot < length rs → r ≡ get_or rs slot r → marks ≡ eligible_column rs
@@ -111,87 +128,87 @@ first_read rs xs slot e marks exists same is =
 pub take_next : (rs xs : List Request) (slot : ℕ) (e : Request) → slot < length rs → xs ≡ rs → take slot rs ++ get_or xs slot e ∷ [] ≡ take (slot + 1) rs
 take_next rs xs slot e exists same = ap (λ ys. take slot rs ++ get_or ys slot e ∷ []) same ∙ sym (take_more rs slot e exists)
 
--- a request more, for one bank
-pub joined_stand : (old new : Heads) (older : List Request) (r : Request) (open_rows : ℕ → Option ℕ) (h : BankHeads) → new.banks.items ≡ set old.banks.items (bank_number r.place) h
-    → new.waits.items ≡ old.waits.items → bank_number r.place < bank_count old → r.place.row < 2 ^ 32 → StandsFor old older open_rows → asks_for_line r.place older ≡ false
-    → ((d : BankHeads) → h.row ≡ (heads_of old (bank_number r.place) d).row) → AreHeads (older ++ r ∷ []) (bank_number r.place) h → StandsFor new (older ++ r ∷ []) open_rows
-joined_stand old new older r open_rows h is noted exists short stands first row here =
+never : (t : Bool) → (t && false) ≡ false
+never true = refl
+never false = refl
+
+-- a request asks for no other bank and kind than its own
+asks_own_kind : (r : Request) (bank : ℕ) (write : Bool) → (kind_number bank write ≡ kind_of r → ⊥) → asks bank write r ≡ false
+asks_own_kind r bank write apart = false_from_ne_true (asks bank write r) (λ is. apart (sym (eqb-true (kind_of r) (kind_number bank write) (wants_kind bank write None r is))))
+
+-- a request more, which may be served
+pub joined_stand : (rows : List (Option ℕ)) (old new : List ℕ) (noted : List Bool) (older : List Request) (r : Request) (open_rows : ℕ → Option ℕ) (slot : ℕ) (hit : Bool)
+    → slot ≡ length older → bank_number r.place < length rows → r.place.row < 2 ^ 32 → asks_for_line r.place older ≡ false
+    → hit ≡ is_row r.place.row (get_or rows (bank_number r.place) None) → head_in new (kind_of r) false ≡ or_else (head_in old (kind_of r) false) (Some slot)
+    → head_in new (kind_of r) true ≡ cond hit (or_else (head_in old (kind_of r) true) (Some slot)) (head_in old (kind_of r) true)
+    → ((kind : ℕ) → (kind ≡ kind_of r → ⊥) → kind_in new kind ≡ kind_in old kind) → AreStanding rows old noted older open_rows → AreStanding rows new noted (older ++ r ∷ []) open_rows
+joined_stand rows old new noted older r open_rows slot hit long exists short asked hit_is oldest_joined hit_joined others stands =
     let own = bank_number r.place in
-    written old new older (older ++ r ∷ []) open_rows open_rows own h is exists stands
-    (All-push (λ (x : Request). bank_number x.place < bank_count old) older r stands.within exists)
-    (All-push (λ (x : Request). x.place.row < 2 ^ 32) older r stands.rows_fit short)
-    (λ bank calm. waits_push bank older r (stands.waits_are bank (ap (λ ws. get_or ws bank true) (sym noted) ∙ calm)) (ap (λ t. t && eqb (kind_of r) bank) first))
-    (row h ∙ stands.rows_are own h exists, here)
-    (λ other x apart known. (
-      known.0,
-      bank_kept older r other x
-          (λ write. ap (λ b. not (asks_for_line r.place older) && b) (asks_elsewhere r other write (ne_eqb own other (λ same. apart (sym same)))) ∙ never (not (asks_for_line r.place older)))
-          known.1,
-    ))
-  where
-    never : (t : Bool) → (t && false) ≡ false
-    never true = refl
-    never false = refl
+    record {
+      within = All-push (λ (x : Request). bank_number x.place < length rows) older r stands.within exists;
+      fit = All-push (λ (x : Request). x.place.row < 2 ^ 32) older r stands.fit short;
+      opened = stands.opened;
+      first = λ bank write there. elim (cases_eq (kind_number bank write) (kind_of r)) [
+        | inl same ↦
+            let bank_is : own ≡ bank = sym (kind_bank bank own write r.write same) in
+            let write_is : r.write ≡ write = kind_write own bank r.write write (sym same) in
+            let here : AreFirst (older ++ r ∷ []) own r.write (open_rows own) (kind_in new (kind_of r)) =
+            kind_joined older r own slot r.write (open_rows own) hit (kind_in old (kind_of r)) (kind_in new (kind_of r)) long asked (asks_own r own refl)
+            (hit_is ∙ ap (is_row r.place.row) (stands.opened own exists)) oldest_joined hit_joined (stands.first own r.write exists) in
+            subst (λ b. AreFirst (older ++ r ∷ []) b write (open_rows b) (kind_in new (kind_number b write))) bank_is
+            (subst (λ w. AreFirst (older ++ r ∷ []) own w (open_rows own) (kind_in new (kind_number own w))) write_is here)
+        | inr apart ↦
+            subst (AreFirst (older ++ r ∷ []) bank write (open_rows bank)) (sym (others (kind_number bank write) apart))
+            (kind_kept older r bank write (open_rows bank) (kind_in old (kind_number bank write))
+            (ap (λ b. not (asks_for_line r.place older) && b) (asks_own_kind r bank write apart) ∙ never (not (asks_for_line r.place older))) (stands.first bank write there))
+      ];
+      calm = λ kind is. waits_push kind older r (stands.calm kind is) (ap (λ t. t && eqb (kind_of r) kind) asked);
+    }
 
 -- one that waits for an older one of its line, as is noted
-pub unjoined_stand : (old new : Heads) (older : List Request) (r : Request) (open_rows : ℕ → Option ℕ) → new.banks ≡ old.banks
-    → new.waits.items ≡ set old.waits.items (kind_of r) true → bank_number r.place < bank_count old → r.place.row < 2 ^ 32 → StandsFor old older open_rows
-    → asks_for_line r.place older ≡ true → StandsFor new (older ++ r ∷ []) open_rows
-unjoined_stand old new older r open_rows same noted exists short stands asked =
+pub unjoined_stand : (rows : List (Option ℕ)) (words : List ℕ) (noted : List Bool) (older : List Request) (r : Request) (open_rows : ℕ → Option ℕ)
+    → bank_number r.place < length rows → r.place.row < 2 ^ 32 → asks_for_line r.place older ≡ true → AreStanding rows words noted older open_rows
+    → AreStanding rows words (set noted (kind_of r) true) (older ++ r ∷ []) open_rows
+unjoined_stand rows words noted older r open_rows exists short asked stands =
     let own = kind_of r in
-    let count : bank_count old ≡ bank_count new = ap (λ b. length b.items) (sym same) in
-    stand new (older ++ r ∷ []) open_rows
-    (fewer (older ++ r ∷ []) (bank_count old) (bank_count new) count (All-push (λ (x : Request). bank_number x.place < bank_count old) older r stands.within exists))
-    (All-push (λ (x : Request). x.place.row < 2 ^ 32) older r stands.rows_fit short)
-    (λ bank is.
-    let there = ap (λ ws. get_or ws bank true) (sym noted) ∙ is in
-    elim (cases_eq bank own) [
-      | inl here ↦ absurd (noted_here old.waits.items own (ap (λ n. get_or (set old.waits.items own true) n true) (sym here) ∙ there))
-      | inr apart ↦
-          waits_push bank older r (stands.waits_are bank (noted_other old.waits.items own bank true apart there))
-          (ap (λ t. asks_for_line r.place older && t) (ne_eqb own bank (λ e. apart (sym e))) ∙ never (asks_for_line r.place older))
-    ])
-    (λ bank d there.
-    let there_old : bank < bank_count old = omega (arith, count) in
-    subst (λ b. IsBank (older ++ r ∷ []) open_rows bank (get_or b.items bank d)) (sym same) (
-      stands.rows_are bank d there_old,
-      bank_kept older r bank (heads_of old bank d) (λ write. ap (λ b. not b && asks bank write r) asked) (stands.heads_are bank d there_old),
-    ))
-  where
-    never : (t : Bool) → (t && false) ≡ false
-    never true = refl
-    never false = refl
+    record {
+      within = All-push (λ (x : Request). bank_number x.place < length rows) older r stands.within exists;
+      fit = All-push (λ (x : Request). x.place.row < 2 ^ 32) older r stands.fit short;
+      opened = stands.opened;
+      first = λ bank write there.
+          kind_kept older r bank write (open_rows bank) (kind_in words (kind_number bank write)) (ap (λ b. not b && asks bank write r) asked) (stands.first bank write there);
+      calm = λ kind is. elim (cases_eq kind own) [
+        | inl here ↦ absurd (noted_here noted own (ap (λ n. get_or (set noted own true) n true) (sym here) ∙ is))
+        | inr apart ↦
+            waits_push kind older r (stands.calm kind (noted_other noted own kind true apart is))
+            (ap (λ t. asks_for_line r.place older && t) (ne_eqb own kind (λ e. apart (sym e))) ∙ never (asks_for_line r.place older))
+      ];
+    }
 
 pub All-remove : {X : Type 0} (P : X → Type 0) (xs : List X) (k : ℕ) → All P xs → All P (remove xs k)
 All-remove P xs k all = All-append P (take k xs) (drop (suc k) xs) (All-take P k xs all) (All-drop P (suc k) xs all)
 
--- a request less
-pub served_stand : (old moved new : Heads) (rs : List Request) (slot : ℕ) (r : Request) (open_rows : ℕ → Option ℕ) (h : BankHeads) → slot < length rs → r ≡ get_or rs slot r
-    → bank_number r.place < bank_count old → bank_count moved ≡ bank_count old
-    → ((k : ℕ) (d : BankHeads) → k < bank_count old → heads_of moved k d ≡ bank_moved slot (heads_of old k d)) → new.banks.items ≡ set moved.banks.items (bank_number r.place) h
-    → StandsFor old rs open_rows → AreCalm new.waits.items (remove rs slot) → ((d : BankHeads) → h.row ≡ (heads_of old (bank_number r.place) d).row)
-    → AreHeads (remove rs slot) (bank_number r.place) h → StandsFor new (remove rs slot) open_rows
-served_stand old moved new rs slot r open_rows h within request exists long each is stands calm row here =
-    let own = bank_number r.place in
-    let more : bank_count old ≡ bank_count new = sym (ap length is ∙ length-set moved.banks.items own h ∙ long) in
-    stand new (remove rs slot) open_rows
-    (fewer (remove rs slot) (bank_count old) (bank_count new) more (All-remove (λ (x : Request). bank_number x.place < bank_count old) rs slot stands.within))
-    (All-remove (λ (x : Request). x.place.row < 2 ^ 32) rs slot stands.rows_fit)
-    calm
-    (λ k d there.
-    subst (λ xs. IsBank (remove rs slot) open_rows k (get_or xs k d)) (sym is)
-    (set_each (IsBank (remove rs slot) open_rows) moved.banks.items own h (omega (arith, long)) (row h ∙ stands.rows_are own h exists, here)
-    (λ j e within_j apart.
-    let there_j : j < bank_count old = omega (arith, long) in
-    subst (IsBank (remove rs slot) open_rows j) (sym (each j e there_j)) (
-      stands.rows_are j e there_j,
-      bank_left rs slot r j (heads_of old j e) within request (ne_eqb own j (λ same. apart (sym same))) (stands.heads_are j e there_j),
-    ))
-    k d (omega (arith, long, more))))
-
 -- banks and kinds of which none waits, once a request has left
 pub calm_left : (noted : List Bool) (rs : List Request) (slot : ℕ) → slot < length rs → AreCalm noted rs → AreCalm noted (remove rs slot)
 calm_left noted rs slot within calm bank is = let item = item_at rs slot within in waits_left bank rs slot item.0 within item.1 (calm bank is)
+
+-- a request less
+pub served_stand : (rows : List (Option ℕ)) (old new : List ℕ) (noted : List Bool) (rs : List Request) (slot : ℕ) (r : Request) (open_rows : ℕ → Option ℕ) → slot < length rs
+    → r ≡ get_or rs slot r → ((write : Bool) → AreFirst (remove rs slot) (bank_number r.place) write (open_rows (bank_number r.place)) (kind_in new (kind_number (bank_number r.place) write)))
+    → ((bank : ℕ) (write : Bool) → (bank ≡ bank_number r.place → ⊥) → kind_in new (kind_number bank write) ≡ kind_past slot (kind_in old (kind_number bank write)))
+    → AreStanding rows old noted rs open_rows → AreStanding rows new noted (remove rs slot) open_rows
+served_stand rows old new noted rs slot r open_rows within request own others stands = record {
+  within = All-remove (λ (x : Request). bank_number x.place < length rows) rs slot stands.within;
+  fit = All-remove (λ (x : Request). x.place.row < 2 ^ 32) rs slot stands.fit;
+  opened = stands.opened;
+  first = λ bank write there. elim (cases_eq bank (bank_number r.place)) [
+    | inl same ↦ subst (λ b. AreFirst (remove rs slot) b write (open_rows b) (kind_in new (kind_number b write))) (sym same) (own write)
+    | inr apart ↦
+        subst (AreFirst (remove rs slot) bank write (open_rows bank)) (sym (others bank write apart))
+        (kind_left rs slot r bank write (open_rows bank) (kind_in old (kind_number bank write)) within request (ne_eqb (bank_number r.place) bank (λ e. apart (sym e))) (stands.first bank write there))
+  ];
+  calm = calm_left noted rs slot within stands.calm;
+}
 
 pub calm_empty : (noted : List Bool) (rs : List Request) (bank : ℕ) → AreCalm noted rs → NoneWaits bank rs → AreCalm (set noted bank false) rs
 calm_empty noted rs bank calm none other is = elim (cases_eq other bank) [
@@ -199,24 +216,37 @@ calm_empty noted rs bank calm none other is = elim (cases_eq other bank) [
   | inr apart ↦ calm other (noted_other noted bank other false apart is)
 ]
 
--- where other banks are noted
-pub noted_stand : (old new : Heads) (requests : List Request) (open_rows : ℕ → Option ℕ) → new.banks ≡ old.banks → StandsFor old requests open_rows
-    → AreCalm new.waits.items requests → StandsFor new requests open_rows
-noted_stand old new requests open_rows same stands calm =
-    let count : bank_count old ≡ bank_count new = ap (λ b. length b.items) (sym same) in
-    stand new requests open_rows (fewer requests (bank_count old) (bank_count new) count stands.within) stands.rows_fit calm
-    (λ bank d there.
-    let there_old : bank < bank_count old = omega (arith, count) in
-    subst (λ b. IsBank requests open_rows bank (get_or b.items bank d)) (sym same) (stands.rows_are bank d there_old, stands.heads_are bank d there_old))
+-- where other kinds are noted
+pub noted_stand : (rows : List (Option ℕ)) (words : List ℕ) (noted now : List Bool) (requests : List Request) (open_rows : ℕ → Option ℕ) → AreCalm now requests
+    → AreStanding rows words noted requests open_rows → AreStanding rows words now requests open_rows
+noted_stand rows words noted now requests open_rows calm stands = record { within = stands.within; fit = stands.fit; opened = stands.opened; first = stands.first; calm = calm }
 
 -- one bank that is opened or closed
-pub row_stand : (old new : Heads) (requests : List Request) (open_rows : ℕ → Option ℕ) (number : ℕ) (row : Option ℕ) (h : BankHeads) → new.banks.items ≡ set old.banks.items number h
-    → new.waits.items ≡ old.waits.items → number < bank_count old → StandsFor old requests open_rows → h.row ≡ row → AreHeads requests number h → StandsFor new requests (with_row number row open_rows)
-row_stand old new requests open_rows number row h is noted exists stands row_is here =
-    written old new requests requests open_rows (with_row number row open_rows) number h is exists stands stands.within stands.rows_fit
-    (λ bank calm. stands.waits_are bank (ap (λ ws. get_or ws bank true) (sym noted) ∙ calm))
-    (row_is ∙ sym (cond-true (eqb number number) row (open_rows number) (eq-eqb number number refl)), here)
-    (λ other x apart known. (known.0 ∙ sym (cond-false (eqb other number) row (open_rows other) (ne_eqb other number apart)), known.1))
+pub row_stand : (rows : List (Option ℕ)) (old new : List ℕ) (noted : List Bool) (requests : List Request) (open_rows : ℕ → Option ℕ) (number : ℕ) (row : Option ℕ) → number < length rows
+    → ((write : Bool) → AreFirst requests number write row (kind_in new (kind_number number write)))
+    → ((other : ℕ) (write : Bool) → (other ≡ number → ⊥) → kind_in new (kind_number other write) ≡ kind_in old (kind_number other write))
+    → AreStanding rows old noted requests open_rows → AreStanding (set rows number row) new noted requests (with_row number row open_rows)
+row_stand rows old new noted requests open_rows number row exists own others stands =
+    let long : length (set rows number row) ≡ length rows = length-set rows number row in
+    let here : with_row number row open_rows number ≡ row = cond-true (eqb number number) row (open_rows number) (eq-eqb number number refl) in
+    let there : (bank : ℕ) → (bank ≡ number → ⊥) → with_row number row open_rows bank ≡ open_rows bank = λ bank apart. cond-false (eqb bank number) row (open_rows bank) (ne_eqb bank number apart) in
+    record {
+      within = subst (λ n. All (λ (x : Request). bank_number x.place < n) requests) (sym long) stands.within;
+      fit = stands.fit;
+      opened = λ bank within. elim (cases_eq bank number) [
+        | inl same ↦ subst (λ b. get_or (set rows number row) b None ≡ with_row number row open_rows b) (sym same) (get_or-set_same rows number row None exists ∙ sym here)
+        | inr apart ↦ get_or-set_other rows number bank row None apart ∙ stands.opened bank (omega (arith, long)) ∙ sym (there bank apart)
+      ];
+      first = λ bank write within. elim (cases_eq bank number) [
+        | inl same ↦
+            subst (λ b. AreFirst requests b write (with_row number row open_rows b) (kind_in new (kind_number b write))) (sym same)
+            (subst (λ o. AreFirst requests number write o (kind_in new (kind_number number write))) (sym here) (own write))
+        | inr apart ↦
+            subst (λ o. AreFirst requests bank write o (kind_in new (kind_number bank write))) (sym (there bank apart))
+            (subst (AreFirst requests bank write (open_rows bank)) (sym (others bank write apart)) (stands.first bank write (omega (arith, long))))
+      ];
+      calm = stands.calm;
+    }
 
 -- the rows that are open where the ranks' banks below a number are closed
 pub same_rows : (heads : Heads) (requests : List Request) (a b : ℕ → Option ℕ) → StandsFor heads requests a → ((bank : ℕ) → bank < bank_count heads → a bank ≡ b bank)
@@ -225,6 +255,7 @@ same_rows heads requests a b stands same = record {
   within = stands.within;
   rows_fit = stands.rows_fit;
   waits_are = stands.waits_are;
+  counts_are = stands.counts_are;
   rows_are = λ bank d exists. stands.rows_are bank d exists ∙ same bank exists;
   heads_are = stands.heads_are;
 }
@@ -298,3 +329,14 @@ bank_named n b group bank = elim (cases_eq n (number_of b)) [
       let bank_is : n % 4 ≡ b.bank = eqb-true (n % 4) b.bank bank_part.1 in
       apart (omega arith)))
 ]
+
+-- heads of closed banks and of no request
+pub first_stand : (heads : Heads) (banks : ℕ) → heads.rows.items ≡ replicate banks None → heads.counts.items ≡ replicate (2 * banks) 0
+    → ((kind : ℕ) (hit : Bool) → head_in heads.places.words.items kind hit ≡ None) → StandsFor heads [] (λ bank. None)
+first_stand heads banks closed counts none = from_parts heads [] (λ bank. None) (record {
+  within = λ k d there. absurd (omega arith);
+  fit = λ k d there. absurd (omega arith);
+  opened = λ bank exists. ap (λ xs. get_or xs bank None) closed ∙ get_or-replicate banks bank None None (omega (arith, ap length closed, length-replicate banks (let none : Option ℕ = None in none)));
+  first = λ bank write exists. record { oldest_is = none (kind_number bank write) false; hit_is = none (kind_number bank write) true };
+  calm = λ kind is. refl;
+}) (λ kind exists. ap (λ xs. get_or xs kind 0) counts ∙ get_or-replicate (2 * banks) kind 0 0 (omega (arith, ap length counts, length-replicate {A = ℕ} (2 * banks) 0)))

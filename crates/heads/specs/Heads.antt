@@ -6,9 +6,10 @@
 --     RowsFit requests      each asks for a row whose number has 32 bits
 --     first_place test requests      the place of the first request that may be served and passes a test
 --     kind_number bank write, kind_of r      the number of a bank and a kind, and of those that a request asks for
+--     kind_count kind requests      how many ask for a bank and a kind
 --     NoneWaits kind requests      none that asks for a bank and a kind waits for an older one of its line
 --     AreHeads requests bank heads      each head of a bank is the place of the first such request
-use Rattle.std.specs.Prelude.{◌≡◌, ℕ, ◌+◌, ◌*◌, ◌/◌, ◌%◌, ◌^◌, ◌<◌, ◌==◌, Bool, true, false, not, ◌&&◌, List, All, position, Option, Some, None, if◌then◌else◌}
+use Rattle.std.specs.Prelude.{◌≡◌, ℕ, ◌+◌, ◌*◌, ◌/◌, ◌%◌, ◌^◌, ◌<◌, ◌==◌, Bool, true, false, not, ◌&&◌, List, All, count_by, position, Option, Some, None, if◌then◌else◌}
 use Rattle.std.specs.List.{list_any, zip}
 use Rattle.sim_base.specs.declared.message.Request.{Request}
 use Rattle.sim_base.specs.declared.place.BankId.{BankId}
@@ -62,6 +63,10 @@ kind_number bank write = bank * 2 + (if write then 1 else 0)
 -- the number of the bank and the kind of a request
 abbrev pub kind_of : Request → ℕ
 kind_of r = kind_number (bank_number r.place) r.write
+
+-- how many requests ask for a bank and a kind
+abbrev pub kind_count : ℕ → List Request → ℕ
+kind_count kind requests = count_by (λ r. kind_of r == kind) requests
 
 -- a request at a place asks for a bank and a kind, and waits for an older one of its line
 abbrev pub waits : ℕ → Request × ℕ → Bool

@@ -1,3 +1,5 @@
 pub mod Heads
 pub mod Moves
+pub mod Places
+pub mod Sets
 pub mod Stands

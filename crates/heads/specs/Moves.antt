@@ -1,14 +1,12 @@
 -- How heads move when a request leaves the queue, and rows that are open after a command.
 --     past slot head      a place, once the request at another place has left
---     kind_past, bank_past slot heads      the heads of a kind, and of a bank, once a request of another bank has left
---     kind_moved, bank_moved slot heads      the same, where a kind without a first request is left as it is
+--     kind_past slot heads      the heads of a kind, once a request of another bank has left
 --     before slot head      a place, if it stands before another
 --     earlier a b      the first of two places, if there is one
 --     NoneBefore test requests slot      no request before a place may be served and passes a test
-use Rattle.std.specs.Prelude.{◌≡◌, ℕ, ◌-◌, ◌<◌, nat_lt, min, Bool, false, List, length, slice_index_or, Option, Some, None, option_map, is_some, if◌then◌else◌}
+use Rattle.std.specs.Prelude.{◌≡◌, ℕ, ◌-◌, ◌<◌, nat_lt, min, Bool, false, List, length, slice_index_or, Option, Some, None, option_map, if◌then◌else◌}
 use Rattle.sim_base.specs.declared.message.Request.{Request}
 use Rattle.heads.specs.declared.entry.KindHeads.{KindHeads}
-use Rattle.heads.specs.declared.entry.BankHeads.{BankHeads}
 use Rattle.heads.specs.Heads.{passes, entries}
 
 -- a place, once the request at another place has left
@@ -18,17 +16,6 @@ past slot head = option_map (λ k. if nat_lt slot k then k - 1 else k) head
 -- the heads of a kind, once a request of another bank has left
 abbrev pub kind_past : ℕ → KindHeads → KindHeads
 kind_past slot heads = record { oldest = past slot heads.oldest; hit = past slot heads.hit }
-
--- the heads of a bank, once a request of another bank has left
-abbrev pub bank_past : ℕ → BankHeads → BankHeads
-bank_past slot heads = record { row = heads.row; reads = kind_past slot heads.reads; writes = kind_past slot heads.writes }
-
--- the same, where a kind without a first request is left as it is: it has none for the open row either
-abbrev pub kind_moved : ℕ → KindHeads → KindHeads
-kind_moved slot heads = if is_some heads.oldest then kind_past slot heads else heads
-
-abbrev pub bank_moved : ℕ → BankHeads → BankHeads
-bank_moved slot heads = record { row = heads.row; reads = kind_moved slot heads.reads; writes = kind_moved slot heads.writes }
 
 -- a place, if it stands before another
 abbrev pub before : ℕ → Option ℕ → Option ℕ

@@ -1,16 +1,15 @@
 //! The heads of one bank.
 
-ghost use Rattle.std.specs.Prelude.{◌≡◌, ℕ, ◌<◌, ◌^◌, true, false, ◌&&◌, is_none, List, ◌++◌, ◌∷◌, [], length, remove, Option, Some, None, if◌then◌else◌};
+ghost use Rattle.std.specs.Prelude.{◌≡◌, ◌≢◌, ℕ, ◌-◌, ◌<◌, ◌^◌, true, List, length, remove, Some};
 ghost use Rattle.sim_base.specs.Rules.{is_row};
-ghost use Rattle.sim_base.specs.Scheduling.{asks_for_line, or_else};
 ghost use Rattle.sim_base.specs.declared.message.Request.{Request};
 ghost use Rattle.queue.specs.Columns.{bank_number};
-ghost use Rattle.heads.specs.Heads.{bank_at, number_of, kind_number, RowsFit, NoneWaits, AreFirst, AreHeads};
+ghost use Rattle.heads.specs.Heads.{bank_at, number_of, kind_number, kind_count, NoneWaits, AreFirst};
 ghost use Rattle.heads.specs.Moves.{past};
+ghost use Rattle.heads.specs.Places.{IsShort};
 
-use crate::search::{Gap, first_from, next_place};
+use crate::search::{Gap, next_place};
 use queue::Queue;
-use sim_base::message::Request;
 use sim_base::place::{BankId, Place};
 
 /// The first requests of a bank that may be served, to read or to write: their places in the queue.
@@ -52,12 +51,13 @@ pub(crate) fn bank_number(place: Place) -> usize
     (place.rank as usize * 4 + place.group as usize) * 4 + place.bank as usize
 }
 
-/// The number of the bank of a place, and of a kind: twice that of the bank, and one more to write.
-pub(crate) fn kind_number(place: Place, write: bool) -> usize
-    ensures { result ≡ kind_number (bank_number place) write }
+/// The number of a bank and a kind: twice that of the bank, and one more to write.
+#[inline(always)]
+pub(crate) fn kind_number(bank: usize, write: bool) -> usize
+    requires { bank < 64 }
+    ensures { result ≡ kind_number bank write }
 {
-    let twice = bank_number(place) * 2;
-    if write { twice + 1 } else { twice }
+    bank * 2 + usize::from(write)
 }
 
 /// The number of a bank.
@@ -65,16 +65,6 @@ pub(crate) fn number_of(bank: BankId) -> usize
     ensures { result ≡ number_of bank }
 {
     (bank.rank as usize * 4 + bank.group as usize) * 4 + bank.bank as usize
-}
-
-/// The place of the first request, with one more at the end.
-fn or_later(head: Option<usize>, slot: usize) -> Option<usize>
-    ensures { result ≡ or_else head (Some slot) }
-{
-    match head {
-        Some(place) => Some(place),
-        None => Some(slot),
-    }
 }
 
 /// A place, once the request at another place has left.
@@ -94,7 +84,8 @@ pub(crate) fn past(slot: usize, head: Option<usize>) -> Option<usize>
 }
 
 /// Whether a row is the open one.
-fn is_open(open_row: Option<u32>, row: u32) -> bool
+#[inline(always)]
+pub(crate) fn is_open(open_row: Option<u32>, row: u32) -> bool
     ensures { result ≡ is_row row open_row }
 {
     match open_row {
@@ -104,130 +95,39 @@ fn is_open(open_row: Option<u32>, row: u32) -> bool
 }
 
 impl KindHeads {
-    /// With one request more at the end, which asks for the open row or not.
-    fn joined(self, slot: usize, hit: bool) -> KindHeads
-        ensures oldest { result.oldest ≡ or_else self.oldest (Some slot) }
-        ensures hit { result.hit ≡ (if hit then or_else self.hit (Some slot) else self.hit) }
+    /// Whether the heads of a kind only move, once a request of the bank has left: neither was that request, and no other has
+    /// its turn.
+    #[inline(always)]
+    pub(crate) fn stay(self, gap: Gap) -> bool
+        ensures calm { result ≡ true → gap.calm ≡ true }
+        ensures oldest { result ≡ true → self.oldest ≢ Some gap.slot }
+        ensures hit { result ≡ true → self.hit ≢ Some gap.slot }
     {
-        KindHeads {
-            oldest: or_later(self.oldest, slot),
-            hit: if hit {
-                or_later(self.hit, slot)
-            } else {
-                self.hit
-            },
-        }
-    }
-
-    /// Where no row is open.
-    fn without_hit(self) -> KindHeads
-        ensures { result ≡ record self { hit = None } }
-    {
-        KindHeads {
-            oldest: self.oldest,
-            hit: None,
-        }
+        gap.calm && self.oldest != Some(gap.slot) && self.hit != Some(gap.slot)
     }
 
     /// Once a request of the same bank has left its place in the queue.
-    fn after(self, queue: &Queue, gap: Gap, write: bool, row: Option<u32>) -> KindHeads
-        ensures { (earlier : List Request) → gap.slot < length earlier → queue.now.requests ≡ remove earlier gap.slot → RowsFit queue.now.requests
-            → (gap.calm ≡ true → NoneWaits (kind_number gap.bank write) earlier) → AreFirst earlier gap.bank write row self → AreFirst queue.now.requests gap.bank write row result }
+    #[inline(always)]
+    pub(crate) fn after(self, queue: &Queue, gap: Gap, write: bool, row: Option<u32>) -> KindHeads
+        requires oldest { IsShort self.oldest }
+        requires hit { IsShort self.hit }
+        requires queue { length queue.now.requests < 2 ^ 16 - 1 }
+        ensures first { (earlier : List Request) → gap.slot < length earlier → queue.now.requests ≡ remove earlier gap.slot
+            → (gap.calm ≡ true → NoneWaits (kind_number gap.bank write) earlier) → (gap.empty ≡ true → kind_count (kind_number gap.bank write) queue.now.requests ≡ 0) → AreFirst earlier gap.bank write row self → AreFirst queue.now.requests gap.bank write row result }
+        ensures oldest { IsShort result.oldest }
+        ensures hit { IsShort result.hit }
     {
+        if gap.empty {
+            return KindHeads {
+                oldest: None,
+                hit: None,
+            };
+        }
         let oldest = next_place(self.oldest, queue, gap, 0, write, None);
         let hit = match (row, oldest) {
             (Some(row), Some(least)) => next_place(self.hit, queue, gap, least, write, Some(row)),
             _ => None,
         };
         KindHeads { oldest, hit }
-    }
-
-    /// Once a row is open in the bank.
-    fn opened(self, queue: &Queue, bank: usize, write: bool, row: u32) -> KindHeads
-        ensures { (old : Option ℕ) → RowsFit queue.now.requests → AreFirst queue.now.requests bank write old self → AreFirst queue.now.requests bank write (Some row) result }
-    {
-        let hit = match self.oldest {
-            Some(least) => first_from(queue, least, bank, write, Some(row)),
-            None => None,
-        };
-        KindHeads {
-            oldest: self.oldest,
-            hit,
-        }
-    }
-}
-
-impl BankHeads {
-    /// With one request more at the end of the queue, which asks for this bank and may be served.
-    pub(crate) fn joined(self, request: Request, slot: usize) -> BankHeads
-        ensures row { result.row ≡ self.row }
-        ensures heads { (older : List Request) (bank : ℕ) → slot ≡ length older → bank ≡ bank_number request.place → asks_for_line request.place older ≡ false
-            → AreHeads older bank self → AreHeads (older ++ request ∷ []) bank result }
-    {
-        let hit = is_open(self.row, request.place.row);
-        if request.write {
-            BankHeads {
-                writes: self.writes.joined(slot, hit),
-                ..self
-            }
-        } else {
-            BankHeads {
-                reads: self.reads.joined(slot, hit),
-                ..self
-            }
-        }
-    }
-
-    /// Once a request of this bank has left its place in the queue, where it may be known that no read waited, and no write.
-    pub(crate) fn after(self, queue: &Queue, gap: Gap, calm_writes: bool) -> BankHeads
-        ensures row { result.row ≡ self.row }
-        ensures heads { (earlier : List Request) → gap.slot < length earlier → queue.now.requests ≡ remove earlier gap.slot → RowsFit queue.now.requests
-            → (gap.calm ≡ true → NoneWaits (kind_number gap.bank false) earlier) → (calm_writes ≡ true → NoneWaits (kind_number gap.bank true) earlier)
-            → AreHeads earlier gap.bank self → AreHeads queue.now.requests gap.bank result }
-    {
-        BankHeads {
-            row: self.row,
-            reads: self.reads.after(queue, gap, false, self.row),
-            writes: self.writes.after(
-                queue,
-                Gap {
-                    calm: calm_writes,
-                    ..gap
-                },
-                true,
-                self.row,
-            ),
-        }
-    }
-
-    /// Whether no request of the bank may be served.
-    pub(crate) fn is_empty(self) -> bool
-        ensures { result ≡ (is_none self.reads.oldest && is_none self.writes.oldest) }
-    {
-        self.reads.oldest.is_none() && self.writes.oldest.is_none()
-    }
-
-    /// Once a row is open in the bank.
-    pub(crate) fn opened(self, queue: &Queue, bank: usize, row: u32) -> BankHeads
-        ensures row { result.row ≡ Some row }
-        ensures heads { RowsFit queue.now.requests → AreHeads queue.now.requests bank self → AreHeads queue.now.requests bank result }
-    {
-        BankHeads {
-            row: Some(row),
-            reads: self.reads.opened(queue, bank, false, row),
-            writes: self.writes.opened(queue, bank, true, row),
-        }
-    }
-
-    /// Once the bank is closed.
-    pub(crate) fn closed(self) -> BankHeads
-        ensures row { result.row ≡ None }
-        ensures heads { (requests : List Request) (bank : ℕ) → AreHeads requests bank self → AreHeads requests bank result }
-    {
-        BankHeads {
-            row: None,
-            reads: self.reads.without_hit(),
-            writes: self.writes.without_hit(),
-        }
     }
 }

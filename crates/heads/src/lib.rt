@@ -4,7 +4,10 @@
 
 mod entry;
 pub mod heads;
+mod places;
 mod search;
+mod sets;
 
 pub use entry::{BankHeads, KindHeads, bank_at};
 pub use heads::Heads;
+pub use sets::BankSet;

@@ -1,15 +1,14 @@
 //! Searches for the first request of a bank and a kind.
 
-ghost use Rattle.std.specs.Prelude.{◌≡◌, ℕ, ◌<◌, ◌≤◌, ◌%◌, ◌^◌, true, false, List, length, remove, slice_index_or, Option, is_some, unwrap_or};
+ghost use Rattle.std.specs.Prelude.{◌≡◌, ℕ, ◌-◌, ◌<◌, ◌^◌, ◌==◌, true, false, List, length, remove, Option, Some, IfSome};
 ghost use Rattle.sim_base.specs.declared.message.Request.{Request};
-ghost use Rattle.lane_scan.specs.Marks.{is_match};
-ghost use Rattle.queue.specs.Columns.{bank_number, key_mask, key_wanted};
-ghost use Rattle.heads.specs.Heads.{wants, passes, first_place, RowsFit, NoneWaits, kind_number};
+ghost use Rattle.heads.specs.Heads.{asks, wants, first_place, NoneWaits, kind_number};
 ghost use Rattle.heads.specs.Moves.{NoneBefore};
+ghost use Rattle.heads.specs.Places.{IsShort};
 
 use crate::entry::{bank_number, past};
-use lane_scan::first_matching;
-use queue::{Queue, key_word};
+use memchr::memchr;
+use queue::{Queue, tag_word};
 use sim_base::message::Request;
 
 /// The place that a request of a bank has left.
@@ -19,9 +18,12 @@ pub(crate) struct Gap {
     pub(crate) bank: usize,
     /// Whether it is known that no request of the bank and a kind waited for an older one of its line.
     pub(crate) calm: bool,
+    /// Whether it is known that no request of the bank and a kind is left.
+    pub(crate) empty: bool,
 }
 
 /// Whether a request is of a bank and a kind, and asks for a row if one is given.
+#[inline(always)]
 fn is_wanted(request: Request, bank: usize, write: bool, row: Option<u32>) -> bool
     ensures { result ≡ wants bank write row request }
 {
@@ -32,37 +34,16 @@ fn is_wanted(request: Request, bank: usize, write: bool, row: Option<u32>) -> bo
     }
 }
 
-/// The bits of a key that a search asks for: those of a bank and a kind, and those of a row, if one is given.
-fn mask(row: Option<u32>) -> u64
-    ensures { result ≡ key_mask true (is_some row) }
+/// Whether a request asks for a row.
+#[inline(always)]
+fn asks_for_row(request: Request, row: u32) -> bool
+    ensures { result ≡ (request.place.row == row) }
 {
-    let row_bits = if row.is_some() { u32::MAX } else { 0 };
-    key_word(true, true, (1 << 30) - 1, row_bits)
+    request.place.row == row
 }
 
-/// What a search wants of these bits.
-fn wanted(bank: usize, write: bool, row: Option<u32>) -> u64
-    ensures word { result ≡ key_wanted true (is_some row) write (bank % 2 ^ 30) (unwrap_or row 0) }
-    ensures row { unwrap_or row 0 < 2 ^ 32 }
-{
-    let bank = bank as u64 % (1 << 30);
-    key_word(true, write, bank, row.unwrap_or(0))
-}
-
-/// The first place from `from` on whose word is as wanted; that past the last word, if there is none.
-fn next_matching(words: &[u64], from: usize, mask: u64, want: u64) -> usize
-    requires { from ≤ length words.now }
-    ensures from { from ≤ result }
-    ensures none { (k : ℕ) → from ≤ k → k < result → k < length words.now → is_match mask want (slice_index_or words.now k 0) ≡ false }
-{
-    match first_matching(&words[from..], mask, want) {
-        Some(next) => from + next,
-        None => words.len(),
-    }
-}
-
-/// The first request from a place on that may be served, is of a bank and a kind, and asks for a row if one is given. The key of
-/// each such request is as wanted, and the keys of others mostly are not.
+/// The first request from a place on that may be served, is of a bank and a kind, and asks for a row if one is given. The tag of
+/// each such request is the one searched for, and the tags of others mostly are not.
 pub(crate) fn first_from(
     queue: &Queue,
     from: usize,
@@ -70,21 +51,44 @@ pub(crate) fn first_from(
     write: bool,
     row: Option<u32>,
 ) -> Option<usize>
-    ensures { RowsFit queue.now.requests → NoneBefore (wants bank write row) queue.now.requests from → result ≡ first_place (wants bank write row) queue.now.requests }
+    ensures first { NoneBefore (wants bank write row) queue.now.requests from → result ≡ first_place (wants bank write row) queue.now.requests }
+    ensures within { IfSome result (λ k. k < length queue.now.requests) }
 {
     let requests = queue.requests();
-    let marks = queue.eligible();
-    let keys = queue.keys();
-    let mask = mask(row);
-    let want = wanted(bank, write, row);
+    let tags = queue.tags();
+    let tag = tag_word(true, write, bank as u64);
     let mut at = from;
-    while at < requests.len() {
-        if marks[at] == 1 && is_wanted(requests[at], bank, write, row) {
+    while at < tags.len() {
+        let Some(next) = memchr(tag, &tags[at..]) else {
+            return None;
+        };
+        at += next;
+        if is_wanted(requests[at], bank, write, row) {
             return Some(at);
         }
-        at = next_matching(keys, at + 1, mask, want);
+        at += 1;
     }
     None
+}
+
+/// The first such request that asks for a row, where the first of them all is known: that one, or one behind it.
+pub(crate) fn first_hit(
+    queue: &Queue,
+    oldest: usize,
+    bank: usize,
+    write: bool,
+    row: u32,
+) -> Option<usize>
+    requires short { oldest < 2 ^ 16 - 1 }
+    requires queue { length queue.now.requests < 2 ^ 16 - 1 }
+    ensures first { Some oldest ≡ first_place (asks bank write) queue.now.requests → result ≡ first_place (wants bank write (Some row)) queue.now.requests }
+    ensures short { IsShort result }
+{
+    let requests = queue.requests();
+    if oldest < requests.len() && asks_for_row(requests[oldest], row) {
+        return Some(oldest);
+    }
+    first_from(queue, oldest + 1, bank, write, Some(row))
 }
 
 /// The first such request, once one of its bank has left the queue: the same as before, if that stands before the place that
@@ -98,9 +102,12 @@ pub(crate) fn next_place(
     write: bool,
     row: Option<u32>,
 ) -> Option<usize>
-    ensures { (earlier : List Request) → gap.slot < length earlier → queue.now.requests ≡ remove earlier gap.slot → RowsFit queue.now.requests
+    requires short { IsShort head }
+    requires queue { length queue.now.requests < 2 ^ 16 - 1 }
+    ensures first { (earlier : List Request) → gap.slot < length earlier → queue.now.requests ≡ remove earlier gap.slot
         → (gap.calm ≡ true → NoneWaits (kind_number gap.bank write) earlier) → NoneBefore (wants gap.bank write row) queue.now.requests least
         → head ≡ first_place (wants gap.bank write row) earlier → result ≡ first_place (wants gap.bank write row) queue.now.requests }
+    ensures short { IsShort result }
 {
     if gap.calm && head != Some(gap.slot) {
         return past(gap.slot, head);

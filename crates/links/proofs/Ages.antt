@@ -1,5 +1,5 @@
 -- Messages by age: two that differ in arrival or link can be put in in either order, and a list in order stays as it is.
-use Rattle.std.proofs.Common.{ℕ, ◌≡◌, Bool, true, false, ◌&&◌, eqb, List, [], ◌∷◌, ◌++◌, refl, sym, ap, ◌∙◌, append-nil, append_assoc, arith}
+use Rattle.std.proofs.Common.{◌≡◌, Bool, true, false, ◌&&◌, eqb, List, [], ◌∷◌, ◌++◌, refl, sym, ap, ◌∙◌, append-nil, append_assoc, arith}
 use Rattle.std.specs.List.{AllByRecursion as Each}
 use Rattle.std.proofs.lemmas.Bool.{cond_both, cond-true, cond-false}
 use Rattle.std.proofs.lemmas.Bool.Decides.{nat_tests}

@@ -1,15 +1,14 @@
 -- The least arrival, unit by unit.
-use Rattle.std.proofs.Common.{ℕ, ◌+◌, ◌^◌, ◌<◌, ◌≤◌, ◌≡◌, Bool, true, false, not, ◌&&◌, ◌||◌, cond, eqb, ltb, leb, min, List, [], ◌∷◌, Option, Some, None, refl, sym, ap, ◌∙◌, subst, inl, inr, ◌⊎◌, arith}
+use Rattle.std.proofs.Common.{ℕ, ◌+◌, ◌^◌, ◌<◌, ◌≤◌, ◌≡◌, Bool, true, false, ◌&&◌, ◌||◌, eqb, leb, min, List, [], ◌∷◌, length, Option, Some, None, refl, sym, ap, ◌∙◌, subst, inl, inr, ◌⊎◌, arith}
 use Rattle.std.specs.Prelude.{All, Any}
 use Rattle.std.specs.Option.{option_map_or, IfSome, IsSomeAnd, IsNone}
 use Rattle.std.specs.List.{AllByRecursion as Each, list_any}
 use Rattle.std.specs.List.Sorted.{IsStrictlySortedBy}
 use Rattle.std.specs.Map.{keys_of, values_of}
-use Rattle.std.specs.Ordering.{nat_cmp, ordering_then, is_le, is_gt}
-use Rattle.std.specs.declared.cmp.Ordering.{Ordering}
-use Rattle.std.specs.declared.cmp.Ordering.TheVariants.{Less, Equal, Greater}
+use Rattle.std.specs.Ordering.{is_le, is_gt}
+use Rattle.std.specs.declared.cmp.Ordering.TheVariants.{Less}
 use Rattle.std.proofs.lemmas.Cmp.{tied_itself}
-use Rattle.std.proofs.lemmas.Bool.{cond_both, cond-true, cond-false, le-leb, leb-true, leb-false, eqb-true, eq-eqb, cases_lt, or_left, or_right, both_ways, true≢false}
+use Rattle.std.proofs.lemmas.Bool.{cond_both, leb-true, leb-false, eqb-true, eq-eqb, cases_lt, or_left, or_right, both_ways, true≢false}
 use Rattle.std.proofs.lemmas.Bool.Decides.{nat_tests}
 use Rattle.std.proofs.lemmas.List.Elements.{All-nil, All-cons}
 use Rattle.std.proofs.lemmas.List.Folds.{Any-from_list_any}
@@ -19,7 +18,7 @@ use Rattle.sim_base.specs.declared.message.Message.{Message}
 use Rattle.sim_base.proofs.Arrived.{put, puts, by_age-puts, Each-by_age}
 use Rattle.sim_base.proofs.Ordered.{Each-weaker}
 use Rattle.links.specs.declared.flight.Key.{Key}
-use Rattle.links.specs.Filing.{key_of, key_cmp, first_key, IsFiled, AreFiled, from_key}
+use Rattle.links.specs.Filing.{key_cmp, first_key, IsFiled, AreFiled, from_key}
 use Rattle.links.proofs.Filed.{key_cmp_total}
 use Rattle.links.proofs.Taken.{first_of}
 use Rattle.links.proofs.Due.{is_le-first}
@@ -189,3 +188,14 @@ pub empty_where_none : (least : Option ℕ) (ms : List Message) → Each (λ (m 
 empty_where_none None [] h e = by_age-puts []
 empty_where_none None (m ∷ ms) h e = absurd h.0
 empty_where_none (Some a) ms h e = absurd (true≢false e)
+
+-- nothing is filed where nothing is in flight, and only there
+pub empty_from_none : (es : List (Key × Message)) → length es ≡ 0 → by_age (values_of es) ≡ []
+empty_from_none [] h = by_age-puts []
+empty_from_none (e ∷ es) h = absurd (omega arith)
+
+pub none_from_empty : (es : List (Key × Message)) → by_age (values_of es) ≡ [] → length es ≡ 0
+none_from_empty [] h = refl
+none_from_empty (e ∷ es) h =
+    let p = λ (m : Message). true in
+    absurd (true≢false (sym (list_any-by_age p (values_of (e ∷ es))) ∙ ap (list_any p) h))

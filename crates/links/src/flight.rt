@@ -1,6 +1,6 @@
 //! The messages in flight.
 
-ghost use Rattle.std.specs.Prelude.{◌≡◌, ◌+◌, ◌<◌, ◌^◌, ◌*◌, [], length, filter, fold, not, min, slice_get, All, Any, ◌↔◌, ◌≤◌, IsNone, IfSome, IfOk, OnOk, OnErr, IsOkAnd};
+ghost use Rattle.std.specs.Prelude.{◌≡◌, ◌+◌, ◌<◌, ◌^◌, ◌*◌, [], length, filter, fold, not, min, slice_get, All, Any, ◌↔◌, ◌≤◌, IsTrue, IsNone, IfSome, IfOk, OnOk, OnErr, IsOkAnd};
 ghost use Rattle.std.specs.Option.{option_map, option_map_or};
 ghost use Rattle.std.specs.Map.{values_of};
 ghost use Rattle.std.specs.BTreeMap.{values, IsOrdered};
@@ -270,6 +270,13 @@ impl Links {
         let mut all = Vec::new(alloc);
         insert_all(&mut all, &filed)?;
         Ok(all)
+    }
+
+    /// Whether nothing is in flight.
+    pub fn is_empty(&self) -> bool
+        ensures { IsTrue result ↔ (self.now.messages ≡ []) }
+    {
+        self.flight.is_empty()
     }
 
     /// The least arrival of a message in flight; none, where none is in flight.

@@ -117,6 +117,7 @@ fn short_links_overtake(rt: HostRuntime) -> Result<(), Fail> {
     let config = machine(alloc, "cores = 1\nchannels = 1\n", own)?;
     assert_eq!(rt; shortest(&config), 1);
     let mut links = Links::start(alloc, &config)?;
+    assert!(rt; links.is_empty());
     assert_eq!(rt; links.next_arrival(), None);
     // Sent in cycles 10 and 11.
     let reply = message(1, 10 + u64::from(config.latency(1)), 0);
@@ -128,9 +129,11 @@ fn short_links_overtake(rt: HostRuntime) -> Result<(), Fail> {
     let both = take_again(alloc, &mut links, Unit::Core(0), 0, 20)?;
     assert_eq!(rt; both.as_slice(), [credit, reply].as_slice());
     assert_eq!(rt; reply.arrival, 19);
+    assert!(rt; !links.is_empty());
     assert_eq!(rt; links.next_arrival(), Some(13));
     let last = take_again(alloc, &mut links, Unit::Channel(0), 13, 14)?;
     assert_eq!(rt; last.as_slice(), [request].as_slice());
+    assert!(rt; links.is_empty());
     assert_eq!(rt; links.next_arrival(), None);
     Ok(())
 }

@@ -1,9 +1,9 @@
 -- A list without its first items.
 use Rattle.std.proofs.Common.{◌≡◌, ℕ, zero, suc, ◌+◌, ◌-◌, ◌<◌, ◌≤◌, List, [], ◌∷◌, ◌++◌, length, length-append, get_or, take, drop, set, refl, sym, ap, ◌∙◌, append_assoc, arith}
-use Rattle.std.proofs.lemmas.List.{append-nil, length_push, drop_at, drop_more, drop-append-le, get_or-take, get_or_append_left, get_or_default, length-take-le, length-drop, set-append_right, take_all, take_more, take-take, drop-drop, get_or-drop, take_at, take-append-le}
+use Rattle.std.proofs.lemmas.List.{append-nil, length_push, drop_all, drop_at, drop_more, drop-append-le, get_or-take, get_or_append_left, get_or_default, length-take-le, length-drop, set-append_right, take_all, take_more, take-take, drop-drop, get_or-drop, take_at, take-append-le}
 use Rattle.std.proofs.Math.Seq.{get_or-append_right, take-append-add}
 use Rattle.std.proofs.lemmas.List.Edits.{length-remove}
-use Rattle.std.specs.List.{remove}
+use Rattle.std.specs.List.{remove, copy_within}
 use Rattle.queue.specs.Aged.{IsMovedUp, IsMovedDown}
 
 remove_none : {X : Type 0} (at : ℕ) → remove {X = X} [] at ≡ []
@@ -193,3 +193,21 @@ dropped_down place n xs now turn written shorter same exists some down written_i
     ∙ take-append-add (take place now) (turn ++ drop n left) (n - 1)
     ∙ ap (λ ys. take place now ++ ys) (take-append-le (n - 1) turn (drop n left) (omega (arith, turn_long)) ∙ turn_is)
     ∙ ap (λ ys. take place ys ++ drop (suc place) ys) same
+
+-- all items but the last are copied up by a place
+pub copied_up : {X : Type 0} (xs : List X) → 0 < length xs → drop 1 (copy_within xs 0 (length xs - 1) 1) ≡ take (length xs - 1) xs
+copied_up xs some =
+    let last = length xs - 1 in
+    let moved = take 1 xs ++ take (last - 0) xs in
+    let whole : last - 0 ≡ last = omega arith in
+    ap (λ ys. drop 1 (moved ++ ys)) (drop_all (1 + (last - 0)) xs (omega arith))
+    ∙ ap (drop 1) (append-nil moved)
+    ∙ drop_at (take 1 xs) (take (last - 0) xs) 1 (length-take-le 1 xs (omega arith))
+    ∙ ap (λ n. take n xs) whole
+
+-- all items but the first are copied down by a place
+pub copied_down : {X : Type 0} (xs : List X) → take (length xs - 1) (copy_within xs 1 (length xs) 0) ≡ drop 1 xs
+copied_down xs =
+    let last = length xs - 1 in
+    let moved = take_all last (drop 1 xs) (omega (arith, length-drop 1 xs)) in
+    ap (λ ys. take last (ys ++ drop (0 + last) xs)) moved ∙ take_at (drop 1 xs) (drop (0 + last) xs) last (length-drop 1 xs)

@@ -8,10 +8,9 @@ use mir.Val.{bool_byte}
 use Rattle.sim_base.specs.Scheduling.{asks_for_line}
 use Rattle.sim_base.specs.declared.message.Request.{Request}
 use Rattle.std.specs.Simd.Lanes.{zip2}
-use Rattle.std.proofs.lemmas.Simd.{length-zip2}
 use Rattle.lane_scan.specs.Marks.{mark, is_marked}
-use Rattle.queue.specs.Columns.{eligible_column, key_column, key_of, keys_of, waiting_count, write_count}
-use Rattle.queue.proofs.Eligible.{eligible_push, length-eligible}
+use Rattle.queue.specs.Columns.{eligible_column, tag_column, tag_of, tags_of, waiting_count, write_count}
+use Rattle.queue.proofs.Eligible.{eligible_push}
 
 pub map_pushed : (f : Request → ℕ) (column longer : List ℕ) (rs more : List Request) (r : Request) (word : ℕ) → column ≡ map f rs → longer ≡ column ++ word ∷ [] → word ≡ f r
     → more ≡ rs ++ r ∷ [] → longer ≡ map f more
@@ -31,10 +30,9 @@ pub byte_is : (b : Bool) → bool_byte b ≡ cond b 1 0
 byte_is true = refl
 byte_is false = refl
 
-pub writes_pushed : (rs more : List Request) (r : Request) (writes byte : ℕ) → writes ≡ write_count rs → byte ≡ bool_byte r.write → more ≡ rs ++ r ∷ []
-    → writes + byte ≡ write_count more
-writes_pushed rs more r writes byte is byte_is_one more_is =
-    (λ i. is i + (byte_is_one ∙ byte_is r.write) i) ∙ sym (sum_by_push (λ x. cond x.write 1 0) rs r) ∙ ap write_count (sym more_is)
+pub writes_pushed : (rs more : List Request) (r : Request) (writes : ℕ) → writes ≡ write_count rs → more ≡ rs ++ r ∷ [] → writes + cond r.write 1 0 ≡ write_count more
+writes_pushed rs more r writes is more_is =
+    ap (λ n. n + cond r.write 1 0) is ∙ sym (sum_by_push (λ x. cond x.write 1 0) rs r) ∙ ap write_count (sym more_is)
 
 map-remove : (f : Request → ℕ) (rs : List Request) (i : ℕ) → map f (remove rs i) ≡ remove (map f rs) i
 map-remove f rs n =
@@ -45,12 +43,10 @@ pub map_removed : (f : Request → ℕ) (column shorter : List ℕ) (rs fewer : 
 map_removed f column shorter rs fewer n is shorter_is fewer_is =
     shorter_is ∙ ap (λ xs. remove xs n) is ∙ sym (map-remove f rs n) ∙ ap (map f) (sym fewer_is)
 
-pub writes_removed : (rs fewer : List Request) (r : Request) (n writes byte : ℕ) → n < length rs → r ≡ get_or rs n r → writes ≡ write_count rs → byte ≡ bool_byte r.write
-    → fewer ≡ remove rs n → write_count fewer + byte ≡ writes
-writes_removed rs fewer r n writes byte exists here is byte_is_one fewer_is =
-    (λ i. write_count (fewer_is i) + (byte_is_one ∙ byte_is r.write ∙ ap (λ x. cond x.write 1 0) here) i)
-    ∙ sum_by-remove (λ x. cond x.write 1 0) rs n r exists
-    ∙ sym is
+pub writes_removed : (rs fewer : List Request) (r : Request) (n writes : ℕ) → n < length rs → r ≡ get_or rs n r → writes ≡ write_count rs → fewer ≡ remove rs n
+    → write_count fewer + cond r.write 1 0 ≡ writes
+writes_removed rs fewer r n writes exists here is fewer_is =
+    (λ i. write_count (fewer_is i) + cond (ap (λ (x : Request). x.write) here i) 1 0) ∙ sum_by-remove (λ x. cond x.write 1 0) rs n r exists ∙ sym is
 
 zip2-push : {X Y Z : Type 0} (f : X → Y → Z) (xs : List X) (ys : List Y) (x : X) (y : Y) → length xs ≡ length ys → zip2 f (xs ++ x ∷ []) (ys ++ y ∷ []) ≡ zip2 f xs ys ++ f x y ∷ []
 zip2-push f [] [] x y same = refl
@@ -82,33 +78,33 @@ marked_mark : (b : Bool) → is_marked (mark b) ≡ b
 marked_mark true = refl
 marked_mark false = refl
 
-abbrev key_at : Request → ℕ → ℕ
-key_at r eligible = key_of (is_marked eligible) r
+abbrev tag_at : Request → ℕ → ℕ
+tag_at r eligible = tag_of (is_marked eligible) r
 
--- the keys with one of the requests more
-pub keys_pushed : (column longer : List ℕ) (rs more : List Request) (marks longer_marks : List ℕ) (r : Request) (word mark_word : ℕ) (marked : Bool) → column ≡ keys_of rs marks
-    → length rs ≡ length marks → longer ≡ column ++ word ∷ [] → word ≡ key_of marked r → mark_word ≡ mark marked → more ≡ rs ++ r ∷ [] → longer_marks ≡ marks ++ mark_word ∷ []
-    → longer ≡ keys_of more longer_marks
-keys_pushed column longer rs more marks longer_marks r word mark_word marked is same pushed word_is mark_is more_is marks_are =
+-- the tags with one of the requests more
+pub tags_pushed : (column longer : List ℕ) (rs more : List Request) (marks longer_marks : List ℕ) (r : Request) (word mark_word : ℕ) (marked : Bool) → column ≡ tags_of rs marks
+    → length rs ≡ length marks → longer ≡ column ++ word ∷ [] → word ≡ tag_of marked r → mark_word ≡ mark marked → more ≡ rs ++ r ∷ [] → longer_marks ≡ marks ++ mark_word ∷ []
+    → longer ≡ tags_of more longer_marks
+tags_pushed column longer rs more marks longer_marks r word mark_word marked is same pushed word_is mark_is more_is marks_are =
     pushed
-    ∙ (λ i. is i ++ (word_is ∙ (λ j. key_of (sym (marked_mark marked) j) r) ∙ ap (key_at r) (sym mark_is)) i ∷ [])
-    ∙ sym (zip2-push key_at rs marks r mark_word same)
-    ∙ (λ i. zip2 key_at (sym more_is i) (sym marks_are i))
+    ∙ (λ i. is i ++ (word_is ∙ (λ j. tag_of (sym (marked_mark marked) j) r) ∙ ap (tag_at r) (sym mark_is)) i ∷ [])
+    ∙ sym (zip2-push tag_at rs marks r mark_word same)
+    ∙ (λ i. zip2 tag_at (sym more_is i) (sym marks_are i))
 
--- the keys without one of the requests
-pub keys_removed : (column shorter : List ℕ) (rs fewer : List Request) (marks left : List ℕ) (n : ℕ) → column ≡ keys_of rs marks → shorter ≡ remove column n → fewer ≡ remove rs n
-    → left ≡ remove marks n → shorter ≡ keys_of fewer left
-keys_removed column shorter rs fewer marks left n is shorter_is fewer_is left_is =
-    shorter_is ∙ ap (λ xs. remove xs n) is ∙ sym (zip2-remove key_at n rs marks) ∙ (λ i. zip2 key_at (sym fewer_is i) (sym left_is i))
+-- the tags without one of the requests
+pub tags_removed : (column shorter : List ℕ) (rs fewer : List Request) (marks left : List ℕ) (n : ℕ) → column ≡ tags_of rs marks → shorter ≡ remove column n → fewer ≡ remove rs n
+    → left ≡ remove marks n → shorter ≡ tags_of fewer left
+tags_removed column shorter rs fewer marks left n is shorter_is fewer_is left_is =
+    shorter_is ∙ ap (λ xs. remove xs n) is ∙ sym (zip2-remove tag_at n rs marks) ∙ (λ i. zip2 tag_at (sym fewer_is i) (sym left_is i))
 
--- the keys where one request more may be served
-pub keys_turned : (column changed : List ℕ) (rs : List Request) (marks : List ℕ) (p : ℕ) (d : Request) → column ≡ keys_of rs marks
-    → changed ≡ set column p (key_of true (get_or rs p d)) → changed ≡ keys_of rs (set marks p 1)
-keys_turned column changed rs marks p d is changed_is = changed_is ∙ ap (λ xs. set xs p (key_of true (get_or rs p d))) is ∙ zip2-set key_at p rs marks 1 d
+-- the tags where one request more may be served
+pub tags_turned : (column changed : List ℕ) (rs : List Request) (marks : List ℕ) (p : ℕ) (d : Request) → column ≡ tags_of rs marks
+    → changed ≡ set column p (tag_of true (get_or rs p d)) → changed ≡ tags_of rs (set marks p 1)
+tags_turned column changed rs marks p d is changed_is = changed_is ∙ ap (λ xs. set xs p (tag_of true (get_or rs p d))) is ∙ zip2-set tag_at p rs marks 1 d
 
-pub keys_again : (column : List ℕ) (rs : List Request) (marks : List ℕ) → column ≡ keys_of rs marks → marks ≡ eligible_column rs → column ≡ key_column rs
-unfolding key_column
-keys_again column rs marks is marks_are = is ∙ ap (keys_of rs) marks_are
+pub tags_again : (column : List ℕ) (rs : List Request) (marks : List ℕ) → column ≡ tags_of rs marks → marks ≡ eligible_column rs → column ≡ tag_column rs
+unfolding tag_column
+tags_again column rs marks is marks_are = is ∙ ap (tags_of rs) marks_are
 
 first_marked : (word rest : ℕ) → cond (not (eqb word 1)) 1 0 + rest ≡ 0 → (word ≡ 1) × (rest ≡ 0)
 first_marked word rest none = elim (cases_Bool (eqb word 1)) [
@@ -150,7 +146,3 @@ pub waiting_removed : (marks left : List ℕ) (n word : ℕ) → n < length mark
     → waiting_count left + cond (not (eqb word 1)) 1 0 ≡ waiting_count marks
 waiting_removed marks left n word below here left_is =
     (λ i. waiting_count (left_is i) + cond (not (eqb (here i) 1)) 1 0) ∙ sum_by-remove (λ x. cond (not (is_marked x)) 1 0) marks n word below
-
-pub length_keys : (rs : List Request) → length (key_column rs) ≡ length rs
-unfolding key_column
-length_keys rs = length-zip2 key_at rs (eligible_column rs) (sym (length-eligible rs))

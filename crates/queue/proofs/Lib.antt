@@ -1,7 +1,7 @@
 pub mod SameLine
 pub mod Eligible
 pub mod Kept
-pub mod Keys
+pub mod Tags
 pub mod Served
 pub mod Dropped
 pub mod Counted

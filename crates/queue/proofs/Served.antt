@@ -1,13 +1,13 @@
 -- A queue that one request has left keeps what it counts.
-use Rattle.std.proofs.Common.{◌≡◌, ℕ, ◌+◌, ◌-◌, ◌<◌, true, false, eqb, length, drop, get_or, set, sym, ap, ◌∙◌, arith}
+use Rattle.std.proofs.Common.{◌≡◌, ℕ, ◌+◌, ◌-◌, ◌<◌, Bool, true, false, cond, eqb, length, drop, get_or, set, sym, ap, ◌∙◌, arith}
 use Rattle.std.proofs.lemmas.List.Edits.{length-remove}
 use Rattle.std.specs.List.{remove, position_or_len}
-use mir.Val.{bool_byte}
 use Rattle.sim_base.specs.Places.{is_line}
 use Rattle.sim_base.specs.declared.message.Request.{Request}
 use Rattle.queue.specs.declared.Queue.TheInside.{Inside}
 use Rattle.queue.specs.Columns.{eligible_column, waiting_count, slot_count, AreCounted}
 use Rattle.queue.specs.Kept.{AreKept}
+use Rattle.queue.specs.View.{drains_by}
 use Rattle.queue.proofs.Eligible.{served}
 use Rattle.queue.proofs.Kept.{writes_removed}
 
@@ -19,6 +19,10 @@ pub record IsServed (q s : Inside) (n : ℕ) (r : Request) (word done : ℕ) : T
   pub room : s.room ≡ q.room
   pub places : s.aged.room ≡ q.aged.room
   pub writes : s.writes ≡ q.writes
+  pub high : s.high ≡ q.high
+  pub low : s.low ≡ q.low
+  pub settled : s.settled ≡ q.settled
+  pub drains : s.drains ≡ q.drains
   pub requests : s.aged.requests ≡ remove q.aged.requests n
   pub turn : eqb word 1 ≡ true → s.aged.marks ≡ set (remove q.aged.marks n) (n + position_or_len (λ x. is_line x.place r.place) (drop n (remove q.aged.requests n))) 1
   pub no_turn : eqb word 1 ≡ false → s.aged.marks ≡ remove q.aged.marks n
@@ -36,16 +40,22 @@ eligible_left q s n r word done kept left =
     (λ no. left.no_turn no ∙ ap (λ xs. remove xs n) kept.eligible_are)
     ∙ ap eligible_column (sym left.requests)
 
-pub served_kept : (q s : Inside) (n : ℕ) (r : Request) (word done byte : ℕ) → AreKept q → IsServed q s n r word done → byte ≡ bool_byte r.write
-    → AreKept (record s { waiting = s.waiting - done; writes = s.writes - byte })
-served_kept q s n r word done byte kept left byte_is = record {
+pub served_kept : (q s : Inside) (n : ℕ) (r : Request) (word done writes : ℕ) (drains : Bool) → AreKept q → IsServed q s n r word done → writes + cond r.write 1 0 ≡ s.writes
+    → drains ≡ drains_by s.high s.low s.settled writes
+    → AreKept (record s { waiting = s.waiting - done; writes = writes; drains = drains })
+served_kept q s n r word done writes drains kept left fewer drains_is = record {
   eligible_are = eligible_left q s n r word done kept left;
   waiting_are = omega (arith, left.waited);
   masked = omega (arith, kept.masked, left.mask, left.long);
   lines_are = λ slot below. left.counted slot below ∙ (λ i. slot_count (sym left.mask i) (sym left.requests i) slot);
-  writes_are =
-      let counted = writes_removed q.aged.requests s.aged.requests r n q.writes byte left.exists left.request kept.writes_are byte_is left.requests in
-      omega (arith, counted, left.writes);
+  writes_are = omega (arith, writes_removed q.aged.requests s.aged.requests r n q.writes left.exists left.request kept.writes_are left.requests, fewer, left.writes);
+  drains_are = drains_is;
   within = omega (arith, ap length left.requests, length-remove q.aged.requests n left.exists, kept.within, left.room);
   enough = omega (arith, kept.enough, left.places, left.room);
+  short = omega (arith, kept.short, left.room);
 }
+
+-- where no write went, nothing is new of the drain
+pub drains_still : (q s : Inside) (n : ℕ) (r : Request) (word done : ℕ) → AreKept q → IsServed q s n r word done → s.drains ≡ drains_by s.high s.low s.settled s.writes
+drains_still q s n r word done kept left =
+    left.drains ∙ kept.drains_are ∙ (λ i. drains_by (sym left.high i) (sym left.low i) (sym left.settled i) (sym left.writes i))

@@ -3,15 +3,15 @@
 ghost use Rattle.std.specs.Prelude.{◌≡◌, ◌+◌, ◌-◌, ◌<◌, ◌≤◌, ◌++◌, [], ◌∷◌, IfOk, drop, take, length, remove, slice_index_or, slice_set, vec_len, vec_capacity};
 ghost use Rattle.lane_scan.specs.Marks.{mark};
 ghost use Rattle.queue.specs.Aged.{AgedRequests, IsMovedUp, IsMovedDown};
-ghost use Rattle.queue.specs.Columns.{bank_column, row_column, kind_column, keys_of, print_column};
+ghost use Rattle.queue.specs.Columns.{bank_column, row_column, kind_column, tags_of, print_column};
 
-use crate::columns::{bank_number, key, line_print, mark};
+use crate::columns::{bank_number, line_print, mark, tag};
 use sim_base::message::Request;
 use std::alloc::{AllocError, Global};
 use std::marker::Model;
 
 /// A move of this many places or more is left to the one that is fast on long ones.
-const LONG_MOVE: usize = 18;
+const LONG_MOVE: usize = 12;
 
 /// Takes out the first items.
 fn remove_front<T: Copy + Drop>(items: &mut Vec<T>, count: usize)
@@ -29,22 +29,41 @@ fn remove_front<T: Copy + Drop>(items: &mut Vec<T>, count: usize)
     items.truncate(len);
 }
 
-/// Moves all items but the last one up by a place, over it.
+/// Moves all words but the last one up by a place, over it.
 #[inline(always)]
-fn move_up<T>(items: &mut [T])
+fn move_up<T: Copy>(items: &mut [T])
     requires { 0 < length items.old }
     ensures { IsMovedUp items.old items.new }
 {
-    items.rotate_right(1);
+    let last = items.len() - 1;
+    items.copy_within(..last, 1);
 }
 
-/// Moves all items but the first one down by a place, over it.
+/// Moves all words but the first one down by a place, over it.
 #[inline(always)]
-fn move_down<T>(items: &mut [T])
+fn move_down<T: Copy>(items: &mut [T])
     requires { 0 < length items.old }
     ensures { IsMovedDown items.old items.new }
 {
-    items.rotate_left(1);
+    items.copy_within(1.., 0);
+}
+
+/// Moves all requests but the last one up by a place, over it. They are long, and turned as one block.
+#[inline(always)]
+fn move_requests_up(requests: &mut [Request])
+    requires { 0 < length requests.old }
+    ensures { IsMovedUp requests.old requests.new }
+{
+    requests.rotate_right(1);
+}
+
+/// Moves all requests but the first one down by a place, over it. They are long, and turned as one block.
+#[inline(always)]
+fn move_requests_down(requests: &mut [Request])
+    requires { 0 < length requests.old }
+    ensures { IsMovedDown requests.old requests.new }
+{
+    requests.rotate_left(1);
 }
 
 /// Moves all items of each list but the last one up by a place, over it.
@@ -55,7 +74,7 @@ fn move_each_up(
     rows: &mut [u64],
     kinds: &mut [u64],
     eligible: &mut [u64],
-    keys: &mut [u64],
+    tags: &mut [u8],
     prints: &mut [u8],
 )
     requires some { 0 < length requests.old }
@@ -63,23 +82,23 @@ fn move_each_up(
     requires rows_long { length rows.old ≡ length requests.old }
     requires kinds_long { length kinds.old ≡ length requests.old }
     requires eligible_long { length eligible.old ≡ length requests.old }
-    requires keys_long { length keys.old ≡ length requests.old }
+    requires tags_long { length tags.old ≡ length requests.old }
     requires prints_long { length prints.old ≡ length requests.old }
     ensures requests { IsMovedUp requests.old requests.new }
     ensures banks { IsMovedUp banks.old banks.new }
     ensures rows { IsMovedUp rows.old rows.new }
     ensures kinds { IsMovedUp kinds.old kinds.new }
     ensures eligible { IsMovedUp eligible.old eligible.new }
-    ensures keys { IsMovedUp keys.old keys.new }
+    ensures tags { IsMovedUp tags.old tags.new }
     ensures prints { IsMovedUp prints.old prints.new }
 {
     if LONG_MOVE < requests.len() {
-        move_up(requests);
+        move_requests_up(requests);
         move_up(banks);
         move_up(rows);
         move_up(kinds);
         move_up(eligible);
-        move_up(keys);
+        move_up(tags);
         move_up(prints);
         return;
     }
@@ -91,7 +110,7 @@ fn move_each_up(
         rows[at] = rows[below];
         kinds[at] = kinds[below];
         eligible[at] = eligible[below];
-        keys[at] = keys[below];
+        tags[at] = tags[below];
         prints[at] = prints[below];
         at = below;
     }
@@ -105,7 +124,7 @@ fn move_each_down(
     rows: &mut [u64],
     kinds: &mut [u64],
     eligible: &mut [u64],
-    keys: &mut [u64],
+    tags: &mut [u8],
     prints: &mut [u8],
 )
     requires some { 0 < length requests.old }
@@ -113,23 +132,23 @@ fn move_each_down(
     requires rows_long { length rows.old ≡ length requests.old }
     requires kinds_long { length kinds.old ≡ length requests.old }
     requires eligible_long { length eligible.old ≡ length requests.old }
-    requires keys_long { length keys.old ≡ length requests.old }
+    requires tags_long { length tags.old ≡ length requests.old }
     requires prints_long { length prints.old ≡ length requests.old }
     ensures requests { IsMovedDown requests.old requests.new }
     ensures banks { IsMovedDown banks.old banks.new }
     ensures rows { IsMovedDown rows.old rows.new }
     ensures kinds { IsMovedDown kinds.old kinds.new }
     ensures eligible { IsMovedDown eligible.old eligible.new }
-    ensures keys { IsMovedDown keys.old keys.new }
+    ensures tags { IsMovedDown tags.old tags.new }
     ensures prints { IsMovedDown prints.old prints.new }
 {
     if LONG_MOVE < requests.len() {
-        move_down(requests);
+        move_requests_down(requests);
         move_down(banks);
         move_down(rows);
         move_down(kinds);
         move_down(eligible);
-        move_down(keys);
+        move_down(tags);
         move_down(prints);
         return;
     }
@@ -142,7 +161,7 @@ fn move_each_down(
         rows[at] = rows[above];
         kinds[at] = kinds[above];
         eligible[at] = eligible[above];
-        keys[at] = keys[above];
+        tags[at] = tags[above];
         prints[at] = prints[above];
         at = above;
     }
@@ -173,7 +192,7 @@ pub(crate) struct Aged {
     kinds: Vec<u64>,
     /// The marks.
     eligible: Vec<u64>,
-    keys: Vec<u64>,
+    tags: Vec<u8>,
     prints: Vec<u8>,
 }
 
@@ -205,7 +224,7 @@ impl Aged {
             rows: Vec::with_capacity(alloc, places)?,
             kinds: Vec::with_capacity(alloc, places)?,
             eligible: Vec::with_capacity(alloc, places)?,
-            keys: Vec::with_capacity(alloc, places)?,
+            tags: Vec::with_capacity(alloc, places)?,
             prints: Vec::with_capacity(alloc, places)?,
         })
     }
@@ -256,10 +275,10 @@ impl Aged {
     }
 
     #[inline(always)]
-    pub(crate) fn keys(&self) -> &[u64]
-        ensures { result.now ≡ keys_of self.now.requests self.now.marks }
+    pub(crate) fn tags(&self) -> &[u8]
+        ensures { result.now ≡ tags_of self.now.requests self.now.marks }
     {
-        &self.keys[self.start..]
+        &self.tags[self.start..]
     }
 
     #[inline(always)]
@@ -282,7 +301,7 @@ impl Aged {
         remove_front(&mut self.rows, self.start);
         remove_front(&mut self.kinds, self.start);
         remove_front(&mut self.eligible, self.start);
-        remove_front(&mut self.keys, self.start);
+        remove_front(&mut self.tags, self.start);
         remove_front(&mut self.prints, self.start);
         self.start = 0;
     }
@@ -299,7 +318,7 @@ impl Aged {
         self.rows.push_reserved(u64::from(request.place.row));
         self.kinds.push_reserved(mark(request.write));
         self.eligible.push_reserved(mark(marked));
-        self.keys.push_reserved(key(marked, request));
+        self.tags.push_reserved(tag(marked, request));
         self.prints.push_reserved(line_print(request.place));
         self.requests.push_reserved(request);
     }
@@ -342,7 +361,7 @@ impl Aged {
             &mut self.rows[start..=place],
             &mut self.kinds[start..=place],
             &mut self.eligible[start..=place],
-            &mut self.keys[start..=place],
+            &mut self.tags[start..=place],
             &mut self.prints[start..=place],
         );
         self.start = start + 1;
@@ -364,7 +383,7 @@ impl Aged {
             &mut self.rows[place..end],
             &mut self.kinds[place..end],
             &mut self.eligible[place..end],
-            &mut self.keys[place..end],
+            &mut self.tags[place..end],
             &mut self.prints[place..end],
         );
         drop_last(&mut self.requests);
@@ -372,7 +391,7 @@ impl Aged {
         drop_last(&mut self.rows);
         drop_last(&mut self.kinds);
         drop_last(&mut self.eligible);
-        drop_last(&mut self.keys);
+        drop_last(&mut self.tags);
         drop_last(&mut self.prints);
     }
 
@@ -401,6 +420,6 @@ impl Aged {
     {
         let place = self.start + at;
         self.eligible[place] = 1;
-        self.keys[place] = key(true, self.requests[place]);
+        self.tags[place] = tag(true, self.requests[place]);
     }
 }

@@ -1,8 +1,8 @@
 //! The words of a request in the columns.
 
-ghost use Rattle.std.specs.Prelude.{◌≡◌, ◌^◌, ◌<◌, ◌≤◌};
+ghost use Rattle.std.specs.Prelude.{◌≡◌, ◌≤◌};
 ghost use Rattle.lane_scan.specs.Marks.{mark};
-ghost use Rattle.queue.specs.Columns.{bank_number, key_word, key_of, line_print, line_slot};
+ghost use Rattle.queue.specs.Columns.{bank_number, tag_word, tag_of, line_print, line_slot};
 
 use sim_base::message::Request;
 use sim_base::place::Place;
@@ -20,23 +20,21 @@ pub(crate) fn mark(test: bool) -> u64
     if test { 1 } else { 0 }
 }
 
-/// A key of these parts: bit 63 says whether a request may be served, bit 62 whether it is a write, bits 32 to 61 have the number
-/// of its bank, and bits 0 to 31 its row. Of the parts of a mask, 1 and all ones are what a search asks for.
-#[tactic(auto, unfolding(crate::specs::Columns::key_word))]
-pub fn key_word(eligible: bool, write: bool, bank: u64, row: u32) -> u64
-    requires { bank < 2 ^ 30 }
-    ensures { result ≡ key_word eligible write bank row }
+/// A tag of these parts: bit 7 says whether a request may be served, bit 6 whether it writes, and bits 0 to 5 have the number of
+/// its bank modulo 64.
+#[inline(always)]
+pub fn tag_word(eligible: bool, write: bool, bank: u64) -> u8
+    ensures { result ≡ tag_word eligible write bank }
 {
     let flags = mark(eligible) * 2 + mark(write);
-    (flags * (1 << 30) + bank) * (1 << 32) + u64::from(row)
+    (flags * 64 + bank % 64) as u8
 }
 
-/// The key of a request that may be served, or may not.
-pub(crate) fn key(eligible: bool, request: Request) -> u64
-    ensures { result ≡ key_of eligible request }
+/// The tag of a request that may be served, or may not.
+pub(crate) fn tag(eligible: bool, request: Request) -> u8
+    ensures { result ≡ tag_of eligible request }
 {
-    let bank = bank_number(request.place) % (1 << 30);
-    key_word(eligible, request.write, bank, request.place.row)
+    tag_word(eligible, request.write, bank_number(request.place))
 }
 
 /// A byte that places of one line have in common, and most others do not.

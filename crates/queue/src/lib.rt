@@ -5,20 +5,30 @@ mod aged;
 mod columns;
 mod lines;
 
-ghost use Rattle.std.specs.Prelude.{◌≡◌, ◌+◌, ◌<◌, ◌≤◌, ◌++◌, ℕ, List, [], ◌∷◌, Bool, false, IfOk, length, nat_le, remove, slice_index_or};
+ghost use Rattle.std.specs.Prelude.{◌≡◌, ◌+◌, ◌-◌, ◌^◌, ◌<◌, ◌≤◌, ◌++◌, ℕ, List, [], ◌∷◌, Bool, false, IfOk, length, nat_le, remove, slice_index_or};
 ghost use Rattle.sim_base.specs.Scheduling.{drains_with, first_of_lines};
 ghost use Rattle.sim_base.specs.declared.config.Config.{Config};
 ghost use Rattle.sim_base.specs.declared.message.Request.{Request};
-ghost use Rattle.queue.specs.Columns.{bank_column, row_column, kind_column, eligible_column, key_column, marked_items, write_count};
+ghost use Rattle.queue.specs.Columns.{bank_column, row_column, kind_column, eligible_column, tag_column, marked_items, write_count};
 ghost use Rattle.queue.specs.View.{QueueView, drains_by, is_draining};
 
 use crate::aged::Aged;
-pub use crate::columns::key_word;
 use crate::columns::line_slot;
+pub use crate::columns::tag_word;
 use crate::lines::{counters, give_turn, is_line_asked};
 use sim_base::message::Request;
 use std::alloc::{AllocError, Global};
 use std::marker::Model;
+
+/// Whether a queue with so many writes drains, which drained before or not.
+#[inline(always)]
+fn drains(high: u32, low: u32, settled: bool, writes: usize) -> bool
+    ensures { result ≡ drains_by high low settled writes }
+{
+    let high = high as usize;
+    let low = low as usize;
+    (0 < high && high <= writes) || (settled && low < writes)
+}
 
 /// The requests that wait in a channel, by age.
 #[derive(Drop)]
@@ -32,6 +42,8 @@ pub struct Queue {
     settled: bool,
     /// Writes among the requests.
     writes: usize,
+    /// Whether it drains with these writes.
+    drains: bool,
     /// Requests that wait for an older one of the same line.
     waiting: usize,
     aged: Aged,
@@ -56,8 +68,9 @@ impl Model for Queue {
 impl Queue {
     /// An empty queue with places for `room` requests, which drains its writes from `high` of them on down to `low`, and never
     /// where `high` is 0. Nothing else takes memory.
-    #[tactic(auto, unfolding(crate::specs::Columns::eligible_column, crate::specs::Columns::key_column))]
+    #[tactic(auto, unfolding(crate::specs::Columns::eligible_column, crate::specs::Columns::tag_column))]
     pub fn with_room(alloc: Global, room: usize, high: u32, low: u32) -> Result<Self, AllocError>
+        requires room { room < 2 ^ 16 - 1 }
         ensures { IfOk result (λ queue. queue ≡ record { room = room; high = high; low = low; requests = []; settled = false }) }
     {
         let (lines, mask) = counters(alloc, room)?;
@@ -67,6 +80,7 @@ impl Queue {
             low,
             settled: false,
             writes: 0,
+            drains: false,
             waiting: 0,
             aged: Aged::with_room(alloc, room)?,
             lines,
@@ -76,7 +90,8 @@ impl Queue {
 
     /// How many requests wait.
     pub fn len(&self) -> usize
-        ensures { result ≡ length self.now.requests }
+        ensures value { result ≡ length self.now.requests }
+        ensures short { result < 2 ^ 16 - 1 }
     {
         self.aged.len()
     }
@@ -101,7 +116,10 @@ impl Queue {
         self.aged.push(request, !asked);
         self.lines[line] = alike + 1;
         self.waiting += usize::from(asked);
-        self.writes += usize::from(request.write);
+        if request.write {
+            self.writes += 1;
+            self.drains = drains(self.high, self.low, self.settled, self.writes);
+        }
     }
 
     /// Gives out the request at a place. The others keep their order, and the next one for its line has its turn.
@@ -122,25 +140,28 @@ impl Queue {
             true
         };
         self.waiting -= usize::from(waited);
-        self.writes -= usize::from(request.write);
+        if request.write {
+            self.writes -= 1;
+            self.drains = drains(self.high, self.low, self.settled, self.writes);
+        }
         request
     }
 
     /// Settles whether the queue drains with the requests that it has, as it does once in each cycle.
+    #[inline(always)]
     pub fn settle(&mut self)
         ensures value { self.new ≡ record self.old { settled = is_draining self.old } }
         ensures same { is_draining self.new ≡ is_draining self.old }
     {
-        self.settled = self.draining();
+        self.settled = self.drains;
     }
 
     /// Whether the queue drains its writes with the requests that it has; settling that now changes nothing of it.
+    #[inline(always)]
     pub fn draining(&self) -> bool
         ensures { result ≡ is_draining self.now }
     {
-        let high = self.high as usize;
-        let low = self.low as usize;
-        (0 < high && high <= self.writes) || (self.settled && low < self.writes)
+        self.drains
     }
 
     /// The number of writes with which a drain begins; 0 where none ever does.
@@ -185,12 +206,12 @@ impl Queue {
         self.aged.eligible()
     }
 
-    /// The key of each request, by age, which says in one word what a search for a bank asks for: bit 63 is 1 where the request
-    /// may be served, bit 62 where it is a write; bits 32 to 61 have the number of its bank, and bits 0 to 31 its row.
-    pub fn keys(&self) -> &[u64]
-        ensures { result.now ≡ key_column self.now.requests }
+    /// The tag of each request, by age, which says in one byte what a search for a bank asks for: bit 7 is 1 where the request may
+    /// be served, bit 6 where it is a write, and bits 0 to 5 have the number of its bank modulo 64.
+    pub fn tags(&self) -> &[u8]
+        ensures { result.now ≡ tag_column self.now.requests }
     {
-        self.aged.keys()
+        self.aged.tags()
     }
 }
 

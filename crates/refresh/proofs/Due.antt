@@ -1,17 +1,18 @@
 -- What is due by the counts is what is due by the commands that they stand for.
-use Rattle.std.proofs.Common.{◌≡◌, ℕ, zero, suc, ◌+◌, ◌-◌, ◌*◌, ◌/◌, ◌<◌, ◌≤◌, Bool, true, false, cond, eqb, ltb, max, eq-eqb, ne_eqb, rules, List, [], ◌∷◌, ◌++◌, length, Option, Some, None, refl, sym, ap, subst, ◌∙◌, inl, inr, arith}
+use Rattle.std.proofs.Common.{◌≡◌, ℕ, zero, suc, ◌+◌, ◌-◌, ◌*◌, ◌/◌, ◌^◌, ◌<◌, ◌≤◌, Bool, true, false, cond, eqb, ltb, max, eq-eqb, ne_eqb, rules, List, [], ◌∷◌, ◌++◌, length, take, Option, Some, None, refl, sym, ap, subst, ◌∙◌, inl, inr, arith}
 use Rattle.std.proofs.lemmas.Bool.{cond-true, cond-false, cases_lt, cases_eq, false≢true, lt-ltb, le-ltb, lt-leb, le-leb}
 use Rattle.std.proofs.lemmas.List.Sums.{sum_by_push}
-use Rattle.std.proofs.lemmas.List.{get_or-set_same, get_or-set_other}
+use Rattle.std.proofs.lemmas.List.{get_or-set_same, get_or-set_other, get_or-take, length-take-le}
+use Rattle.std.proofs.Math.ListN.{length-set}
 use Rattle.std.proofs.Math.Nat.{div-lt_iff_lt-mul}
-use Rattle.std.specs.Prelude.{find, count_by, slice_index, slice_set, IsSome}
+use Rattle.std.specs.Prelude.{find, count_by, slice_index, slice_set, IsSome, is_some}
 use Rattle.std.specs.List.{range_with_len}
 use Rattle.sim_base.specs.declared.config.Config.{Config}
 use Rattle.sim_base.specs.declared.command.CommandRow.{CommandRow}
 use Rattle.sim_base.specs.declared.command.Command.TheVariants.{Ref}
 use Rattle.sim_base.specs.History.{below}
 use Rattle.sim_base.specs.Scheduling.{due, lowest_due, refreshes}
-use Rattle.refresh.specs.Refreshes.{RefreshCounts, owed, lowest_owed, IsFirstDue, IsDueFrom, IsFewest, IsNoRefresh, StandsFor}
+use Rattle.refresh.specs.Refreshes.{RefreshCounts, owed, lowest_owed, IsFirstDue, IsDueFrom, IsFewest, IsCountable, IsQuietTo, IsCounted, IsNoRefresh, StandsFor}
 
 -- what is due to a rank
 pub due_from_owed : (counts : RefreshCounts) (s : Config) (rank : ℕ) (history : List CommandRow) (now : ℕ) → StandsFor counts s history → rank < counts.ranks
@@ -162,3 +163,110 @@ stands_without_refresh counts s history i other stands = record {
       let none = cond-false {A = ℕ} (refreshes rank i.command) 1 0 (other rank below) in
       omega (arith, one_more (λ r. refreshes rank r.command) history i, none, stands.issued_are rank below);
 }
+
+-- Some refresh is due from the cycle on that follows the last with none.
+pub next_is_first : (counts : RefreshCounts) (now quiet next : ℕ) → 0 < counts.interval → IsQuietTo counts quiet → next ≡ max now (quiet + 1) → IsFirstDue (lowest_owed counts) now next
+next_is_first counts now quiet next some is latest =
+    let ends = is.ends some in
+    first_due counts now ends.0 next some ends.1 (latest ∙ ap (max now) ends.2)
+
+some_is : (o : Option ℕ) → IsSome o → is_some o ≡ true
+some_is None never = cc
+some_is (Some k) some = refl
+
+-- whether some refresh is due by a cycle
+pub due_by_is : (counts : RefreshCounts) (quiet cycle : ℕ) → cycle ≤ 18446744073709551615 → IsQuietTo counts quiet → is_some (lowest_owed counts cycle) ≡ ltb quiet cycle
+due_by_is counts quiet cycle fits is = elim (cases_lt 0 counts.interval) [
+  | inl some ↦ elim (cases_lt quiet cycle) [
+    | inl after ↦ some_is (lowest_owed counts cycle) (next_is_first counts cycle quiet cycle some is (omega arith)).due ∙ sym (lt-ltb quiet cycle after)
+    | inr before ↦
+        ap is_some ((next_is_first counts 0 quiet (quiet + 1) some is (omega arith)).none_before cycle (omega arith) (omega arith)) ∙ sym (le-ltb quiet cycle before)
+  ]
+  | inr none ↦
+      let never : counts.interval ≡ 0 = omega arith in
+      ap is_some (find_none (λ rank. ltb 0 (owed counts rank cycle)) 0 counts.ranks (λ rank l. ap (ltb 0) (cond-true (eqb counts.interval 0) 0 _ (eq-eqb counts.interval 0 never))))
+      ∙ sym (le-ltb quiet cycle (omega (arith, is.never never)))
+]
+
+-- where a refresh is due, there are refreshes
+pub owed_some : (counts : RefreshCounts) (rank now : ℕ) → 0 < owed counts rank now → 0 < counts.interval
+owed_some counts rank now due = elim (cases_lt 0 counts.interval) [
+  | inl some ↦ some
+  | inr none ↦
+      let never : counts.interval ≡ 0 = omega arith in
+      let nothing = cond-true (eqb counts.interval 0) 0 (now / counts.interval - slice_index counts.issued rank) (eq-eqb counts.interval 0 never) in
+      absurd (omega (arith, nothing))
+]
+
+-- a refresh that is due ends an interval that is over
+owed_over : (counts : RefreshCounts) (rank now : ℕ) → 0 < owed counts rank now → (slice_index counts.issued rank + 1) * counts.interval ≤ now
+owed_over counts rank now due = elim (cases_lt now ((slice_index counts.issued rank + 1) * counts.interval)) [
+  | inl early ↦
+      let some = owed_some counts rank now due in
+      let few : now / counts.interval < slice_index counts.issued rank + 1 = (div-lt_iff_lt-mul some).1 early in
+      absurd (omega (arith, owed_is counts rank now some, few))
+  | inr over ↦ over
+]
+
+-- the counts after a refresh that was due
+abbrev pub refreshed : RefreshCounts → ℕ → RefreshCounts
+refreshed counts rank = record counts { issued = slice_set counts.issued rank (slice_index counts.issued rank + 1) }
+
+countable_more : (counts : RefreshCounts) (rank now : ℕ) → IsCountable counts → rank < length counts.issued → now < 2 ^ 62 → 0 < owed counts rank now → IsCountable (refreshed counts rank)
+countable_more counts rank now before exists fits due = record {
+  interval_in = before.interval_in;
+  ranks_some = before.ranks_some;
+  ranks_in = before.ranks_in;
+  issued_in = λ other. elim (cases_eq other rank) [
+    | inl same ↦
+        subst (λ n. n * counts.interval < 2 ^ 62) (sym (ap (λ k. slice_index (refreshed counts rank).issued k) same ∙ get_or-set_same counts.issued rank (slice_index counts.issued rank + 1) 0 exists))
+        (omega (arith, owed_over counts rank now due))
+    | inr apart ↦
+        subst (λ n. n * counts.interval < 2 ^ 62) (sym (get_or-set_other counts.issued rank other (slice_index counts.issued rank + 1) 0 apart)) (before.issued_in other)
+  ];
+}
+
+-- the least of the counts of the ranks
+fewest_is : (counts : RefreshCounts) (fewest : ℕ) → counts.ranks ≤ length counts.issued
+    → ((k : ℕ) → k < length (take counts.ranks counts.issued) → fewest ≤ slice_index (take counts.ranks counts.issued) k)
+    → ((k : ℕ) × (k < length (take counts.ranks counts.issued)) × (slice_index (take counts.ranks counts.issued) k ≡ fewest)) → IsFewest counts fewest
+fewest_is counts fewest ranks_in least reached =
+    let whole = length-take-le counts.ranks counts.issued ranks_in in
+    record {
+      at_most = λ rank l. subst (λ n. fewest ≤ n) (get_or-take counts.ranks counts.issued rank 0 l) (least rank (omega arith));
+      reached =
+          let within : reached.0 < counts.ranks = omega (arith, reached.1) in
+          (reached.0, within, sym (get_or-take counts.ranks counts.issued reached.0 0 within) ∙ reached.2);
+    }
+
+-- the last cycle with nothing due after that refresh
+pub counted_more : (counts : RefreshCounts) (rank now fewest quiet : ℕ) → IsCountable counts → rank < counts.ranks → length counts.issued ≡ 4 → now < 2 ^ 62 → 0 < owed counts rank now
+    → ((k : ℕ) → k < length (take counts.ranks (refreshed counts rank).issued) → fewest ≤ slice_index (take counts.ranks (refreshed counts rank).issued) k)
+    → ((k : ℕ) × (k < length (take counts.ranks (refreshed counts rank).issued)) × (slice_index (take counts.ranks (refreshed counts rank).issued) k ≡ fewest))
+    → quiet ≡ (fewest + 1) * counts.interval - 1 → IsCounted (refreshed counts rank) quiet
+counted_more counts rank now fewest quiet before exists four fits due least reached is =
+    let some = owed_some counts rank now due in
+    let same_length = length-set counts.issued rank (slice_index counts.issued rank + 1) in
+    let least_now = fewest_is (refreshed counts rank) fewest (omega (arith, before.ranks_in, same_length)) least reached in
+    let product : 0 < (fewest + 1) * counts.interval = omega arith in
+    record {
+      countable = countable_more counts rank now before (omega (arith, before.ranks_in)) fits due;
+      is_quiet_to = record {
+        never = λ none. absurd (omega arith);
+        ends = λ _. (fewest, least_now, omega arith);
+      };
+    }
+
+-- where none is due in a cycle, none is in an earlier one
+pub none_owed_before : (counts : RefreshCounts) (cycle now : ℕ) → cycle ≤ now → is_some (lowest_owed counts now) ≡ false → lowest_owed counts cycle ≡ None
+none_owed_before counts cycle now before none = find_none (λ rank. ltb 0 (owed counts rank cycle)) 0 counts.ranks (λ rank l. elim (cases_lt 0 (owed counts rank cycle)) [
+  | inl due_then ↦
+      let some = owed_some counts rank cycle due_then in
+      let over : (slice_index counts.issued rank + 1) * counts.interval ≤ now = omega (arith, owed_over counts rank cycle due_then) in
+      let due_now : 0 < owed counts rank now = elim (cases_lt (slice_index counts.issued rank) (now / counts.interval)) [
+        | inl more ↦ omega (arith, owed_is counts rank now some)
+        | inr few ↦ let early : now < (slice_index counts.issued rank + 1) * counts.interval = (div-lt_iff_lt-mul some).0 (omega arith) in absurd (omega arith)
+      ] in
+      absurd (false≢true (sym none ∙ find_some (λ other. ltb 0 (owed counts other now)) 0 counts.ranks rank (omega arith) (omega arith) (lt-ltb 0 _ due_now)))
+  | inr none_then ↦ le-ltb 0 _ none_then
+])

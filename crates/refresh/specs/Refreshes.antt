@@ -5,8 +5,9 @@
 --     IsFirstDue lowest now time      the first cycle from now on with a refresh that is due
 --     IsDueFrom count now due      from which cycle on something is due, as seen from now
 --     IsFewest counts fewest      the refreshes of the rank that had the fewest
+--     IsQuietTo counts quiet      the last cycle in which none is due
 --     StandsFor counts s history      the refreshes of a list of commands were counted, and no others
-use Rattle.std.specs.Prelude.{◌≡◌, ℕ, ◌-◌, ◌*◌, ◌^◌, ◌/◌, ◌<◌, ◌≤◌, ◌==◌, nat_lt, nat_le, Bool, List, slice_index, find, count_by, false, Option, IsSome, IfSome, Some, None, if◌then◌else◌}
+use Rattle.std.specs.Prelude.{◌≡◌, ℕ, ◌+◌, ◌-◌, ◌*◌, ◌^◌, ◌/◌, ◌<◌, ◌≤◌, ◌==◌, nat_lt, nat_le, Bool, List, slice_index, find, count_by, false, Option, IsSome, IfSome, Some, None, if◌then◌else◌}
 use Rattle.sim_base.specs.declared.config.Config.{Config}
 use Rattle.sim_base.specs.declared.command.Command.{Command}
 use Rattle.sim_base.specs.declared.command.CommandRow.{CommandRow}
@@ -64,3 +65,14 @@ pub record IsCountable (counts : RefreshCounts) : Type 0 where
   pub ranks_some : 1 ≤ counts.ranks
   pub ranks_in : counts.ranks ≤ 4
   pub issued_in : (rank : ℕ) → slice_index counts.issued rank * counts.interval < 2 ^ 62
+
+-- the last cycle in which no rank has a refresh that is due, as long as none is issued: the last of the interval that follows those
+-- which the rank with the fewest refreshes had, or the last cycle that there is, where there are no refreshes
+pub record IsQuietTo (counts : RefreshCounts) (quiet : ℕ) : Type 0 where
+  pub never : counts.interval ≡ 0 → quiet ≡ 18446744073709551615
+  pub ends : 0 < counts.interval → (fewest : ℕ) × IsFewest counts fewest × (quiet + 1 ≡ (fewest + 1) * counts.interval)
+
+-- the numbers are in their ranges, and a cycle is the last in which nothing is due
+pub record IsCounted (counts : RefreshCounts) (quiet : ℕ) : Type 0 where
+  pub countable : IsCountable counts
+  pub is_quiet_to : IsQuietTo counts quiet

@@ -1,14 +1,14 @@
 //! The refreshes that are due to the ranks of a channel.
 #![tactic(auto)]
 
-ghost use Rattle.std.specs.Prelude.{◌≡◌, ◌↔◌, ◌+◌, ◌*◌, ◌<◌, ◌≤◌, ◌^◌, ◌++◌, ℕ, List, [], ◌∷◌, IsTrue, IsNone, IfSome, IfNone, length, slice_index, slice_set, replicate, find, nat_lt};
+ghost use Rattle.std.specs.Prelude.{◌≡◌, ◌↔◌, ◌+◌, ◌*◌, ◌<◌, ◌≤◌, ◌^◌, ◌++◌, ℕ, List, [], ◌∷◌, IsTrue, IsNone, IfSome, IfNone, length, slice_index, slice_set, replicate, find, nat_lt, is_some};
 ghost use Rattle.std.specs.Int.{is_power_of_two};
 ghost use Rattle.sim_base.specs.Ranges.{Within};
 ghost use Rattle.sim_base.specs.Scheduling.{due, lowest_due};
 ghost use Rattle.sim_base.specs.declared.config.Config.{Config};
 ghost use Rattle.sim_base.specs.declared.command.Command.TheVariants.{Ref};
 ghost use Rattle.sim_base.specs.declared.command.CommandRow.{CommandRow};
-ghost use Rattle.refresh.specs.Refreshes.{RefreshCounts, owed, lowest_owed, IsFirstDue, IsDueFrom, IsFewest, StandsFor, IsNoRefresh, IsCountable};
+ghost use Rattle.refresh.specs.Refreshes.{RefreshCounts, owed, lowest_owed, IsFirstDue, IsDueFrom, IsCounted, StandsFor, IsNoRefresh};
 
 use sim_base::message::Cycle;
 use std::marker::Model;
@@ -21,16 +21,18 @@ pub struct Refresh {
     ranks: u32,
     /// The refreshes that each rank has had.
     issued: [u64; 4],
+    /// The last cycle in which no refresh is due, as long as none is issued; MAX: none is ever due.
+    quiet_to: Cycle,
 }
 
 impl Model for Refresh {
-    ghost use Rattle.refresh.specs.Refreshes.{RefreshCounts, IsCountable};
+    ghost use Rattle.refresh.specs.Refreshes.{RefreshCounts, IsCounted};
 
     ghost Value = { RefreshCounts };
 
     ghost view = { λ r. record { interval = r.refresh_interval; ranks = r.ranks; issued = r.issued } };
 
-    ghost invariant = { λ r. IsCountable (record { interval = r.refresh_interval; ranks = r.ranks; issued = r.issued }) };
+    ghost invariant = { λ r. IsCounted (record { interval = r.refresh_interval; ranks = r.ranks; issued = r.issued }) r.quiet_to };
 }
 
 /// The least of some counts.
@@ -61,6 +63,11 @@ impl Refresh {
             refresh_interval,
             ranks,
             issued: [0; 4],
+            quiet_to: if refresh_interval == 0 {
+                Cycle::MAX
+            } else {
+                u64::from(refresh_interval) - 1
+            },
         }
     }
 
@@ -113,13 +120,6 @@ impl Refresh {
         self.lowest_owed(now)
     }
 
-    fn fewest_issued(&self) -> u64
-        ensures fewest { IsFewest self.now result }
-        ensures fits { (result + 1) * self.now.interval < 2 ^ 63 }
-    {
-        fewest(&self.issued[..self.ranks as usize])
-    }
-
     /// The first cycle from `now` on in which a refresh of some rank is due, as long as no other is issued; None where there are
     /// no refreshes.
     pub fn next_due(&self, now: Cycle) -> Option<Cycle>
@@ -130,8 +130,15 @@ impl Refresh {
         if self.refresh_interval == 0 {
             return None;
         }
-        let next = (self.fewest_issued() + 1) * u64::from(self.refresh_interval);
-        Some(now.max(next))
+        Some(now.max(self.quiet_to + 1))
+    }
+
+    /// Whether a refresh of some rank is due in a cycle, or before it, as long as none is issued.
+    #[inline(always)]
+    pub fn is_due_by(&self, cycle: Cycle) -> bool
+        ensures { result ≡ is_some (lowest_owed self.now cycle) }
+    {
+        self.quiet_to < cycle
     }
 
     /// The number of ranks.
@@ -165,6 +172,8 @@ impl Refresh {
         ensures stands { (s : Config) (history : List CommandRow) (i : CommandRow) → i.command ≡ Ref rank → StandsFor self.old s history → StandsFor self.new s (history ++ i ∷ []) }
     {
         self.issued[rank as usize] += 1;
+        let fewest = fewest(&self.issued[..self.ranks as usize]);
+        self.quiet_to = (fewest + 1) * u64::from(self.refresh_interval) - 1;
     }
 }
 

@@ -8,6 +8,8 @@ fn refreshes_one_rank(rt: HostRuntime) {
     let mut refresh = Refresh::new(100, 1);
     assert_eq!(rt; refresh.next_due(0), Some(100));
     assert_eq!(rt; refresh.lowest_due(99), None);
+    assert!(rt; !refresh.is_due_by(99));
+    assert!(rt; refresh.is_due_by(100));
     assert_eq!(rt; refresh.lowest_due(100), Some(0));
     refresh.note_ref(103, 0);
     assert_eq!(rt; refresh.due(150, 0), 0);
@@ -34,4 +36,5 @@ fn refreshes_never(rt: HostRuntime) {
     assert_eq!(rt; refresh.due(1_000_000_000_000, 3), 0);
     assert_eq!(rt; refresh.lowest_due(1_000_000_000_000), None);
     assert_eq!(rt; refresh.next_due(5), None);
+    assert!(rt; !refresh.is_due_by(u64::MAX));
 }

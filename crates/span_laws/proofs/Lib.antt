@@ -10,4 +10,5 @@ pub mod Later
 pub mod Flights
 pub mod Merged
 pub mod Over
+pub mod Lasting
 pub mod Localities

@@ -5,6 +5,8 @@
 --     channel_joined a b      of two stretches of cycles, the first and what follows it
 --     channel_stretch s channel rows inbox more      of the cycles after these rows, in which the channel does this, one after the other
 --     channel_times n a      of so many cycles that are each like this one
+--     quiet_cycle drained queued has_due drains      of a cycle in which nothing is issued
+--     one_command k hit      of a command alone
 --     ChannelFits a      each count fits
 --     ActsComeFirst channel rows      no ACT is issued for an entry whose data was moved before
 use Rattle.std.specs.Prelude.{◌≡◌, ℕ, ◌+◌, ◌*◌, ◌^◌, ◌<◌, ◌==◌, nat_lt, max, Bool, false, ◌&&◌, List, [], ◌∷◌, ◌++◌, length, take, slice_index_or, option_map, Option, Some, None, if◌then◌else◌}
@@ -136,6 +138,31 @@ channel_times n a =
       idle = n * a.idle;
       refreshing = n * a.refreshing;
       draining = if n == 0 then None else option_map (λ count. n * count) a.draining;
+    }
+
+-- the statistics of a cycle with a queue of this length, in which a refresh is due or not, the channel drains its writes or not,
+-- and nothing is issued; cycles of draining are counted where there is such a count
+abbrev pub quiet_cycle : Option ℕ → ℕ → Bool → Bool → ChannelStats
+quiet_cycle drained queued has_due drains =
+    record channel_none {
+      queued = queued;
+      queued_max = queued;
+      idle = one_if (queued == 0);
+      refreshing = one_if has_due;
+      draining = option_map (λ count. one_if drains) drained;
+    }
+
+-- the statistics of a command of this kind, which moves data of a row hit or not, without its cycle
+abbrev pub one_command : Kind → Bool → ChannelStats
+one_command k hit =
+    record channel_none {
+      act = one_if (is_kind k kind.Act);
+      rd = one_if (is_kind k kind.Rd);
+      wr = one_if (is_kind k kind.Wr);
+      pre = one_if (is_kind k kind.Pre);
+      prea = one_if (is_kind k kind.Prea);
+      refs = one_if (is_kind k kind.Ref);
+      hits = one_if hit;
     }
 
 -- each count fits: it is below 2^64, and the sum of the queue's lengths below 2^128

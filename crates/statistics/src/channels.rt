@@ -4,6 +4,8 @@ ghost use Rattle.std.specs.Option.{ForSome};
 ghost use Rattle.std.specs.Prelude.{◌≡◌, ◌*◌, ◌^◌, ◌<◌, option_map};
 ghost use Rattle.statistics.specs.Counts.{sum_of_counts};
 
+use sim_base::command::Kind;
+
 /// What a channel did in some cycles: counts of commands and of cycles.
 #[derive(Clone, Copy, PartialEq, Eq, Debug, Default)]
 pub struct ChannelStats {
@@ -56,8 +58,8 @@ fn product_of(cycles: u64, count: Option<u64>) -> Option<u64>
 }
 
 impl ChannelStats {
-    ghost use Rattle.std.specs.Prelude.{◌≡◌};
-    ghost use Rattle.statistics.specs.Channels.{channel_none, channel_joined, channel_times, ChannelFits};
+    ghost use Rattle.std.specs.Prelude.{◌≡◌, ◌<◌};
+    ghost use Rattle.statistics.specs.Channels.{channel_none, channel_joined, channel_times, quiet_cycle, one_command, ChannelFits};
 
     /// The statistics of no cycle.
     pub fn new() -> Self
@@ -110,6 +112,48 @@ impl ChannelStats {
             } else {
                 product_of(cycles, self.draining)
             },
+        }
+    }
+
+    /// Adds so many cycles, in each of which the queue has this length, a refresh is due or not, the channel drains its writes
+    /// or not, and nothing is issued.
+    #[inline(always)]
+    pub fn add_cycles(&mut self, cycles: u64, queued: usize, refreshing: bool, draining: bool)
+        requires some { 0 < cycles }
+        requires fits { ChannelFits (channel_joined self.old (channel_times cycles (quiet_cycle self.old.draining queued refreshing draining))) }
+        ensures { self.new ≡ channel_joined self.old (channel_times cycles (quiet_cycle self.old.draining queued refreshing draining)) }
+    {
+        self.queued += u128::from(cycles) * queued as u128;
+        self.queued_max = self.queued_max.max(queued as u64);
+        if queued == 0 {
+            self.idle += cycles;
+        }
+        if refreshing {
+            self.refreshing += cycles;
+        }
+        if draining {
+            if let Some(count) = &mut self.draining {
+                *count += cycles;
+            }
+        }
+    }
+
+    /// Adds a command of this kind, and a row hit, where it moves data of one. Its cycle is counted apart.
+    #[inline(always)]
+    pub fn add_command(&mut self, kind: Kind, hit: bool)
+        requires { ChannelFits (channel_joined self.old (one_command kind hit)) }
+        ensures { self.new ≡ channel_joined self.old (one_command kind hit) }
+    {
+        match kind {
+            Kind::Act => self.act += 1,
+            Kind::Rd => self.rd += 1,
+            Kind::Wr => self.wr += 1,
+            Kind::Pre => self.pre += 1,
+            Kind::Prea => self.prea += 1,
+            Kind::Ref => self.refs += 1,
+        }
+        if hit {
+            self.hits += 1;
         }
     }
 }

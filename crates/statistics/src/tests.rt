@@ -3,6 +3,7 @@
 use crate::channels::ChannelStats;
 use crate::cores::CoreStats;
 use crate::stats::Stats;
+use sim_base::command::Kind;
 use std::test::Fail;
 
 #[test]
@@ -30,6 +31,22 @@ fn joins_stretches_of_a_channel(rt: HostRuntime) {
     assert_eq!(rt; (run.act, run.rd, run.hits), (1, 2, 1));
     assert_eq!(rt; (run.queued, run.queued_max, run.idle), (12, 2, 23));
     assert_eq!(rt; run.draining, None);
+}
+
+#[test]
+fn adds_cycles_and_commands(rt: HostRuntime) {
+    let mut run = ChannelStats {
+        draining: Some(1),
+        ..ChannelStats::new()
+    };
+    run.add_cycles(3, 2, true, true);
+    run.add_cycles(1, 1, false, false);
+    run.add_command(Kind::Act, false);
+    run.add_command(Kind::Rd, true);
+    run.add_cycles(4, 0, false, false);
+    assert_eq!(rt; (run.queued, run.queued_max, run.idle), (7, 2, 4));
+    assert_eq!(rt; (run.refreshing, run.draining), (3, Some(4)));
+    assert_eq!(rt; (run.act, run.rd, run.wr, run.hits), (1, 1, 0, 1));
 }
 
 #[test]

@@ -1,5 +1,5 @@
 -- Results of a phase that are those of its jobs, each once, are of its run.
-use Rattle.std.proofs.Common.{◌≡◌, ℕ, ◌<◌, List, map, IsPermutation, All, IfOk, Result, Ok, Err, refl, sym, subst}
+use Rattle.std.proofs.Common.{◌≡◌, ℕ, ◌<◌, List, IsPermutation, All, IfOk, Result, Ok, Err, refl, sym, subst}
 use Rattle.sim_base.specs.declared.fault.Fault.{Fault}
 use Rattle.std.proofs.lemmas.List.Sorted.{All-permutation}
 use Rattle.std.proofs.lemmas.List.Elements.{All-map}

@@ -4,3 +4,4 @@ pub mod Missing
 pub mod Runs
 pub mod Phase
 pub mod Shares
+pub mod Ends

@@ -3,6 +3,7 @@
 
 pub mod claims;
 pub mod gate;
+pub mod machine;
 pub mod missing;
 pub mod open;
 pub mod phase;

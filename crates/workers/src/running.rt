@@ -17,7 +17,7 @@ use sim_base::message::Cycle;
 use std::alloc::Global;
 
 /// The simulator at the end of a phase, from one result of each job, in whatever order. Only memory can be refused.
-fn merged(phase: Phase, alloc: Global, results: Vec<Done>) -> Result<Sim, Fault>
+pub(crate) fn merged(phase: Phase, alloc: Global, results: Vec<Done>) -> Result<Sim, Fault>
     requires all { IsPermutation (jobs_of phase) results.items }
     ensures ok { IfOk result (λ sim. sim ≡ after phase) }
     ensures refused { IfErr result IsOfHost }

@@ -1,9 +1,10 @@
 //! Phases of a small machine, run by one thread and by several.
 
-ghost use Rattle.std.specs.Prelude.{◌≡◌, IfOk};
+ghost use Rattle.std.specs.Prelude.{◌≡◌, length, IfOk};
 
 use crate::claims::Claims;
 use crate::gate::{Gate, Open};
+use crate::machine::run_machine;
 use crate::phase::put_all;
 use crate::runner::Serial;
 use crate::running::run_with;
@@ -50,7 +51,7 @@ impl Gate for Holding {
     }
 }
 
-fn config(alloc: Global) -> Result<Config, AllocError>
+fn config(alloc: Global, ends_drained: bool) -> Result<Config, AllocError>
     ensures { IfOk result (λ config. config.cores ≡ 4) }
 {
     let fields = Vec::from_array(
@@ -103,15 +104,14 @@ fn config(alloc: Global) -> Result<Config, AllocError>
         write_high: 0,
         write_low: 0,
         overrides: Overrides::new(Vec::new(alloc)),
-        ends_drained: false,
+        ends_drained,
     })
 }
 
-/// Four cores that read one line each, before their first cycle.
-fn machine(alloc: Global) -> Result<Sim, AllocError>
-    ensures { IfOk result (λ sim. sim.now ≡ 0) }
+/// One line for each of four cores to read.
+fn traces(alloc: Global) -> Result<Vec<Trace>, AllocError>
+    ensures { IfOk result (λ traces. length traces.items ≡ 4) }
 {
-    let config = config(alloc)?;
     let line = [Entry::Read(0)];
     let traces = Vec::from_array(
         alloc,
@@ -122,7 +122,15 @@ fn machine(alloc: Global) -> Result<Sim, AllocError>
             Trace::from_entries(alloc, &line)?,
         ],
     )?;
-    Sim::start(alloc, &config, traces)
+    Ok(traces)
+}
+
+/// Four cores that read one line each, before their first cycle.
+fn machine(alloc: Global) -> Result<Sim, AllocError>
+    ensures { IfOk result (λ sim. sim.now ≡ 0) }
+{
+    let config = config(alloc, false)?;
+    Sim::start(alloc, &config, traces(alloc)?)
 }
 
 /// The six jobs of the first phase.
@@ -172,6 +180,52 @@ fn a_machine_comes_to_its_limit(rt: HostRuntime) -> Result<(), Fail> {
     let mut serial = Serial::new(rt.alloc(), &Open);
     let sim = run_with(machine(rt.alloc())?, rt.alloc(), 16, &mut serial).expect(&rt, "a run");
     assert_eq!(rt; sim.now(), 16);
+    Ok(())
+}
+
+/// Four cores read one line each, up to cycle 30: each worker count gives the same commands, of which there are an ACT and four
+/// RDs.
+#[test]
+fn a_machine_does_not_show_its_workers(rt: HostRuntime) -> Result<(), Fail> {
+    let alloc = rt.alloc();
+    let config = config(alloc, false)?;
+    let by_one = run_machine(&rt, alloc, &Open, 1, &config, traces(alloc)?, 30).expect(
+        &rt, "a run",
+    );
+    let one = &by_one;
+    assert_eq!(rt; one.commands.len(), 5);
+    for workers in [2, 3] {
+        let by_more = run_machine(&rt, alloc, &Open, workers, &config, traces(alloc)?, 30).expect(
+            &rt, "a run",
+        );
+        let more = &by_more;
+        assert!(rt; more.commands.as_slice() == one.commands.as_slice());
+        assert_eq!(rt; more.stats.cycles, one.stats.cycles);
+        assert_eq!(rt; more.last.in_flight.len(), one.last.in_flight.len());
+    }
+    Ok(())
+}
+
+/// Where the machine ends drained, it stops long before its limit, with nothing in flight.
+#[test]
+fn a_machine_ends_drained(rt: HostRuntime) -> Result<(), Fail> {
+    let alloc = rt.alloc();
+    let config = config(alloc, true)?;
+    for workers in [1, 2, 3] {
+        let outcome = run_machine(
+            &rt,
+            alloc,
+            &Open,
+            workers,
+            &config,
+            traces(alloc)?,
+            1_000,
+        ).expect(&rt, "a run");
+        let ended = &outcome;
+        assert_eq!(rt; ended.commands.len(), 5);
+        assert!(rt; ended.stats.cycles < 100);
+        assert_eq!(rt; ended.last.in_flight.len(), 0);
+    }
     Ok(())
 }
 

@@ -2,20 +2,32 @@
 
 use super::{Ended, HEADER, MemoryFiles, PROFILE_S, end_of, profile_s};
 use std::alloc::Global;
+use std::sync::Wait;
 use std::test::Fail;
+use std::thread::Threads;
 
-fn check_of(alloc: Global, config: &str, table: &str) -> Result<Ended, Fail> {
+fn check_of<R: Threads + Wait + Sync + AllocGlobal>(
+    rt: &R,
+    config: &str,
+    table: &str,
+) -> Result<Ended, Fail> {
+    let alloc = rt.alloc();
     let mut files = MemoryFiles::new(alloc);
     files.add(alloc, "c.toml", config)?;
     files.add(alloc, "t.csv", table)?;
-    end_of(alloc, &["dramsim", "check", "c.toml", "t.csv"], files)
+    end_of(rt, &["dramsim", "check", "c.toml", "t.csv"], files)
 }
 
 // What the program says of a table with these rows, and its status.
-fn verdict_of(alloc: Global, config: &str, rows: &str) -> Result<(String, u8), Fail> {
+fn verdict_of<R: Threads + Wait + Sync + AllocGlobal>(
+    rt: &R,
+    config: &str,
+    rows: &str,
+) -> Result<(String, u8), Fail> {
+    let alloc = rt.alloc();
     let mut table = String::from_str(alloc, HEADER)?;
     table.push_str(rows)?;
-    let ended = check_of(alloc, config, table.as_str())?;
+    let ended = check_of(rt, config, table.as_str())?;
     if !ended.errors.is_empty() {
         return Err(Fail::from("the check was refused"));
     }
@@ -25,8 +37,9 @@ fn verdict_of(alloc: Global, config: &str, rows: &str) -> Result<(String, u8), F
     Ok((String::from_str(alloc, text)?, ended.status))
 }
 
-fn refusal_of(alloc: Global, table: &str) -> Result<String, Fail> {
-    let ended = check_of(alloc, PROFILE_S, table)?;
+fn refusal_of<R: Threads + Wait + Sync + AllocGlobal>(rt: &R, table: &str) -> Result<String, Fail> {
+    let alloc = rt.alloc();
+    let ended = check_of(rt, PROFILE_S, table)?;
     if ended.status != 2 || !ended.print.is_empty() {
         return Err(Fail::from("the check was not refused"));
     }
@@ -38,15 +51,14 @@ fn refusal_of(alloc: Global, table: &str) -> Result<String, Fail> {
 
 #[test]
 fn judges_tables(rt: HostRuntime) -> Result<(), Fail> {
-    let alloc = rt.alloc();
-    let none = verdict_of(alloc, PROFILE_S, "")?;
+    let none = verdict_of(&rt, PROFILE_S, "")?;
     assert!(rt; none.0.as_str() == "legal\n" && none.1 == 0);
-    let soon = verdict_of(alloc, PROFILE_S, "2,0,ACT,0,0,0,,0,0\n4,0,RD,0,0,0,0,0,0\n")?;
+    let soon = verdict_of(&rt, PROFILE_S, "2,0,ACT,0,0,0,,0,0\n4,0,RD,0,0,0,0,0,0\n")?;
     assert!(rt; soon.0.as_str() == "broken row 2 rule 3\n" && soon.1 == 1);
     let turned = "2,0,ACT,0,0,0,,0,0\n5,0,WR,0,0,0,0,0,0\n14,0,RD,0,0,0,0,0,1\n";
-    let late = verdict_of(alloc, PROFILE_S, turned)?;
+    let late = verdict_of(&rt, PROFILE_S, turned)?;
     assert!(rt; late.0.as_str() == "legal\n" && late.1 == 0);
-    let quoted = verdict_of(alloc, PROFILE_S, "002,0,\"ACT\",0,0,0,,0,0\n")?;
+    let quoted = verdict_of(&rt, PROFILE_S, "002,0,\"ACT\",0,0,0,,0,0\n")?;
     assert!(rt; quoted.0.as_str() == "legal\n" && quoted.1 == 0);
     Ok(())
 }
@@ -55,9 +67,9 @@ fn judges_tables(rt: HostRuntime) -> Result<(), Fail> {
 fn judges_refreshes(rt: HostRuntime) -> Result<(), Fail> {
     let alloc = rt.alloc();
     let config = profile_s(alloc, &["nREFI = 100"], "")?;
-    let late = verdict_of(alloc, config.as_str(), "115,0,ACT,0,0,0,,0,0\n")?;
+    let late = verdict_of(&rt, config.as_str(), "115,0,ACT,0,0,0,,0,0\n")?;
     assert!(rt; late.0.as_str() == "broken row 1 rule 18\n" && late.1 == 1);
-    let last = verdict_of(alloc, config.as_str(), "114,0,ACT,0,0,0,,0,0\n")?;
+    let last = verdict_of(&rt, config.as_str(), "114,0,ACT,0,0,0,,0,0\n")?;
     assert!(rt; last.0.as_str() == "legal\n" && last.1 == 0);
     Ok(())
 }
@@ -65,15 +77,15 @@ fn judges_refreshes(rt: HostRuntime) -> Result<(), Fail> {
 #[test]
 fn refuses_tables(rt: HostRuntime) -> Result<(), Fail> {
     let alloc = rt.alloc();
-    let empty = refusal_of(alloc, "")?;
+    let empty = refusal_of(&rt, "")?;
     assert!(rt; empty.as_str() == "fault 15: check row 0\n");
     let lower = refusal_of(
-        alloc,
+        &rt,
         "cycle,channel,command,group,bank,row,column,core,entry\n2,0,act,0,0,0,,0,0\n",
     )?;
     assert!(rt; lower.as_str() == "fault 15: check row 1\n");
     let files = MemoryFiles::new(alloc);
-    let gone = end_of(alloc, &["dramsim", "check", "c.toml", "t.csv"], files)?;
+    let gone = end_of(&rt, &["dramsim", "check", "c.toml", "t.csv"], files)?;
     assert_eq!(rt; gone.status, 2);
     assert!(rt; gone.errors.as_slice() == b"fault 13: read\n".as_slice());
     Ok(())

@@ -1,8 +1,12 @@
 //! Numbers of statistics and of final states, found by hand, and files that fail.
 
-use super::{Failure, MemoryFiles, PROFILE_S, files_of, profile_s, run_over, summary_of};
+use super::{
+    Failure, MemoryFiles, PROFILE_S, files_of, profile_s, run_over, run_program, summary_of,
+};
 use std::alloc::Global;
+use std::sync::Wait;
 use std::test::Fail;
+use std::thread::Threads;
 
 // Whether each of these stands in a table as a line.
 fn has_lines(table: &str, lines: &[&str]) -> bool {
@@ -18,8 +22,13 @@ fn has_lines(table: &str, lines: &[&str]) -> bool {
     true
 }
 
-fn stats_of(alloc: Global, config: &str, traces: &[&str], cycles: &str) -> Result<String, Fail> {
-    files_of(alloc, config, traces, cycles)?.text_at(alloc, "d/stats.csv")
+fn stats_of<R: Threads + Wait + Sync + AllocGlobal>(
+    rt: &R,
+    config: &str,
+    traces: &[&str],
+    cycles: &str,
+) -> Result<String, Fail> {
+    files_of(rt, config, traces, cycles)?.text_at(rt.alloc(), "d/stats.csv")
 }
 
 const COMMANDS_OF_ONE_READ: &str = "cycle,channel,command,group,bank,row,column,core,entry
@@ -121,7 +130,7 @@ fn has_tables(
 #[test]
 fn one_read(rt: HostRuntime) -> Result<(), Fail> {
     let alloc = rt.alloc();
-    let whole = files_of(alloc, PROFILE_S, &["0 0\n"], "16")?;
+    let whole = files_of(&rt, PROFILE_S, &["0 0\n"], "16")?;
     assert!(rt; whole.opened.as_str() == "d/commands.csv d/stats.csv d/final.csv ");
     assert!(rt;
         has_tables(
@@ -132,7 +141,7 @@ fn one_read(rt: HostRuntime) -> Result<(), Fail> {
             END_OF_ONE_READ
         )?
     );
-    let short = files_of(alloc, PROFILE_S, &["0 0\n"], "3")?;
+    let short = files_of(&rt, PROFILE_S, &["0 0\n"], "3")?;
     assert!(rt;
         has_tables(
             alloc,
@@ -148,7 +157,7 @@ fn one_read(rt: HostRuntime) -> Result<(), Fail> {
 #[test]
 fn a_reply_in_flight(rt: HostRuntime) -> Result<(), Fail> {
     let alloc = rt.alloc();
-    let files = files_of(alloc, PROFILE_S, &["0 0\n"], "15")?;
+    let files = files_of(&rt, PROFILE_S, &["0 0\n"], "15")?;
     let stats = "scope,id,name,value
 run,0,cycles,15
 core,0,issued,1
@@ -191,7 +200,7 @@ flight_reply,0,0,,,0,15,1
 #[test]
 fn no_cycle(rt: HostRuntime) -> Result<(), Fail> {
     let alloc = rt.alloc();
-    let files = files_of(alloc, PROFILE_S, &[""], "0")?;
+    let files = files_of(&rt, PROFILE_S, &[""], "0")?;
     let commands = "cycle,channel,command,group,bank,row,column,core,entry\n";
     let stats = "scope,id,name,value
 run,0,cycles,0
@@ -234,7 +243,7 @@ due,,0,,,,,0
 fn counts_of_one_core(rt: HostRuntime) -> Result<(), Fail> {
     let alloc = rt.alloc();
     let s = PROFILE_S;
-    let hits = stats_of(alloc, s, &["0 0\n0 64\n"], "32")?;
+    let hits = stats_of(&rt, s, &["0 0\n0 64\n"], "32")?;
     assert!(rt;
         has_lines(
             hits.as_str(),
@@ -249,14 +258,14 @@ fn counts_of_one_core(rt: HostRuntime) -> Result<(), Fail> {
             ]
         )
     );
-    let write = stats_of(alloc, s, &["0 0 8192\n"], "64")?;
+    let write = stats_of(&rt, s, &["0 0 8192\n"], "64")?;
     assert!(rt; has_lines(write.as_str(), &["core,0,finish,15"]));
-    let line = stats_of(alloc, s, &["0 0 64\n0 64\n"], "64")?;
+    let line = stats_of(&rt, s, &["0 0 64\n0 64\n"], "64")?;
     assert!(rt; has_lines(line.as_str(), &["core,0,finish,31"]));
-    let plain = stats_of(alloc, s, &["3 0\n"], "64")?;
+    let plain = stats_of(&rt, s, &["3 0\n"], "64")?;
     assert!(rt; has_lines(plain.as_str(), &["core,0,finish,16", "core,0,stop_width,1"]));
     let window = profile_s(alloc, &["window = 1"], "")?;
-    let narrow = stats_of(alloc, window.as_str(), &["0 0\n0 64\n"], "64")?;
+    let narrow = stats_of(&rt, window.as_str(), &["0 0\n0 64\n"], "64")?;
     assert!(rt;
         has_lines(
             narrow.as_str(),
@@ -270,7 +279,7 @@ fn counts_of_one_core(rt: HostRuntime) -> Result<(), Fail> {
 fn counts_for_want_of_credits(rt: HostRuntime) -> Result<(), Fail> {
     let alloc = rt.alloc();
     let one = profile_s(alloc, &["read_credits = 1"], "")?;
-    let waits = stats_of(alloc, one.as_str(), &["0 0\n0 64\n"], "32")?;
+    let waits = stats_of(&rt, one.as_str(), &["0 0\n0 64\n"], "32")?;
     assert!(rt;
         has_lines(
             waits.as_str(),
@@ -288,7 +297,7 @@ fn counts_for_want_of_credits(rt: HostRuntime) -> Result<(), Fail> {
         &["read_credits = 1"],
         "[[link]]\nid = 2\nlatency = 1\n",
     )?;
-    let sooner = stats_of(alloc, link.as_str(), &["0 0\n0 64\n"], "32")?;
+    let sooner = stats_of(&rt, link.as_str(), &["0 0\n0 64\n"], "32")?;
     assert!(rt;
         has_lines(
             sooner.as_str(),
@@ -307,19 +316,19 @@ fn counts_for_want_of_credits(rt: HostRuntime) -> Result<(), Fail> {
 fn counts_of_refreshes(rt: HostRuntime) -> Result<(), Fail> {
     let alloc = rt.alloc();
     let refresh = profile_s(alloc, &["nREFI = 100"], "")?;
-    let alone = stats_of(alloc, refresh.as_str(), &[""], "250")?;
+    let alone = stats_of(&rt, refresh.as_str(), &[""], "250")?;
     assert!(rt;
         has_lines(
             alone.as_str(),
             &["channel,0,ref,2", "channel,0,refreshing,2"]
         )
     );
-    let open = files_of(alloc, refresh.as_str(), &["0 0\n"], "150")?;
+    let open = files_of(&rt, refresh.as_str(), &["0 0\n"], "150")?;
     let counted = open.text_at(alloc, "d/stats.csv")?;
     assert!(rt; has_lines(counted.as_str(), &["channel,0,refreshing,4"]));
     let left = open.text_at(alloc, "d/final.csv")?;
     assert!(rt; has_lines(left.as_str(), &["due,,0,,,,,0"]));
-    let late = stats_of(alloc, refresh.as_str(), &["192 0\n"], "150")?;
+    let late = stats_of(&rt, refresh.as_str(), &["192 0\n"], "150")?;
     assert!(rt;
         has_lines(
             late.as_str(),
@@ -329,7 +338,7 @@ fn counts_of_refreshes(rt: HostRuntime) -> Result<(), Fail> {
     let fields =
         "fields = [\"channel\", \"column\", \"rank\", \"group\", \"bank\", \"row\"]\nranks = 2\nnRTRS = 2";
     let ranks = profile_s(alloc, &[fields, "nREFI = 100"], "")?;
-    let both = stats_of(alloc, ranks.as_str(), &["0 0\n0 8192\n"], "150")?;
+    let both = stats_of(&rt, ranks.as_str(), &["0 0\n0 8192\n"], "150")?;
     assert!(rt; has_lines(both.as_str(), &["channel,0,refreshing,8"]));
     Ok(())
 }
@@ -338,10 +347,10 @@ fn counts_of_refreshes(rt: HostRuntime) -> Result<(), Fail> {
 fn counts_of_drains(rt: HostRuntime) -> Result<(), Fail> {
     let alloc = rt.alloc();
     let two = profile_s(alloc, &[], "write_high = 2\nwrite_low = 0\n")?;
-    let reads_first = stats_of(alloc, two.as_str(), &["0 0 8192\n"], "64")?;
+    let reads_first = stats_of(&rt, two.as_str(), &["0 0 8192\n"], "64")?;
     assert!(rt; has_lines(reads_first.as_str(), &["channel,0,draining,0"]));
     let one = profile_s(alloc, &[], "write_high = 1\nwrite_low = 0\n")?;
-    let writes_first = stats_of(alloc, one.as_str(), &["0 0 8192\n"], "64")?;
+    let writes_first = stats_of(&rt, one.as_str(), &["0 0 8192\n"], "64")?;
     assert!(rt;
         has_lines(
             writes_first.as_str(),
@@ -355,7 +364,7 @@ fn counts_of_drains(rt: HostRuntime) -> Result<(), Fail> {
 fn ends_drained(rt: HostRuntime) -> Result<(), Fail> {
     let alloc = rt.alloc();
     let drained = profile_s(alloc, &[], "end = \"drained\"\n")?;
-    let read = files_of(alloc, drained.as_str(), &["0 0\n"], "1000")?;
+    let read = files_of(&rt, drained.as_str(), &["0 0\n"], "1000")?;
     assert!(rt;
         has_tables(
             alloc,
@@ -365,7 +374,7 @@ fn ends_drained(rt: HostRuntime) -> Result<(), Fail> {
             END_OF_ONE_READ
         )?
     );
-    let short = files_of(alloc, drained.as_str(), &["0 0\n"], "3")?;
+    let short = files_of(&rt, drained.as_str(), &["0 0\n"], "3")?;
     assert!(rt;
         has_tables(
             alloc,
@@ -375,14 +384,14 @@ fn ends_drained(rt: HostRuntime) -> Result<(), Fail> {
             END_OF_THREE_CYCLES
         )?
     );
-    let line = stats_of(alloc, drained.as_str(), &["0 0 64\n0 64\n"], "1000")?;
+    let line = stats_of(&rt, drained.as_str(), &["0 0 64\n0 64\n"], "1000")?;
     assert!(rt; has_lines(line.as_str(), &["run,0,cycles,32"]));
     let refresh = profile_s(alloc, &["nREFI = 100"], "end = \"drained\"\n")?;
-    let none = stats_of(alloc, refresh.as_str(), &[""], "250")?;
+    let none = stats_of(&rt, refresh.as_str(), &[""], "250")?;
     assert!(rt; has_lines(none.as_str(), &["run,0,cycles,0", "channel,0,ref,0"]));
     let link = "end = \"drained\"\n[[link]]\nid = 2\nlatency = 30\n";
     let slow = profile_s(alloc, &[], link)?;
-    let credit = stats_of(alloc, slow.as_str(), &["0 0\n"], "64")?;
+    let credit = stats_of(&rt, slow.as_str(), &["0 0\n"], "64")?;
     assert!(rt;
         has_lines(
             credit.as_str(),
@@ -402,7 +411,7 @@ fn ends_with_a_refresh_due(rt: HostRuntime) -> Result<(), Fail> {
         "nREFI = 40",
     ];
     let late = profile_s(alloc, &slow, "end = \"drained\"\n")?;
-    let files = files_of(alloc, late.as_str(), &["16 0\n"], "200")?;
+    let files = files_of(&rt, late.as_str(), &["16 0\n"], "200")?;
     let counted = files.text_at(alloc, "d/stats.csv")?;
     assert!(rt;
         has_lines(
@@ -426,7 +435,7 @@ fn many_cores(rt: HostRuntime) -> Result<(), Fail> {
     let alloc = rt.alloc();
     let many = profile_s(alloc, &["cores = 256"], "")?;
     let traces = ["0 0\n"; 256];
-    let files = files_of(alloc, many.as_str(), &traces, "1300")?;
+    let files = files_of(&rt, many.as_str(), &traces, "1300")?;
     let table = files.text_at(alloc, "d/commands.csv")?;
     let commands = summary_of(alloc, table.as_str())?;
     let mut want = String::from_str(alloc, "ACT 2, ")?;
@@ -448,11 +457,49 @@ fn many_cores(rt: HostRuntime) -> Result<(), Fail> {
     Ok(())
 }
 
+// The tables of a run by so many workers.
+fn files_by<R: Threads + Wait + Sync + AllocGlobal>(
+    rt: &R,
+    config: &str,
+    workers: &str,
+) -> Result<MemoryFiles, Fail> {
+    let traces = ["0 0 64\n0 8192\n2 65536\n1 64 128\n"; 8];
+    let ended = run_program(rt, config, &traces, "400", workers)?;
+    if ended.status != 0 {
+        return Err(Fail::from("the run was refused"));
+    }
+    Ok(ended.files)
+}
+
+// Eight cores and two channels: the same bytes come of one worker, of two and of five, up to the limit and drained.
+#[test]
+fn tables_do_not_show_the_workers(rt: HostRuntime) -> Result<(), Fail> {
+    let alloc = rt.alloc();
+    for end in ["", "end = \"drained\"\n"] {
+        let config = profile_s(alloc, &["cores = 8", "channels = 2"], end)?;
+        let by_one = files_by(&rt, config.as_str(), "1")?;
+        let commands = by_one.text_at(alloc, "d/commands.csv")?;
+        let stats = by_one.text_at(alloc, "d/stats.csv")?;
+        let last = by_one.text_at(alloc, "d/final.csv")?;
+        for workers in ["2", "5"] {
+            let more = files_by(&rt, config.as_str(), workers)?;
+            let (commands, stats, last) = (commands.as_str(), stats.as_str(), last.as_str());
+            assert!(rt; has_tables(alloc, &more, commands, stats, last)?);
+        }
+    }
+    Ok(())
+}
+
 // The files that were opened by a run with a file that fails, where it is refused for that.
-fn opened_before(alloc: Global, failure: Failure, path: &'static str) -> Result<String, Fail> {
+fn opened_before<R: Threads + Wait + Sync + AllocGlobal>(
+    rt: &R,
+    failure: Failure,
+    path: &'static str,
+) -> Result<String, Fail> {
+    let alloc = rt.alloc();
     let mut files = MemoryFiles::new(alloc);
     files.failing = Some((failure, path));
-    let ended = run_over(alloc, files, PROFILE_S, &["0 0\n"], "16", "1")?;
+    let ended = run_over(rt, files, PROFILE_S, &["0 0\n"], "16", "1")?;
     if ended.status != 2 || ended.errors.as_slice() != b"fault 12: write\n".as_slice() {
         return Err(Fail::from("the run was not refused"));
     }
@@ -461,13 +508,12 @@ fn opened_before(alloc: Global, failure: Failure, path: &'static str) -> Result<
 
 #[test]
 fn tells_of_files_that_fail(rt: HostRuntime) -> Result<(), Fail> {
-    let alloc = rt.alloc();
     for failure in [Failure::Opening, Failure::Writing, Failure::Closing] {
-        let first = opened_before(alloc, failure, "d/commands.csv")?;
+        let first = opened_before(&rt, failure, "d/commands.csv")?;
         assert!(rt; first.as_str() == "d/commands.csv ");
-        let second = opened_before(alloc, failure, "d/stats.csv")?;
+        let second = opened_before(&rt, failure, "d/stats.csv")?;
         assert!(rt; second.as_str() == "d/commands.csv d/stats.csv ");
-        let third = opened_before(alloc, failure, "d/final.csv")?;
+        let third = opened_before(&rt, failure, "d/final.csv")?;
         assert!(rt; third.as_str() == "d/commands.csv d/stats.csv d/final.csv ");
     }
     Ok(())

@@ -1,73 +1,31 @@
--- The first test that is not passed is answered; else the run is that of the configuration and the traces.
-use Rattle.std.proofs.Common.{◌≡◌, ℕ, ◌≤◌, List, length, map, Ok, Err, vec_len, refl, sym, ap, ◌∙◌, arith}
-use Rattle.std.proofs.lemmas.List.{length-map}
-use Rattle.sim_base.specs.Values.{values_of}
+-- The run is that of the configuration and the traces.
+use Rattle.std.proofs.Common.{◌≡◌, ap, ◌∙◌}
 use Rattle.sim_base.specs.Machine.{cycles_run}
 use Rattle.statistics.specs.Runs.{outcome_of}
-use Rattle.dramsim.specs.Runs.{limits_of, traces_of, input_of, IsRunOf}
 use Rattle.dramsim.proofs.TraceLists.{texts_from}
 use Rattle.dramsim.proofs.Judged.{run-judged}
-use Rattle.dramsim.proofs.Inputs.{input_config, input_limits, input_traces, limits_count, limits_cycles}
 use Rattle.dramsim.proofs.runs.simulate_plain.Goals as goal
 
-pub returns-in-Err-clause-refused : goal.returns-in-Err-clause-refused
-returns-in-Err-clause-refused c = λ h.
-    input_config c.args.config.now _ c.args.cycles c.args.workers c.in-Err.fault ((c.in-Err.ensures {u = tt}).refused h)
-
-pub returns-in-Err-check_limits-clause-refused : goal.returns-in-Err-check_limits-clause-refused
-returns-in-Err-check_limits-clause-refused c = λ h.
-    let texts = texts_from c.args.texts.now 0 in
-    let n : length texts ≡ length c.args.texts.now = length-map c.args.texts.now _ in
-    let cores = c.in-Ok.config.cores in
-    input_limits c.args.config.now texts c.args.cycles c.args.workers (values_of c.in-Ok.config) c.in-Err-check_limits.fault (c.in-Ok.ensures {u = tt}).ok
-    (ap (λ k. limits_of cores k c.args.cycles c.args.workers) n ∙ sym c.check_limits.ensures ∙ c.in-Err-check_limits.is)
-
-pub read_traces-requires : goal.read_traces-requires
-read_traces-requires c =
-    let e : length c.args.texts.now ≡ c.in-Ok.config.cores = limits_count c.in-Ok.config.cores (length c.args.texts.now) c.args.cycles c.args.workers (sym c.check_limits.ensures ∙ c.in_default.is) in
-    let few : c.in-Ok.config.cores ≤ 256 = c.in-Ok.config.machine_in_range.cores_in.1 in
-    omega arith
-
-pub returns-in-Err-read_traces-clause-refused : goal.returns-in-Err-read_traces-clause-refused
-returns-in-Err-read_traces-clause-refused c = λ h.
-    let texts = texts_from c.args.texts.now 0 in
-    let n : length texts ≡ length c.args.texts.now = length-map c.args.texts.now _ in
-    let cores = c.in-Ok.config.cores in
-    input_traces c.args.config.now texts c.args.cycles c.args.workers (values_of c.in-Ok.config) (c.in-Ok.ensures {u = tt}).ok
-    (ap (λ k. limits_of cores k c.args.cycles c.args.workers) n ∙ sym c.check_limits.ensures ∙ c.in_default.is)
-    ∙ (c.in-Err-read_traces.ensures {u = tt}).refused h
-
 pub run_plain-requires-clause-one_trace_a_core : goal.run_plain-requires-clause-one_trace_a_core
-run_plain-requires-clause-one_trace_a_core c =
-    let e : length c.args.texts.now ≡ c.in-Ok.config.cores = limits_count c.in-Ok.config.cores (length c.args.texts.now) c.args.cycles c.args.workers (sym c.check_limits.ensures ∙ c.in_default.is) in
-    c.deref.ensures.len ∙ (c.in-Ok-read_traces.ensures {u = tt}).count ∙ e
-
-pub run_plain-requires-clause-limit : goal.run_plain-requires-clause-limit
-run_plain-requires-clause-limit c =
-    limits_cycles c.in-Ok.config.cores (length c.args.texts.now) c.args.cycles c.args.workers (sym c.check_limits.ensures ∙ c.in_default.is)
+run_plain-requires-clause-one_trace_a_core c = c.deref.ensures.len ∙ (c.in-Ok.ensures {u = tt}).count
 
 pub returns-clause-run : goal.returns-clause-run
 returns-clause-run c =
-    let texts = texts_from c.args.texts.now 0 in
-    let n : length texts ≡ length c.args.texts.now = length-map c.args.texts.now _ in
-    let cores = c.in-Ok.config.cores in
+    let given = c.in-Ok.ensures {u = tt} in
     record {
-      machine = c.in-Ok.config;
-      traces = c.in-Ok-read_traces.traces.items;
-      configured = (c.in-Ok.ensures {u = tt}).ok;
-      read =
-          input_traces c.args.config.now texts c.args.cycles c.args.workers (values_of c.in-Ok.config) (c.in-Ok.ensures {u = tt}).ok
-          (ap (λ k. limits_of cores k c.args.cycles c.args.workers) n ∙ sym c.check_limits.ensures ∙ c.in_default.is)
-          ∙ (c.in-Ok-read_traces.ensures {u = tt}).ok;
+      machine = c.in-Ok.input.0;
+      traces = c.in-Ok.input.1.items;
+      configured = given.configured;
+      read = given.input;
       outcome_is =
           (c.in-Ok-run_plain.ensures {u = tt}).outcome
-          ∙ ap (λ ts. outcome_of c.in-Ok.config ts (cycles_run c.in-Ok.config ts c.args.cycles)) c.deref.ensures.value;
+          ∙ ap (λ ts. outcome_of c.in-Ok.input.0 ts (cycles_run c.in-Ok.input.0 ts c.args.cycles)) c.deref.ensures.value;
     }
 
 pub returns-clause-legal : goal.returns-clause-legal
 returns-clause-legal c =
-    let texts = texts_from c.args.texts.now 0 in
-    run-judged c.args.config.now c.in-Ok.config texts c.in-Ok-read_traces.traces.items c.args.cycles c.in-Ok-run_plain.outcome (c.in-Ok.ensures {u = tt}).ok (c.in-Ok-read_traces.ensures {u = tt}).ok
-    (limits_cycles c.in-Ok.config.cores (length c.args.texts.now) c.args.cycles c.args.workers (sym c.check_limits.ensures ∙ c.in_default.is))
+    let given = c.in-Ok.ensures {u = tt} in
+    run-judged c.args.config.now c.in-Ok.input.0 (texts_from c.args.texts.now 0) c.in-Ok.input.1.items c.args.cycles c.in-Ok-run_plain.outcome
+    given.configured given.traces given.cycles
     ((c.in-Ok-run_plain.ensures {u = tt}).outcome
-    ∙ ap (λ ts. outcome_of c.in-Ok.config ts (cycles_run c.in-Ok.config ts c.args.cycles)) c.deref.ensures.value)
+    ∙ ap (λ ts. outcome_of c.in-Ok.input.0 ts (cycles_run c.in-Ok.input.0 ts c.args.cycles)) c.deref.ensures.value)

@@ -1,4 +1,4 @@
-use Rattle.std.proofs.Common.{[], ◌∷◌, ◌++◌, ap, ◌∙◌}
+use Rattle.std.proofs.Common.{ap, ◌∙◌}
 use Rattle.sim_base.specs.Scheduling.{due}
 use Rattle.laws.specs.Commands.{history_of, rows_of}
 use Rattle.laws.proofs.Legal.{length-rows_of}

@@ -1,6 +1,5 @@
-use Rattle.std.proofs.Common.{◌≡◌, ap, ap₂, subst, ◌∙◌}
+use Rattle.std.proofs.Common.{subst, ◌∙◌}
 use Rattle.sim_base.specs.declared.message.Unit.TheVariants as unit
-use Rattle.statistics.specs.Values.{LastChannel}
 use Rattle.laws.specs.Commands.{rows_of}
 use Rattle.span_laws.specs.Mail.{mail_before}
 use Rattle.epochs.specs.Parts.{IsPart}

@@ -1,4 +1,4 @@
-use Rattle.std.proofs.Common.{◌≡◌, ap₂, subst, sym, ap, ◌∙◌}
+use Rattle.std.proofs.Common.{ap₂, subst, ◌∙◌}
 use Rattle.sim_base.specs.declared.message.Unit.TheVariants as unit
 use Rattle.statistics.specs.Values.{LastCore}
 use Rattle.statistics.specs.declared.cores.CoreStats.{CoreStats}

@@ -1,4 +1,4 @@
-use Rattle.std.proofs.Common.{◌≡◌, ap, ◌∙◌}
+use Rattle.std.proofs.Common.{ap, ◌∙◌}
 use Rattle.statistics.specs.Runs.{final_of}
 use Rattle.links.specs.InFlight.{InFlight}
 use Rattle.epochs.proofs.Ended.{state_of}

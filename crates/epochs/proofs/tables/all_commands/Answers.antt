@@ -4,7 +4,7 @@ use Rattle.laws.specs.Commands.{history_of}
 use Rattle.epochs.specs.Parts.{IsPart}
 use Rattle.epochs.specs.Tables.{merged}
 use Rattle.epochs.proofs.Counted.{channel-stands}
-use Rattle.epochs.proofs.Tabled.{IsTable, table-none, table-more, table-all}
+use Rattle.epochs.proofs.Tabled.{IsTable, table-more, table-all}
 use Rattle.epochs.proofs.tables.all_commands.Goals as goal
 
 pub loop-channel-preserved : goal.loop-channel-preserved

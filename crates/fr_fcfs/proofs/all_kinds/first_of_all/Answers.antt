@@ -17,7 +17,7 @@ loop-bank-init c s history banks heads =
     let requests = c.args.queue.now.requests in
     let hits = λ (cycle : ℕ). hits_now s history all_kinds cycle in
     let rows = λ (cycle : ℕ). rows_now s history requests all_kinds cycle in
-    subst (λ room. IsBestSoFar (length requests) c.args.now (λ cycle. place_below 0 (hits cycle) requests) (λ cycle. place_below 0 (rows cycle) requests) (no_offer room)) (sym c.len-room.ensures)
+    subst (λ room. IsBestSoFar (length requests) c.args.now (λ cycle. place_below 0 (hits cycle) requests) (λ cycle. place_below 0 (rows cycle) requests) (no_offer room)) (sym c.len-room.ensures.value)
     (none_so_far (length requests) c.args.now (λ cycle. place_below 0 (hits cycle) requests) (λ cycle. place_below 0 (rows cycle) requests)
     (λ cycle late. none_below (hits cycle) requests) (λ cycle late. none_below (rows cycle) requests))
 
@@ -47,7 +47,7 @@ returns-then-best-room-clause-first c s history banks heads going_are =
     let best = c.loop-bank.best in
     let count : bank_count c.args.heads.now ≡ bank = omega (arith, c.bank_count-bank-end.ensures) in
     let within = subst (λ n. All (λ (r : Request). bank_number r.place < n) requests) count heads.within in
-    let inside : best.slot < length requests = omega (arith, c.len-room.ensures) in
+    let inside : best.slot < length requests = omega (arith, c.len-room.ensures.value) in
     let hits = λ (cycle : ℕ). hits_now s history kinds cycle in
     let rows = λ (cycle : ℕ). rows_now s history requests kinds cycle in
     first_ready_is s history queue kinds c.args.now (Some best) going_are inside
@@ -64,7 +64,7 @@ returns-else-best-room-clause-first c s history banks heads going_are =
     let best = c.loop-bank.best in
     let count : bank_count c.args.heads.now ≡ bank = omega (arith, c.bank_count-bank-end.ensures) in
     let within = subst (λ n. All (λ (r : Request). bank_number r.place < n) requests) count heads.within in
-    let outside : length requests ≤ best.slot = omega (arith, c.len-room.ensures) in
+    let outside : length requests ≤ best.slot = omega (arith, c.len-room.ensures.value) in
     let hits = λ (cycle : ℕ). hits_now s history kinds cycle in
     let rows = λ (cycle : ℕ). rows_now s history requests kinds cycle in
     first_ready_is s history queue kinds c.args.now None going_are tt

@@ -1,9 +1,11 @@
 -- One rank more, from the highest on.
-use Rattle.std.proofs.Common.{◌≡◌, ◌+◌, ◌-◌, subst, arith}
+use Rattle.std.proofs.Common.{◌≡◌, ◌+◌, ◌-◌, false, is_some, sym, ◌∙◌, subst, arith}
 use Rattle.sim_base.specs.Scheduling.{lowest_due}
 use Rattle.fr_fcfs.specs.Requests.{candidates_of}
+use Rattle.refresh.specs.Refreshes.{lowest_owed}
+use Rattle.fr_fcfs.specs.Choices.{choice_in}
 use Rattle.fr_fcfs.specs.Cycles.{IsNext}
-use Rattle.fr_fcfs.proofs.Waking.{chosen_from, chosen_start, refreshes_more}
+use Rattle.fr_fcfs.proofs.Waking.{chosen_from, chosen_start, refreshes_more, next_quiet}
 use Rattle.fr_fcfs.proofs.choice.next.Goals as goal
 
 pub loop-rank-init : goal.loop-rank-init
@@ -37,3 +39,13 @@ returns-clause-next c s history stand =
     let last : c.loop-rank.rank ≡ 0 = omega arith in
     let whole : c.loop-rank.rank + s.ranks ≡ c.args.refresh.now.ranks = omega (arith, last, stand.refreshes_stand.ranks_are) in
     subst (λ k. IsNext (chosen_from s history (candidates_of s c.args.queue.now) k s.ranks) c.args.now c.loop-rank.next) last (c.loop-rank.invariant.next s history stand s.ranks whole)
+
+-- the requests go on alone, where no refresh is due by their first cycle
+pub returns-then-not-is_due_by-clause-next : goal.returns-then-not-is_due_by-clause-next
+returns-then-not-is_due_by-clause-next c s history stand =
+    let requests = candidates_of s c.args.queue.now in
+    let cycle = c.in-Some.cycle in
+    let none : is_some (lowest_owed c.args.refresh.now cycle) ≡ false = sym c.is_due_by.ensures ∙ c.if-not-is_due_by.true in
+    subst (IsNext (choice_in s history c.args.queue.now) c.args.now) (sym c.in-Some.is)
+    (next_quiet s history requests c.args.refresh.now c.args.now cycle c.in-Some.field-0-1.command stand.refreshes_stand none
+    (c.in-Some.ensures.next s history stand.banks_stand stand.heads_stand stand.high_is))

@@ -1,11 +1,11 @@
 use Rattle.std.proofs.Common.{length, ◌-◌}
-use Rattle.heads.specs.Heads.{wants, RowsFit}
+use Rattle.heads.specs.Heads.{wants}
 use Rattle.heads.specs.Moves.{NoneBefore}
 use Rattle.heads.proofs.search.first_from.Given as goal
 
 -- none so far
 abbrev pub invariant-loop-at : goal.invariant-loop-at
-invariant-loop-at l = RowsFit l.queue.requests → NoneBefore (wants l.bank l.write l.row) l.queue.requests l.fn.from → NoneBefore (wants l.bank l.write l.row) l.queue.requests l.at
+invariant-loop-at l = NoneBefore (wants l.bank l.write l.row) l.queue.requests l.fn.from → NoneBefore (wants l.bank l.write l.row) l.queue.requests l.at
 
 abbrev pub decreases-loop-at : goal.decreases-loop-at
-decreases-loop-at l = length l.requests - l.at
+decreases-loop-at l = length l.tags - l.at

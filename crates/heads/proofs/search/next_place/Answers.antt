@@ -12,8 +12,8 @@ use Rattle.heads.proofs.Stood.{item_at}
 use Rattle.heads.proofs.search.next_place.Goals as goal
 use Rattle.heads.proofs.search.next_place.Goals.{in_default-via-in-Some+else-place-gap, in_default-via-in_default}
 
-pub returns-in-Some : goal.returns-in-Some
-returns-in-Some c earlier within left fit calm none is =
+pub returns-in-Some-clause-first : goal.returns-in-Some-clause-first
+returns-in-Some-clause-first c earlier within left calm none is =
     let test = wants c.args.gap.bank c.args.write c.args.row in
     let slot = c.args.gap.slot in
     let item = item_at earlier slot within in
@@ -22,8 +22,8 @@ returns-in-Some c earlier within left fit calm none is =
     ∙ before_here slot c.in-Some.place (omega arith) in
     sym (before_some slot c.in-Some.place (first_place test c.args.queue.now.requests) here).0
 
-pub returns-in_default : goal.returns-in_default
-returns-in_default c earlier within left fit calm none is =
+pub returns-in_default-clause-first : goal.returns-in_default-clause-first
+returns-in_default-clause-first c earlier within left calm none is =
     let test = wants c.args.gap.bank c.args.write c.args.row in
     let rs = c.args.queue.now.requests in
     let slot = c.args.gap.slot in
@@ -34,10 +34,10 @@ returns-in_default c earlier within left fit calm none is =
       | in_default-via-in-Some+else-place-gap w ↦ ap (before slot) w.in-Some.is ∙ before_past slot w.in-Some.place (omega arith)
       | in_default-via-in_default w ↦ ap (before slot) w.in_default.is
     ] in
-    c.first_from.ensures fit (subst (NoneBefore test rs) (sym c.max.ensures) (none_max test rs slot c.args.least (none_before test rs slot (same ∙ late)) none))
+    c.first_from.ensures.first (subst (NoneBefore test rs) (sym c.max.ensures) (none_max test rs slot c.args.least (none_before test rs slot (same ∙ late)) none))
 
-pub returns-then-ne : goal.returns-then-ne
-returns-then-ne c earlier within left fit calm none is =
+pub returns-then-ne-clause-first : goal.returns-then-ne-clause-first
+returns-then-ne-clause-first c earlier within left calm none is =
     let test = wants c.args.gap.bank c.args.write c.args.row in
     let slot = c.args.gap.slot in
     let item = item_at earlier slot within in

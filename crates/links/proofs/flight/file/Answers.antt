@@ -1,4 +1,4 @@
-use Rattle.std.proofs.Common.{ℕ, ◌+◌, ◌≡◌, ltb, refl, ap, ◌∙◌, add-zero, rules}
+use Rattle.std.proofs.Common.{ltb, refl, ap, ◌∙◌, add-zero, rules}
 use Rattle.std.proofs.lemmas.Map.Made.{filter_same_pairs}
 use Rattle.links.proofs.Filed.{before, before-all, filed_more, aged_more, kept_more}
 use Rattle.links.proofs.flight.file.Goals as goal

@@ -1,5 +1,5 @@
-use Rattle.std.proofs.Common.{◌≡◌, ◌≤◌, sym, ap, ap₂, ◌∙◌, subst, min}
-use Rattle.links.proofs.Shortest.{Attained, least_of, least_of-meets, least_of-attained, least_of-positive}
+use Rattle.std.proofs.Common.{◌≡◌, ap₂, ◌∙◌, min}
+use Rattle.links.proofs.Shortest.{least_of, least_of-meets, least_of-attained, least_of-positive}
 use Rattle.links.proofs.latency.shortest.Goals as goal
 use Rattle.links.proofs.latency.shortest.Goals.{After-from}
 

@@ -1,5 +1,5 @@
 -- The mark of the request says whether it waits.
-use Rattle.std.proofs.Common.{◌≡◌, ◌+◌, get_or, sym, ◌<◌, ◌≤◌, length, not, refl, ap, ◌∙◌, arith}
+use Rattle.std.proofs.Common.{◌≡◌, ℕ, Bool, cond, ◌+◌, get_or, sym, ◌<◌, ◌≤◌, length, set, not, refl, subst, ap, Vec, Global, ◌∙◌, arith}
 use Rattle.std.proofs.lemmas.List.{length_push, length-set, get_or_default}
 use Rattle.queue.proofs.Counted.{none_asks, few_counted, counted_push}
 use Rattle.std.proofs.lemmas.List.Sums.{count_by-le-length}
@@ -7,7 +7,11 @@ use Rattle.sim_base.specs.Scheduling.{asks_for_line}
 use Rattle.lane_scan.specs.Marks.{mark, is_marked}
 use Rattle.queue.proofs.Eligible.{length-eligible}
 use Rattle.queue.proofs.Kept.{eligible_pushed, waiting_pushed, writes_pushed, byte_is, mark_le}
+use Rattle.queue.specs.Columns.{AreCounted}
+use Rattle.queue.specs.Kept.{AreKept}
+use Rattle.queue.specs.View.{drains_by}
 use Rattle.queue.proofs.Queue.arrive.Goals as goal
+use Rattle.queue.proofs.Queue.arrive.Goals.{After-from}
 
 pub is_line_asked-asked-requires-clause-alike : goal.is_line_asked-asked-requires-clause-alike
 is_line_asked-asked-requires-clause-alike c none =
@@ -38,8 +42,19 @@ overflow_add-self c =
     let byte : c.from.result ≤ 1 = omega (arith, c.from.ensures ∙ byte_is c.is_line_asked-asked.result, mark_le c.is_line_asked-asked.result) in
     omega (arith, few, long, free, c.self.invariant.waiting_are, byte)
 
-pub invariant_of-self : goal.invariant_of-self
-invariant_of-self c =
+-- the request is taken in, with these counts of what writes
+taken_in : (c : After-from) (lines : Vec ℕ Global) (writes : ℕ) (drains : Bool)
+    → lines.items ≡ set c.self.inside.lines.items c.line_slot-line.result (c.index-alike.result.now + 1)
+    → c.self.inside.writes + cond c.args.request.write 1 0 ≡ writes
+    → drains ≡ drains_by c.self.inside.high c.self.inside.low c.self.inside.settled writes
+    → AreKept (record c.self.inside {
+      aged = c.push.new.self;
+      lines = lines;
+      waiting = c.self.inside.waiting + c.from.result;
+      writes = writes;
+      drains = drains;
+    })
+taken_in c lines writes drains lines_are writes_is drains_is =
     let q = c.self.inside in
     let kept = c.self.invariant in
     let more = c.push.ensures.requests in
@@ -53,11 +68,26 @@ invariant_of-self c =
           eligible_pushed q.aged.marks _ q.aged.requests _ c.args.request (mark (not c.is_line_asked-asked.result)) c.is_line_asked-asked.result kept.eligible_are c.push.ensures.marks refl asked more;
       waiting_are =
           waiting_pushed q.aged.marks _ q.waiting c.from.result (mark (not c.is_line_asked-asked.result)) c.is_line_asked-asked.result kept.waiting_are c.push.ensures.marks refl c.from.ensures;
-      masked = omega (arith, kept.masked, length-set q.lines.items slot (c.index-alike.result.now + 1));
+      masked = omega (arith, kept.masked, ap length lines_are, length-set q.lines.items slot (c.index-alike.result.now + 1));
       lines_are =
-          counted_push q.mask q.lines.items q.aged.requests _ c.args.request slot (c.index-alike.result.now + 1) kept.lines_are c.line_slot-line.ensures.value below more
-          (ap (λ k. k + 1) count_is);
-      writes_are = writes_pushed q.aged.requests _ c.args.request q.writes c.from-2.result kept.writes_are c.from-2.ensures more;
+          subst (λ counts. AreCounted q.mask counts c.push.new.self.requests) (sym lines_are)
+          (counted_push q.mask q.lines.items q.aged.requests _ c.args.request slot (c.index-alike.result.now + 1) kept.lines_are c.line_slot-line.ensures.value below more
+          (ap (λ k. k + 1) count_is));
+      writes_are = sym writes_is ∙ writes_pushed q.aged.requests _ c.args.request q.writes kept.writes_are more;
+      drains_are = drains_is;
       within = omega (arith, ap length more, length_push q.aged.requests c.args.request, free);
       enough = omega (arith, kept.enough, c.push.ensures.room);
+      short = kept.short;
     }
+
+pub invariant_of-self : goal.invariant_of-self
+invariant_of-self whole =
+    let c = (goal.at.invariant_of-self whole).After-from in
+    let one : cond {A = ℕ} c.args.request.write 1 0 ≡ 1 = ap (λ b. cond {A = ℕ} b 1 0) whole.if-request.true in
+    taken_in c _ (c.self.inside.writes + 1) whole.drains-self-inside.result refl (omega (arith, one)) whole.drains-self-inside.ensures
+
+pub invariant_of-self-else-request : goal.invariant_of-self-else-request
+invariant_of-self-else-request whole =
+    let c = (goal.at.invariant_of-self-else-request whole).After-from in
+    let none : cond {A = ℕ} c.args.request.write 1 0 ≡ 0 = ap (λ b. cond {A = ℕ} b 1 0) whole.if-request.false in
+    taken_in c _ c.self.inside.writes c.self.inside.drains refl (omega (arith, none)) c.self.invariant.drains_are

@@ -11,9 +11,9 @@ use Rattle.queue.specs.Columns.{waiting_count, AreCounted}
 use Rattle.queue.proofs.Counted.{none_asks, some_counted, counted_removed}
 use Rattle.queue.proofs.Eligible.{length-eligible}
 use Rattle.queue.proofs.Kept.{writes_removed, waiting_removed, byte_is}
-use Rattle.queue.proofs.Served.{IsServed, served_kept}
+use Rattle.queue.proofs.Served.{IsServed, served_kept, drains_still}
 use Rattle.queue.proofs.Queue.serve.Goals as goal
-use Rattle.queue.proofs.Queue.serve.Goals.{then-was_first, else-was_first}
+use Rattle.queue.proofs.Queue.serve.Goals.{After-from, then-was_first, else-was_first}
 
 -- what a read past the end would give
 abbrev absent : Request
@@ -74,20 +74,21 @@ give_turn-waited-requires-clause-alike c none =
     none_asks q.mask (set q.lines.items slot left) c.remove.new.self.requests r.place counted (omega (arith, below, slot_is, length-set q.lines.items slot left))
     (ap (λ k. get_or (set q.lines.items slot left) k 0) (sym slot_is) ∙ get_or-set_same q.lines.items slot left 0 below ∙ none)
 
-pub overflow_sub-self-2 : goal.overflow_sub-self-2
-overflow_sub-self-2 c =
+pub overflow_sub-self-then-request : goal.overflow_sub-self-then-request
+overflow_sub-self-then-request c =
     let q = c.self.inside in
     let n = c.args.slot in
     let r = get_or c.requests.result.now n absent in
     let exists : n < length q.aged.requests = omega (arith, ap (λ v. length v.requests) c.self.view_is, c.requires) in
     let request : r ≡ get_or q.aged.requests n r = ap (λ xs. get_or xs n absent) c.requests.ensures ∙ get_or_default q.aged.requests n absent r exists in
-    let counted = writes_removed q.aged.requests _ r n q.writes c.from-2.result exists request c.self.invariant.writes_are c.from-2.ensures c.remove.ensures.requests in
+    let counted = writes_removed q.aged.requests _ r n q.writes exists request c.self.invariant.writes_are c.remove.ensures.requests in
+    let one : cond {A = ℕ} r.write 1 0 ≡ 1 = ap (λ b. cond {A = ℕ} b 1 0) c.if-request.true in
     let same : c.if-was_first.self-inside.writes ≡ q.writes =
     elim c.if-was_first.branch [
       | then-was_first w ↦ ap (λ s. s.writes) w.self-inside-is
       | else-was_first w ↦ ap (λ s. s.writes) w.self-inside-is
     ] in
-    omega (arith, counted, same)
+    omega (arith, counted, same, one)
 
 pub give_turn-waited-requires-clause-same_length : goal.give_turn-waited-requires-clause-same_length
 give_turn-waited-requires-clause-same_length c =
@@ -118,8 +119,10 @@ overflow_sub-self c =
           omega (arith, done, one, left, c.self.invariant.waiting_are, ap (λ s. s.waiting) w.self-inside-is)
     ]
 
-pub invariant_of-self : goal.invariant_of-self
-invariant_of-self c =
+-- the request is taken out, and those that wait are counted anew
+left_over : (c : After-from)
+    → IsServed c.self.inside c.if-was_first.self-inside c.args.slot (get_or c.requests.result.now c.args.slot absent) (get_or c.eligible.result.now c.args.slot 0) c.from.result
+left_over c =
     let q = c.self.inside in
     let kept = c.self.invariant in
     let n = c.args.slot in
@@ -139,7 +142,6 @@ invariant_of-self c =
     let one_less : AreCounted q.mask now (remove q.aged.requests n) =
     counted_removed q.mask n q.lines.items q.aged.requests (remove q.aged.requests n) r slot (c.index.result.now - 1) kept.lines_are c.line_slot-line.ensures.value below exists request refl
     (ap (λ k. k - 1) count_is) in
-    let left : IsServed q c.if-was_first.self-inside n r word c.from.result =
     elim c.if-was_first.branch [
       | then-was_first w ↦
           let h = w.self-inside-is in
@@ -154,6 +156,10 @@ invariant_of-self c =
             room = ap (λ s. s.room) h;
             places = ap (λ s. s.aged.room) h ∙ turned.room ∙ c.remove.ensures.room;
             writes = ap (λ s. s.writes) h;
+            high = ap (λ s. s.high) h;
+            low = ap (λ s. s.low) h;
+            settled = ap (λ s. s.settled) h;
+            drains = ap (λ s. s.drains) h;
             requests = ap (λ s. s.aged.requests) h ∙ turned.requests ∙ fewer;
             turn = λ _.
                 ap (λ s. s.aged.marks) h
@@ -177,6 +183,10 @@ invariant_of-self c =
             room = ap (λ s. s.room) h;
             places = ap (λ s. s.aged.room) h ∙ c.remove.ensures.room;
             writes = ap (λ s. s.writes) h;
+            high = ap (λ s. s.high) h;
+            low = ap (λ s. s.low) h;
+            settled = ap (λ s. s.settled) h;
+            drains = ap (λ s. s.drains) h;
             requests = ap (λ s. s.aged.requests) h ∙ fewer;
             turn = λ yes. absurd (w.if-was_first.false (eqb-true word 1 yes));
             no_turn = λ _. ap (λ s. s.aged.marks) h ∙ c.remove.ensures.marks;
@@ -185,5 +195,29 @@ invariant_of-self c =
             counted = λ k within. ap (λ s. get_or s.lines.items k 0) h ∙ one_less k (omega (arith, within, ap (λ s. length s.lines.items) h));
             waited = omega (arith, done, one, counts, counted, kept.waiting_are, ap (λ s. s.waiting) h);
           }
-    ] in
-    served_kept q c.if-was_first.self-inside n r word c.from.result c.from-2.result kept left c.from-2.ensures
+    ]
+
+pub invariant_of-self : goal.invariant_of-self
+invariant_of-self whole =
+    let c = (goal.at.invariant_of-self whole).After-from in
+    let q = c.self.inside in
+    let s = c.if-was_first.self-inside in
+    let n = c.args.slot in
+    let word = get_or c.eligible.result.now n 0 in
+    let r = get_or c.requests.result.now n absent in
+    let left = left_over c in
+    let one : cond {A = ℕ} r.write 1 0 ≡ 1 = ap (λ b. cond {A = ℕ} b 1 0) whole.if-request.true in
+    let counted = writes_removed q.aged.requests _ r n q.writes left.exists left.request c.self.invariant.writes_are left.requests in
+    served_kept q s n r word c.from.result (s.writes - 1) whole.drains-self-inside.result c.self.invariant left (omega (arith, one, counted, left.writes)) whole.drains-self-inside.ensures
+
+pub invariant_of-self-else-request : goal.invariant_of-self-else-request
+invariant_of-self-else-request whole =
+    let c = (goal.at.invariant_of-self-else-request whole).After-from in
+    let q = c.self.inside in
+    let s = c.if-was_first.self-inside in
+    let n = c.args.slot in
+    let word = get_or c.eligible.result.now n 0 in
+    let r = get_or c.requests.result.now n absent in
+    let left = left_over c in
+    let none : cond {A = ℕ} r.write 1 0 ≡ 0 = ap (λ b. cond {A = ℕ} b 1 0) whole.if-request.false in
+    served_kept q s n r word c.from.result s.writes s.drains c.self.invariant left (omega (arith, none)) (drains_still q s n r word c.from.result c.self.invariant left)

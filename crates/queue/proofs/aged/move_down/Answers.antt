@@ -1,9 +1,9 @@
-use Rattle.std.proofs.Common.{◌-◌, length, drop, take, ap, ◌∙◌}
-use Rattle.std.proofs.lemmas.List.{take_at, length-drop}
+use Rattle.std.proofs.Common.{◌-◌, length, take, ap, ◌∙◌}
+use Rattle.queue.proofs.Dropped.{copied_down}
 use Rattle.queue.proofs.aged.move_down.Goals as goal
 
 pub returns : goal.returns
 returns g c =
     let xs = c.args.items.now in
-    let turned = c.rotate_left.ensures in
-    (turned.len, ap (take (length xs - 1)) turned.after ∙ take_at (drop 1 xs) (take 1 xs) (length xs - 1) (length-drop 1 xs))
+    let copied = c.copy_within.ensures in
+    (copied.len, ap (take (length xs - 1)) copied.after ∙ copied_down xs)

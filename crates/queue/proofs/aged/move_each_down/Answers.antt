@@ -14,6 +14,6 @@ loop-at-preserved c =
       come_next c.args.rows.now l.rows l.at 0 (omega (arith, within, c.requires.rows_long)) down.4,
       come_next c.args.kinds.now l.kinds l.at 0 (omega (arith, within, c.requires.kinds_long)) down.5,
       come_next c.args.eligible.now l.eligible l.at 0 (omega (arith, within, c.requires.eligible_long)) down.6,
-      come_next c.args.keys.now l.keys l.at 0 (omega (arith, within, c.requires.keys_long)) down.7,
+      come_next c.args.tags.now l.tags l.at 0 (omega (arith, within, c.requires.tags_long)) down.7,
       come_next c.args.prints.now l.prints l.at 0 (omega (arith, within, c.requires.prints_long)) down.8,
     )

@@ -12,7 +12,7 @@ invariant-loop-at l =
     × HaveComeDown l.initial.rows l.rows l.at
     × HaveComeDown l.initial.kinds l.kinds l.at
     × HaveComeDown l.initial.eligible l.eligible l.at
-    × HaveComeDown l.initial.keys l.keys l.at
+    × HaveComeDown l.initial.tags l.tags l.at
     × HaveComeDown l.initial.prints l.prints l.at
 
 abbrev pub decreases-loop-at : goal.decreases-loop-at

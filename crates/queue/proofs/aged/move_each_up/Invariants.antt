@@ -11,7 +11,7 @@ invariant-loop-at l =
     × HaveMoved l.initial.rows l.rows l.at
     × HaveMoved l.initial.kinds l.kinds l.at
     × HaveMoved l.initial.eligible l.eligible l.at
-    × HaveMoved l.initial.keys l.keys l.at
+    × HaveMoved l.initial.tags l.tags l.at
     × HaveMoved l.initial.prints l.prints l.at
 
 abbrev pub decreases-loop-at : goal.decreases-loop-at

@@ -1,10 +1,8 @@
-use Rattle.std.proofs.Common.{◌-◌, length, drop, take, ap, ◌∙◌, arith}
-use Rattle.std.proofs.lemmas.List.{drop_at, length-drop}
+use Rattle.std.proofs.Common.{drop, ap, ◌∙◌}
+use Rattle.queue.proofs.Dropped.{copied_up}
 use Rattle.queue.proofs.aged.move_up.Goals as goal
 
 pub returns : goal.returns
 returns g c =
-    let xs = c.args.items.now in
-    let last = length xs - 1 in
-    let turned = c.rotate_right.ensures in
-    (turned.len, ap (drop 1) turned.after ∙ drop_at (drop last xs) (take last xs) 1 (omega (arith, length-drop last xs)))
+    let copied = c.copy_within.ensures in
+    (copied.len, ap (drop 1) copied.after ∙ copied_up c.args.items.now c.requires)

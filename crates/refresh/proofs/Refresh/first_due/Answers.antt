@@ -1,4 +1,4 @@
-use Rattle.std.proofs.Common.{◌≡◌, ◌+◌, ◌*◌, ◌<◌, ℕ, max, slice_index, None, ap, sym, ◌∙◌, arith}
+use Rattle.std.proofs.Common.{◌≡◌, ◌+◌, ◌*◌, ◌<◌, max, None, ap, ◌∙◌, arith}
 use Rattle.refresh.proofs.Due.{rank_due_from, rank_never_due, rank_due_from_owed}
 use Rattle.refresh.proofs.Refresh.first_due.Goals as goal
 

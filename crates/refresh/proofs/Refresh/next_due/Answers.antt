@@ -1,14 +1,14 @@
-use Rattle.std.proofs.Common.{◌+◌, ◌*◌, ◌<◌, ℕ, max, ap, ◌∙◌, arith}
-use Rattle.refresh.proofs.Due.{first_due, first_due_from_owed}
+use Rattle.std.proofs.Common.{◌<◌, ap, subst, arith}
+use Rattle.refresh.specs.Refreshes.{IsQuietTo}
+use Rattle.refresh.proofs.Due.{next_is_first, first_due_from_owed}
 use Rattle.refresh.proofs.Refresh.next_due.Goals as goal
 
 pub returns-clause-next : goal.returns-clause-next
 returns-clause-next c =
     let counts = c.args.self.now in
-    let interval = ap (λ v. v.interval) c.self.view_is in
-    let some : 0 < counts.interval = omega (arith, interval, c.if-self-eq0.false) in
-    let latest = c.max.ensures ∙ ap (λ (n : ℕ). max c.args.now ((c.fewest_issued.result + 1) * n)) (c.from.ensures ∙ interval) in
-    first_due counts c.args.now c.fewest_issued.result c.max.result some c.fewest_issued.ensures.fewest latest
+    let quiet = c.self.inside.quiet_to in
+    let some : 0 < counts.interval = omega (arith, ap (λ v. v.interval) c.self.view_is, c.if-self-eq0.false) in
+    next_is_first counts c.args.now quiet c.max.result some (subst (λ v. IsQuietTo v quiet) c.self.view_is c.self.invariant.is_quiet_to) c.max.ensures
 
 pub returns-clause-stands : goal.returns-clause-stands
 returns-clause-stands c s history stands =

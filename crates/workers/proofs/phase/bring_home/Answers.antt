@@ -1,4 +1,4 @@
-use Rattle.std.proofs.Common.{rules, ◌≡◌, ap}
+use Rattle.std.proofs.Common.{rules, ap}
 use Rattle.crossbeam_queue.specs.Passes.{view}
 use Rattle.workers.specs.declared.rule.View.{View}
 use Rattle.workers.proofs.Keeps.{homes}

@@ -1,4 +1,4 @@
-use Rattle.std.proofs.Common.{rules, ◌≡◌, ◌∙◌, List, IsPermutation, ap, sym, subst, arith}
+use Rattle.std.proofs.Common.{rules, ◌∙◌, List, IsPermutation, ap, sym, subst, arith}
 use Rattle.crossbeam_queue.specs.Passes.{view}
 use Rattle.workers.specs.declared.rule.View.{View}
 use Rattle.epochs.specs.Views.{JobView}

@@ -1,4 +1,4 @@
-use Rattle.std.proofs.Common.{rules, ◌≡◌, ◌≢◌, ℕ, ◌+◌, ◌%◌, ◌<◌, List, [], ◌∷◌, ◌++◌, length, get_or, slice_set, vec_len, refl, sym, ap, subst, ◌∙◌, append_assoc, Bool, true, false, eqb, eqb-true, eq-eqb, arith}
+use Rattle.std.proofs.Common.{rules, ◌≡◌, ◌≢◌, ℕ, ◌+◌, ◌%◌, ◌<◌, [], ◌∷◌, ◌++◌, length, get_or, slice_set, refl, sym, ap, ◌∙◌, append_assoc, Bool, true, false, eqb, eqb-true, eq-eqb, arith}
 use Rattle.std.proofs.lemmas.List.{length_push, get_or-set_other}
 use Rattle.std.proofs.lemmas.Grind.{get_or-set_at}
 use Rattle.std.proofs.lemmas.Nat.{mod_below}

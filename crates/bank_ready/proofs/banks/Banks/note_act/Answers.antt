@@ -1,15 +1,15 @@
--- The words of ACTs of the rank are raised, and those of the own bank.
-use Rattle.std.proofs.Common.{◌∙◌, eqb, max, Some, cond, get_or, length, refl, ap, arith, ◌+◌}
+-- The words of ACTs of the groups of the rank are raised, and those of the own bank.
+use Rattle.std.proofs.Common.{◌*◌, ◌/◌, ◌∙◌, eqb, max, Some, cond, get_or, length, refl, ap, arith, ◌+◌}
 use Rattle.sim_base.specs.declared.command.Command.TheVariants.{Act}
 use Rattle.sim_base.specs.declared.command.Kind.TheVariants as kind
+use Rattle.sim_base.specs.declared.command.Relation.{Relation}
+use Rattle.sim_base.specs.Places.{is_bank}
 use Rattle.bank_ready.specs.Ready.{held_until}
-use Rattle.bank_ready.specs.Words.{relation_from, rank_state_after, act_pushed, rank_raised}
-use Rattle.bank_ready.proofs.Bounds.{act_to_rd, act_to_wr, act_to_pre}
-use Rattle.bank_ready.proofs.Noting.{own_inside, at_distances, raised, raised-own, put, put-row, window-of-act, act-tests}
+use Rattle.bank_ready.specs.Words.{bank_at, relation_from, group_relation_from, rank_state_after, act_pushed, rank_raised}
+use Rattle.bank_ready.proofs.Bounds.{act_grows, act_other_rank, act_to_rd, act_to_wr, act_to_pre}
+use Rattle.bank_ready.proofs.Noting.{own_inside, at_distances, lifted, lifted-own, own-word, alone, joint, joint-own, put, put-row, window-of-act, act-tests}
+use Rattle.bank_ready.proofs.Places.{act_joint}
 use Rattle.bank_ready.proofs.banks.Banks.note_act.Goals as goal
-
-pub raise_acts-requires-clause-own_inside : goal.raise_acts-requires-clause-own_inside
-raise_acts-requires-clause-own_inside c = own_inside _ _ _ c.own_number-own.ensures.inside (omega (arith, ap length c.deref_mut.ensures.value))
 
 pub raise_own-requires : goal.raise_own-requires
 raise_own-requires c = own_inside _ _ _ c.own_number-own.ensures.inside (omega (arith, ap length c.deref_mut-2.ensures.value))
@@ -20,8 +20,11 @@ raise_own-requires-2 c = own_inside _ _ _ c.own_number-own.ensures.inside (omega
 pub raise_own-requires-3 : goal.raise_own-requires-3
 raise_own-requires-3 c = own_inside _ _ _ c.own_number-own.ensures.inside (omega (arith, ap length c.deref_mut-4.ensures.value))
 
+pub raise_own-requires-4 : goal.raise_own-requires-4
+raise_own-requires-4 c = own_inside _ _ _ c.own_number-own.ensures.inside (omega (arith, ap length c.deref_mut-5.ensures.value))
+
 pub note_row-requires : goal.note_row-requires
-note_row-requires c = own_inside _ _ _ c.own_number-own.ensures.inside (omega (arith, ap length c.deref_mut-5.ensures.value))
+note_row-requires c = own_inside _ _ _ c.own_number-own.ensures.inside (omega (arith, ap length c.deref_mut-6.ensures.value))
 
 pub returns : goal.returns
 returns c source =
@@ -32,12 +35,15 @@ returns c source =
     let command = Act bank c.args.row source in
     let number = c.own_number-own.ensures.number in
     let own = c.own_number-own.result in
-    let lent = c.deref_mut.result.now in
-    let rows = put-row banks.rows c.deref_mut-5.result.now c.note_row.new.rows bank own (Some c.args.row) c.deref_mut-5.ensures.value c.note_row.auto.rows c.note_row.ensures number in
-    let ranks =
-    put banks.ranks c.deref_mut-6.result.now c.note_act_in_rank.new.ranks (rank_state_after t cycle command) c.deref_mut-6.ensures.value c.note_act_in_rank.auto.ranks
+    let held = λ (r : Relation). held_until t cycle kind.Act kind.Act r in
+    let end = c.index.result.now.window.second in
+    let to_act = c.bound_until-to_act.result in
+    let rows = put-row banks.rows c.deref_mut-6.result.now c.note_row.new.rows bank own (Some c.args.row) c.deref_mut-6.ensures.value c.note_row.auto.rows c.note_row.ensures number in
+    let ranks = length banks.ranks.items in
+    let states =
+    put banks.ranks c.deref_mut-7.result.now c.note_act_in_rank.new.ranks (rank_state_after t cycle command) c.deref_mut-7.ensures.value c.note_act_in_rank.auto.ranks
     (λ k d l.
-    let state = get_or c.deref_mut-6.result.now k d in
+    let state = get_or c.deref_mut-7.result.now k d in
     c.note_act_in_rank.ensures k d
     ∙ ap (λ n. cond (eqb bank.rank k) (act_pushed (rank_raised t cycle kind.Act state) (cycle + n)) state) (c.from.ensures ∙ c.four_act_window.ensures.value)
     ∙ act-tests t cycle (cycle + t.n_faw) (eqb bank.rank k) state) in
@@ -45,22 +51,30 @@ returns c source =
     (record {
       delays = refl;
       act =
-          raised banks.act lent c.raise_acts.new.words _ c.deref_mut.ensures.value c.raise_acts.auto.words
-          (λ k d l.
-          c.raise_acts.ensures k d
-          ∙ ap (λ n. max (get_or lent k d) (max (held_until t cycle kind.Act kind.Act (relation_from bank k)) n))
-          (window-of-act banks bank c.args.row source k _ c.index.result.now c.requires.rank c.index.ensures refl));
+          joint ranks banks.act.items _ banks.act_groups.items _ _ _ _
+          (lifted-own banks.act c.deref_mut-2.result.now c.raise_own.new.words bank own to_act c.deref_mut-2.ensures.value c.raise_own.auto.words c.raise_own.ensures number)
+          (lifted banks.act_groups c.deref_mut.result.now c.raise_acts.new.words (λ g. max (held (group_relation_from bank g)) (cond (eqb bank.rank (g / 4)) end 0)) c.deref_mut.ensures.value c.raise_acts.auto.words
+          (λ k d l. c.raise_acts.ensures k d)) banks.all_acts banks.all_act_groups
+          (λ k.
+          ap (λ n. max (cond (is_bank (bank_at k) bank) n 0) (max (held (group_relation_from bank (k / 4))) (cond (eqb bank.rank (k / 4 / 4)) end 0))) c.bound_until-to_act.ensures
+          ∙ act_joint held bank k end (act_grows t cycle) (act_other_rank t cycle)
+          ∙ ap (max (held (relation_from bank k))) (window-of-act banks bank c.args.row source k end c.index.result.now c.requires.rank c.index.ensures refl));
       rd =
-          raised-own banks.rd c.deref_mut-2.result.now c.raise_own.new.words t cycle command kind.Rd bank own c.bound_until-to_rd.result c.deref_mut-2.ensures.value c.raise_own.auto.words c.raise_own.ensures
-          refl number c.bound_until-to_rd.ensures (act_to_rd t cycle);
+          joint-own ranks banks.rd.items _ banks.rd_groups.items _ _
+          (lifted-own banks.rd c.deref_mut-3.result.now c.raise_own-2.new.words bank own c.bound_until-to_rd.result c.deref_mut-3.ensures.value c.raise_own-2.auto.words c.raise_own-2.ensures number)
+          banks.all_rds (λ k. own-word t cycle command kind.Rd bank _ k refl c.bound_until-to_rd.ensures (act_to_rd t cycle));
       wr =
-          raised-own banks.wr c.deref_mut-3.result.now c.raise_own-2.new.words t cycle command kind.Wr bank own c.bound_until-to_wr.result c.deref_mut-3.ensures.value c.raise_own-2.auto.words c.raise_own-2.ensures
-          refl number c.bound_until-to_wr.ensures (act_to_wr t cycle);
+          joint-own ranks banks.wr.items _ banks.wr_groups.items _ _
+          (lifted-own banks.wr c.deref_mut-4.result.now c.raise_own-3.new.words bank own c.bound_until-to_wr.result c.deref_mut-4.ensures.value c.raise_own-3.auto.words c.raise_own-3.ensures number)
+          banks.all_wrs (λ k. own-word t cycle command kind.Wr bank _ k refl c.bound_until-to_wr.ensures (act_to_wr t cycle));
       pre =
-          raised-own banks.pre c.deref_mut-4.result.now c.raise_own-3.new.words t cycle command kind.Pre bank own c.bound_until-to_pre.result c.deref_mut-4.ensures.value c.raise_own-3.auto.words c.raise_own-3.ensures
-          refl number c.bound_until-to_pre.ensures (act_to_pre t cycle);
+          alone (16 * ranks) banks.pre.items _ _ _
+          (lifted-own banks.pre c.deref_mut-5.result.now c.raise_own-4.new.words bank own c.bound_until-to_pre.result c.deref_mut-5.ensures.value c.raise_own-4.auto.words c.raise_own-4.ensures number)
+          banks.all_pres (λ k. own-word t cycle command kind.Pre bank _ k refl c.bound_until-to_pre.ensures (act_to_pre t cycle));
+      rd_floor = λ rank other. omega arith;
+      wr_floor = λ rank other. omega arith;
       row_count = rows.count;
       rows = rows.each;
-      rank_count = ranks.count;
-      ranks = ranks.each;
+      rank_count = states.count;
+      ranks = states.each;
     })

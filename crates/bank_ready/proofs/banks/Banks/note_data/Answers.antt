@@ -1,10 +1,13 @@
 -- The words of RDs and WRs are raised, and a PRE of the own bank waits.
-use Rattle.std.proofs.Common.{length, refl, ap, arith}
+use Rattle.std.proofs.Common.{◌*◌, length, refl, ap, arith}
 use Rattle.sim_base.specs.declared.command.Kind.TheVariants as kind
 use Rattle.sim_base.specs.Rules.{kind_of}
+use Rattle.bank_ready.specs.Ready.{held_until}
+use Rattle.bank_ready.specs.Words.{act_word, group_relation_from}
+use Rattle.timing.specs.Relation.{relation_to}
 use Rattle.bank_ready.proofs.Allowed.{rank_of-bank}
 use Rattle.bank_ready.proofs.Bounds.{data_to_pre}
-use Rattle.bank_ready.proofs.Noting.{own_inside, at_distances, raised-data, raised-own, data-acts, kept-row, no-act, left, put-rank}
+use Rattle.bank_ready.proofs.Noting.{floor-raised, own_inside, at_distances, lifted, lifted-own, own-word, data-word, alone, joint-groups, data-acts, kept-row, no-act, left, put-rank}
 use Rattle.bank_ready.proofs.banks.Banks.note_data.Goals as goal
 
 pub raise_own-requires : goal.raise_own-requires
@@ -13,6 +16,7 @@ raise_own-requires c = own_inside _ _ _ c.own_number-own.ensures.inside (omega (
 pub returns : goal.returns
 returns c command of names =
     let banks = c.args.self.now in
+    let ranks = length banks.ranks.items in
     let t = c.deref-delays.result.now in
     let cycle = c.args.cycle in
     let bank = c.args.bank in
@@ -20,20 +24,29 @@ returns c command of names =
     let number = c.own_number-own.ensures.number in
     let own = c.own_number-own.result in
     let rank = rank_of-bank command bank names in
-    let ranks =
+    let states =
     put-rank banks.ranks c.deref_mut-4.result.now c.raise_rank_words.new.ranks t cycle bank.rank command c.deref_mut-4.ensures.value c.raise_rank_words.auto.ranks
     (rw of c.raise_rank_words.ensures) rank (no-act (kind_of command) (rw of c.requires.kind)) in
     at_distances banks _ t banks.delays.value cycle command c.deref-delays.ensures
     (record {
       delays = refl;
-      act = left banks.act.items _ (λ k. data-acts banks t cycle command k (rw of c.requires.kind));
-      rd = raised-data banks.rd c.deref_mut.result.now c.raise_data.new.words t cycle command later kind.Rd bank c.deref_mut.ensures.value c.raise_data.auto.words c.raise_data.ensures of names;
-      wr = raised-data banks.wr c.deref_mut-2.result.now c.raise_data-2.new.words t cycle command later kind.Wr bank c.deref_mut-2.ensures.value c.raise_data-2.auto.words c.raise_data-2.ensures of names;
+      act = left (16 * ranks) (act_word banks) _ (λ k. data-acts banks t cycle command k (rw of c.requires.kind));
+      rd =
+          joint-groups ranks banks.rd.items banks.rd_groups.items _ _ _
+          (lifted banks.rd_groups c.deref_mut.result.now c.raise_data-to_rd.new.words (λ g. held_until t cycle later kind.Rd (group_relation_from bank g)) c.deref_mut.ensures.value c.raise_data-to_rd.auto.words c.raise_data-to_rd.ensures.words)
+          banks.all_rd_groups (λ k. data-word t cycle command later kind.Rd bank k of names c.requires.kind refl);
+      wr =
+          joint-groups ranks banks.wr.items banks.wr_groups.items _ _ _
+          (lifted banks.wr_groups c.deref_mut-2.result.now c.raise_data-to_wr.new.words (λ g. held_until t cycle later kind.Wr (group_relation_from bank g)) c.deref_mut-2.ensures.value c.raise_data-to_wr.auto.words c.raise_data-to_wr.ensures.words)
+          banks.all_wr_groups (λ k. data-word t cycle command later kind.Wr bank k of names c.requires.kind refl);
       pre =
-          raised-own banks.pre c.deref_mut-3.result.now c.raise_own.new.words t cycle command kind.Pre bank own c.bound_until-to_pre.result c.deref_mut-3.ensures.value c.raise_own.auto.words c.raise_own.ensures
-          names number (rw of c.bound_until-to_pre.ensures) (rw of (data_to_pre t cycle later c.requires.kind));
+          alone (16 * ranks) banks.pre.items _ _ _
+          (lifted-own banks.pre c.deref_mut-3.result.now c.raise_own.new.words bank own c.bound_until-to_pre.result c.deref_mut-3.ensures.value c.raise_own.auto.words c.raise_own.ensures number)
+          banks.all_pres (λ k. own-word t cycle command kind.Pre bank _ k names (rw of c.bound_until-to_pre.ensures) (rw of (data_to_pre t cycle later c.requires.kind)));
+      rd_floor = λ rank other. floor-raised _ _ _ _ c.max-self.ensures (rw of (c.raise_data-to_rd.ensures.least (relation_to command rank other)));
+      wr_floor = λ rank other. floor-raised _ _ _ _ c.max-self-2.ensures (rw of (c.raise_data-to_wr.ensures.least (relation_to command rank other)));
       row_count = refl;
       rows = λ k d l. kept-row command k _ (rw of c.requires.kind);
-      rank_count = ranks.count;
-      ranks = ranks.each;
+      rank_count = states.count;
+      ranks = states.each;
     })

@@ -1,10 +1,10 @@
 -- An ACT of the own bank waits, and the words of the rank.
-use Rattle.std.proofs.Common.{None, length, refl, ap, arith}
+use Rattle.std.proofs.Common.{◌*◌, None, length, refl, ap, arith}
 use Rattle.sim_base.specs.declared.command.Command.TheVariants.{Pre}
 use Rattle.sim_base.specs.declared.command.Kind.TheVariants as kind
-use Rattle.bank_ready.specs.Words.{relation_from}
+use Rattle.bank_ready.specs.Words.{relation_from, rd_word, wr_word, pre_word}
 use Rattle.bank_ready.proofs.Bounds.{pre_to_act, pre_nothing}
-use Rattle.bank_ready.proofs.Noting.{own_inside, at_distances, raised-own, widened, left, put-row, put-rank}
+use Rattle.bank_ready.proofs.Noting.{own_inside, at_distances, lifted-own, own-word, joint-own, left, put-row, put-rank}
 use Rattle.bank_ready.proofs.banks.Banks.note_pre.Goals as goal
 
 pub raise_own-requires : goal.raise_own-requires
@@ -16,6 +16,7 @@ note_row-requires c = own_inside _ _ _ c.own_number-own.ensures.inside (omega (a
 pub returns : goal.returns
 returns c source =
     let banks = c.args.self.now in
+    let ranks = length banks.ranks.items in
     let t = c.deref-delays.result.now in
     let cycle = c.args.cycle in
     let bank = c.args.bank in
@@ -23,20 +24,21 @@ returns c source =
     let number = c.own_number-own.ensures.number in
     let own = c.own_number-own.result in
     let rows = put-row banks.rows c.deref_mut-2.result.now c.note_row.new.rows bank own None c.deref_mut-2.ensures.value c.note_row.auto.rows c.note_row.ensures number in
-    let ranks = put-rank banks.ranks c.deref_mut-3.result.now c.raise_rank_words.new.ranks t cycle bank.rank command c.deref_mut-3.ensures.value c.raise_rank_words.auto.ranks c.raise_rank_words.ensures refl refl in
+    let states = put-rank banks.ranks c.deref_mut-3.result.now c.raise_rank_words.new.ranks t cycle bank.rank command c.deref_mut-3.ensures.value c.raise_rank_words.auto.ranks c.raise_rank_words.ensures refl refl in
     at_distances banks _ t banks.delays.value cycle command c.deref-delays.ensures
     (record {
       delays = refl;
       act =
-          widened _ _ _ _
-          (raised-own banks.act c.deref_mut.result.now c.raise_own.new.words t cycle command kind.Act bank own c.bound_until-to_act.result c.deref_mut.ensures.value c.raise_own.auto.words c.raise_own.ensures
-          refl number c.bound_until-to_act.ensures (pre_to_act t cycle))
-          (λ k. omega arith);
-      rd = left banks.rd.items _ (λ k. (pre_nothing t cycle (relation_from bank k)).0);
-      wr = left banks.wr.items _ (λ k. (pre_nothing t cycle (relation_from bank k)).1);
-      pre = left banks.pre.items _ (λ k. (pre_nothing t cycle (relation_from bank k)).2);
+          joint-own ranks banks.act.items _ banks.act_groups.items _ _
+          (lifted-own banks.act c.deref_mut.result.now c.raise_own.new.words bank own c.bound_until-to_act.result c.deref_mut.ensures.value c.raise_own.auto.words c.raise_own.ensures number)
+          banks.all_acts (λ k. omega (arith, own-word t cycle command kind.Act bank c.bound_until-to_act.result k refl c.bound_until-to_act.ensures (pre_to_act t cycle)));
+      rd = left (16 * ranks) (rd_word banks) _ (λ k. (pre_nothing t cycle (relation_from bank k)).0);
+      wr = left (16 * ranks) (wr_word banks) _ (λ k. (pre_nothing t cycle (relation_from bank k)).1);
+      pre = left (16 * ranks) (pre_word banks) _ (λ k. (pre_nothing t cycle (relation_from bank k)).2);
+      rd_floor = λ rank other. omega arith;
+      wr_floor = λ rank other. omega arith;
       row_count = rows.count;
       rows = rows.each;
-      rank_count = ranks.count;
-      ranks = ranks.each;
+      rank_count = states.count;
+      ranks = states.each;
     })

@@ -1,35 +1,41 @@
--- The ACTs of the rank wait, its rows are closed, and the words of the rank are raised.
-use Rattle.std.proofs.Common.{◌/◌, eqb, ℕ, Option, None, cond, refl, arith}
+-- The ACTs of the groups of the rank wait, its rows are closed, and the words of the rank are raised.
+use Rattle.std.proofs.Common.{◌*◌, ◌/◌, length, eqb, ℕ, Option, None, cond, refl, arith}
 use Rattle.sim_base.specs.declared.command.Command.TheVariants.{Prea}
 use Rattle.sim_base.specs.declared.command.Kind.TheVariants as kind
 use Rattle.sim_base.specs.declared.command.Relation.{Relation}
 use Rattle.sim_base.specs.declared.command.Relation.TheVariants.{SameBank, OtherRank}
 use Rattle.bank_ready.specs.Ready.{held_until}
+use Rattle.bank_ready.specs.Words.{rd_word, wr_word, pre_word}
 use Rattle.bank_ready.proofs.Bounds.{prea_rank, prea_nothing}
-use Rattle.bank_ready.proofs.Noting.{at_distances, raised-rank, left, put, put-rank}
+use Rattle.bank_ready.proofs.Noting.{at_distances, lifted, group-rank-word, joint-groups, left, put, put-rank}
 use Rattle.bank_ready.proofs.banks.Banks.note_prea.Goals as goal
 
 pub returns : goal.returns
 returns c =
     let banks = c.args.self.now in
+    let ranks = length banks.ranks.items in
     let t = c.deref-delays.result.now in
     let cycle = c.args.cycle in
     let rank = c.args.rank in
     let command = Prea rank in
     let at = λ (k : ℕ). cond (eqb rank (k / 16)) SameBank OtherRank in
     let rows = put banks.rows c.deref_mut-2.result.now c.close_rank.new.rows (λ (k : ℕ) (row : Option ℕ). cond (eqb (k / 16) rank) None row) c.deref_mut-2.ensures.value c.close_rank.auto.rows (λ k d l. c.close_rank.ensures k d) in
-    let ranks = put-rank banks.ranks c.deref_mut-3.result.now c.raise_rank_words.new.ranks t cycle rank command c.deref_mut-3.ensures.value c.raise_rank_words.auto.ranks c.raise_rank_words.ensures refl refl in
+    let states = put-rank banks.ranks c.deref_mut-3.result.now c.raise_rank_words.new.ranks t cycle rank command c.deref_mut-3.ensures.value c.raise_rank_words.auto.ranks c.raise_rank_words.ensures refl refl in
     at_distances banks _ t banks.delays.value cycle command c.deref-delays.ensures
     (record {
       delays = refl;
       act =
-          raised-rank banks.act c.deref_mut.result.now c.raise_rank.new.words (λ (r : Relation). held_until t cycle kind.Prea kind.Act r) rank c.bound_until-to_act.result _ c.deref_mut.ensures.value c.raise_rank.auto.words
-          c.raise_rank.ensures c.bound_until-to_act.ensures (prea_rank t cycle) (λ k. omega arith);
-      rd = left banks.rd.items _ (λ k. (prea_nothing t cycle (at k)).0);
-      wr = left banks.wr.items _ (λ k. (prea_nothing t cycle (at k)).1);
-      pre = left banks.pre.items _ (λ k. (prea_nothing t cycle (at k)).2);
+          joint-groups ranks banks.act.items banks.act_groups.items _ _ _
+          (lifted banks.act_groups c.deref_mut.result.now c.raise_rank_groups.new.words (λ g. cond (eqb rank (g / 4)) c.bound_until-to_act.result 0) c.deref_mut.ensures.value c.raise_rank_groups.auto.words
+          (λ k d l. c.raise_rank_groups.ensures k d)) banks.all_act_groups
+          (λ k. omega (arith, group-rank-word (λ (r : Relation). held_until t cycle kind.Prea kind.Act r) rank c.bound_until-to_act.result k c.bound_until-to_act.ensures (prea_rank t cycle)));
+      rd = left (16 * ranks) (rd_word banks) _ (λ k. (prea_nothing t cycle (at k)).0);
+      wr = left (16 * ranks) (wr_word banks) _ (λ k. (prea_nothing t cycle (at k)).1);
+      pre = left (16 * ranks) (pre_word banks) _ (λ k. (prea_nothing t cycle (at k)).2);
+      rd_floor = λ rank other. omega arith;
+      wr_floor = λ rank other. omega arith;
       row_count = rows.count;
       rows = rows.each;
-      rank_count = ranks.count;
-      ranks = ranks.each;
+      rank_count = states.count;
+      ranks = states.each;
     })

@@ -1,36 +1,44 @@
 -- The ACTs and the PREs of the rank wait, and the words of the rank are raised.
-use Rattle.std.proofs.Common.{◌/◌, eqb, ℕ, cond, refl, arith}
+use Rattle.std.proofs.Common.{◌*◌, ◌/◌, length, eqb, ℕ, cond, refl, arith}
 use Rattle.sim_base.specs.declared.command.Command.TheVariants.{Ref}
 use Rattle.sim_base.specs.declared.command.Kind.TheVariants as kind
 use Rattle.sim_base.specs.declared.command.Relation.{Relation}
 use Rattle.sim_base.specs.declared.command.Relation.TheVariants.{SameBank, OtherRank}
 use Rattle.bank_ready.specs.Ready.{held_until}
+use Rattle.bank_ready.specs.Words.{rd_word, wr_word}
 use Rattle.bank_ready.proofs.Bounds.{refresh_rank, refresh_nothing}
-use Rattle.bank_ready.proofs.Noting.{at_distances, raised-rank, left, put-rank}
+use Rattle.bank_ready.proofs.Noting.{at_distances, lifted, rank-word, group-rank-word, alone, joint-groups, left, put-rank}
 use Rattle.bank_ready.proofs.banks.Banks.note_refresh.Goals as goal
 
 pub returns : goal.returns
 returns c =
     let banks = c.args.self.now in
+    let ranks = length banks.ranks.items in
     let t = c.deref-delays.result.now in
     let cycle = c.args.cycle in
     let rank = c.args.rank in
     let command = Ref rank in
     let at = λ (k : ℕ). cond (eqb rank (k / 16)) SameBank OtherRank in
-    let ranks = put-rank banks.ranks c.deref_mut-3.result.now c.raise_rank_words.new.ranks t cycle rank command c.deref_mut-3.ensures.value c.raise_rank_words.auto.ranks c.raise_rank_words.ensures refl refl in
+    let states = put-rank banks.ranks c.deref_mut-3.result.now c.raise_rank_words.new.ranks t cycle rank command c.deref_mut-3.ensures.value c.raise_rank_words.auto.ranks c.raise_rank_words.ensures refl refl in
     at_distances banks _ t banks.delays.value cycle command c.deref-delays.ensures
     (record {
       delays = refl;
       act =
-          raised-rank banks.act c.deref_mut.result.now c.raise_rank.new.words (λ (r : Relation). held_until t cycle kind.Ref kind.Act r) rank c.bound_until-to_act.result _ c.deref_mut.ensures.value c.raise_rank.auto.words
-          c.raise_rank.ensures c.bound_until-to_act.ensures (refresh_rank t cycle).0 (λ k. omega arith);
-      rd = left banks.rd.items _ (λ k. (refresh_nothing t cycle (at k)).0);
-      wr = left banks.wr.items _ (λ k. (refresh_nothing t cycle (at k)).1);
+          joint-groups ranks banks.act.items banks.act_groups.items _ _ _
+          (lifted banks.act_groups c.deref_mut.result.now c.raise_rank_groups.new.words (λ g. cond (eqb rank (g / 4)) c.bound_until-to_act.result 0) c.deref_mut.ensures.value c.raise_rank_groups.auto.words
+          (λ k d l. c.raise_rank_groups.ensures k d)) banks.all_act_groups
+          (λ k. omega (arith, group-rank-word (λ (r : Relation). held_until t cycle kind.Ref kind.Act r) rank c.bound_until-to_act.result k c.bound_until-to_act.ensures (refresh_rank t cycle).0));
+      rd = left (16 * ranks) (rd_word banks) _ (λ k. (refresh_nothing t cycle (at k)).0);
+      wr = left (16 * ranks) (wr_word banks) _ (λ k. (refresh_nothing t cycle (at k)).1);
       pre =
-          raised-rank banks.pre c.deref_mut-2.result.now c.raise_rank-2.new.words (λ (r : Relation). held_until t cycle kind.Ref kind.Pre r) rank c.bound_until-to_pre.result _ c.deref_mut-2.ensures.value c.raise_rank-2.auto.words
-          c.raise_rank-2.ensures c.bound_until-to_pre.ensures (refresh_rank t cycle).1 (λ k. refl);
+          alone (16 * ranks) banks.pre.items _ _ _
+          (lifted banks.pre c.deref_mut-2.result.now c.raise_rank.new.words (λ k. cond (eqb rank (k / 16)) c.bound_until-to_pre.result 0) c.deref_mut-2.ensures.value c.raise_rank.auto.words (λ k d l. c.raise_rank.ensures k d))
+          banks.all_pres
+          (λ k. rank-word (λ (r : Relation). held_until t cycle kind.Ref kind.Pre r) (eqb rank (k / 16)) c.bound_until-to_pre.result c.bound_until-to_pre.ensures (refresh_rank t cycle).1);
+      rd_floor = λ rank other. omega arith;
+      wr_floor = λ rank other. omega arith;
       row_count = refl;
       rows = λ k d l. refl;
-      rank_count = ranks.count;
-      ranks = ranks.each;
+      rank_count = states.count;
+      ranks = states.each;
     })

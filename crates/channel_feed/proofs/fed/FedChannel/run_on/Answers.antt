@@ -19,7 +19,7 @@ invariant_of-result c =
     (c.in_ok-extend_from_slice-2.ensures {u = tt}).items ∙ ap (λ x. f.commands.items ++ x) c.deref.ensures.value in
     let mail : c.extend_from_slice.new.self.items ≡ f.mail.items ++ c.args.inbox.now = (c.in_ok-extend_from_slice.ensures {u = tt}).items in
     let d = (c.in_ok-done.ensures {u = tt}) f.config f.number (rows_of f.cycle f.commands.items) f.mail.items f.kept.stands (length-rows_of f.cycle f.commands.items) c.requires.fit in
-    let h = kept-done f.channel f.config f.number f.cycle f.firsts.items f.commands.items f.mail.items c.args.inbox.now c.args.until done f.kept c.requires.asked c.requires.from_now c.requires.in_time d in
+    let h = kept-done f.channel f.config f.number f.cycle f.firsts.items f.commands.items f.mail.items c.args.inbox.now c.args.until done f.kept c.requires.asked c.requires.from_now c.requires.in_time c.requires.fit d in
     record {
       kept = subst (λ x. IsKept done.channel f.config f.number c.args.until f.firsts.items x c.extend_from_slice.new.self.items) (sym commands)
           (subst (λ x. IsKept done.channel f.config f.number c.args.until f.firsts.items (f.commands.items ++ done.commands.items) x) (sym mail) h);

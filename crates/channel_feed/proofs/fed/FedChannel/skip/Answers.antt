@@ -47,7 +47,7 @@ invariant_of-result c =
     (subst (λ n. IsIdle f.config f.number rows f.mail.items (c.args.until - n)) (sym len) may.idle) in
     let moved : StandsFor c.skip.new.self f.config f.number (rows ++ replicate (c.args.until - f.cycle) None) f.mail.items =
     subst (λ n. StandsFor c.skip.new.self f.config f.number (rows ++ replicate (c.args.until - n) None) f.mail.items) len stands in
-    record { kept = kept-skip f.channel c.skip.new.self f.config f.number f.cycle f.firsts.items f.commands.items f.mail.items c.args.until f.kept may.from_now may.in_time moved }
+    record { kept = kept-skip f.channel c.skip.new.self f.config f.number f.cycle f.firsts.items f.commands.items f.mail.items c.args.until f.kept may.from_now may.in_time may.idle moved }
 
 pub returns-clause-done : goal.returns-clause-done
 returns-clause-done c =

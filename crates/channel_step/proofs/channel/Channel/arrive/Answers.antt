@@ -31,7 +31,7 @@ returns-clause-in_cycle c s channel rows mail until h at l f =
     let inbox = c.args.inbox.now in
     let n = c.due_count-due.result in
     let history = issued_commands channel rows in
-    let older : c.len-older.result ≡ length c.args.self.now.waiting.queue.requests = c.len-older.ensures ∙ ap (λ (z : QueueView). length z.requests) c.queue.ensures in
+    let older : c.len-older.result ≡ length c.args.self.now.waiting.queue.requests = c.len-older.ensures.value ∙ ap (λ (z : QueueView). length z.requests) c.queue.ensures in
     let before =
     subst (λ (z : QueueView). HeadsStand c.args.self.now.heads (take c.len-older.result z.requests) history) (sym c.queue-2.ensures)
     (heads-before c.args.self.now s channel rows mail (take n inbox) c.len-older.result c.admit.new.self h older c.in_ok-admit.ensures) in

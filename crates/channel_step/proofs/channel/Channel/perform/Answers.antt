@@ -12,41 +12,45 @@ use Rattle.channel_step.specs.Channels.{StandsFor}
 use Rattle.channel_step.specs.declared.channel.Channel.{Channel}
 use Rattle.channel_step.proofs.Issuing.{row_of, counted, slot-below, leaves-hit, counted-fits, issued-stands, issued-before, command-rank, command-among, served-among, left-is, command-owed, seen-counted}
 use Rattle.channel_step.proofs.Cycle.{joined-differ}
+use Rattle.channel_step.proofs.Draining.{counts-drains}
 use Rattle.channel_step.proofs.channel.Channel.perform.Goals as goal
 
 pub take-hit-requires-clause-slot : goal.take-hit-requires-clause-slot
-take-hit-requires-clause-slot c = slot-below c.args.self.now.waiting.queue.requests c.args.chosen c.requires.slot
+take-hit-requires-clause-slot c = slot-below c.args.self.now.waiting.queue.requests c.args.chosen.now c.requires.slot
 
 pub take-hit-requires-clause-differ : goal.take-hit-requires-clause-differ
 take-hit-requires-clause-differ c = let p = c.requires.chosen in joined-differ _ _ _ _ p.s p.channel p.rows p.mail p.is_in.joined
 
 pub request_at-served-requires : goal.request_at-served-requires
 request_at-served-requires c =
-    subst (λ (z : QueueView). ForSome c.args.chosen.slot (λ k. k < length z.requests)) (sym c.queue.ensures) (slot-below c.args.self.now.waiting.queue.requests c.args.chosen c.requires.slot)
+    subst (λ (z : QueueView). ForSome c.args.chosen.now.slot (λ k. k < length z.requests)) (sym c.queue.ensures) (slot-below c.args.self.now.waiting.queue.requests c.args.chosen.now c.requires.slot)
 
 pub note_heads-requires-clause-bank : goal.note_heads-requires-clause-bank
 note_heads-requires-clause-bank c =
     let p = c.requires.chosen in
-    served-among c.args.self.now p.s p.channel p.rows p.mail c.args.chosen.slot c.request_at-served.result p.is_in
-    (c.request_at-served.ensures ∙ ap (λ (z : QueueView). option_and_then (slice_get z.requests) c.args.chosen.slot) c.queue.ensures)
+    served-among c.args.self.now p.s p.channel p.rows p.mail c.args.chosen.now.slot c.request_at-served.result p.is_in
+    (c.request_at-served.ensures ∙ ap (λ (z : QueueView). option_and_then (slice_get z.requests) c.args.chosen.now.slot) c.queue.ensures)
 
 pub note_heads-requires-clause-among : goal.note_heads-requires-clause-among
-note_heads-requires-clause-among c = let p = c.requires.chosen in command-among c.args.self.now p.s p.channel p.rows p.mail c.args.chosen.command p.is_in p.chosen
+note_heads-requires-clause-among c = let p = c.requires.chosen in command-among c.args.self.now p.s p.channel p.rows p.mail c.args.chosen.now.command p.is_in p.chosen
 
 pub note-requires-clause-rank : goal.note-requires-clause-rank
-note-requires-clause-rank c = let p = c.requires.chosen in command-rank c.args.self.now p.s p.channel p.rows p.mail c.args.chosen.command p.is_in p.chosen
+note-requires-clause-rank c = let p = c.requires.chosen in command-rank c.args.self.now p.s p.channel p.rows p.mail c.args.chosen.now.command p.is_in p.chosen
 
 pub note_refresh-requires-clause-due : goal.note_refresh-requires-clause-due
-note_refresh-requires-clause-due c = let p = c.requires.chosen in command-owed c.args.self.now p.s p.channel p.rows p.mail c.args.chosen.command c.args.now p.is_in p.at p.chosen
+note_refresh-requires-clause-due c = let p = c.requires.chosen in command-owed c.args.self.now p.s p.channel p.rows p.mail c.args.chosen.now.command c.args.now p.is_in p.at p.chosen
 
 pub count-requires-clause-fits : goal.count-requires-clause-fits
 count-requires-clause-fits c =
     let p = c.requires.chosen in
     let early : length p.rows < 2 ^ 62 = omega arith in
-    let hit = leaves-hit c.args.self.now p.s p.channel p.rows p.mail c.args.chosen p.is_in c.requires.slot in
+    let hit = leaves-hit c.args.self.now p.s p.channel p.rows p.mail c.args.chosen.now p.is_in c.requires.slot in
     subst ChannelFits
-    (sym (seen-counted c.args.self.now p.s p.channel p.rows p.mail c.args.now c.args.seen (Some c.args.chosen.command) c.take-hit.result p.is_in p.at c.requires.seen))
-    (counted-fits c.args.self.now p.s p.channel p.rows p.mail (Some c.args.chosen.command) c.take-hit.result p.is_in early p.chosen (hit ∙ sym c.take-hit.ensures.hit))
+    (sym (seen-counted c.args.self.now p.s p.channel p.rows p.mail c.args.now c.args.seen (Some c.args.chosen.now.command) c.take-hit.result p.is_in p.at c.requires.seen))
+    (counted-fits c.args.self.now p.s p.channel p.rows p.mail (Some c.args.chosen.now.command) c.take-hit.result p.is_in early p.chosen (hit ∙ sym c.take-hit.ensures.hit))
+
+pub count-requires-clause-drains : goal.count-requires-clause-drains
+count-requires-clause-drains c = let p = c.requires.chosen in counts-drains c.args.self.now p.s p.channel p.rows p.mail p.is_in
 
 pub count-requires-clause-cycle : goal.count-requires-clause-cycle
 count-requires-clause-cycle c = let p = c.requires.chosen in omega (arith, p.is_in.cycle_is, p.at)
@@ -55,17 +59,17 @@ pub returns : goal.returns
 returns c s channel rows mail h at e =
     let x = c.args.self.now in
     let history = issued_commands channel rows in
-    let command = c.args.chosen.command in
-    let slot = c.args.chosen.slot in
+    let command = c.args.chosen.now.command in
+    let slot = c.args.chosen.now.slot in
     let served : c.request_at-served.result ≡ option_and_then (slice_get x.waiting.queue.requests) slot =
     c.request_at-served.ensures ∙ ap (λ (z : QueueView). option_and_then (slice_get z.requests) slot) c.queue.ensures in
     let left : c.queue-2.result.now.requests ≡ requests_left x.waiting.queue.requests slot =
     ap (λ (z : QueueView). z.requests) c.queue-2.ensures ∙ ap (λ (z : Queued). z.queue.requests) c.take-hit.ensures.rest ∙ left-is x.waiting command slot in
     subst (λ (z : Channel). StandsFor z s channel (rows ++ Some command ∷ []) mail) (sym c.count.ensures)
-    (issued-stands x s channel rows mail c.args.now c.args.chosen c.take-hit.new.self c.note_heads.new.heads c.note.new.self c.note_refresh.new.refresh _ h at e c.requires.slot
+    (issued-stands x s channel rows mail c.args.now c.args.chosen.now c.take-hit.new.self c.note_heads.new.heads c.note.new.self c.note_refresh.new.refresh _ h at e c.requires.slot
     c.take-hit.ensures.rest c.note_heads.ensures.banks
     (subst (λ (z : QueueView). HeadsStandFor c.note_heads.new.heads z.requests (λ bank. row_after (bank_at bank) (open_row (bank_at bank) history) command)) c.queue-2.ensures
-    (c.note_heads.ensures.stands x.waiting.queue.requests (λ bank. open_row (bank_at bank) history) served (slot-below x.waiting.queue.requests c.args.chosen c.requires.slot) left h.heads_stand))
+    (c.note_heads.ensures.stands x.waiting.queue.requests (λ bank. open_row (bank_at bank) history) served (slot-below x.waiting.queue.requests c.args.chosen.now c.requires.slot) left h.heads_stand))
     (c.note.ensures.stands s history channel h.banks_stand (issued-before channel c.args.now rows at))
     (c.note_refresh.ensures s history (row_of channel c.args.now command) refl h.refreshes_stand)
     (seen-counted x s channel rows mail c.args.now c.args.seen (Some command) c.take-hit.result h at c.requires.seen

@@ -36,10 +36,9 @@ loop-now-preserved c =
           let h = l.invariant.3 s channel rows mail stands at f in
           let before = channel_run s channel rows (mail ++ inbox) (l.now - c.args.from) in
           let there = mail ++ take l.arrived inbox in
-          run-turned l.self c.turn.new.self s channel rows mail inbox c.args.from l.now c.args.until l.arrived turn.arrived turn.last turn.command _ _ _ _ at l.invariant.1 done.from_now h
+          run-turned l.self c.turn.new.self s channel rows mail inbox c.args.from l.now c.args.until l.arrived turn.arrived turn.last _ _ _ _ at l.invariant.1 done.from_now h
           (done.done s channel before there h.stands (run-length s channel rows (mail ++ inbox) c.args.from l.now at l.invariant.1)
-          (run-fit l.self s channel rows mail inbox c.args.from l.now c.args.until l.arrived _ _ h))
-          (c.in_ok-tell.ensures {u = tt}).commands (c.in_ok-tell.ensures {u = tt}).messages,
+          (run-fit l.self s channel rows mail inbox c.args.from l.now c.args.until l.arrived _ _ h)),
     )
 
 pub returns : goal.returns

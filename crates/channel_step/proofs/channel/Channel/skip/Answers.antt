@@ -1,4 +1,5 @@
-use Rattle.std.proofs.Common.{◌-◌, length, sym, arith}
+use Rattle.std.proofs.Common.{◌≡◌, ◌-◌, length, sym, arith}
+use Rattle.std.proofs.lemmas.List.{append-nil}
 use Rattle.channel_step.proofs.Skipping.{waited-stands}
 use Rattle.channel_step.proofs.channel.Channel.skip.Goals as goal
 
@@ -12,3 +13,8 @@ pub returns-then-self-until : goal.returns-then-self-until
 returns-then-self-until c s channel rows mail h idle =
     let k = c.settle.ensures s channel rows mail h in
     waited-stands c.settle.new.self c.wait.new.self s channel rows mail (c.args.until - length rows) k (c.wait.ensures.in_cycle s channel rows mail k) (omega (arith, h.cycle_is, c.if-self-until.true))
+
+pub returns-else-self-until : goal.returns-else-self-until
+returns-else-self-until c s channel rows mail h idle =
+    let none : c.args.until - length rows ≡ 0 = omega (arith, h.cycle_is, c.if-self-until.false) in
+    rw (none, append-nil rows) h

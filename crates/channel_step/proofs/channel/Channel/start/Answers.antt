@@ -1,4 +1,4 @@
-use Rattle.std.proofs.Common.{◌+◌, ◌*◌, ap, ap₂, ◌∙◌, refl}
+use Rattle.std.proofs.Common.{ap, ap₂, ◌∙◌, refl}
 use Rattle.statistics.specs.declared.channels.ChannelStats.{ChannelStats}
 use Rattle.channel_step.specs.Queued.{no_requests}
 use Rattle.channel_step.proofs.Starting.{start-stands}
@@ -8,9 +8,9 @@ pub returns : goal.returns
 returns c =
     let s = c.args.config.now in
     start-stands _ s c.args.number (c.in_ok-copy.ensures {u = tt}) refl refl
-    (c.in_ok-with_room.ensures {u = tt} ∙ ap (λ k. no_requests (k * (s.read_credits + s.write_credits)) s.write_high s.write_low) c.from.ensures)
+    (c.in_ok-with_room.ensures {u = tt} ∙ ap (λ k. no_requests k s.write_high s.write_low) c.room_of-room.ensures.room)
     (c.in_ok-new.ensures {u = tt}).stands
     (c.new-2.ensures.stands s refl refl)
     (ap₂ (λ (x : ChannelStats) d. record x { draining = d }) c.new-stats.ensures c.drained-stats.ensures)
-    (c.in_ok-with_room-2.ensures {u = tt}).banks
+    ((c.in_ok-with_room-2.ensures {u = tt}).banks ∙ c.banks_of.ensures.banks)
     (c.in_ok-with_room-2.ensures {u = tt}).stands

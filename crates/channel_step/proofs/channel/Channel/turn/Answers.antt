@@ -1,4 +1,7 @@
-use Rattle.std.proofs.Common.{Bool, ◌≡◌, ◌-◌, ◌++◌, length, take, None, sym, ap, subst, ◌∙◌, arith}
+use Rattle.std.proofs.Common.{Bool, ◌≡◌, ◌-◌, ◌++◌, [], length, take, Some, None, sym, ap, ap₂, subst, ◌∙◌, arith}
+use Rattle.std.proofs.lemmas.List.{append-nil}
+use Rattle.sim_base.specs.History.{messages_at}
+use Rattle.channel_step.specs.Runs.{issued_in}
 use Rattle.std.specs.Prelude.{replicate, is_some}
 use Rattle.refresh.specs.Refreshes.{lowest_owed}
 use Rattle.queue.specs.View.{is_draining}
@@ -95,6 +98,16 @@ perform-requires-clause-now c =
     let i = (c.in-Some.ensures {u = tt}).next p.s p.channel p.rows (p.mail ++ take c.in_ok-arrived.arrived c.args.inbox.now) h p.at in
     omega (arith, i.before_end, within.1, c.requires.until)
 
+pub tell-requires : goal.tell-requires
+tell-requires c =
+    let p = c.requires.can_run in
+    let arrived = c.in_ok-arrived.ensures {u = tt} in
+    let h = arrived.in_cycle p.s p.channel p.rows p.mail c.args.until p.stands p.at c.requires.span p.fit in
+    let g = goes c.arrive.new.self p.s p.channel p.rows p.mail c.args.inbox.now c.args.now c.args.until c.in_ok-arrived.arrived c.next_arrival-end.result h p.at p.fit c.requires.span arrived.some c.next_arrival-end.ensures in
+    let within = goes-end p.s p.channel p.rows p.mail c.args.inbox.now c.args.now c.args.until c.in_ok-arrived.arrived c.next_arrival-end.result g in
+    let i = (c.in-Some.ensures {u = tt}).next p.s p.channel p.rows (p.mail ++ take c.in_ok-arrived.arrived c.args.inbox.now) h p.at in
+    omega (arith, i.before_end, within.1, c.requires.until)
+
 pub perform-requires-clause-slot : goal.perform-requires-clause-slot
 perform-requires-clause-slot c = subst (λ (w : Queued). IsFor w.queue.requests c.in-Some.chosen) (sym c.wait.ensures.same_queue) (c.in-Some.ensures {u = tt}).place
 
@@ -131,15 +144,15 @@ overflow_sub-result c =
     let within = goes-end p.s p.channel p.rows p.mail c.args.inbox.now c.args.now c.args.until c.in_ok-arrived.arrived c.next_arrival-end.result g in
     omega (arith, within.0)
 
-pub returns-in-Some-clause-from_now : goal.returns-in-Some-clause-from_now
-returns-in-Some-clause-from_now c =
+pub returns-in_ok-tell-in-Some-clause-from_now : goal.returns-in_ok-tell-in-Some-clause-from_now
+returns-in_ok-tell-in-Some-clause-from_now c =
     let p = c.requires.can_run in
     let h = (c.in_ok-arrived.ensures {u = tt}).in_cycle p.s p.channel p.rows p.mail c.args.until p.stands p.at c.requires.span p.fit in
     let i = (c.in-Some.ensures {u = tt}).next p.s p.channel p.rows (p.mail ++ take c.in_ok-arrived.arrived c.args.inbox.now) h p.at in
     omega (arith, p.at, i.from_now)
 
-pub returns-in-Some-clause-within : goal.returns-in-Some-clause-within
-returns-in-Some-clause-within c =
+pub returns-in_ok-tell-in-Some-clause-within : goal.returns-in_ok-tell-in-Some-clause-within
+returns-in_ok-tell-in-Some-clause-within c =
     let p = c.requires.can_run in
     let arrived = c.in_ok-arrived.ensures {u = tt} in
     let h = arrived.in_cycle p.s p.channel p.rows p.mail c.args.until p.stands p.at c.requires.span p.fit in
@@ -148,8 +161,8 @@ returns-in-Some-clause-within c =
     let i = (c.in-Some.ensures {u = tt}).next p.s p.channel p.rows (p.mail ++ take c.in_ok-arrived.arrived c.args.inbox.now) h p.at in
     omega (arith, i.before_end, within.1)
 
-pub returns-in-Some-clause-done : goal.returns-in-Some-clause-done
-returns-in-Some-clause-done c s channel rows mail stands at f =
+pub returns-in_ok-tell-in-Some-clause-done : goal.returns-in_ok-tell-in-Some-clause-done
+returns-in_ok-tell-in-Some-clause-done c s channel rows mail stands at f =
     let arrived = c.in_ok-arrived.ensures {u = tt} in
     let n = c.in_ok-arrived.arrived in
     let there = mail ++ take n c.args.inbox.now in
@@ -160,8 +173,15 @@ returns-in-Some-clause-done c s channel rows mail stands at f =
     let from = i.from_now in
     let then = rows ++ replicate (c.in-Some.cycle - length rows) None in
     let len : length then ≡ c.in-Some.cycle = omega (arith, length-idle rows (c.in-Some.cycle - length rows)) in
-    acts c.wait.new.self c.perform.new.self s channel rows mail c.args.inbox.now c.args.now c.args.until n c.next_arrival-end.result c.in-Some.cycle c.in-Some.chosen.command g i k
-    (c.perform.ensures s channel then there k len i.command_is)
+    let after = c.perform.ensures s channel then there k len i.command_is in
+    let told = c.in_ok-tell-in-Some.ensures {u = tt} in
+    record {
+      issued = issued_in channel c.in-Some.cycle (Some c.in-Some.chosen.command);
+      sent = messages_at s channel c.in-Some.cycle (Some c.in-Some.chosen.command);
+      has_run = acts c.wait.new.self c.perform.new.self s channel rows mail c.args.inbox.now c.args.now c.args.until n c.next_arrival-end.result c.in-Some.cycle c.in-Some.chosen.command g i k after;
+      commands_are = told.commands ∙ ap (λ x. c.args.commands.now.items ++ issued_in x c.in-Some.cycle (Some c.in-Some.chosen.command)) after.made_for.number_is;
+      messages_are = told.messages ∙ ap₂ (λ x y. c.args.messages.now.items ++ messages_at x y c.in-Some.cycle (Some c.in-Some.chosen.command)) after.made_for.config_is after.made_for.number_is;
+    }
 
 pub returns-in-None-clause-from_now : goal.returns-in-None-clause-from_now
 returns-in-None-clause-from_now c =
@@ -191,5 +211,11 @@ returns-in-None-clause-done c s channel rows mail stands at f =
     let g = goes c.arrive.new.self s channel rows mail c.args.inbox.now c.args.now c.args.until n end h at f c.requires.span arrived.some c.next_arrival-end.ensures in
     let within = goes-end s channel rows mail c.args.inbox.now c.args.now c.args.until n end g in
     let idle = subst (IsNextBefore s channel rows there end) c.in-None.is (c.look.ensures.next s channel rows there h at) in
-    waits c.wait-in-None.new.self s channel rows mail c.args.inbox.now c.args.now c.args.until n end g idle
-    (waited-stands c.arrive.new.self c.wait-in-None.new.self s channel rows there (end - length rows) h (c.wait-in-None.ensures.in_cycle s channel rows there h) (omega (arith, within.0)))
+    record {
+      issued = [];
+      sent = [];
+      has_run = waits c.wait-in-None.new.self s channel rows mail c.args.inbox.now c.args.now c.args.until n end g idle
+          (waited-stands c.arrive.new.self c.wait-in-None.new.self s channel rows there (end - length rows) h (c.wait-in-None.ensures.in_cycle s channel rows there h) (omega (arith, within.0)));
+      commands_are = sym (append-nil c.args.commands.now.items);
+      messages_are = sym (append-nil c.args.messages.now.items);
+    }

@@ -3,9 +3,10 @@ use Rattle.std.proofs.lemmas.Bool.{lt-leb, le-leb}
 use Rattle.std.specs.Prelude.{replicate, is_some}
 use Rattle.refresh.specs.Refreshes.{lowest_owed}
 use Rattle.statistics.specs.Channels.{ChannelFits}
-use Rattle.channel_step.specs.Channels.{IsInCycle, passed}
+use Rattle.channel_step.specs.Channels.{IsInCycle, CountsDrains, passed}
 use Rattle.channel_step.specs.declared.channel.Channel.{Channel}
-use Rattle.channel_step.proofs.Skipping.{passed_to, skips-first_fits, skips-second_fits, skips-in_cycle, skips-not_due, skips-due, skips-due_fits, waited-none}
+use Rattle.channel_step.proofs.Skipping.{passed_to, skips-first_fits, skips-second, skips-second_fits, skips-in_cycle, skips-not_due, skips-due, skips-due_fits, waited-none}
+use Rattle.channel_step.proofs.Draining.{counts-drains}
 use Rattle.channel_step.proofs.channel.Channel.wait.Goals as goal
 use Rattle.channel_step.proofs.channel.Channel.wait.Goals.{then-self-due, else-self-due}
 
@@ -63,6 +64,21 @@ pass-requires-then-due-until-clause-fits c =
           subst (λ (d : Channel). ChannelFits (passed d c.args.until)) (sym w.self-is)
           (skips-due_fits c.args.self.now p.s p.channel p.rows p.mail c.args.until c.due_from-due.result
           (record { in_cycle = p.is_in; from_now = due.from_now; within = due.within; early = c.requires.until; dues = due.due }) (omega (arith, w.if-self-due.false)))
+    ]
+
+pub pass-requires-clause-drains : goal.pass-requires-clause-drains
+pass-requires-clause-drains c = let p = c.requires.in_cycle in counts-drains c.args.self.now p.s p.channel p.rows p.mail p.is_in
+
+pub pass-requires-then-due-until-clause-drains : goal.pass-requires-then-due-until-clause-drains
+pass-requires-then-due-until-clause-drains c =
+    let p = c.requires.in_cycle in
+    let due = c.due_from-due.ensures in
+    elim c.if-self-due.branch [
+      | then-self-due w ↦
+          subst CountsDrains (sym (w.self-is ∙ w.pass.ensures))
+          (counts-drains _ p.s p.channel _ p.mail (skips-second c.args.self.now p.s p.channel p.rows p.mail c.args.until c.due_from-due.result
+          (record { in_cycle = p.is_in; from_now = due.from_now; within = due.within; early = c.requires.until; dues = due.due })))
+      | else-self-due w ↦ subst CountsDrains (sym w.self-is) (counts-drains c.args.self.now p.s p.channel p.rows p.mail p.is_in)
     ]
 
 pub returns-then-self-until-clause-in_cycle : goal.returns-then-self-until-clause-in_cycle

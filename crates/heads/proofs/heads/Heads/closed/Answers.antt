@@ -1,17 +1,22 @@
-use Rattle.std.proofs.Common.{◌≡◌, None, set, refl, sym, ap, subst, ◌∙◌}
-use Rattle.std.specs.Vec.{with_item}
-use Rattle.heads.specs.declared.heads.Heads.{Heads}
-use Rattle.heads.specs.Heads.{AreHeads, number_of}
-use Rattle.heads.specs.Stands.{heads_of}
-use Rattle.heads.proofs.Stood.{row_stand}
+-- No request is for the open row where none is open.
+use Rattle.std.proofs.Common.{Bool, None, ap, ◌∙◌}
+use Rattle.heads.specs.Heads.{hits, AreFirst, kind_number}
+use Rattle.heads.specs.Places.{kind_in}
+use Rattle.heads.proofs.OneBank.{never_hits}
+use Rattle.heads.proofs.Searches.{none_everywhere}
+use Rattle.heads.proofs.Stood.{to_parts, from_parts, row_stand}
 use Rattle.heads.proofs.heads.Heads.closed.Goals as goal
 
 pub returns-clause-stands : goal.returns-clause-stands
 returns-clause-stands c rs open_rows stands =
     let old = c.args.self.now in
-    let number = number_of c.args.bank in
-    let h = c.closed.result in
-    let new : Heads = record { banks = with_item old.banks c.number_of-number.result h; waits = old.waits } in
-    let read : c.index.result.now ≡ heads_of old number c.index.result.now = c.index.ensures ∙ ap (λ n. heads_of old n c.index.result.now) c.number_of-number.ensures in
-    let known = subst (AreHeads rs number) (sym read) (stands.heads_are number c.index.result.now c.requires) in
-    row_stand old new rs open_rows number None h (ap (λ n. set old.banks.items n h) c.number_of-number.ensures) refl c.requires stands c.closed.ensures.row (c.closed.ensures.heads rs number known)
+    let number = c.args.number in
+    let words = c.close.new.self.words.items in
+    let parts = to_parts old rs open_rows stands in
+    let own : (write : Bool) → AreFirst rs number write None (kind_in words (kind_number number write)) = λ write. record {
+      oldest_is = ap (λ h. h.oldest) (c.close.ensures.own write) ∙ (parts.first number write c.requires).oldest_is;
+      hit_is = ap (λ h. h.hit) (c.close.ensures.own write) ∙ none_everywhere (hits number write None) rs (never_hits number write);
+    } in
+    from_parts _ rs _
+    (row_stand old.rows.items old.places.words.items words old.waits.items rs open_rows number None c.requires own (λ other write apart. c.close.ensures.others other write apart) parts)
+    stands.counts_are

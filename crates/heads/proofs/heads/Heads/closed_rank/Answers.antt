@@ -1,11 +1,7 @@
 -- One bank more is closed, if it is of the rank.
-use Rattle.std.proofs.Common.{◌+◌, ◌/◌, ◌<◌, None, refl, sym, ap, subst, ◌∙◌, eq-eqb, ne_eqb, arith}
-use Rattle.std.proofs.lemmas.List.{length-set}
-use Rattle.std.specs.Vec.{with_item}
-use Rattle.heads.specs.declared.heads.Heads.{Heads}
-use Rattle.heads.specs.Heads.{AreHeads}
+use Rattle.std.proofs.Common.{◌+◌, ◌/◌, None, refl, sym, ap, subst, ◌∙◌, eq-eqb, ne_eqb, arith}
 use Rattle.heads.specs.Stands.{StandsFor, bank_count, with_row, closed_in}
-use Rattle.heads.proofs.Stood.{row_stand, same_rows, closed_before, closed_more, closed_same, closed_none, closed_all}
+use Rattle.heads.proofs.Stood.{same_rows, closed_before, closed_more, closed_same, closed_none, closed_all}
 use Rattle.heads.proofs.heads.Heads.closed_rank.Goals as goal
 use Rattle.heads.proofs.heads.Heads.closed_rank.Goals.{then-number-rank, else-number-rank}
 
@@ -22,20 +18,14 @@ loop-number-preserved c =
     let number = c.loop-number.number in
     let before = c.loop-number.invariant in
     elim c.if-number-rank.branch [
-      | then-number-rank w ↦
-          let h = w.closed.result in
-          let new : Heads = record { banks = with_item old.banks number h; waits = old.waits } in
-          record {
-            banks = ap bank_count w.self-is ∙ length-set old.banks.items number h ∙ before.banks;
-            stands = λ requests open_rows stands.
-                let now = before.stands requests open_rows stands in
-                let exists : number < bank_count old = omega (arith, before.banks, c.len-number-end.ensures) in
-                let known = subst (AreHeads requests number) (sym w.index.ensures) (now.heads_are number w.index.result.now exists) in
-                let closed = row_stand old new requests (closed_before number c.args.rank open_rows) number None h refl refl exists now w.closed.ensures.row (w.closed.ensures.heads requests number known) in
-                subst (λ x. StandsFor x requests (closed_before (number + 1) c.args.rank open_rows)) (sym w.self-is)
-                (same_rows new requests (with_row number None (closed_before number c.args.rank open_rows)) (closed_before (number + 1) c.args.rank open_rows) closed
-                (λ bank there. closed_more number c.args.rank open_rows (eq-eqb (number / 16) c.args.rank w.if-number-rank.true) bank));
-          }
+      | then-number-rank w ↦ record {
+        banks = ap bank_count w.self-is ∙ w.closed.ensures.banks ∙ before.banks;
+        stands = λ requests open_rows stands.
+            let closed = w.closed.ensures.stands requests (closed_before number c.args.rank open_rows) (before.stands requests open_rows stands) in
+            subst (λ x. StandsFor x requests (closed_before (number + 1) c.args.rank open_rows)) (sym w.self-is)
+            (same_rows w.closed.new.self requests (with_row number None (closed_before number c.args.rank open_rows)) (closed_before (number + 1) c.args.rank open_rows) closed
+            (λ bank there. closed_more number c.args.rank open_rows (eq-eqb (number / 16) c.args.rank w.if-number-rank.true) bank));
+      }
       | else-number-rank w ↦ record {
         banks = ap bank_count w.self-is ∙ before.banks;
         stands = λ requests open_rows stands.

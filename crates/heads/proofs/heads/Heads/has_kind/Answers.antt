@@ -1,11 +1,12 @@
 -- Some request of a kind may be served where some bank has a head of it.
-use Rattle.std.proofs.Common.{◌≡◌, ◌<◌, Bool, true, false, ◌&&◌, eqb, None, refl, sym, ap, subst, ◌∙◌, inl, inr, arith}
-use Rattle.std.proofs.lemmas.Bool.{cases_lt}
+use Rattle.std.proofs.Common.{◌≡◌, ℕ, ◌<◌, Bool, true, false, not, ◌&&◌, eqb, refl, sym, ap, ◌∙◌, inl, inr}
+use Rattle.std.proofs.lemmas.Bool.{cases_Bool}
 use Rattle.std.specs.Option.{is_some}
 use Rattle.sim_base.specs.Scheduling.{is_favoured}
 use Rattle.queue.specs.Columns.{bank_number}
 use Rattle.heads.specs.Heads.{asks, first_place}
 use Rattle.heads.specs.Stands.{bank_count, heads_of}
+use Rattle.heads.specs.Sets.{is_in}
 use Rattle.heads.proofs.SomeKind.{no_heads, oldest_is, some_wider, none_is, none_at_all}
 use Rattle.heads.proofs.heads.Heads.has_kind.Goals as goal
 
@@ -13,29 +14,23 @@ never : (b : Bool) → (b && false) ≡ false
 never true = refl
 never false = refl
 
-pub returns-then-is_some : goal.returns-then-is_some
-returns-then-is_some c requests open_rows stands =
-    let write = c.args.write in
-    let bank = c.loop-bank.bank in
-    let exists : bank < bank_count c.args.self.now = omega (arith, c.bank_count-bank-end.ensures) in
-    let oldest = ap (λ k. k.oldest) (c.of_kind.ensures no_heads) ∙ oldest_is write requests bank (heads_of c.args.self.now bank no_heads) (stands.heads_are bank no_heads exists) in
-    let some = ap is_some (sym oldest) ∙ sym c.is_some.ensures ∙ c.if-is_some.true in
-    sym (some_wider (asks bank write) (is_favoured write) requests (λ x none. ap (λ b. eqb (bank_number x.place) bank && b) none ∙ never (eqb (bank_number x.place) bank)) some)
-
-pub loop-bank-preserved : goal.loop-bank-preserved
-loop-bank-preserved c requests open_rows stands other below =
-    let write = c.args.write in
-    let bank = c.loop-bank.bank in
-    let exists : bank < bank_count c.args.self.now = omega (arith, c.bank_count-bank-end.ensures) in
-    let oldest = ap (λ k. k.oldest) (c.of_kind.ensures no_heads) ∙ oldest_is write requests bank (heads_of c.args.self.now bank no_heads) (stands.heads_are bank no_heads exists) in
-    let none = none_is (first_place (asks bank write) requests) (ap is_some (sym oldest) ∙ sym c.is_some.ensures ∙ c.if-is_some.false) in
-    elim (cases_lt other bank) [
-      | inl sooner ↦ c.loop-bank.invariant requests open_rows stands other sooner
-      | inr late ↦ let same : bank ≡ other = omega arith in subst (λ n. first_place (asks n write) requests ≡ None) same none
-    ]
-
 pub returns : goal.returns
 returns c requests open_rows stands =
-    ap is_some
-    (none_at_all c.args.write requests (bank_count c.args.self.now) stands.within
-    (λ bank exists. c.loop-bank.invariant requests open_rows stands bank (omega (arith, c.bank_count-bank-end.ensures))))
+    let heads = c.args.self.now in
+    let write = c.args.write in
+    let banks = c.asked.result in
+    let oldest : (bank : ℕ) → bank < bank_count heads → is_in banks bank ≡ is_some (first_place (asks bank write) requests) =
+    λ bank exists. c.asked.ensures.each bank no_heads exists ∙ ap is_some (oldest_is write requests bank (heads_of heads bank no_heads) (stands.heads_are bank no_heads exists)) in
+    elim (cases_Bool c.is_empty.result) [
+      | inl none ↦
+          ap not none
+          ∙ ap is_some
+          (none_at_all write requests (bank_count heads) stands.within
+          (λ bank exists. none_is (first_place (asks bank write) requests) (sym (oldest bank exists) ∙ c.is_empty.ensures.none none bank)))
+      | inr some ↦
+          let found = c.is_empty.ensures.some some in
+          let bank = found.0 in
+          let exists = c.asked.ensures.within bank found.2 in
+          ap not some
+          ∙ sym (some_wider (asks bank write) (is_favoured write) requests (λ x none. ap (λ b. eqb (bank_number x.place) bank && b) none ∙ never (eqb (bank_number x.place) bank)) (sym (oldest bank exists) ∙ found.2))
+    ]

@@ -1,13 +1,13 @@
 -- The heads of the request's bank take it in, if it may be served.
-use Rattle.std.proofs.Common.{◌≡◌, Bool, true, false, not, set, refl, sym, ap, subst, ◌∙◌}
+use Rattle.std.proofs.Common.{◌≡◌, ◌+◌, ◌<◌, min, arith, Bool, true, false, not, Some, None, cond, get_or, set, ◌++◌, ◌∷◌, [], length, refl, sym, ap, subst, ◌∙◌}
 use Rattle.std.proofs.lemmas.List.{get_or_default}
-use Rattle.std.specs.Vec.{with_item}
+use Rattle.sim_base.specs.Rules.{is_row}
+use Rattle.sim_base.specs.Scheduling.{asks_for_line, or_else}
 use Rattle.queue.specs.Columns.{bank_number}
-use Rattle.sim_base.specs.Scheduling.{asks_for_line}
-use Rattle.heads.specs.declared.heads.Heads.{Heads}
-use Rattle.heads.specs.Stands.{heads_of}
-use Rattle.heads.specs.Heads.{AreHeads}
-use Rattle.heads.proofs.Stood.{joined_stand, unjoined_stand}
+use Rattle.heads.specs.Heads.{kind_number, kind_of}
+use Rattle.heads.specs.Places.{head_in}
+use Rattle.heads.proofs.Counted.{AreCounted, counted_push, kind_below}
+use Rattle.heads.proofs.Stood.{AreStanding, to_parts, from_parts, joined_stand, unjoined_stand}
 use Rattle.heads.proofs.heads.Heads.join.Goals as goal
 
 not_not : (b : Bool) → b ≡ not (not b)
@@ -18,18 +18,51 @@ pub returns-then-first_of_line-clause-stands : goal.returns-then-first_of_line-c
 returns-then-first_of_line-clause-stands c older open_rows long is stands =
     let r = c.args.request in
     let old = c.args.self.now in
+    let rows = old.rows.items in
     let own = bank_number r.place in
+    let number = c.bank_number-bank.ensures.number in
     let asked : asks_for_line r.place older ≡ false = not_not (asks_for_line r.place older) ∙ ap not (sym is ∙ c.if-first_of_line.true) in
-    let new : Heads = record { banks = with_item old.banks c.bank_number-bank.result c.joined.result; waits = old.waits } in
-    let read : c.index.result.now ≡ heads_of old own c.index.result.now = c.index.ensures ∙ ap (λ n. heads_of old n c.index.result.now) c.bank_number-bank.ensures.number in
-    let known = subst (AreHeads older own) (sym read) (stands.heads_are own c.index.result.now c.requires) in
-    joined_stand old new older r open_rows c.joined.result (ap (λ n. set old.banks.items n c.joined.result) c.bank_number-bank.ensures.number) refl c.requires c.bank_number-bank.ensures.row stands asked
-    (λ d. c.joined.ensures.row ∙ ap (λ h. h.row) (read ∙ get_or_default old.banks.items own c.index.result.now d c.requires))
-    (c.joined.ensures.heads older own long refl asked known)
+    let was = old.places.words.items in
+    let now = c.join.new.self.words.items in
+    let kind : kind_number c.bank_number-bank.result r.write ≡ kind_of r = ap (λ n. kind_number n r.write) number in
+    let hit = c.is_open-hit.result in
+    let hit_is : hit ≡ is_row r.place.row (get_or rows own None) =
+    c.is_open-hit.ensures ∙ ap (is_row r.place.row) (c.index-then-first_of_line.ensures ∙ ap (λ n. get_or rows n c.index-then-first_of_line.result.now) number ∙ get_or_default rows own c.index-then-first_of_line.result.now None c.requires.bank) in
+    let counts = old.counts.items in
+    let counted_kind = c.kind_number-kind.result in
+    let kind_is : counted_kind ≡ kind_of r = c.kind_number-kind.ensures ∙ ap (λ n. kind_number n r.write) c.bank_number-bank.ensures.number in
+    let below : kind_of r < length counts = omega (arith, old.all_counts, kind_below (bank_number r.place) (length old.rows.items) r.write c.requires.bank) in
+    let more = c.saturating_add.result in
+    let value : more ≡ min (get_or counts (kind_of r) 0 + 1) 65535 =
+    c.saturating_add.ensures ∙ ap (λ n. min (n + 1) 65535) (c.index.ensures ∙ ap (λ n. get_or counts n c.index.result.now) kind_is ∙ get_or_default counts (kind_of r) c.index.result.now 0 below) in
+    let counted : AreCounted (set counts counted_kind more) (older ++ r ∷ []) =
+    subst (λ n. AreCounted (set counts n more) (older ++ r ∷ [])) (sym kind_is)
+    (counted_push counts older r more stands.counts_are below (omega (arith, long, c.requires.short)) value) in
+    from_parts _ _ open_rows
+    (joined_stand rows was now old.waits.items older r open_rows c.args.slot hit long c.requires.bank c.bank_number-bank.ensures.row asked hit_is
+    (subst (λ k. head_in now k false ≡ or_else (head_in was k false) (Some c.args.slot)) kind c.join.ensures.oldest)
+    (subst (λ k. head_in now k true ≡ cond hit (or_else (head_in was k true) (Some c.args.slot)) (head_in was k true)) kind c.join.ensures.hit)
+    (λ other apart. c.join.ensures.others other (λ e. apart (e ∙ kind))) (to_parts old older open_rows stands))
+    counted
 
 pub returns-else-first_of_line-clause-stands : goal.returns-else-first_of_line-clause-stands
 returns-else-first_of_line-clause-stands c older open_rows long is stands =
     let r = c.args.request in
-    unjoined_stand c.args.self.now c.set_waits.new.self older r open_rows c.set_waits.ensures.banks
-    (c.set_waits.ensures.waits ∙ ap (λ n. set c.args.self.now.waits.items n true) c.kind_number.ensures) c.requires c.bank_number-bank.ensures.row stands
-    (not_not (asks_for_line r.place older) ∙ ap not (sym is ∙ c.if-first_of_line.false))
+    let old = c.args.self.now in
+    let noted : set old.waits.items c.kind_number-kind.result true ≡ set old.waits.items (kind_of r) true =
+    ap (λ n. set old.waits.items n true) (c.kind_number-kind.ensures ∙ ap (λ n. kind_number n r.write) c.bank_number-bank.ensures.number) in
+    let counts = old.counts.items in
+    let counted_kind = c.kind_number-kind.result in
+    let kind_is : counted_kind ≡ kind_of r = c.kind_number-kind.ensures ∙ ap (λ n. kind_number n r.write) c.bank_number-bank.ensures.number in
+    let below : kind_of r < length counts = omega (arith, old.all_counts, kind_below (bank_number r.place) (length old.rows.items) r.write c.requires.bank) in
+    let more = c.saturating_add.result in
+    let value : more ≡ min (get_or counts (kind_of r) 0 + 1) 65535 =
+    c.saturating_add.ensures ∙ ap (λ n. min (n + 1) 65535) (c.index.ensures ∙ ap (λ n. get_or counts n c.index.result.now) kind_is ∙ get_or_default counts (kind_of r) c.index.result.now 0 below) in
+    let counted : AreCounted (set counts counted_kind more) (older ++ r ∷ []) =
+    subst (λ n. AreCounted (set counts n more) (older ++ r ∷ [])) (sym kind_is)
+    (counted_push counts older r more stands.counts_are below (omega (arith, long, c.requires.short)) value) in
+    from_parts _ _ open_rows
+    (subst (λ ws. AreStanding old.rows.items old.places.words.items ws (older ++ r ∷ []) open_rows) (sym noted)
+    (unjoined_stand old.rows.items old.places.words.items old.waits.items older r open_rows c.requires.bank c.bank_number-bank.ensures.row
+    (not_not (asks_for_line r.place older) ∙ ap not (sym is ∙ c.if-first_of_line.false)) (to_parts old older open_rows stands)))
+    counted

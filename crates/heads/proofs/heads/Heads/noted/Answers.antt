@@ -1,8 +1,8 @@
 -- What a command does to the row of each bank.
-use Rattle.std.proofs.Common.{Some, None, cond, ap, sym, ◌∙◌}
+use Rattle.std.proofs.Common.{◌<◌, Some, None, cond, ap, sym, subst, ◌∙◌}
 use Rattle.sim_base.specs.Rules.{bank_of, row_after}
 use Rattle.heads.specs.Heads.{bank_at, number_of}
-use Rattle.heads.specs.Stands.{with_row, closed_in}
+use Rattle.heads.specs.Stands.{StandsFor, bank_count, with_row, closed_in}
 use Rattle.heads.proofs.Stood.{same_rows, bank_named}
 use Rattle.heads.proofs.heads.Heads.noted.Goals as goal
 
@@ -10,7 +10,7 @@ pub opened-requires : goal.opened-requires
 opened-requires c = (c.requires c.in-Act.bank (ap bank_of c.in-Act.is)).number
 
 pub closed-requires : goal.closed-requires
-closed-requires c = (c.requires c.in-Pre.bank (ap bank_of c.in-Pre.is)).number
+closed-requires c = subst (λ n. n < bank_count c.args.self.now) (sym c.number_of.ensures) (c.requires c.in-Pre.bank (ap bank_of c.in-Pre.is)).number
 
 pub returns-in-Act-clause-stands : goal.returns-in-Act-clause-stands
 returns-in-Act-clause-stands c open_rows stands =
@@ -25,7 +25,7 @@ returns-in-Pre-clause-stands c open_rows stands =
     let b = c.in-Pre.bank in
     let among = c.requires c.in-Pre.bank (ap bank_of c.in-Pre.is) in
     same_rows c.closed.new.self c.args.queue.now.requests (with_row (number_of b) None open_rows) (λ n. row_after (bank_at n) (open_rows n) c.args.command)
-    (c.closed.ensures.stands c.args.queue.now.requests open_rows stands)
+    (subst (λ n. StandsFor c.closed.new.self c.args.queue.now.requests (with_row n None open_rows)) c.number_of.ensures (c.closed.ensures.stands c.args.queue.now.requests open_rows stands))
     (λ n there. ap (λ t. cond t None (open_rows n)) (bank_named n b among.group among.bank) ∙ ap (row_after (bank_at n) (open_rows n)) (sym c.in-Pre.is))
 
 pub returns-in-Prea-clause-stands : goal.returns-in-Prea-clause-stands

@@ -1,19 +1,35 @@
-use Rattle.std.proofs.Common.{◌≡◌, Some, set, refl, sym, ap, subst, ◌∙◌}
-use Rattle.std.specs.Vec.{with_item}
-use Rattle.heads.specs.declared.heads.Heads.{Heads}
-use Rattle.heads.specs.Heads.{AreHeads, number_of}
-use Rattle.heads.specs.Stands.{heads_of}
-use Rattle.heads.proofs.Stood.{row_stand}
+-- The first request for the row is found, to read and to write.
+use Rattle.std.proofs.Common.{◌≡◌, ℕ, ◌<◌, Bool, true, false, Some, length, set, sym, subst, ◌∙◌}
+use Rattle.std.proofs.lemmas.Bool.{true≢false, false≢true}
+use Rattle.heads.specs.Heads.{AreFirst, kind_number}
+use Rattle.heads.specs.Places.{kind_in}
+use Rattle.heads.specs.Stands.{with_row}
+use Rattle.heads.proofs.Calm.{kind_bank, kind_write}
+use Rattle.heads.proofs.Stood.{AreStanding, to_parts, from_parts, row_stand}
 use Rattle.heads.proofs.heads.Heads.opened.Goals as goal
 
 pub returns-clause-stands : goal.returns-clause-stands
 returns-clause-stands c open_rows stands =
     let old = c.args.self.now in
     let rs = c.args.queue.now.requests in
-    let number = number_of c.args.bank in
-    let h = c.opened.result in
-    let new : Heads = record { banks = with_item old.banks c.number_of-number.result h; waits = old.waits } in
-    let read : c.index.result.now ≡ heads_of old number c.index.result.now = c.index.ensures ∙ ap (λ n. heads_of old n c.index.result.now) c.number_of-number.ensures in
-    let known = subst (AreHeads rs number) (sym read) (stands.heads_are number c.index.result.now c.requires) in
-    let here = subst (λ n. AreHeads rs n h) c.number_of-number.ensures (c.opened.ensures.heads stands.rows_fit (subst (λ n. AreHeads rs n c.index.result.now) (sym c.number_of-number.ensures) known)) in
-    row_stand old new rs open_rows number (Some c.args.row) h (ap (λ n. set old.banks.items n h) c.number_of-number.ensures) refl c.requires stands c.opened.ensures.row here
+    let number = c.number_of-number.result in
+    let row = Some c.args.row in
+    let exists : number < length old.rows.items = subst (λ n. n < length old.rows.items) (sym c.number_of-number.ensures) c.requires in
+    let words = c.open-2.new.self.words.items in
+    let parts = to_parts old rs open_rows stands in
+    let reads : AreFirst rs number false row (kind_in words (kind_number number false)) =
+    subst (AreFirst rs number false row) (sym (c.open-2.ensures.others (kind_number number false) (λ e. false≢true (kind_write number number false true e))))
+    (c.open.ensures.own (open_rows number) (parts.first number false exists)) in
+    let writes : AreFirst rs number true row (kind_in words (kind_number number true)) =
+    c.open-2.ensures.own (open_rows number)
+    (subst (AreFirst rs number true (open_rows number)) (sym (c.open.ensures.others (kind_number number true) (λ e. true≢false (kind_write number number true false e)))) (parts.first number true exists)) in
+    let own : (write : Bool) → AreFirst rs number write row (kind_in words (kind_number number write)) =
+    λ write. elim write as (λ w. AreFirst rs number w row (kind_in words (kind_number number w))) [ true ↦ writes | false ↦ reads ] in
+    let others : (other : ℕ) (write : Bool) → (other ≡ number → ⊥) → kind_in words (kind_number other write) ≡ kind_in old.places.words.items (kind_number other write) =
+    λ other write apart.
+    c.open-2.ensures.others (kind_number other write) (λ e. apart (kind_bank other number write true e))
+    ∙ c.open.ensures.others (kind_number other write) (λ e. apart (kind_bank other number write false e)) in
+    from_parts _ rs _
+    (subst (λ n. AreStanding (set old.rows.items number row) words old.waits.items rs (with_row n row open_rows)) c.number_of-number.ensures
+    (row_stand old.rows.items old.places.words.items words old.waits.items rs open_rows number row exists own others parts))
+    stands.counts_are

@@ -1,16 +1,17 @@
--- The heads of the request's bank are searched for again, and all others move past its place.
-use Rattle.std.proofs.Common.{◌≡◌, ℕ, ◌<◌, ◌^◌, Bool, true, false, not, refl, length, drop, set, get_or, sym, ap, subst, ◌∙◌, arith}
-use Rattle.std.proofs.lemmas.List.{get_or_default, take_at}
-use Rattle.std.specs.Vec.{with_item, with_items}
-use Rattle.sim_base.specs.declared.message.Request.{Request}
+-- All heads move past the request's place, and those of its bank are searched for again where it was one of them.
+use Rattle.std.proofs.Common.{◌≡◌, ℕ, ◌-◌, ◌<◌, eqb, arith, Bool, true, false, not, None, length, get_or, set, refl, sym, ap, subst, ◌∙◌}
+use Rattle.std.proofs.lemmas.Bool.{eq-eqb, ne_eqb, eqb-true, true≢false, false≢true}
+use Rattle.std.proofs.lemmas.List.{get_or_default, length-set, get_or-set_same}
+use Rattle.std.specs.List.{remove}
 use Rattle.queue.specs.Columns.{bank_number}
-use Rattle.heads.specs.declared.entry.BankHeads.{BankHeads}
-use Rattle.heads.specs.declared.heads.Heads.{Heads}
-use Rattle.heads.specs.Heads.{AreHeads, RowsFit, NoneWaits, kind_number}
-use Rattle.heads.specs.Moves.{bank_moved}
-use Rattle.heads.specs.Stands.{StandsFor, bank_count, heads_of}
-use Rattle.heads.proofs.Stood.{All-remove, served_stand, calm_left}
+use Rattle.heads.specs.Heads.{AreFirst, NoneWaits, kind_number, kind_of, kind_count}
+use Rattle.heads.specs.Moves.{kind_past}
+use Rattle.heads.specs.Places.{kind_in}
+use Rattle.heads.proofs.Calm.{kind_bank, kind_write}
+use Rattle.heads.proofs.Counted.{AreCounted, counted_removed, kind_below}
+use Rattle.heads.proofs.Stood.{AreStanding, to_parts, from_parts, served_stand}
 use Rattle.heads.proofs.heads.Heads.served.Goals as goal
+use Rattle.heads.proofs.heads.Heads.served.Goals.{then-none_left, else-none_left, then-none_left-2, else-none_left-2}
 
 not_true : (b : Bool) → not b ≡ true → b ≡ false
 not_true true is = sym is
@@ -21,31 +22,72 @@ pub returns-clause-stands : goal.returns-clause-stands
 returns-clause-stands c earlier open_rows within request left stands =
     let r = c.args.request in
     let old = c.args.self.now in
+    let rows = old.rows.items in
+    let rs = c.args.queue.now.requests in
+    let slot = c.args.slot in
     let own = bank_number r.place in
-    let number = c.bank_number-bank.ensures.number in
-    let h = c.after-own.result in
-    let exists : own < bank_count old = c.requires in
-    let moved : Heads = record { banks = with_items old.banks c.move_past.new.banks; waits = old.waits } in
-    let new : Heads = record { banks = with_item moved.banks c.bank_number-bank.result h; waits = old.waits } in
-    let read : c.index.result.now ≡ heads_of old own c.index.result.now = c.index.ensures ∙ ap (λ n. heads_of old n c.index.result.now) number in
-    let known = subst (AreHeads earlier own) (sym read) (stands.heads_are own c.index.result.now exists) in
-    let fit = subst RowsFit (sym left) (All-remove (λ (x : Request). x.place.row < 2 ^ 32) earlier c.args.slot stands.rows_fit) in
-    let kind : (write : Bool) → kind_number own write ≡ kind_number c.bank_number-bank.result write = λ write. ap (λ n. kind_number n write) (sym number) in
-    let calm : c.is_calm-calm.result ≡ true → NoneWaits (kind_number c.bank_number-bank.result false) earlier =
-    λ is. subst (λ n. NoneWaits n earlier) (c.kind_number.ensures ∙ kind false) (stands.waits_are c.kind_number.result (not_true (get_or old.waits.items c.kind_number.result true) (sym c.is_calm-calm.ensures ∙ is))) in
-    let calm_writes : c.is_calm-calm_writes.result ≡ true → NoneWaits (kind_number c.bank_number-bank.result true) earlier =
-    λ is. subst (λ n. NoneWaits n earlier) (c.kind_number-2.ensures ∙ kind true) (stands.waits_are c.kind_number-2.result (not_true (get_or old.waits.items c.kind_number-2.result true) (sym c.is_calm-calm_writes.ensures ∙ is))) in
-    let here = subst (λ n. AreHeads c.args.queue.now.requests n h) number
-    (c.after-own.ensures.heads earlier within left fit calm calm_writes (subst (λ n. AreHeads earlier n c.index.result.now) (sym number) known)) in
-    let same : length c.move_past.new.banks ≡ bank_count old = omega (arith, ap length c.deref_mut.ensures.value, c.move_past.auto.banks) in
-    let items_are : moved.banks.items ≡ c.move_past.new.banks =
-    take_at c.move_past.new.banks (drop (length c.move_past.new.banks) old.banks.items) old.banks.len (omega (arith, old.banks.ok.0, same)) in
-    let each : (k : ℕ) (d : BankHeads) → k < bank_count old → heads_of moved k d ≡ bank_moved c.args.slot (heads_of old k d) =
-    λ k d there. ap (λ xs. get_or xs k d) items_are ∙ c.move_past.ensures k d (omega (arith, ap length c.deref_mut.ensures.value)) ∙ ap (λ xs. bank_moved c.args.slot (get_or xs k d)) c.deref_mut.ensures.value in
-    c.note_empty.ensures.stands c.args.queue.now.requests open_rows
-    (subst (λ rs. StandsFor new rs open_rows) (sym left)
-    (served_stand old moved new earlier c.args.slot r open_rows h within (request r) exists (ap length items_are ∙ same) each
-    (ap (λ n. set moved.banks.items n h) number) stands
-    (calm_left old.waits.items earlier c.args.slot within stands.waits_are)
-    (λ d. c.after-own.ensures.row ∙ ap (λ x. x.row) (read ∙ get_or_default old.banks.items own c.index.result.now d exists))
-    (subst (λ rs. AreHeads rs own h) left here)))
+    let bank = c.bank_number-bank.result in
+    let number : bank ≡ own = c.bank_number-bank.ensures.number in
+    let parts = to_parts old earlier open_rows stands in
+    let was = old.places.words.items in
+    let now = c.leave-2.new.self.words.items in
+    let exists : bank < length rows = subst (λ n. n < length rows) (sym number) c.requires in
+    let row = c.index-row.result.now in
+    let row_is : row ≡ open_rows bank = c.index-row.ensures ∙ get_or_default rows bank row None exists ∙ parts.opened bank exists in
+    let calm : (write calm : Bool) → calm ≡ not (get_or old.waits.items (kind_number bank write) true) → calm ≡ true → NoneWaits (kind_number bank write) earlier =
+    λ write calm is on. parts.calm (kind_number bank write) (not_true (get_or old.waits.items (kind_number bank write) true) (sym is ∙ on)) in
+    let first : (write : Bool) → AreFirst earlier bank write row (kind_in was (kind_number bank write)) =
+    λ write. subst (λ o. AreFirst earlier bank write o (kind_in was (kind_number bank write))) (sym row_is) (parts.first bank write exists) in
+    let more = c.saturating_sub-left.result in
+    let counts = old.counts.items in
+    let kind = c.kind_number-kind.result in
+    let kind_is : kind ≡ kind_of r = c.kind_number-kind.ensures ∙ ap (λ n. kind_number n r.write) number in
+    let below : kind_of r < length counts = omega (arith, old.all_counts, kind_below own (length rows) r.write c.requires) in
+    let value : more ≡ get_or counts (kind_of r) 0 - 1 =
+    c.saturating_sub-left.ensures ∙ ap (λ n. n - 1) (c.index.ensures ∙ ap (λ n. get_or counts n c.index.result.now) kind_is ∙ get_or_default counts (kind_of r) c.index.result.now 0 below) in
+    let counted_own : AreCounted (set counts (kind_of r) more) rs =
+    subst (AreCounted (set counts (kind_of r) more)) (sym left) (counted_removed counts earlier slot r more stands.counts_are below within (request r) value) in
+    let counted : AreCounted (set counts kind more) rs = subst (λ n. AreCounted (set counts n more) rs) (sym kind_is) counted_own in
+    let none : eqb more 0 ≡ true → kind_count (kind_number bank r.write) rs ≡ 0 =
+    λ on.
+    ap (λ n. kind_count (kind_number n r.write) rs) number
+    ∙ sym (counted_own (kind_of r) (omega (arith, below, length-set counts (kind_of r) more)))
+    ∙ get_or-set_same counts (kind_of r) more 0 below ∙ eqb-true more 0 on in
+    let no_read : c.if-none_left.empty ≡ true → kind_count (kind_number bank false) rs ≡ 0 =
+    λ on. elim c.if-none_left.branch [
+      | then-none_left w ↦
+          let reads : r.write ≡ false = not_true r.write (sym w.empty-is ∙ on) in
+          subst (λ v. kind_count (kind_number bank v) rs ≡ 0) reads (none (eq-eqb more 0 w.if-none_left.true))
+      | else-none_left w ↦ absurd (true≢false (sym on ∙ w.empty-is ∙ ne_eqb more 0 w.if-none_left.false))
+    ] in
+    let no_write : c.if-none_left-2.empty ≡ true → kind_count (kind_number bank true) rs ≡ 0 =
+    λ on. elim c.if-none_left-2.branch [
+      | then-none_left-2 w ↦
+          let writes : r.write ≡ true = sym w.empty-is ∙ on in
+          subst (λ v. kind_count (kind_number bank v) rs ≡ 0) writes (none (eq-eqb more 0 w.if-none_left-2.true))
+      | else-none_left-2 w ↦ absurd (true≢false (sym on ∙ w.empty-is ∙ ne_eqb more 0 w.if-none_left-2.false))
+    ] in
+    let reads : AreFirst rs bank false row (kind_in now (kind_number bank false)) =
+    subst (AreFirst rs bank false row) (sym (c.leave-2.ensures.others (kind_number bank false) (λ e. false≢true (kind_write bank bank false true e))))
+    (c.leave.ensures.own earlier within left (calm false c.is_calm-calm.result c.is_calm-calm.ensures) no_read (subst (AreFirst earlier bank false row) (sym c.of_kind-reads.ensures.heads) (first false))
+    (c.move_past.ensures.moved (kind_number bank false) ∙ ap (kind_past slot) (sym c.of_kind-reads.ensures.heads))) in
+    let writes : AreFirst rs bank true row (kind_in now (kind_number bank true)) =
+    c.leave-2.ensures.own earlier within left (calm true c.is_calm-calm-2.result c.is_calm-calm-2.ensures) no_write (subst (AreFirst earlier bank true row) (sym c.of_kind-writes.ensures.heads) (first true))
+    (c.leave.ensures.others (kind_number bank true) (λ e. true≢false (kind_write bank bank true false e))
+    ∙ c.move_past.ensures.moved (kind_number bank true) ∙ ap (kind_past slot) (sym c.of_kind-writes.ensures.heads)) in
+    let found : (write : Bool) → AreFirst rs bank write row (kind_in now (kind_number bank write)) =
+    λ write. elim write as (λ w. AreFirst rs bank w row (kind_in now (kind_number bank w))) [ true ↦ writes | false ↦ reads ] in
+    let here : (write : Bool) → AreFirst (remove earlier slot) own write (open_rows own) (kind_in now (kind_number own write)) =
+    λ write. subst (λ n. AreFirst (remove earlier slot) n write (open_rows n) (kind_in now (kind_number n write))) number
+    (subst (λ xs. AreFirst xs bank write (open_rows bank) (kind_in now (kind_number bank write))) left
+    (subst (λ o. AreFirst rs bank write o (kind_in now (kind_number bank write))) row_is (found write))) in
+    let others : (other : ℕ) (write : Bool) → (other ≡ own → ⊥) → kind_in now (kind_number other write) ≡ kind_past slot (kind_in was (kind_number other write)) =
+    λ other write apart.
+    c.leave-2.ensures.others (kind_number other write) (λ e. apart (kind_bank other bank write true e ∙ number))
+    ∙ c.leave.ensures.others (kind_number other write) (λ e. apart (kind_bank other bank write false e ∙ number))
+    ∙ c.move_past.ensures.moved (kind_number other write) in
+    c.note_none.ensures.stands rs open_rows none
+    (from_parts _ rs open_rows
+    (subst (λ xs. AreStanding rows now old.waits.items xs open_rows) (sym left)
+    (served_stand rows was now old.waits.items earlier slot r open_rows within (request r) here others parts))
+    counted)

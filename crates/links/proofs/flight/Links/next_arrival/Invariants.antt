@@ -1,4 +1,4 @@
-use Rattle.std.proofs.Common.{◌≡◌, ◌-◌, ◌^◌}
+use Rattle.std.proofs.Common.{◌-◌, ◌^◌}
 use Rattle.std.specs.BTreeMap.{values}
 use Rattle.links.proofs.Next.{Reached, IsArrival}
 use Rattle.links.proofs.flight.Links.next_arrival.Given as goal

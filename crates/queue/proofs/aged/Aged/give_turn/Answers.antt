@@ -1,9 +1,9 @@
--- The mark and the key of a request are written.
+-- The mark and the tag of a request are written.
 use Rattle.std.proofs.Common.{true, ◌+◌, drop, set, refl, sym, ap, ◌∙◌}
 use Rattle.std.proofs.lemmas.List.{length-set, get_or-drop}
-use Rattle.queue.specs.Columns.{key_of, keys_of}
+use Rattle.queue.specs.Columns.{tag_of, tags_of}
 use Rattle.queue.proofs.Dropped.{drop-set}
-use Rattle.queue.proofs.Kept.{keys_turned}
+use Rattle.queue.proofs.Kept.{tags_turned}
 use Rattle.queue.proofs.aged.Aged.give_turn.Goals as goal
 
 pub invariant_of-self : goal.invariant_of-self
@@ -14,20 +14,20 @@ invariant_of-self c =
     let place = a.start + at in
     let rs = drop a.start a.requests.items in
     let marks = drop a.start a.eligible.items in
-    let key_is = c.key.ensures ∙ ap (key_of true) (c.index.ensures ∙ sym (get_or-drop a.start a.requests.items at _)) in
-    let written = drop-set a.start at place a.keys.items c.key.result refl ∙ ap (set (drop a.start a.keys.items) at) key_is in
+    let tag_is = c.tag.ensures ∙ ap (tag_of true) (c.index.ensures ∙ sym (get_or-drop a.start a.requests.items at _)) in
+    let written = drop-set a.start at place a.tags.items c.tag.result refl ∙ ap (set (drop a.start a.tags.items) at) tag_is in
     record {
       begun = kept.begun;
       banks_are = kept.banks_are;
       rows_are = kept.rows_are;
       kinds_are = kept.kinds_are;
-      keys_are = keys_turned (drop a.start a.keys.items) _ rs marks at _ kept.keys_are written ∙ ap (keys_of rs) (sym (drop-set a.start at place a.eligible.items 1 refl));
+      tags_are = tags_turned (drop a.start a.tags.items) _ rs marks at _ kept.tags_are written ∙ ap (tags_of rs) (sym (drop-set a.start at place a.eligible.items 1 refl));
       prints_are = kept.prints_are;
       banks_long = kept.banks_long;
       rows_long = kept.rows_long;
       kinds_long = kept.kinds_long;
       eligible_long = length-set a.eligible.items place 1 ∙ kept.eligible_long;
-      keys_long = length-set a.keys.items place c.key.result ∙ kept.keys_long;
+      tags_long = length-set a.tags.items place c.tag.result ∙ kept.tags_long;
       prints_long = kept.prints_long;
       within = kept.within;
       enough = kept.enough;
@@ -36,7 +36,7 @@ invariant_of-self c =
       row_room = kept.row_room;
       kind_room = kept.kind_room;
       eligible_room = kept.eligible_room;
-      key_room = kept.key_room;
+      tag_room = kept.tag_room;
       print_room = kept.print_room;
     }
 

@@ -5,7 +5,7 @@ use Rattle.std.specs.List.{remove}
 use Rattle.lane_scan.specs.Marks.{mark}
 use Rattle.queue.specs.Columns.{bank_number, line_print}
 use Rattle.queue.proofs.Dropped.{dropped_older, turned_part}
-use Rattle.queue.proofs.Kept.{map_removed, keys_removed}
+use Rattle.queue.proofs.Kept.{map_removed, tags_removed}
 use Rattle.queue.proofs.aged.Aged.remove_older.Goals as goal
 
 pub invariant_of-self : goal.invariant_of-self
@@ -31,9 +31,9 @@ invariant_of-self c =
     let eligible =
     dropped_older start at n a.eligible.items c.deref_mut-5.result.now c.move_each_up.new.eligible _ c.deref_mut-5.ensures.value (omega arith) (omega (arith, exists, kept.eligible_long)) c.move_each_up.ensures.eligible
     (λ long. with_items_is a.eligible (turned_part start n c.deref_mut-5.result.now c.move_each_up.new.eligible) (omega (arith, long, a.eligible.ok.0))) in
-    let keys =
-    dropped_older start at n a.keys.items c.deref_mut-6.result.now c.move_each_up.new.keys _ c.deref_mut-6.ensures.value (omega arith) (omega (arith, exists, kept.keys_long)) c.move_each_up.ensures.keys
-    (λ long. with_items_is a.keys (turned_part start n c.deref_mut-6.result.now c.move_each_up.new.keys) (omega (arith, long, a.keys.ok.0))) in
+    let tags =
+    dropped_older start at n a.tags.items c.deref_mut-6.result.now c.move_each_up.new.tags _ c.deref_mut-6.ensures.value (omega arith) (omega (arith, exists, kept.tags_long)) c.move_each_up.ensures.tags
+    (λ long. with_items_is a.tags (turned_part start n c.deref_mut-6.result.now c.move_each_up.new.tags) (omega (arith, long, a.tags.ok.0))) in
     let prints =
     dropped_older start at n a.prints.items c.deref_mut-7.result.now c.move_each_up.new.prints _ c.deref_mut-7.ensures.value (omega arith) (omega (arith, exists, kept.prints_long)) c.move_each_up.ensures.prints
     (λ long. with_items_is a.prints (turned_part start n c.deref_mut-7.result.now c.move_each_up.new.prints) (omega (arith, long, a.prints.ok.0))) in
@@ -43,12 +43,12 @@ invariant_of-self c =
       rows_are = map_removed (λ r. r.place.row) (drop start a.rows.items) _ (drop start a.requests.items) _ at kept.rows_are rows.1 requests.1;
       kinds_are = map_removed (λ r. mark r.write) (drop start a.kinds.items) _ (drop start a.requests.items) _ at kept.kinds_are kinds.1 requests.1;
       prints_are = map_removed (λ r. line_print r.place) (drop start a.prints.items) _ (drop start a.requests.items) _ at kept.prints_are prints.1 requests.1;
-      keys_are = keys_removed (drop start a.keys.items) _ (drop start a.requests.items) _ (drop start a.eligible.items) _ at kept.keys_are keys.1 requests.1 eligible.1;
+      tags_are = tags_removed (drop start a.tags.items) _ (drop start a.requests.items) _ (drop start a.eligible.items) _ at kept.tags_are tags.1 requests.1 eligible.1;
       banks_long = omega (arith, banks.0, requests.0, kept.banks_long);
       rows_long = omega (arith, rows.0, requests.0, kept.rows_long);
       kinds_long = omega (arith, kinds.0, requests.0, kept.kinds_long);
       eligible_long = omega (arith, eligible.0, requests.0, kept.eligible_long);
-      keys_long = omega (arith, keys.0, requests.0, kept.keys_long);
+      tags_long = omega (arith, tags.0, requests.0, kept.tags_long);
       prints_long = omega (arith, prints.0, requests.0, kept.prints_long);
       within = omega (arith, requests.0, kept.within);
       enough = kept.enough;
@@ -57,7 +57,7 @@ invariant_of-self c =
       row_room = kept.row_room;
       kind_room = kept.kind_room;
       eligible_room = kept.eligible_room;
-      key_room = kept.key_room;
+      tag_room = kept.tag_room;
       print_room = kept.print_room;
     }
 

@@ -6,7 +6,7 @@ use Rattle.std.specs.Vec.{with_items}
 use Rattle.lane_scan.specs.Marks.{mark}
 use Rattle.queue.specs.Columns.{bank_number, line_print}
 use Rattle.queue.proofs.Dropped.{dropped_down, dropped_younger, turned_part}
-use Rattle.queue.proofs.Kept.{map_removed, keys_removed}
+use Rattle.queue.proofs.Kept.{map_removed, tags_removed}
 use Rattle.queue.proofs.aged.Aged.remove_younger.Goals as goal
 
 pub invariant_of-self : goal.invariant_of-self
@@ -63,15 +63,15 @@ invariant_of-self c =
     (λ long. with_items_is a.eligible (turned_part (start + at) n c.deref_mut-5.result.now c.move_each_down.new.eligible) (omega (arith, long, eligible_long)))
     (c.drop_last-5.ensures.items ∙ ap (λ len. take (len - 1) (with_items a.eligible (turned_part (start + at) n c.deref_mut-5.result.now c.move_each_down.new.eligible)).items) eligible_long))
     eligible_there in
-    let keys_there : start + at < length a.keys.items = (omega (arith, exists, kept.keys_long)) in
-    let keys_long : a.keys.len ≡ length a.keys.items = a.keys.ok.0 in
-    let keys =
-    dropped_younger start at a.keys.items c.drop_last-6.new.items.items
-    (dropped_down (start + at) n a.keys.items c.deref_mut-6.result.now c.move_each_down.new.keys _ c.drop_last-6.new.items.items c.deref_mut-6.ensures.value keys_there (omega (arith, full, kept.keys_long))
-    c.move_each_down.ensures.keys
-    (λ long. with_items_is a.keys (turned_part (start + at) n c.deref_mut-6.result.now c.move_each_down.new.keys) (omega (arith, long, keys_long)))
-    (c.drop_last-6.ensures.items ∙ ap (λ len. take (len - 1) (with_items a.keys (turned_part (start + at) n c.deref_mut-6.result.now c.move_each_down.new.keys)).items) keys_long))
-    keys_there in
+    let tags_there : start + at < length a.tags.items = (omega (arith, exists, kept.tags_long)) in
+    let tags_long : a.tags.len ≡ length a.tags.items = a.tags.ok.0 in
+    let tags =
+    dropped_younger start at a.tags.items c.drop_last-6.new.items.items
+    (dropped_down (start + at) n a.tags.items c.deref_mut-6.result.now c.move_each_down.new.tags _ c.drop_last-6.new.items.items c.deref_mut-6.ensures.value tags_there (omega (arith, full, kept.tags_long))
+    c.move_each_down.ensures.tags
+    (λ long. with_items_is a.tags (turned_part (start + at) n c.deref_mut-6.result.now c.move_each_down.new.tags) (omega (arith, long, tags_long)))
+    (c.drop_last-6.ensures.items ∙ ap (λ len. take (len - 1) (with_items a.tags (turned_part (start + at) n c.deref_mut-6.result.now c.move_each_down.new.tags)).items) tags_long))
+    tags_there in
     let prints_there : start + at < length a.prints.items = (omega (arith, exists, kept.prints_long)) in
     let prints_long : a.prints.len ≡ length a.prints.items = a.prints.ok.0 in
     let prints =
@@ -87,12 +87,12 @@ invariant_of-self c =
       rows_are = map_removed (λ r. r.place.row) (drop start a.rows.items) _ (drop start a.requests.items) _ at kept.rows_are rows.1 requests.1;
       kinds_are = map_removed (λ r. mark r.write) (drop start a.kinds.items) _ (drop start a.requests.items) _ at kept.kinds_are kinds.1 requests.1;
       prints_are = map_removed (λ r. line_print r.place) (drop start a.prints.items) _ (drop start a.requests.items) _ at kept.prints_are prints.1 requests.1;
-      keys_are = keys_removed (drop start a.keys.items) _ (drop start a.requests.items) _ (drop start a.eligible.items) _ at kept.keys_are keys.1 requests.1 eligible.1;
+      tags_are = tags_removed (drop start a.tags.items) _ (drop start a.requests.items) _ (drop start a.eligible.items) _ at kept.tags_are tags.1 requests.1 eligible.1;
       banks_long = omega (arith, banks.0, requests.0, kept.banks_long);
       rows_long = omega (arith, rows.0, requests.0, kept.rows_long);
       kinds_long = omega (arith, kinds.0, requests.0, kept.kinds_long);
       eligible_long = omega (arith, eligible.0, requests.0, kept.eligible_long);
-      keys_long = omega (arith, keys.0, requests.0, kept.keys_long);
+      tags_long = omega (arith, tags.0, requests.0, kept.tags_long);
       prints_long = omega (arith, prints.0, requests.0, kept.prints_long);
       within = omega (arith, requests.0, kept.within);
       enough = kept.enough;
@@ -101,7 +101,7 @@ invariant_of-self c =
       row_room = omega (arith, kept.row_room, c.drop_last-3.ensures.room);
       kind_room = omega (arith, kept.kind_room, c.drop_last-4.ensures.room);
       eligible_room = omega (arith, kept.eligible_room, c.drop_last-5.ensures.room);
-      key_room = omega (arith, kept.key_room, c.drop_last-6.ensures.room);
+      tag_room = omega (arith, kept.tag_room, c.drop_last-6.ensures.room);
       print_room = omega (arith, kept.print_room, c.drop_last-7.ensures.room);
     }
 

@@ -1,4 +1,4 @@
-use Rattle.std.proofs.Common.{◌≡◌, ℕ, ◌<◌, get_or, IfOk, vec_len, sym, ap, subst, ◌∙◌, arith}
+use Rattle.std.proofs.Common.{◌≡◌, ◌<◌, get_or, IfOk, vec_len, sym, ap, subst, ◌∙◌, arith}
 use Rattle.workers.specs.Shares.{share}
 use Rattle.workers.proofs.shares.Shares.shared.Goals as goal
 

@@ -1,9 +1,0 @@
--- The words of the ranks so far are raised, but for those of one rank, and no others.
-use Rattle.std.proofs.Common.{◌≡◌, ◌*◌, ◌/◌, ◌<◌, ◌≤◌, eqb, cond, max, ℕ, get_or}
-use Rattle.bank_ready.proofs.words.raise_other_ranks.Given as goal
-
-abbrev pub invariant-loop-other : goal.invariant-loop-other
-invariant-loop-other l = record {
-  done : (k d : ℕ) → k < 16 * l.other → get_or l.words k d ≡ max (get_or l.fn.words k d) (cond (eqb l.rank (k / 16)) 0 l.until);
-  left : (k d : ℕ) → 16 * l.other ≤ k → get_or l.words k d ≡ get_or l.fn.words k d;
-}

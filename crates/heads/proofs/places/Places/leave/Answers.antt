@@ -1,0 +1,39 @@
+-- Heads that only move are the first still, where none is left there is none, and others are found.
+use Rattle.std.proofs.Common.{◌≡◌, ℕ, Bool, true, Option, None, eqb, sym, ap, subst, ◌∙◌}
+use Rattle.std.proofs.lemmas.Bool.{and_parts}
+use Rattle.sim_base.specs.Rules.{is_row}
+use Rattle.sim_base.specs.declared.message.Request.{Request}
+use Rattle.heads.specs.Heads.{asks, hits, first_place, kind_number, kind_of, AreFirst}
+use Rattle.heads.proofs.Calm.{calm_place, wants_kind}
+use Rattle.heads.proofs.Counted.{no_first}
+use Rattle.heads.proofs.Stood.{item_at}
+use Rattle.heads.proofs.places.Places.leave.Goals as goal
+
+hits_kind : (bank : ℕ) (write : Bool) (row : Option ℕ) (x : Request) → hits bank write row x ≡ true → eqb (kind_of x) (kind_number bank write) ≡ true
+hits_kind bank write row x is = wants_kind bank write None x (and_parts (asks bank write x) (is_row x.place.row row) is).0
+
+pub returns-then-gap-clause-own : goal.returns-then-gap-clause-own
+returns-then-gap-clause-own c earlier within left calm empty first moved =
+    no_first c.args.queue.now.requests c.args.gap.bank c.args.write c.args.row _ (empty c.if-gap.true) (c.set-then-gap.ensures.beside ∙ c.set.ensures.same) c.set-then-gap.ensures.same
+
+pub returns-clause-own : goal.returns-clause-own
+returns-clause-own c earlier within left calm empty first moved =
+    subst (AreFirst c.args.queue.now.requests c.args.gap.bank c.args.write c.args.row) (sym c.set_kind.ensures.same) (c.after-heads.ensures.first earlier within left calm empty first)
+
+pub returns-then-stay-clause-own : goal.returns-then-stay-clause-own
+returns-then-stay-clause-own c earlier within left calm empty first moved =
+    let slot = c.args.gap.slot in
+    let bank = c.args.gap.bank in
+    let write = c.args.write in
+    let row = c.args.row in
+    let before = c.args.before in
+    let item = item_at earlier slot within in
+    let stays : c.stay.result ≡ true = c.if-stay.true in
+    let none = calm (c.stay.ensures.calm stays) in
+    subst (AreFirst c.args.queue.now.requests bank write row) (sym moved)
+    (record {
+      oldest_is = calm_place (kind_number bank write) (asks bank write) earlier slot item.0 before.oldest within item.1 (wants_kind bank write None) none first.oldest_is (c.stay.ensures.oldest stays)
+          ∙ ap (first_place (asks bank write)) (sym left);
+      hit_is = calm_place (kind_number bank write) (hits bank write row) earlier slot item.0 before.hit within item.1 (hits_kind bank write row) none first.hit_is (c.stay.ensures.hit stays)
+          ∙ ap (first_place (hits bank write row)) (sym left);
+    })

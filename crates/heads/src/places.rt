@@ -1,0 +1,261 @@
+//! The places of the heads of all banks.
+
+ghost use Rattle.std.specs.Prelude.{◌≡◌, ℕ, ◌+◌, ◌*◌, ◌^◌, ◌<◌, ◌≤◌, length, slice_index_or, is_some};
+ghost use Rattle.heads.specs.declared.sets.BankSet.{BankSet};
+ghost use Rattle.heads.specs.Sets.{is_in};
+ghost use Rattle.heads.specs.Places.{head_of, word_of, IsShort, column, head_in, moved};
+
+use crate::entry::KindHeads;
+use crate::search::{Gap, first_hit};
+use crate::sets::BankSet;
+use queue::Queue;
+use std::alloc::{AllocError, Global};
+
+/// The places of the heads of all banks: of each bank and kind the first request that may be served, and the first of these that
+/// asks for the open row.
+#[derive(Drop)]
+pub(crate) struct Places {
+    /// Four words a bank: of its reads the oldest and the first hit, and of its writes. Each is one more than a place, and 0 where
+    /// there is none.
+    words: Vec<u16>,
+    /// For each of the four the banks whose word is not 0.
+    sets: [BankSet; 4],
+    ghost few: { length words.items ≤ 256 },
+    ghost four: { length sets ≡ 4 },
+    ghost agree: { (bank number : ℕ) (d : BankSet) → number < 4 → is_in (slice_index_or sets number d) bank ≡ is_some (head_of (slice_index_or words.items (4 * bank + number) 0)) },
+}
+
+/// The place that a word tells.
+#[inline(always)]
+fn head_of(word: u16) -> Option<usize>
+    ensures head { result ≡ head_of word }
+    ensures short { IsShort result }
+{
+    if word == 0 {
+        None
+    } else {
+        Some(word as usize - 1)
+    }
+}
+
+/// The word of a place.
+#[inline(always)]
+fn word_of(head: Option<usize>) -> u16
+    requires { IsShort head }
+    ensures { result ≡ word_of head }
+{
+    match head {
+        Some(place) => place as u16 + 1,
+        None => 0,
+    }
+}
+
+/// Which word of a bank, and which set.
+#[inline(always)]
+fn column(write: bool, hit: bool) -> usize
+    ensures value { result ≡ column write hit }
+    ensures few { result < 4 }
+{
+    2 * usize::from(write) + usize::from(hit)
+}
+
+/// Moves the words that are not below `least` by one place.
+fn move_words(words: &mut [u16], least: u16)
+    ensures moved { (k : ℕ) → slice_index_or words.new k 0 ≡ moved least (slice_index_or words.old k 0) }
+    ensures fits { (k : ℕ) → slice_index_or words.old k 0 < 2 ^ 16 }
+{
+    for word in words.iter_mut() {
+        *word = (*word).min(word.saturating_sub(1).max(least));
+    }
+}
+
+impl Places {
+    ghost use Rattle.std.specs.Prelude.{ℕ, ◌≡◌, ◌≢◌, ◌+◌, ◌*◌, ◌<◌, ◌≤◌, ◌^◌, ◌-◌, Bool, true, false, not, length, Option, Some, None, is_some, IfOk, List, remove, if◌then◌else◌};
+    ghost use Rattle.sim_base.specs.Scheduling.{or_else};
+    ghost use Rattle.sim_base.specs.declared.message.Request.{Request};
+    ghost use Rattle.heads.specs.Heads.{kind_number, kind_count, AreFirst, NoneWaits};
+    ghost use Rattle.heads.specs.Moves.{kind_past};
+    ghost use Rattle.heads.specs.Places.{kind_in};
+
+    /// The places of the heads of an empty queue.
+    pub(crate) fn with_room(alloc: Global, banks: usize) -> Result<Self, AllocError>
+        requires { banks ≤ 64 }
+        ensures room { IfOk result (λ places. length places.words.items ≡ 4 * banks) }
+        ensures none { IfOk result (λ places. (kind : ℕ) (hit : Bool) → head_in places.words.items kind hit ≡ None) }
+    {
+        Ok(Places {
+            words: vec![in alloc; 0; 4 * banks]?,
+            sets: [BankSet::none(); 4],
+        })
+    }
+
+    /// A head of a bank to write, or to read: the first hit, or the oldest.
+    #[inline(always)]
+    pub(crate) fn head(&self, bank: usize, write: bool, hit: bool) -> Option<usize>
+        requires { 4 * bank + 3 < length self.now.words.items }
+        ensures head { result ≡ head_in self.now.words.items (kind_number bank write) hit }
+        ensures short { IsShort result }
+    {
+        head_of(self.words[4 * bank + column(write, hit)])
+    }
+
+    /// The heads of a bank to write, or to read.
+    #[inline(always)]
+    pub(crate) fn of_kind(&self, bank: usize, write: bool) -> KindHeads
+        requires { 4 * bank + 3 < length self.now.words.items }
+        ensures heads { result ≡ kind_in self.now.words.items (kind_number bank write) }
+        ensures oldest { IsShort result.oldest }
+        ensures hit { IsShort result.hit }
+    {
+        KindHeads {
+            oldest: self.head(bank, write, false),
+            hit: self.head(bank, write, true),
+        }
+    }
+
+    /// The banks with a head: the first hit or the oldest, to write or to read.
+    #[inline(always)]
+    pub(crate) fn banks(&self, write: bool, hit: bool) -> BankSet
+        ensures { (bank : ℕ) → is_in result bank ≡ is_some (head_in self.now.words.items (kind_number bank write) hit) }
+    {
+        self.sets[column(write, hit)]
+    }
+
+    /// Writes a head of a bank.
+    #[inline(always)]
+    pub(crate) fn set(&mut self, bank: usize, write: bool, hit: bool, head: Option<usize>)
+        requires bank { 4 * bank + 3 < length self.old.words.items }
+        requires short { IsShort head }
+        ensures room { length self.new.words.items ≡ length self.old.words.items }
+        ensures same { head_in self.new.words.items (kind_number bank write) hit ≡ head }
+        ensures beside { head_in self.new.words.items (kind_number bank write) (not hit) ≡ head_in self.old.words.items (kind_number bank write) (not hit) }
+        ensures others { (kind : ℕ) → kind ≢ kind_number bank write → kind_in self.new.words.items kind ≡ kind_in self.old.words.items kind }
+    {
+        let column = column(write, hit);
+        self.words[4 * bank + column] = word_of(head);
+        let set = self.sets[column];
+        self.sets[column] = if head.is_some() {
+            set.with(bank)
+        } else {
+            set.without(bank)
+        };
+    }
+
+    /// Takes note of a request behind all others, which may be served and asks for the open row or not.
+    #[inline(always)]
+    pub(crate) fn join(&mut self, bank: usize, write: bool, slot: usize, hit: bool)
+        requires bank { 4 * bank + 3 < length self.old.words.items }
+        requires short { slot < 2 ^ 16 - 1 }
+        ensures room { length self.new.words.items ≡ length self.old.words.items }
+        ensures oldest { let kind = kind_number bank write in head_in self.new.words.items kind false ≡ or_else (head_in self.old.words.items kind false) (Some slot) }
+        ensures hit { let kind = kind_number bank write in head_in self.new.words.items kind true
+            ≡ (if hit then or_else (head_in self.old.words.items kind true) (Some slot) else head_in self.old.words.items kind true) }
+        ensures others { (kind : ℕ) → kind ≢ kind_number bank write → kind_in self.new.words.items kind ≡ kind_in self.old.words.items kind }
+    {
+        if self.head(bank, write, false).is_none() {
+            self.set(bank, write, false, Some(slot));
+        }
+        if hit && self.head(bank, write, true).is_none() {
+            self.set(bank, write, true, Some(slot));
+        }
+    }
+
+    /// Writes the heads of a bank to write, or to read.
+    #[inline(always)]
+    pub(crate) fn set_kind(&mut self, bank: usize, write: bool, heads: KindHeads)
+        requires bank { 4 * bank + 3 < length self.old.words.items }
+        requires oldest { IsShort heads.oldest }
+        requires hit { IsShort heads.hit }
+        ensures room { length self.new.words.items ≡ length self.old.words.items }
+        ensures same { kind_in self.new.words.items (kind_number bank write) ≡ heads }
+        ensures others { (kind : ℕ) → kind ≢ kind_number bank write → kind_in self.new.words.items kind ≡ kind_in self.old.words.items kind }
+    {
+        self.set(bank, write, false, heads.oldest);
+        self.set(bank, write, true, heads.hit);
+    }
+
+    /// Takes note that no row is open in a bank.
+    #[inline(always)]
+    pub(crate) fn close(&mut self, bank: usize)
+        requires { 4 * bank + 3 < length self.old.words.items }
+        ensures room { length self.new.words.items ≡ length self.old.words.items }
+        ensures own { (write : Bool) → kind_in self.new.words.items (kind_number bank write) ≡ record (kind_in self.old.words.items (kind_number bank write)) { hit = None } }
+        ensures others { (other : ℕ) (write : Bool) → other ≢ bank → kind_in self.new.words.items (kind_number other write) ≡ kind_in self.old.words.items (kind_number other write) }
+    {
+        self.set(bank, false, true, None);
+        self.set(bank, true, true, None);
+    }
+
+    /// Moves all heads past a place that a request has left.
+    pub(crate) fn move_past(&mut self, slot: usize)
+        ensures room { length self.new.words.items ≡ length self.old.words.items }
+        ensures moved { (kind : ℕ) → kind_in self.new.words.items kind ≡ kind_past slot (kind_in self.old.words.items kind) }
+    {
+        let place = slot.min(65534) as u16;
+        move_words(&mut self.words, place + 1);
+    }
+
+    /// Takes note of a row that is open in a bank, for its requests to write, or to read.
+    #[inline(always)]
+    pub(crate) fn open(&mut self, bank: usize, write: bool, row: u32, queue: &Queue)
+        requires bank { 4 * bank + 3 < length self.old.words.items }
+        requires queue { length queue.now.requests < 2 ^ 16 - 1 }
+        ensures room { length self.new.words.items ≡ length self.old.words.items }
+        ensures own { (old : Option ℕ) → AreFirst queue.now.requests bank write old (kind_in self.old.words.items (kind_number bank write))
+            → AreFirst queue.now.requests bank write (Some row) (kind_in self.new.words.items (kind_number bank write)) }
+        ensures others { (kind : ℕ) → kind ≢ kind_number bank write → kind_in self.new.words.items kind ≡ kind_in self.old.words.items kind }
+    {
+        if let Some(oldest) = self.head(bank, write, false) {
+            let hit = first_hit(queue, oldest, bank, write, row);
+            self.set(bank, write, true, hit);
+        }
+    }
+
+    /// Takes note that a request of a bank has left the queue, once all heads have moved past its place. Those to write, or to
+    /// read, are the ones given as they were before they moved.
+    #[inline(always)]
+    pub(crate) fn leave(
+        &mut self,
+        before: KindHeads,
+        queue: &Queue,
+        gap: Gap,
+        write: bool,
+        row: Option<u32>,
+    )
+        requires bank { 4 * gap.bank + 3 < length self.old.words.items }
+        requires oldest { IsShort before.oldest }
+        requires hit { IsShort before.hit }
+        requires queue { length queue.now.requests < 2 ^ 16 - 1 }
+        ensures room { length self.new.words.items ≡ length self.old.words.items }
+        ensures own { (earlier : List Request) → gap.slot < length earlier → queue.now.requests ≡ remove earlier gap.slot
+            → (gap.calm ≡ true → NoneWaits (kind_number gap.bank write) earlier) → (gap.empty ≡ true → kind_count (kind_number gap.bank write) queue.now.requests ≡ 0) → AreFirst earlier gap.bank write row before
+            → kind_in self.old.words.items (kind_number gap.bank write) ≡ kind_past gap.slot before
+            → AreFirst queue.now.requests gap.bank write row (kind_in self.new.words.items (kind_number gap.bank write)) }
+        ensures others { (kind : ℕ) → kind ≢ kind_number gap.bank write → kind_in self.new.words.items kind ≡ kind_in self.old.words.items kind }
+    {
+        if before.stay(gap) {
+            return;
+        }
+        if gap.empty {
+            self.set(gap.bank, write, false, None);
+            self.set(gap.bank, write, true, None);
+            return;
+        }
+        // copies, so that what is handed on is written only where it is
+        let KindHeads { oldest, hit } = before;
+        let Gap {
+            slot,
+            bank,
+            calm,
+            empty,
+        } = gap;
+        let gap = Gap {
+            slot,
+            bank,
+            calm,
+            empty,
+        };
+        let heads = KindHeads { oldest, hit }.after(queue, gap, write, row);
+        self.set_kind(bank, write, heads);
+    }
+}
