@@ -1,11 +1,11 @@
 -- Rows that go on with cycles in which a unit does nothing, and a unit whose rows go on so when it is run alone.
-use Rattle.std.proofs.Common.{◌≡◌, ℕ, zero, suc, ◌+◌, ◌-◌, ◌<◌, ◌≤◌, List, [], ◌∷◌, ◌++◌, length, take, Option, None, sym, ap, ap₂, subst, ◌∙◌, add-zero, add-one, add-suc, append_assoc, ⊎_elim, arith}
+use Rattle.std.proofs.Common.{◌≡◌, ℕ, zero, suc, ◌+◌, List, [], ◌∷◌, ◌++◌, length, take, Option, None, sym, ap, subst, ◌∙◌, add-zero, add-one, add-suc, append_assoc, ⊎_elim, arith}
 use Rattle.std.specs.Prelude.{replicate}
 use Rattle.std.proofs.Math.Seq.{take-append_seam, take-length}
 use Rattle.std.proofs.lemmas.Bool.{cases_lt}
 use Rattle.std.proofs.lemmas.List.{append-nil, length_push, replicate_more, same_from_push}
 use Rattle.sim_base.specs.declared.config.Config.{Config}
-use Rattle.sim_base.specs.History.{issued_before, requests_between, requests_in, core_messages}
+use Rattle.sim_base.specs.History.{issued_before, requests_in, core_messages}
 use Rattle.sim_base.specs.Machine.{core_run, channel_run}
 use Rattle.sim_base.specs.Scheduling.{choice}
 use Rattle.sim_base.specs.Windows.{step}

@@ -1,5 +1,5 @@
 -- A span of a run is quiet just where each unit alone would rest in it and no message under way arrives in it.
-use Rattle.std.proofs.Common.{◌≡◌, ℕ, ◌+◌, ◌-◌, ◌<◌, ◌≤◌, Bool, true, false, cond, ltb, leb, ◌&&◌, List, [], ◌∷◌, ◌++◌, refl, sym, ap, ap₂, subst, ◌∙◌, arith}
+use Rattle.std.proofs.Common.{◌≡◌, ℕ, ◌+◌, ◌-◌, ◌≤◌, Bool, true, false, cond, ltb, leb, ◌&&◌, List, [], ◌∷◌, ◌++◌, refl, sym, ap, ap₂, subst, ◌∙◌, arith}
 use Rattle.std.specs.Prelude.{filter}
 use Rattle.std.specs.List.{AllByRecursion as Each}
 use Rattle.std.proofs.lemmas.Bool.Decides.{nat_tests}
@@ -21,7 +21,7 @@ use Rattle.core_window.specs.Rests.{Rests}
 use Rattle.span_laws.specs.Cores.{core_rows_of}
 use Rattle.span_laws.specs.Local.{known_mail, CoresSendLate, ChannelsSendLate}
 use Rattle.span_laws.specs.Mail.{arriving, mail_before, mail_in}
-use Rattle.span_laws.specs.Quiet.{CoresRest, ChannelsRest, arrivals_in, IsQuiet, RestsAlone, IsKnownQuiet, KnownIsQuiet, QuietIsKnown, RestIsShortened, QuietChangesNothing}
+use Rattle.span_laws.specs.Quiet.{CoresRest, ChannelsRest, arrivals_in, IsKnownQuiet, KnownIsQuiet, QuietIsKnown, RestIsShortened, QuietChangesNothing}
 use Rattle.span_laws.proofs.Arrivals.{mail-settled, spans-join, mail-sent}
 use Rattle.span_laws.proofs.ChannelSpans.{channels-run_alone}
 use Rattle.span_laws.proofs.CoreSpans.{cores-run_alone}

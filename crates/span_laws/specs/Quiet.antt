@@ -7,7 +7,7 @@
 --     QuietIsKnown, KnownIsQuiet      so a span is quiet just where that is known before it
 --     RestIsShortened s traces from until      who would rest in a span would rest in each shorter one
 --     QuietChangesNothing s traces from until      what a quiet span leaves as it was
-use Rattle.std.specs.Prelude.{◌≡◌, ℕ, ◌-◌, ◌<◌, ◌≤◌, List, [], ◌++◌, replicate, Option, None}
+use Rattle.std.specs.Prelude.{◌≡◌, ℕ, ◌-◌, ◌<◌, ◌≤◌, List, [], ◌++◌, replicate, None}
 use Rattle.sim_base.specs.declared.config.Config.{Config}
 use Rattle.sim_base.specs.Counts.{in_flight}
 use Rattle.sim_base.specs.History.{trace_of, messages}
