@@ -17,6 +17,7 @@ use crate::job::{Job, JobName};
 use crate::machine::{Machine, unit_at};
 use crate::part::Part;
 use crate::phase::Phase;
+use crate::quiet::{quiet_until, skip_all};
 use crate::sim::Sim;
 use links::flight::Links;
 use links::latency::shortest;
@@ -110,9 +111,20 @@ pub fn plan(sim: Sim, alloc: Global, limit: Cycle) -> Result<Planned, AllocError
         machine,
         now,
         phase,
-        parts,
+        mut parts,
         mut links,
     } = sim;
+    let quiet = quiet_until(&links, &mut parts, now, limit);
+    if now < quiet {
+        skip_all(&mut parts, quiet);
+        return Ok(Planned::Quiet(Sim {
+            machine,
+            now: quiet,
+            phase,
+            parts,
+            links,
+        }));
+    }
     let until = end_of_phase(&machine.config, now, limit);
     let jobs = jobs(alloc, &machine, &mut links, phase, now, until, parts)?;
     let phase = Phase {
