@@ -10,3 +10,7 @@ pub mod Counted
 pub mod Tabled
 pub mod Ended
 pub mod Lasting
+pub mod Laws
+pub mod Resting
+pub mod Arriving
+pub mod Quieting
