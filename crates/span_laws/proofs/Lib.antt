@@ -12,3 +12,5 @@ pub mod Merged
 pub mod Over
 pub mod Lasting
 pub mod Localities
+pub mod Idle
+pub mod QuietSpans

@@ -128,7 +128,7 @@ core-idle s traces n core l h =
     let whole = h.retired core l in
     record { retired = omega (arith, now.retired, then.issued, then.retired); issued = omega (arith, now.retired, then.issued) }
 
-nothing-between : (s : Config) (core : ℕ) (trace : List Entry) (cycle first end : ℕ) → end ≡ first → requests_between s core trace cycle first end ≡ []
+pub nothing-between : (s : Config) (core : ℕ) (trace : List Entry) (cycle first end : ℕ) → end ≡ first → requests_between s core trace cycle first end ≡ []
 unfolding requests_between
 nothing-between s core trace cycle first end e =
     let z : end - first ≡ 0 = omega arith in
