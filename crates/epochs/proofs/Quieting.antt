@@ -8,7 +8,7 @@ use Rattle.span_laws.specs.Quiet.{RestsAlone, IsQuiet, IsKnownQuiet}
 use Rattle.epochs.specs.Units.{unit_at, unit_count}
 use Rattle.epochs.specs.Planning.{IsLongestQuiet}
 use Rattle.epochs.specs.Quiet.{IsNextActOf, SomeActs, AreFirstActs, IsFirstArrival}
-use Rattle.epochs.proofs.Laws.{known-is_quiet, quiet-is_known, rest-is_shortened}
+use Rattle.span_laws.proofs.QuietSpans.{known-is_quiet, quiet-is_known, rest-is_shortened}
 use Rattle.epochs.proofs.Resting.{rests-in_none}
 use Rattle.epochs.proofs.Standing.{core-at_place, channel-at_place}
 

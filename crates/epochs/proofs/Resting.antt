@@ -35,7 +35,7 @@ use Rattle.span_laws.specs.Quiet.{RestsAlone, IsQuiet}
 use Rattle.epochs.specs.Parts.{IsPart}
 use Rattle.epochs.specs.Quiet.{IsNextActOf, RestsUpTo, IsInSomeRun}
 use Rattle.epochs.specs.declared.part.Part.TheVariants as part
-use Rattle.epochs.proofs.Laws.{quiet-is_known, rest-is_shortened, quiet-changes_nothing}
+use Rattle.span_laws.proofs.QuietSpans.{quiet-is_known, rest-is_shortened, quiet-changes_nothing}
 
 core-rows_length : (s : Config) (traces : List (List Entry)) (now core : ℕ) → length (core_rows_of s traces now core) ≡ now
 core-rows_length s traces now core = length-core_rows core (run s traces now) ∙ length-run s traces now
