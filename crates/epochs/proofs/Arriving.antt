@@ -2,7 +2,7 @@
 use Rattle.std.proofs.Common.{◌≡◌, ℕ, ◌<◌, ◌≤◌, Bool, true, false, cond, ltb, leb, ◌&&◌, ◌||◌, min, List, [], ◌∷◌, ◌⊎◌, inl, inr, refl, sym, ap, subst, ◌∙◌, arith}
 use Rattle.std.specs.Prelude.{filter, All, Any}
 use Rattle.std.specs.List.{AllByRecursion as Each, list_any}
-use Rattle.std.proofs.lemmas.Bool.{cases_lt, le-ltb, lt-ltb, ltb-false, false≢true}
+use Rattle.std.proofs.lemmas.Bool.{cases_lt, le-ltb, lt-ltb, lt-leb}
 use Rattle.std.proofs.lemmas.List.Elements.{recursion_from_All}
 use Rattle.std.proofs.lemmas.List.Folds.{list_any-from_Any}
 use Rattle.sim_base.specs.declared.config.Config.{Config}
@@ -13,6 +13,7 @@ use Rattle.sim_base.specs.History.{messages, by_age}
 use Rattle.sim_base.specs.Machine.{run}
 use Rattle.sim_base.proofs.Each.{Each-all}
 use Rattle.sim_base.proofs.Ordered.{Each-weaker, filter-by_age}
+use Rattle.laws.proofs.Counting.{count-cons}
 use Rattle.laws.proofs.Sent.{count-by_age}
 use Rattle.std.specs.Prelude.{count_by}
 use Rattle.span_laws.specs.Quiet.{arrivals_in}
@@ -37,7 +38,7 @@ unfolding by_age
 nothing-by_age = refl
 
 counted : {X : Type 0} (x : X) (xs : List X) → count_by (λ y. true) (x ∷ xs) ≡ 0 → ⊥
-counted x xs e = omega (arith, e)
+counted x xs e = omega (arith, e, count-cons (λ y. true) x xs)
 
 from-by_age : (ms : List Message) → by_age ms ≡ [] → ms ≡ []
 from-by_age [] e = refl
@@ -72,7 +73,15 @@ span-none : (now : ℕ) (ms : List Message) → filter (λ m. leb now m.arrival 
 span-none now ms = none-passes _ ms (Each-all _ (λ (m : Message). never m.arrival) ms)
   where
     never : (a : ℕ) → (leb now a && ltb a now) ≡ false
-    never a = ?
+    never a = go (cases_lt a now)
+      where
+        neither : (b : Bool) → (b && false) ≡ false
+        neither true = refl
+        neither false = refl
+
+        go : (a < now) ⊎ (now ≤ a) → (leb now a && ltb a now) ≡ false
+        go (inl l) = ap (λ b. b && ltb a now) (lt-leb now a l)
+        go (inr m) = ap (λ b. leb now a && b) (le-ltb a now m) ∙ neither (leb now a)
 
 -- where nothing is in flight nothing arrives
 pub no-arrival : (s : Config) (traces : List (List Entry)) (now limit : ℕ) (ms : List Message) → now ≤ limit → ms ≡ in_flight s traces (run s traces now) → ms ≡ []

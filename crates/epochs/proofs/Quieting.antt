@@ -1,16 +1,20 @@
 -- How long nothing happens.
 use Rattle.std.proofs.Common.{◌≡◌, ℕ, suc, ◌+◌, ◌-◌, ◌<◌, ◌≤◌, min, List, length, get_or, Option, Some, None, ◌⊎◌, inl, inr, refl, sym, ap, subst, ◌∙◌, arith}
 use Rattle.std.proofs.lemmas.Bool.{cases_lt}
+use Rattle.std.proofs.lemmas.Option.{slice_get-get_or, slice_get_within, get_or_from_slice_get}
 use Rattle.sim_base.specs.declared.config.Config.{Config}
 use Rattle.sim_base.specs.declared.message.Unit.TheVariants as unit
 use Rattle.sim_base.specs.declared.trace.Entry.{Entry}
 use Rattle.span_laws.specs.Quiet.{RestsAlone, IsQuiet, IsKnownQuiet}
 use Rattle.epochs.specs.Units.{unit_at, unit_count}
 use Rattle.epochs.specs.Planning.{IsLongestQuiet}
-use Rattle.epochs.specs.Quiet.{IsNextActOf, SomeActs, AreFirstActs, IsFirstArrival}
+use Rattle.epochs.specs.Parts.{IsPart, StandAt}
+use Rattle.epochs.specs.Quiet.{IsNextActOf, SomeActs, AreFirstActs, IsFirstArrival, RestsUpTo, RestUpTo}
+use Rattle.epochs.specs.declared.part.Part.{Part}
 use Rattle.span_laws.proofs.QuietSpans.{known-is_quiet, quiet-is_known, rest-is_shortened}
 use Rattle.epochs.proofs.Resting.{rests-in_none}
 use Rattle.epochs.proofs.Standing.{core-at_place, channel-at_place}
+use Rattle.epochs.proofs.Due.{exists-at}
 
 -- in a span that is known to be quiet the unit at each place rests
 rests-at : (s : Config) (traces : List (List Entry)) (now until place : ℕ) → IsKnownQuiet s traces now until → place < unit_count s → RestsAlone s traces now until (unit_at s place)
@@ -30,11 +34,11 @@ longest-quiet s traces now limit arrival until first acts =
       since = acts.since;
       within = omega (arith, acts.within, first.within);
       quiet = known-is_quiet s traces now until acts.since (record {
-          cores_rest = λ core l. subst (RestsAlone s traces now until) (core-at_place s core l) (acts.rest core until (omega (arith, l)) acts.since (omega arith));
-          channels_rest = λ channel l. subst (RestsAlone s traces now until) (channel-at_place s (s.cores + channel) channel refl)
-              (acts.rest (s.cores + channel) until (omega (arith, l)) acts.since (omega arith));
-          none_arrives = first.none until acts.within;
-        });
+        cores_rest = λ core l. subst (RestsAlone s traces now until) (core-at_place s core l) (acts.rest core until (omega (arith, l)) acts.since (omega arith));
+        channels_rest = λ channel l. subst (RestsAlone s traces now until) (channel-at_place s (s.cores + channel) channel refl)
+            (acts.rest (s.cores + channel) until (omega (arith, l)) acts.since (omega arith));
+        none_arrives = first.none until acts.within;
+      });
       longest = λ later l k quiet. ends later l k (quiet-is_known s traces now later (omega (arith, acts.since, l)) quiet) (cases_lt until arrival);
     }
   where
@@ -58,7 +62,7 @@ acts-none s traces from limit l =
 
 -- when one more was asked that never acts
 pub acts-never : (s : Config) (traces : List (List Entry)) (from limit count until : ℕ) → AreFirstActs s traces from limit count until
-    → IsNextActOf s traces (unit_at s count) from None → AreFirstActs s traces from limit (suc count) until
+    → IsNextActOf s traces (unit_at s count) from None → AreFirstActs s traces from limit (count + 1) until
 acts-never s traces from limit count until h never =
     record {
       since = h.since;
@@ -67,13 +71,13 @@ acts-never s traces from limit count until h never =
       some = λ less. let some = h.some less in record { place = some.place; within = omega (arith, some.within); acts = some.acts };
     }
   where
-    at : (place sooner : ℕ) → place < suc count → from ≤ sooner → sooner ≤ until → (place < count) ⊎ (count ≤ place) → RestsAlone s traces from sooner (unit_at s place)
+    at : (place sooner : ℕ) → place < count + 1 → from ≤ sooner → sooner ≤ until → (place < count) ⊎ (count ≤ place) → RestsAlone s traces from sooner (unit_at s place)
     at place sooner k m n (inl l) = h.rest place sooner l m n
     at place sooner k m n (inr l) = let e : count ≡ place = omega (arith, k, l) in subst (λ i. RestsAlone s traces from sooner (unit_at s i)) e (never sooner m)
 
 -- and when it acts some time
 pub acts-then : (s : Config) (traces : List (List Entry)) (from limit count until act : ℕ) → AreFirstActs s traces from limit count until
-    → IsNextActOf s traces (unit_at s count) from (Some act) → AreFirstActs s traces from limit (suc count) (min until act)
+    → IsNextActOf s traces (unit_at s count) from (Some act) → AreFirstActs s traces from limit (count + 1) (min until act)
 acts-then s traces from limit count until act h next =
     record {
       since = omega (arith, h.since, next.since);
@@ -82,12 +86,12 @@ acts-then s traces from limit count until act h next =
       some = λ less. first less (cases_lt act until);
     }
   where
-    at : (place sooner : ℕ) → place < suc count → from ≤ sooner → sooner ≤ min until act → (place < count) ⊎ (count ≤ place) → RestsAlone s traces from sooner (unit_at s place)
+    at : (place sooner : ℕ) → place < count + 1 → from ≤ sooner → sooner ≤ min until act → (place < count) ⊎ (count ≤ place) → RestsAlone s traces from sooner (unit_at s place)
     at place sooner k m n (inl l) = h.rest place sooner l m (omega (arith, n))
     at place sooner k m n (inr l) =
         let e : count ≡ place = omega (arith, k, l) in subst (λ i. RestsAlone s traces from sooner (unit_at s i)) e (next.rests sooner m (omega (arith, n)))
 
-    first : min until act < limit → (act < until) ⊎ (until ≤ act) → SomeActs s traces from (min until act) (suc count)
+    first : min until act < limit → (act < until) ⊎ (until ≤ act) → SomeActs s traces from (min until act) (count + 1)
     first less (inl l) =
         let e : act ≡ min until act = omega (arith, l) in
         record { place = count; within = omega arith; acts = subst (λ i. RestsAlone s traces from (suc i) (unit_at s count) → ⊥) e next.acts }
@@ -106,3 +110,24 @@ acts-now s traces from limit count all l h =
       rest = λ place sooner k m n. let e : from ≡ sooner = omega (arith, m, n) in subst (λ i. RestsAlone s traces from i (unit_at s place)) e (rests-in_none s traces from (unit_at s place));
       some = λ less. let some = h.some less in record { place = some.place; within = omega (arith, some.within, l); acts = some.acts };
     }
+
+-- the unit at a place of those that stand for their parts
+pub stand-get : (s : Config) (traces : List (List Entry)) (now : ℕ) (parts : List Part) (place : ℕ) (d : Part) → StandAt s traces now parts → place < length parts
+    → IsPart s traces (unit_at s place) now (get_or parts place d)
+stand-get s traces now parts place d h l = h place (get_or parts place d) (slice_get-get_or parts place d l)
+
+-- so does the one at each place rest
+pub rest-get : (s : Config) (traces : List (List Entry)) (from until : ℕ) (parts : List Part) (place : ℕ) (d : Part) → RestUpTo s traces parts from until → place < length parts
+    → RestsUpTo s traces (unit_at s place) (get_or parts place d) from until
+rest-get s traces from until parts place d h l =
+    record {
+      exists = exists-at s place (omega (arith, h.count, l));
+      order = h.order;
+      stands = stand-get s traces from parts place d h.stand l;
+      quiet = h.quiet;
+    }
+
+-- units that stand for their parts at each place
+pub stand-each : (s : Config) (traces : List (List Entry)) (now : ℕ) (parts : List Part) → ((place : ℕ) (d : Part) → place < length parts → IsPart s traces (unit_at s place) now (get_or parts place d))
+    → StandAt s traces now parts
+stand-each s traces now parts h place p e = subst (IsPart s traces (unit_at s place) now) (get_or_from_slice_get parts place p p e) (h place p (slice_get_within parts place p e))

@@ -1,5 +1,5 @@
 -- A unit that rests, or goes on to a later cycle.
-use Rattle.std.proofs.Common.{◌≡◌, ℕ, suc, ◌+◌, ◌-◌, ◌<◌, ◌≤◌, ◌×◌, Bool, true, false, List, [], ◌∷◌, ◌++◌, length, get_or, replicate, Option, Some, None, is_some, refl, sym, ap, subst, ◌∙◌, append_assoc, arith}
+use Rattle.std.proofs.Common.{◌≡◌, ℕ, zero, suc, ◌+◌, ◌-◌, ◌<◌, ◌≤◌, Bool, true, false, List, [], ◌∷◌, ◌++◌, length, get_or, replicate, Option, Some, None, is_some, refl, sym, ap, subst, ◌∙◌, append_assoc, arith}
 use Rattle.std.proofs.lemmas.Bool.{false≢true}
 use Rattle.std.proofs.lemmas.List.{append-nil, append_cancel_left}
 use Rattle.std.specs.declared.alloc.Global.{Global}
@@ -60,6 +60,11 @@ rests-last s core trace rows mail n h more =
 rests-none : (s : Config) (core : ℕ) (trace : List Entry) (rows : List CoreRow) (mail : List Message) → Rests s core trace rows mail 0
 unfolding core_run
 rests-none s core trace rows mail = sym (append-nil rows)
+
+-- a core that rests for a cycle does nothing in it
+rests-first : (s : Config) (core : ℕ) (trace : List Entry) (rows : List CoreRow) (mail : List Message) → Rests s core trace rows mail 1 → (step s core trace rows mail).0 ≡ idle_row
+unfolding core_run
+rests-first s core trace rows mail one = rests-last s core trace rows mail 0 (rests-none s core trace rows mail) one
 
 -- the first cycle in which a core acts
 core-next_act : (s : Config) (traces : List (List Entry)) (core from : ℕ) (next : Option ℕ)
@@ -156,6 +161,7 @@ channel-tells s traces (unit.Core core) c rows now next h tells = absurd h
 
 -- a core rests in a span in which nothing happens
 pub core-may_skip : (s : Config) (traces : List (List Entry)) (u : MachineUnit) (c : Core) (from until : ℕ) → RestsUpTo s traces u (part.Core c) from until → MaySkip (view_of c) until
+unfolding core-may_rest
 core-may_skip s traces (unit.Core core) c from until h =
     let at = core-cycle s traces (unit.Core core) c from h.stands in
     let trace = trace_of traces core in
@@ -167,12 +173,8 @@ core-may_skip s traces (unit.Core core) c from until h =
       rests = λ some. let known = (quiet-is_known s traces from until h.order h.quiet).cores_rest core h.exists in
           let one = rest-is_shortened s traces from until (unit.Core core) (suc from) (omega arith) (omega (arith, some, at)) known in
           let same : suc from - from ≡ 1 = omega arith in
-          first s core trace rows mail (subst (Rests s core trace rows mail) same one);
+          rests-first s core trace rows mail (subst (Rests s core trace rows mail) same one);
     }
-  where
-    first : (s : Config) (core : ℕ) (trace : List Entry) (rows : List CoreRow) (mail : List Message) → Rests s core trace rows mail 1 → (step s core trace rows mail).0 ≡ idle_row
-    unfolding core_run
-    first s core trace rows mail one = rests-last s core trace rows mail 0 (rests-none s core trace rows mail) one
 core-may_skip s traces (unit.Channel channel) c from until h = absurd h.stands
 
 -- what a core is after it went on to a cycle

@@ -6,11 +6,13 @@ ghost use Rattle.sim_base.specs.Machine.{run};
 ghost use Rattle.sim_base.specs.declared.config.Config.{Config};
 ghost use Rattle.sim_base.specs.declared.message.Unit.{Unit as MachineUnit};
 ghost use Rattle.sim_base.specs.declared.trace.Entry.{Entry};
-ghost use Rattle.epochs.specs.Parts.{IsPart, StandAt, IsSim};
+ghost use Rattle.span_laws.specs.Quiet.{IsQuiet};
+ghost use Rattle.epochs.specs.Parts.{IsPart, StandAt};
 ghost use Rattle.epochs.specs.Planning.{IsLongestQuiet};
 ghost use Rattle.epochs.specs.Quiet.{IsNextActOf, AreFirstActs, IsFirstArrival, RestsUpTo, RestUpTo, IsInSomeRun, RestsInSomeRun, AreInSomeRun, RestInSomeRun};
 
 use crate::part::Part;
+use crate::sim::Sim;
 use links::flight::Links;
 use sim_base::message::Cycle;
 
@@ -71,19 +73,8 @@ fn first_act(parts: &mut [Part], now: Cycle, limit: Cycle) -> Cycle
     until
 }
 
-/// The last cycle, at most the limit, before which nothing happens from `now` on.
-pub(crate) fn quiet_until(links: &Links, parts: &mut [Part], now: Cycle, limit: Cycle) -> Cycle
-    requires stand { AreInSomeRun parts.old now }
-    requires before { now ≤ limit }
-    ensures same { parts.new ≡ parts.old }
-    ensures longest { (s : Config) (traces : List (List Entry)) (phase : ℕ) → IsSim s traces now phase parts.old links.now → IsLongestQuiet s traces now limit result }
-{
-    let arrival = first_arrival(links, limit);
-    first_act(parts, now, arrival)
-}
-
 /// Takes all units to a cycle before which nothing happens. It takes no memory.
-pub(crate) fn skip_all(parts: &mut [Part], until: Cycle)
+fn skip_all(parts: &mut [Part], until: Cycle)
     requires rest { RestInSomeRun parts.old until }
     requires early { until ≤ 10 ^ 12 }
     ensures count { length parts.new ≡ length parts.old }
@@ -91,5 +82,41 @@ pub(crate) fn skip_all(parts: &mut [Part], until: Cycle)
 {
     for part in parts.iter_mut() {
         part.skip(until);
+    }
+}
+
+impl Sim {
+    /// The last cycle, at most the limit, before which nothing happens from the cycle on where the simulator stands.
+    pub(crate) fn quiet_until(&mut self, limit: Cycle) -> Cycle
+        requires before { self.old.now ≤ limit }
+        ensures same { self.new ≡ self.old }
+        ensures longest { IsLongestQuiet self.old.machine self.old.traces self.old.now limit result }
+    {
+        let arrival = first_arrival(&self.links, limit);
+        first_act(&mut self.parts, self.now, arrival)
+    }
+
+    /// The same run in a later cycle, before which nothing happens. It takes no memory.
+    pub(crate) fn jumped(self, until: Cycle) -> Sim
+        requires order { self.now ≤ until }
+        requires early { until ≤ 10 ^ 12 }
+        requires quiet { IsQuiet self.machine self.traces self.now until }
+        ensures { result ≡ record self { now = until } }
+    {
+        let Sim {
+            machine,
+            phase,
+            mut parts,
+            links,
+            ..
+        } = self;
+        skip_all(&mut parts, until);
+        Sim {
+            machine,
+            now: until,
+            phase,
+            parts,
+            links,
+        }
     }
 }

@@ -305,7 +305,11 @@ fn a_slow_read_takes_three_phases(rt: HostRuntime) -> Result<(), Fail> {
     assert_eq!(rt; noting.phases, 3);
     assert_eq!(rt;
         (noting.spans[0], noting.spans[1], noting.spans[2]),
-        ((0, 1_000_000), (1_000_000, 2_000_000), (2_000_003, 3_000_003))
+        (
+            (0, 1_000_000),
+            (1_000_000, 2_000_000),
+            (2_000_003, 3_000_003)
+        )
     );
     let outcome = sim.outcome(rt.alloc())?;
     let slow = &outcome;
@@ -313,7 +317,10 @@ fn a_slow_read_takes_three_phases(rt: HostRuntime) -> Result<(), Fail> {
         slow.commands.first().map(|row| row.cycle),
         slow.commands.last().map(|row| row.cycle),
     );
-    assert_eq!(rt; (slow.commands.len(), slow.stats.cycles), (2, 1_000_000_000_000));
+    assert_eq!(rt;
+        (slow.commands.len(), slow.stats.cycles),
+        (2, 1_000_000_000_000)
+    );
     assert_eq!(rt; cycles, (Some(1_000_000), Some(1_000_003)));
     let core = slow
         .stats
