@@ -1,11 +1,10 @@
 -- How long nothing happens.
-use Rattle.std.proofs.Common.{◌≡◌, ℕ, suc, ◌+◌, ◌-◌, ◌<◌, ◌≤◌, min, List, length, get_or, Option, Some, None, ◌⊎◌, inl, inr, refl, sym, ap, subst, ◌∙◌, arith}
+use Rattle.std.proofs.Common.{◌≡◌, ℕ, suc, ◌+◌, ◌-◌, ◌<◌, ◌≤◌, min, List, length, get_or, Some, None, ◌⊎◌, inl, inr, refl, sym, subst, arith}
 use Rattle.std.proofs.lemmas.Bool.{cases_lt}
 use Rattle.std.proofs.lemmas.Option.{slice_get-get_or, slice_get_within, get_or_from_slice_get}
 use Rattle.sim_base.specs.declared.config.Config.{Config}
-use Rattle.sim_base.specs.declared.message.Unit.TheVariants as unit
 use Rattle.sim_base.specs.declared.trace.Entry.{Entry}
-use Rattle.span_laws.specs.Quiet.{RestsAlone, IsQuiet, IsKnownQuiet}
+use Rattle.span_laws.specs.Quiet.{RestsAlone, IsKnownQuiet}
 use Rattle.epochs.specs.Units.{unit_at, unit_count}
 use Rattle.epochs.specs.Planning.{IsLongestQuiet}
 use Rattle.epochs.specs.Parts.{IsPart, StandAt}

@@ -1,5 +1,5 @@
 -- A unit that rests, or goes on to a later cycle.
-use Rattle.std.proofs.Common.{◌≡◌, ℕ, zero, suc, ◌+◌, ◌-◌, ◌<◌, ◌≤◌, Bool, true, false, List, [], ◌∷◌, ◌++◌, length, get_or, replicate, Option, Some, None, is_some, refl, sym, ap, subst, ◌∙◌, append_assoc, arith}
+use Rattle.std.proofs.Common.{◌≡◌, ℕ, zero, suc, ◌+◌, ◌-◌, Bool, true, false, List, [], ◌∷◌, ◌++◌, length, get_or, replicate, Option, Some, None, is_some, refl, sym, ap, subst, ◌∙◌, append_assoc, arith}
 use Rattle.std.proofs.lemmas.Bool.{false≢true}
 use Rattle.std.proofs.lemmas.List.{append-nil, append_cancel_left}
 use Rattle.std.specs.declared.alloc.Global.{Global}
@@ -18,7 +18,7 @@ use Rattle.sim_base.specs.Scheduling.{choice}
 use Rattle.sim_base.specs.Windows.{step}
 use Rattle.sim_base.proofs.Spans.{length-run}
 use Rattle.statistics.proofs.Replies.{length-core_rows}
-use Rattle.laws.specs.Commands.{rows_of, history_of}
+use Rattle.laws.specs.Commands.{rows_of}
 use Rattle.laws.proofs.Legal.{length-rows_of}
 use Rattle.fr_fcfs.specs.Cycles.{IsFirstCycle}
 use Rattle.channel_step.specs.Channels.{StandsFor as ChannelStandsFor}
@@ -31,9 +31,9 @@ use Rattle.core_window.specs.Stands.{StandsFor as CoreStandsFor}
 use Rattle.core_window.specs.declared.core_unit.Core.{Core}
 use Rattle.span_laws.specs.Cores.{core_rows_of}
 use Rattle.span_laws.specs.Mail.{mail_before}
-use Rattle.span_laws.specs.Quiet.{RestsAlone, IsQuiet}
+use Rattle.span_laws.specs.Quiet.{RestsAlone}
 use Rattle.epochs.specs.Parts.{IsPart}
-use Rattle.epochs.specs.Quiet.{IsNextActOf, RestsUpTo, IsInSomeRun}
+use Rattle.epochs.specs.Quiet.{IsNextActOf, RestsUpTo}
 use Rattle.epochs.specs.declared.part.Part.TheVariants as part
 use Rattle.span_laws.proofs.QuietSpans.{quiet-is_known, rest-is_shortened, quiet-changes_nothing}
 

@@ -1,11 +1,11 @@
-use Rattle.std.proofs.Common.{◌≡◌, ◌+◌, ◌<◌, ◌≤◌, List, length, get_or, set, Some, None, sym, ap, subst, ◌∙◌, arith}
+use Rattle.std.proofs.Common.{◌≡◌, ◌+◌, ◌<◌, ◌≤◌, List, length, set, sym, ap, subst, ◌∙◌, arith}
 use Rattle.std.proofs.lemmas.List.{set-get_or}
 use Rattle.sim_base.specs.declared.config.Config.{Config}
 use Rattle.sim_base.specs.declared.trace.Entry.{Entry}
 use Rattle.epochs.specs.Units.{unit_at}
 use Rattle.epochs.specs.Parts.{StandAt}
 use Rattle.epochs.specs.Quiet.{IsNextActOf, AreFirstActs}
-use Rattle.epochs.proofs.Quieting.{acts-none, acts-never, acts-then, acts-now, stand-get}
+use Rattle.epochs.proofs.Quieting.{acts-never, acts-then, acts-now, stand-get}
 use Rattle.epochs.proofs.quiet.first_act.Goals.{in-Some, in_default}
 use Rattle.epochs.proofs.quiet.first_act.Goals as goal
 
@@ -52,12 +52,12 @@ loop-part-preserved c =
         let next = c.next_act.ensures.first s traces (unit_at s i) stands in
         let was = at.invariant.first s traces h l in
         elim c.match-next_act.branch [
-          in-Some w ↦
+          | in-Some w ↦
               subst (AreFirstActs s traces now limit (i + 1)) (sym (w.until-is ∙ w.min-until.ensures))
-                  (acts-then s traces now limit i at.until w.in-Some.act was (subst (IsNextActOf s traces (unit_at s i) now) w.in-Some.is next))
+              (acts-then s traces now limit i at.until w.in-Some.act was (subst (IsNextActOf s traces (unit_at s i) now) w.in-Some.is next))
           | in_default w ↦
               subst (AreFirstActs s traces now limit (i + 1)) (sym w.until-is)
-                  (acts-never s traces now limit i at.until was (subst (IsNextActOf s traces (unit_at s i) now) w.in_default.is next))
+              (acts-never s traces now limit i at.until was (subst (IsNextActOf s traces (unit_at s i) now) w.in_default.is next))
         ]
 
 pub returns-clause-first : goal.returns-clause-first

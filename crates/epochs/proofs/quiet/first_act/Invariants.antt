@@ -1,5 +1,5 @@
 -- No unit has changed, and those so far would rest up to the least cycle, in which one of them acts.
-use Rattle.std.proofs.Common.{◌≡◌, ℕ, ◌≤◌, List}
+use Rattle.std.proofs.Common.{◌≡◌, ◌≤◌, List}
 use Rattle.sim_base.specs.declared.config.Config.{Config}
 use Rattle.sim_base.specs.declared.trace.Entry.{Entry}
 use Rattle.epochs.specs.Parts.{StandAt}

@@ -4,7 +4,6 @@ use Rattle.std.proofs.lemmas.List.{with_items_is}
 use Rattle.span_laws.specs.Quiet.{IsQuiet}
 use Rattle.span_laws.proofs.QuietSpans.{quiet-changes_nothing}
 use Rattle.links.specs.InFlight.{InFlight}
-use Rattle.epochs.specs.Units.{unit_count}
 use Rattle.epochs.specs.Parts.{StandAt}
 use Rattle.epochs.specs.Quiet.{RestUpTo}
 use Rattle.epochs.specs.Views.{SimView}
