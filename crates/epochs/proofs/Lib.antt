@@ -10,3 +10,6 @@ pub mod Counted
 pub mod Tabled
 pub mod Ended
 pub mod Lasting
+pub mod Resting
+pub mod Arriving
+pub mod Quieting

@@ -8,3 +8,4 @@ pub mod Seats
 pub mod Ordered
 pub mod Tables
 pub mod Drained
+pub mod Quiet

@@ -12,6 +12,7 @@ pub mod ordered;
 mod part;
 pub mod phase;
 pub mod planning;
+mod quiet;
 pub mod sim;
 mod tables;
 #[cfg(test)]

@@ -9,9 +9,9 @@ ghost use Rattle.sim_base.specs.Machine.{run};
 ghost use Rattle.links.specs.InFlight.{is_due};
 ghost use Rattle.span_laws.specs.Mail.{mail_in};
 ghost use Rattle.epochs.specs.Units.{unit_count, Exists};
-ghost use Rattle.epochs.specs.Views.{job_at};
+ghost use Rattle.epochs.specs.Views.{job_at, jobs_of};
 ghost use Rattle.epochs.specs.Parts.{IsPart, IsSim, late};
-ghost use Rattle.epochs.specs.Planning.{EndsAt, IsPlanned};
+ghost use Rattle.epochs.specs.Planning.{EndsAt, IsNext, IsPlanned};
 
 use crate::job::{Job, JobName};
 use crate::machine::{Machine, unit_at};
@@ -28,7 +28,7 @@ use std::sync::Arc;
 /// What is to be done next.
 #[derive(Drop)]
 pub enum Planned {
-    /// Nothing: in the cycles that the simulator has gone over nothing happens.
+    /// Nothing: in the cycles that the simulator has gone over nothing happens. They are no phase.
     Quiet(Sim),
     /// All units are to run, each by a job, and their results to be merged with the phase.
     Work(Phase, Vec<Job>),
@@ -99,12 +99,13 @@ fn jobs(
     Ok(jobs)
 }
 
-/// What is to be done next by a simulator that stands before a limit, at most 10^12 cycles. Only memory can be refused; the
+/// The next phase of a simulator that stands before a limit, at most 10^12 cycles, and its jobs. Only memory can be refused; the
 /// simulator is then gone.
-pub fn plan(sim: Sim, alloc: Global, limit: Cycle) -> Result<Planned, AllocError>
+fn work(sim: Sim, alloc: Global, limit: Cycle) -> Result<(Phase, Vec<Job>), AllocError>
     requires before { sim.now < limit }
     requires early { limit ≤ 10 ^ 12 }
-    ensures { IfOk result (IsPlanned sim limit) }
+    ensures next { IfOk result (λ work. IsNext sim limit work.0) }
+    ensures jobs { IfOk result (λ work. work.1.items ≡ jobs_of work.0) }
 {
     let Sim {
         machine,
@@ -122,5 +123,22 @@ pub fn plan(sim: Sim, alloc: Global, limit: Cycle) -> Result<Planned, AllocError
         until,
         links,
     };
+    Ok((phase, jobs))
+}
+
+/// What is to be done next by a simulator that stands before a limit, at most 10^12 cycles. Where nothing happens in the next
+/// cycle, it goes over all cycles up to the next in which something does, or up to the limit. Only memory can be refused; the
+/// simulator is then gone.
+pub fn plan(sim: Sim, alloc: Global, limit: Cycle) -> Result<Planned, AllocError>
+    requires before { sim.now < limit }
+    requires early { limit ≤ 10 ^ 12 }
+    ensures { IfOk result (IsPlanned sim limit) }
+{
+    let mut sim = sim;
+    let until = sim.quiet_until(limit);
+    if sim.now < until {
+        return Ok(Planned::Quiet(sim.jumped(until)));
+    }
+    let (phase, jobs) = work(sim, alloc, limit)?;
     Ok(Planned::Work(phase, jobs))
 }

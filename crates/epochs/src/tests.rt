@@ -1,6 +1,6 @@
 //! Small runs, as they are worked out by hand, and what faults say.
 
-ghost use Rattle.std.specs.Prelude.{◌≡◌, ◌≤◌, ◌^◌, length, IfOk};
+ghost use Rattle.std.specs.Prelude.{◌≡◌, ◌≤◌, ◌^◌, ◌⊎◌, length, IfOk};
 
 use crate::job::Done;
 use crate::merging::MergeFault;
@@ -27,7 +27,38 @@ impl Order for AsTheyCome {
     }
 }
 
+/// The results as they come, of which it notes the spans of the first eight phases.
+#[derive(Drop)]
+struct Noting {
+    phases: u64,
+    spans: [(Cycle, Cycle); 8],
+}
+
+impl Order for Noting {
+    fn arrange(&mut self, phase: u64, results: Vec<Done>) -> Vec<Done> {
+        if let Some(done) = results.first() {
+            let name = done.name();
+            if phase < 8 {
+                self.spans[phase as usize] = (name.from, name.until);
+            }
+        }
+        self.phases = self.phases.saturating_add(1);
+        results
+    }
+}
+
+/// A machine of one core and one channel.
 fn config(alloc: Global) -> Result<Config, AllocError>
+    ensures { IfOk result (λ config. config.cores ≡ 1) }
+{
+    config_of(alloc, 2, 0)
+}
+
+/// The same, with one latency for all links and an interval of refreshes.
+fn config_of(alloc: Global, latency: u32, n_refi: u32) -> Result<Config, AllocError>
+    requires some { 1 ≤ latency }
+    requires few { latency ≤ 1000000 }
+    requires refreshes { (n_refi ≡ 0) ⊎ ((100 ≤ n_refi) × (n_refi ≤ 100000)) }
     ensures { IfOk result (λ config. config.cores ≡ 1) }
 {
     let fields = Vec::from_array(
@@ -53,9 +84,9 @@ fn config(alloc: Global) -> Result<Config, AllocError>
         width: 2,
         read_credits: 4,
         write_credits: 4,
-        request_latency: 2,
-        reply_latency: 2,
-        credit_latency: 2,
+        request_latency: latency,
+        reply_latency: latency,
+        credit_latency: latency,
         timing: Timing {
             n_rcd: 3,
             n_rp: 3,
@@ -75,7 +106,7 @@ fn config(alloc: Global) -> Result<Config, AllocError>
             n_rtw: 7,
             n_rfc: 20,
             n_rtrs: 0,
-            n_refi: 0,
+            n_refi,
         },
         write_high: 0,
         write_low: 0,
@@ -202,6 +233,103 @@ fn plain_entries_end(rt: HostRuntime) -> Result<(), Fail> {
     assert_eq!(rt; last, (false, Some(6)));
     let end = seen_at(rt.alloc(), &plain, 6, 100)?;
     assert_eq!(rt; end, (true, None));
+    Ok(())
+}
+
+/// The simulator of a machine of one core with these entries, at a cycle, with the spans of its phases.
+fn noted(
+    alloc: Global,
+    config: &Config,
+    entries: &[Entry],
+    cycle: Cycle,
+) -> Result<(Option<Sim>, Noting), AllocError>
+    requires cores { config.now.cores ≡ 1 }
+    requires long { length entries.now ≤ 2 ^ 62 }
+    requires early { cycle ≤ 10 ^ 12 }
+{
+    let mut noting = Noting {
+        phases: 0,
+        spans: [(0, 0); 8],
+    };
+    let trace = Trace::from_entries(alloc, entries)?;
+    let traces = Vec::from_array(alloc, [trace])?;
+    let sim = Sim::start(alloc, config, traces)?;
+    let sim = run_in_order(sim, alloc, cycle, &mut noting).ok();
+    Ok((sim, noting))
+}
+
+/// The same read, up to cycle 40. It is sent in cycle 0 and comes in 2, where its row is opened; the row is ready in 5, and the
+/// line is read. The credit comes in 7 and the reply in 15. In the other cycles nothing happens.
+#[test]
+fn a_read_takes_five_phases(rt: HostRuntime) -> Result<(), Fail> {
+    let config = config(rt.alloc())?;
+    let (sim, noting) = noted(rt.alloc(), &config, &[Entry::Read(0)], 40)?;
+    assert_eq!(rt; sim.map(|s| s.now()), Some(40));
+    assert_eq!(rt; noting.phases, 5);
+    assert_eq!(rt;
+        (noting.spans[0], noting.spans[1], noting.spans[2]),
+        ((0, 2), (2, 4), (5, 7))
+    );
+    assert_eq!(rt;
+        (noting.spans[3], noting.spans[4], noting.spans[5]),
+        ((7, 9), (15, 17), (0, 0))
+    );
+    Ok(())
+}
+
+/// Without a trace there are only refreshes, due in the cycles 100 and 200.
+#[test]
+fn two_refreshes_take_two_phases(rt: HostRuntime) -> Result<(), Fail> {
+    let config = config_of(rt.alloc(), 2, 100)?;
+    let (sim, noting) = noted(rt.alloc(), &config, &[], 250)?;
+    assert_eq!(rt; sim.map(|s| s.now()), Some(250));
+    assert_eq!(rt; noting.phases, 2);
+    assert_eq!(rt;
+        (noting.spans[0], noting.spans[1], noting.spans[2]),
+        ((100, 102), (200, 202), (0, 0))
+    );
+    Ok(())
+}
+
+/// The same read over links of a million cycles, up to cycle 10^12: it comes in cycle 1,000,000 and is read in 1,000,003, the
+/// credit comes in 2,000,003, and the reply in 2,000,011, in the same phase. The core has no more entries from cycle 0 on, and the
+/// queue is empty but for four cycles.
+#[test]
+fn a_slow_read_takes_three_phases(rt: HostRuntime) -> Result<(), Fail> {
+    let config = config_of(rt.alloc(), 1_000_000, 0)?;
+    let (sim, noting) = noted(rt.alloc(), &config, &[Entry::Read(0)], 1_000_000_000_000)?;
+    let Some(sim) = sim else {
+        assert!(rt; false);
+        return Ok(());
+    };
+    assert_eq!(rt; noting.phases, 3);
+    assert_eq!(rt;
+        (noting.spans[0], noting.spans[1], noting.spans[2]),
+        (
+            (0, 1_000_000),
+            (1_000_000, 2_000_000),
+            (2_000_003, 3_000_003)
+        )
+    );
+    let outcome = sim.outcome(rt.alloc())?;
+    let slow = &outcome;
+    let cycles = (
+        slow.commands.first().map(|row| row.cycle),
+        slow.commands.last().map(|row| row.cycle),
+    );
+    assert_eq!(rt;
+        (slow.commands.len(), slow.stats.cycles),
+        (2, 1_000_000_000_000)
+    );
+    assert_eq!(rt; cycles, (Some(1_000_000), Some(1_000_003)));
+    let core = slow
+        .stats
+        .cores
+        .first()
+        .map(|c| (c.finish, c.read_latency, c.stop_end));
+    assert_eq!(rt; core, Some((Some(2_000_011), 2_000_011, 1_000_000_000_000)));
+    let idle = slow.stats.channels.first().map(|c| c.idle);
+    assert_eq!(rt; idle, Some(999_999_999_996));
     Ok(())
 }
 

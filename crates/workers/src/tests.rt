@@ -6,15 +6,16 @@ use crate::claims::Claims;
 use crate::gate::{Gate, Open};
 use crate::machine::run_machine;
 use crate::phase::put_all;
-use crate::runner::Serial;
+use crate::runner::{Runner, Serial};
 use crate::running::run_with;
 use crate::seats::Board;
 use crate::shares::Shares;
 use cpu_trace::trace::Trace;
-use epochs::job::{Job, JobName};
+use epochs::job::{Done, Job, JobName};
 use epochs::planning::{Planned, plan};
 use epochs::sim::Sim;
 use sim_base::config::Config;
+use sim_base::fault::Fault;
 use sim_base::overrides::Overrides;
 use sim_base::place::{Field, FieldOrder};
 use sim_base::timing::Timing;
@@ -48,6 +49,20 @@ impl Gate for Holding {
 
     fn leave(&self, _worker: usize, _job: JobName) {
         self.left.fetch_add(1, Ordering::SeqCst);
+    }
+}
+
+/// Counts the phases, and has their jobs run one after the other.
+#[derive(Drop)]
+struct Counting<'a, G: Gate> {
+    serial: Serial<'a, G>,
+    phases: u64,
+}
+
+impl<'a, G: Gate> Runner for Counting<'a, G> {
+    fn run_phase(&mut self, jobs: Vec<Job>) -> Result<Vec<Done>, Fault> {
+        self.phases = self.phases.saturating_add(1);
+        self.serial.run_phase(jobs)
     }
 }
 
@@ -180,6 +195,26 @@ fn a_machine_comes_to_its_limit(rt: HostRuntime) -> Result<(), Fail> {
     let mut serial = Serial::new(rt.alloc(), &Open);
     let sim = run_with(machine(rt.alloc())?, rt.alloc(), 16, &mut serial).expect(&rt, "a run");
     assert_eq!(rt; sim.now(), 16);
+    Ok(())
+}
+
+/// Four cores read one line each, up to a cycle far off. The requests come in cycle 2, where the row is opened. It is read in the
+/// cycles 5, 10, 15 and 20, as the lines lie in one group. The credits come two cycles later, and the replies in 15, 20, 25 and
+/// 30. Where nothing happens, there is no phase: a phase begins in the cycles 0, 2, 5, 7, 10, 12, 15, 17, 20, 22, 25 and 30.
+#[test]
+fn a_machine_works_where_something_happens(rt: HostRuntime) -> Result<(), Fail> {
+    let mut counting = Counting {
+        serial: Serial::new(rt.alloc(), &Open),
+        phases: 0,
+    };
+    let sim = run_with(
+        machine(rt.alloc())?,
+        rt.alloc(),
+        1_000_000_000_000,
+        &mut counting,
+    ).expect(&rt, "a run");
+    assert_eq!(rt; sim.now(), 1_000_000_000_000);
+    assert_eq!(rt; counting.phases, 12);
     Ok(())
 }
 

@@ -6,4 +6,4 @@ use Rattle.workers.proofs.running.one_phase.Goals as goal
 pub returns-in_ok-results-in-Work-clause-ok : goal.returns-in_ok-results-in-Work-clause-ok
 returns-in_ok-results-in-Work-clause-ok g c =
     let planned = subst (IsPlanned c.args.sim c.args.limit) c.in-Work.is c.in_ok-after.ensures in
-    phase_reaches c.args.sim c.args.limit c.in-Work.phase c.merged.result c.requires.before planned.0 c.merged.ensures.ok
+    phase_reaches c.args.sim c.args.limit c.in-Work.phase c.merged.result c.requires.before planned.next c.merged.ensures.ok

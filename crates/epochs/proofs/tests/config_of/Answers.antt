@@ -2,7 +2,7 @@
 use Rattle.std.proofs.Common.{rules}
 use Rattle.std.specs.List.{IsDistinct}
 use lib.Count.{ones}
-use Rattle.epochs.proofs.tests.config.Goals as goal
+use Rattle.epochs.proofs.tests.config_of.Goals as goal
 
 pub invariant_of-result-clause-machine_in_range : goal.invariant_of-result-clause-machine_in_range
 unfolding ones
