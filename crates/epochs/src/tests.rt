@@ -12,13 +12,17 @@ use crate::phase::Phase;
 use crate::planning::{Planned, plan};
 use crate::sim::Sim;
 use cpu_trace::trace::Trace;
+use sim_base::command::CommandRow;
 use sim_base::config::Config;
-use sim_base::message::{Cycle, Unit};
+use sim_base::message::{Cycle, Message, Unit};
 use sim_base::overrides::Overrides;
 use sim_base::place::{Field, FieldOrder};
 use sim_base::timing::Timing;
 use sim_base::trace::Entry;
+use statistics::cores::CoreStats;
+use statistics::final_state::FinalState;
 use statistics::outcome::Outcome;
+use statistics::stats::Stats;
 use std::alloc::{AllocError, Global};
 use std::test::Fail;
 
@@ -358,12 +362,13 @@ fn told(
     count: usize,
 ) -> Result<Option<MergeFault>, RunFault> {
     let config = config(alloc, 2)?;
-    let found = (
-        phase_at(alloc, &config, 0)?,
-        phase_at(alloc, &config, 0)?,
-        phase_at(alloc, &config, 2)?,
-    );
-    let (Some((phase, mut results)), Some((_, mut twins)), Some((_, mut later))) = found else {
+    let Some((phase, mut results)) = phase_at(alloc, &config, 0)? else {
+        return Ok(None);
+    };
+    let Some((_, mut twins)) = phase_at(alloc, &config, 0)? else {
+        return Ok(None);
+    };
+    let Some((_, mut later)) = phase_at(alloc, &config, 2)? else {
         return Ok(None);
     };
     results.append(&mut twins)?;
@@ -432,12 +437,24 @@ fn lost_results_stop_a_run(rt: HostRuntime) -> Result<(), Fail> {
     Ok(())
 }
 
-/// What two cores that read one line each have done and left before cycle 16.
-fn outcome_by<O: Order>(alloc: Global, order: &mut O) -> Result<Outcome, RunFault> {
+/// What a run did and left: its commands, what its cores counted, and its messages in flight.
+type Left = (Vec<CommandRow>, Vec<CoreStats>, Vec<Message>);
+
+/// What two cores that read one line each did and left before cycle 16.
+fn left_by<O: Order>(alloc: Global, order: &mut O) -> Result<Left, RunFault> {
     let config = config(alloc, 2)?;
     let sim = two_cores(alloc, &config)?;
     let sim = run_in_order(sim, alloc, 16, order)?;
-    Ok(sim.outcome(alloc)?)
+    let outcome = sim.outcome(alloc)?;
+    let Outcome {
+        commands,
+        stats,
+        last,
+        ..
+    } = outcome;
+    let Stats { cores, .. } = stats;
+    let FinalState { in_flight, .. } = last;
+    Ok((commands, cores, in_flight))
 }
 
 /// ACT 2, RD 5, and RD 10, as a burst of the same group comes 5 cycles after another at the soonest. The replies arrive in the
@@ -445,24 +462,28 @@ fn outcome_by<O: Order>(alloc: Global, order: &mut O) -> Result<Outcome, RunFaul
 #[test]
 fn orders_do_not_matter(rt: HostRuntime) -> Result<(), Fail> {
     let alloc = rt.alloc();
-    let made = outcome_by(alloc, &mut AsTheyCome);
-    let reversed = outcome_by(alloc, &mut Reversed);
-    let turned = outcome_by(alloc, &mut Turned);
-    let (Ok(made), Ok(reversed), Ok(turned)) = (made, reversed, turned) else {
+    let Ok((commands, cores, flight)) = left_by(alloc, &mut AsTheyCome) else {
         assert!(rt; false);
         return Ok(());
     };
-    for other in [&made, &reversed, &turned] {
-        let cycles = other.commands.iter().map(|row| row.cycle);
-        assert!(rt; cycles.eq([2, 5, 10]));
-        let arrivals = other.last.in_flight.iter().map(|m| m.arrival);
-        assert!(rt; arrivals.eq([20]));
-        let retired = other.last.cores.iter().map(|core| core.retired);
-        assert!(rt; retired.eq([1, 0]));
-        assert_eq!(rt; other.commands, made.commands);
-        assert_eq!(rt; other.stats.cores, made.stats.cores);
-        assert_eq!(rt; other.stats.channels, made.stats.channels);
-        assert_eq!(rt; other.last.in_flight, made.last.in_flight);
+    let cycles = (
+        commands.first().map(|row| row.cycle),
+        commands.last().map(|row| row.cycle),
+    );
+    let arrival = flight.first().map(|m| m.arrival);
+    let retired = cores.first().map(|core| core.retired);
+    assert_eq!(rt; (commands.len(), cycles), (3, (Some(2), Some(10))));
+    assert_eq!(rt; (flight.len(), arrival, retired), (1, Some(20), Some(1)));
+    let reversed = left_by(alloc, &mut Reversed);
+    let turned = left_by(alloc, &mut Turned);
+    for other in [reversed, turned] {
+        let Ok((other_commands, other_cores, other_flight)) = other else {
+            assert!(rt; false);
+            return Ok(());
+        };
+        assert!(rt; other_commands == commands);
+        assert!(rt; other_cores == cores);
+        assert!(rt; other_flight == flight);
     }
     Ok(())
 }
