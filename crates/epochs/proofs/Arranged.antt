@@ -1,14 +1,15 @@
 -- Results of a phase that are arranged, and where the next phase ends.
-use Rattle.std.proofs.Common.{◌≡◌, ℕ, ◌+◌, ◌<◌, ◌≤◌, min, List, length, get_or, sym, ap, subst, ◌∙◌, zero-add, arith}
-use Rattle.std.specs.Prelude.{Any}
+use Rattle.std.proofs.Common.{◌≡◌, ℕ, ◌+◌, ◌<◌, ◌≤◌, min, List, length, get_or, refl, sym, ap, subst, ◌∙◌, zero-add, arith}
+use Rattle.std.specs.Prelude.{All, Any, IsPermutation}
 use Rattle.std.proofs.lemmas.List.FromFn.{get_or-map-range_with_len}
+use Rattle.std.proofs.lemmas.List.Sorted.{All-permutation}
 use Rattle.sim_base.specs.declared.config.Config.{Config}
 use Rattle.statistics.proofs.RunSteps.{travels}
 use Rattle.epochs.specs.Merging.{after}
 use Rattle.epochs.specs.Ordered.{IsFurther}
 use Rattle.epochs.specs.Planning.{EndsAt, IsNext}
 use Rattle.epochs.specs.Units.{unit_count}
-use Rattle.epochs.proofs.Standing.{length-places}
+use Rattle.epochs.proofs.Standing.{length-places, same-default}
 use Rattle.epochs.specs.Views.{SimView, PhaseView, JobView, job_at, jobs_of}
 
 -- the end of a phase is after its beginning, and not past the limit
@@ -36,3 +37,10 @@ given-of p given e d h =
     let is : h.1 ≡ job_at p h.0 =
     sym h.3 ∙ ap (λ z. get_or z h.0 h.1) e ∙ get_or-map-range_with_len (job_at p) 0 (unit_count p.machine) h.0 h.0 h.1 l (zero-add h.0) in
     (sym (ap (λ (x : JobView). x.machine) h.4) ∙ ap (λ (x : JobView). x.machine) is, sym (ap (λ (x : JobView). x.traces) h.4) ∙ ap (λ (x : JobView). x.traces) is)
+
+-- each of some results is one of them, also in another order
+pub each-given : (results : List JobView) → All (λ d. Any (λ r. r ≡ d) results) results
+each-given results k d l = (k, get_or results k d, l, same-default results k (get_or results k d) d l, refl)
+
+pub permuted-given : (results arranged : List JobView) → IsPermutation results arranged → All (λ d. Any (λ r. r ≡ d) results) arranged
+permuted-given results arranged same = All-permutation (λ d. Any (λ r. r ≡ d) results) results arranged same (each-given results)

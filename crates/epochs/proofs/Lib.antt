@@ -6,6 +6,8 @@ pub mod Due
 pub mod Joining
 pub mod Seating
 pub mod Arranged
+pub mod Whole
+pub mod Stopped
 pub mod Counted
 pub mod Tabled
 pub mod Ended

@@ -61,7 +61,7 @@ any-here q f a (suc n) (suc i) l e =
     either true = refl
     either false = refl
 
-same_name-self : (n : JobName) → same_name n n ≡ true
+pub same_name-self : (n : JobName) → same_name n n ≡ true
 same_name-self n =
     let e : eqb n.phase n.phase ≡ true = grind (arith, nat_tests) in
     let f : eqb n.from n.from ≡ true = grind (arith, nat_tests) in
@@ -69,7 +69,7 @@ same_name-self n =
     ap₂ (λ a b. (a && is_unit n.unit n.unit) && (b && eqb n.until n.until)) e f
     ∙ ap₂ (λ a b. a && b) (unit_is n.unit) g
 
-same_name-is : (a b : JobName) → same_name a b ≡ true → a ≡ b
+pub same_name-is : (a b : JobName) → same_name a b ≡ true → a ≡ b
 same_name-is a b e =
     let h = and_parts ((eqb a.phase b.phase) && is_unit a.unit b.unit) ((eqb a.from b.from) && (eqb a.until b.until)) e in
     let k = and_parts (eqb a.phase b.phase) (is_unit a.unit b.unit) h.0 in
@@ -93,14 +93,14 @@ place-among p place l =
     any-here (λ n. same_name n (name_at p place)) (name_at p) 0 (unit_count p.machine) place l
     (subst (λ j. same_name (name_at p j) (name_at p place) ≡ true) (sym z) (same_name-self (name_at p place)))
 
-name-place : (p : PhaseView) (i j : ℕ) → name_at p i ≡ name_at p j → i ≡ j
+pub name-place : (p : PhaseView) (i j : ℕ) → name_at p i ≡ name_at p j → i ≡ j
 name-place p i j e = sym (place-at p.machine i) ∙ ap (λ (n : JobName). place_of_unit p.machine n.unit) e ∙ place-at p.machine j
 
 or-false : (b : Bool) → (b || false) ≡ b
 or-false true = refl
 or-false false = refl
 
-or-true : (b : Bool) → (b || true) ≡ true
+pub or-true : (b : Bool) → (b || true) ≡ true
 or-true true = refl
 or-true false = refl
 

@@ -1,8 +1,19 @@
 -- A simulator that is run in one thread.
 --     IsFurther sim limit after      the same run, further on, and not past a limit
 --     HasReached sim limit after      the same run, at a limit
-use Rattle.std.specs.Prelude.{◌≡◌, ℕ, ◌<◌, ◌≤◌}
-use Rattle.epochs.specs.Views.{SimView}
+--     IsOnTheWay sim limit phase      a phase of the same run, on the way to a limit
+--     DoNotFit may_give phase cause      the results of a phase, in an order that may be given, are not one of each job
+--     run_fault cause      what a run says where results do not fit
+--     IsWhyStopped may_give sim limit fault      why a run does not come to a limit
+--     OnlyPermutes may_give      an order leaves no result out, and repeats none
+use Rattle.std.specs.Prelude.{◌≡◌, ℕ, ◌<◌, ◌≤◌, List, map, Some, IsPermutation}
+use Rattle.epochs.specs.Merging.{merge_fault}
+use Rattle.epochs.specs.Planning.{IsNext}
+use Rattle.epochs.specs.Views.{SimView, PhaseView, JobView, jobs_of}
+use Rattle.epochs.specs.declared.merging.MergeFault.{MergeFault}
+use Rattle.epochs.specs.declared.merging.MergeFault.TheVariants as merging
+use Rattle.epochs.specs.declared.ordered.RunFault.{RunFault}
+use Rattle.epochs.specs.declared.ordered.RunFault.TheVariants.{Memory, Merge}
 
 -- the run of the same machine over the same traces, further on, and not past a limit
 pub record IsFurther (sim : SimView) (limit : ℕ) (after : SimView) : Type 0 where
@@ -16,3 +27,35 @@ pub record HasReached (sim : SimView) (limit : ℕ) (after : SimView) : Type 0 w
   pub machine_is : after.machine ≡ sim.machine
   pub traces_are : after.traces ≡ sim.traces
   pub at_limit : after.now ≡ limit
+
+-- a phase of the run of the same machine over the same traces: the one that comes next when the simulator stands somewhere
+-- before the limit
+pub record IsOnTheWay (sim : SimView) (limit : ℕ) (phase : PhaseView) : Type 0 where
+  pub at : SimView
+  pub machine_is : at.machine ≡ sim.machine
+  pub traces_are : at.traces ≡ sim.traces
+  pub begun : sim.now ≤ at.now
+  pub before : at.now < limit
+  pub next : IsNext at limit phase
+
+-- What an order may give for the results of a phase is not one result of each job, and this is what is wrong with it.
+pub record DoNotFit (may_give : ℕ → List JobView → List JobView → Type 0) (phase : PhaseView) (cause : MergeFault) : Type 0 where
+  pub arranged : List JobView
+  pub given : may_give phase.number (jobs_of phase) arranged
+  pub fault_is : merge_fault phase (map (λ (d : JobView). d.name) arranged) ≡ Some cause
+
+-- Where results do not fit a run tells why. Want of memory is the same want of memory.
+abbrev pub run_fault : MergeFault → RunFault
+run_fault (merging.Missing unit) = Merge (merging.Missing unit)
+run_fault (merging.Double place) = Merge (merging.Double place)
+run_fault (merging.Stranger place) = Merge (merging.Stranger place)
+run_fault merging.Memory = Memory
+
+-- a run stops before its limit for want of memory, or at a phase whose results do not fit as the order gives them
+abbrev pub IsWhyStopped : (ℕ → List JobView → List JobView → Type 0) → SimView → ℕ → RunFault → Type 0
+IsWhyStopped may_give sim limit Memory = Unit
+IsWhyStopped may_give sim limit (Merge cause) = (phase : PhaseView) × IsOnTheWay sim limit phase × DoNotFit may_give phase cause
+
+-- what is given for the results of a phase are these in some order
+abbrev pub OnlyPermutes : (ℕ → List JobView → List JobView → Type 0) → Type 0
+OnlyPermutes may_give = (phase : ℕ) (results arranged : List JobView) → may_give phase results arranged → IsPermutation results arranged

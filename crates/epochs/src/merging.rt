@@ -1,6 +1,6 @@
 //! How the results of a phase are put together, in whatever order they come.
 
-ghost use Rattle.std.specs.Prelude.{◌≡◌, ◌==◌, ◌&&◌, ◌<◌, ◌≤◌, ◌^◌, ◌+◌, ◌-◌, ◌∷◌, ◌++◌, [], fold, flat_map, length, map, false, is_some, slice_index_or, List, Some, None, All, ◌⊎◌, IfOk, IfErr, OnOk, IfSome, IfNone};
+ghost use Rattle.std.specs.Prelude.{◌≡◌, ◌==◌, ◌&&◌, ◌<◌, ◌≤◌, ◌^◌, ◌+◌, ◌-◌, ◌∷◌, ◌++◌, [], fold, flat_map, length, map, false, is_some, slice_index_or, List, Some, None, All, ◌⊎◌, IfOk, IfErr, OnOk, IfSome, IfNone, IsPermutation};
 ghost use Rattle.std.specs.Arc.{arc_value};
 ghost use Rattle.sim_base.specs.History.{below, insert_by_age};
 ghost use Rattle.epochs.specs.Units.{unit_at, unit_count, Exists};
@@ -261,5 +261,22 @@ pub fn merge(phase: Phase, alloc: Global, results: Vec<Done>) -> Result<Sim, Mer
     match joined(phase, alloc, all) {
         Ok(sim) => Ok(sim),
         Err(_) => Err(MergeFault::Memory),
+    }
+}
+
+/// Puts the results of a phase together, of which there is one of each job, in whatever order they come: the simulator then
+/// stands at the end of the phase. Only memory can be refused.
+pub fn merge_whole(phase: Phase, alloc: Global, results: Vec<Done>) -> Result<Sim, AllocError>
+    requires all { IsPermutation (jobs_of phase) results.items }
+    ensures { IfOk result (λ sim. sim ≡ after phase) }
+{
+    match merge(phase, alloc, results) {
+        Ok(sim) => Ok(sim),
+        Err(fault) => match fault {
+            MergeFault::Memory => Err(AllocError),
+            MergeFault::Missing(_) | MergeFault::Double(_) | MergeFault::Stranger(_) => {
+                unreachable!()
+            }
+        },
     }
 }

@@ -1,7 +1,7 @@
 //! A run in one thread, in which the results of each phase come in an order that someone chooses.
 
-ghost use Rattle.std.specs.Prelude.{◌≡◌, ◌<◌, ◌≤◌, ◌^◌, All, Any, IfOk};
-ghost use Rattle.epochs.specs.Ordered.{IsFurther, HasReached};
+ghost use Rattle.std.specs.Prelude.{◌≡◌, ◌≢◌, ◌<◌, ◌≤◌, ◌^◌, All, Any, IfOk, IfErr};
+ghost use Rattle.epochs.specs.Ordered.{IsFurther, HasReached, IsWhyStopped, OnlyPermutes};
 
 use crate::job::{Done, Job};
 use crate::merging::{MergeFault, merge};
@@ -13,10 +13,15 @@ use std::fmt;
 
 /// An order in which the results of a phase come back.
 pub trait Order {
-    ghost use Rattle.std.specs.Prelude.{◌≡◌, All, Any};
+    ghost use Rattle.std.specs.Prelude.{◌≡◌, ℕ, List, All, Any, ⊤};
+    ghost use Rattle.epochs.specs.Views.{JobView};
+
+    // Which lists it may give for the results of the phase with a number.
+    ghost may_give: { ℕ → List JobView → List JobView → Type 0 } = { λ _ _ _. ⊤ };
 
     /// The results of a phase in their order. None is made up: each is one of those that are given.
     fn arrange(&mut self, phase: u64, results: Vec<Done>) -> Vec<Done>
+        ensures may { may_give phase results.items result.items }
         ensures given { All (λ d. Any (λ r. r ≡ d) results.items) result.items };
 }
 
@@ -27,6 +32,31 @@ pub enum RunFault {
     Memory,
     /// The results of a phase could not be put together.
     Merge(MergeFault),
+}
+
+impl From<AllocError> for RunFault {
+    ghost use Rattle.epochs.specs.declared.ordered.RunFault.TheVariants.{Memory};
+
+    ghost from_gives = { λ _ fault. fault ≡ Memory };
+
+    fn from(_error: AllocError) -> RunFault {
+        RunFault::Memory
+    }
+}
+
+impl From<MergeFault> for RunFault {
+    ghost use Rattle.epochs.specs.Ordered.{run_fault};
+
+    ghost from_gives = { λ cause fault. fault ≡ run_fault cause };
+
+    fn from(cause: MergeFault) -> RunFault {
+        match cause {
+            MergeFault::Memory => RunFault::Memory,
+            MergeFault::Missing(_) | MergeFault::Double(_) | MergeFault::Stranger(_) => {
+                RunFault::Merge(cause)
+            }
+        }
+    }
 }
 
 impl fmt::Display for RunFault {
@@ -41,7 +71,7 @@ impl fmt::Display for RunFault {
 }
 
 /// The results of jobs, in their order. Only memory can be refused.
-fn results_of(alloc: Global, jobs: Vec<Job>) -> Result<Vec<Done>, AllocError>
+pub(crate) fn results_of(alloc: Global, jobs: Vec<Job>) -> Result<Vec<Done>, AllocError>
     ensures { IfOk result (λ results. results.items ≡ jobs.items) }
 {
     let mut results = Vec::new(alloc);
@@ -60,26 +90,23 @@ fn one_phase<O: Order>(
 ) -> Result<Sim, RunFault>
     requires before { sim.now < limit }
     requires early { limit ≤ 10 ^ 12 }
-    ensures { IfOk result (IsFurther sim limit) }
+    ensures ok { IfOk result (IsFurther sim limit) }
+    ensures stopped { IfErr result (IsWhyStopped O.may_give sim limit) }
+    ensures not_memory { IfErr result (λ fault. fault ≢ RunFault.Merge MergeFault.Memory) }
 {
-    match plan(sim, alloc, limit) {
-        Err(_) => Err(RunFault::Memory),
-        Ok(Planned::Quiet(after)) => Ok(after),
-        Ok(Planned::Work(phase, jobs)) => match results_of(alloc, jobs) {
-            Err(_) => Err(RunFault::Memory),
-            Ok(results) => {
-                let results = order.arrange(phase.number, results);
-                match merge(phase, alloc, results) {
-                    Ok(after) => Ok(after),
-                    Err(fault) => Err(RunFault::Merge(fault)),
-                }
-            }
-        },
+    match plan(sim, alloc, limit)? {
+        Planned::Quiet(after) => Ok(after),
+        Planned::Work(phase, jobs) => {
+            let results = order.arrange(phase.number, results_of(alloc, jobs)?);
+            Ok(merge(phase, alloc, results)?)
+        }
     }
 }
 
 /// Runs a simulator up to a limit, at most 10^12 cycles. What comes of each job is put together in the order that is given,
-/// and the simulator that comes back does not depend on it. A result that the order leaves out is a fault.
+/// and the simulator that comes back does not depend on it. What the order gives for the results of a phase may not be one of
+/// each job: the run then stops at this phase, and the fault says what is wrong. Only memory is another, and the only one with
+/// an order that leaves no result out and repeats none.
 pub fn run_in_order<O: Order>(
     sim: Sim,
     alloc: Global,
@@ -88,7 +115,10 @@ pub fn run_in_order<O: Order>(
 ) -> Result<Sim, RunFault>
     requires not_past { sim.now ≤ limit }
     requires early { limit ≤ 10 ^ 12 }
-    ensures { IfOk result (HasReached sim limit) }
+    ensures ok { IfOk result (HasReached sim limit) }
+    ensures stopped { IfErr result (IsWhyStopped O.may_give sim limit) }
+    ensures not_memory { IfErr result (λ fault. fault ≢ RunFault.Merge MergeFault.Memory) }
+    ensures whole { OnlyPermutes O.may_give → IfErr result (λ fault. fault ≡ RunFault.Memory) }
 {
     let mut sim = sim;
     while sim.now() < limit {

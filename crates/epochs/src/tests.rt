@@ -1,19 +1,28 @@
 //! Small runs, as they are worked out by hand, and what faults say.
 
-ghost use Rattle.std.specs.Prelude.{◌≡◌, ◌≤◌, ◌^◌, ◌⊎◌, length, IfOk};
+ghost use Rattle.std.specs.Prelude.{◌≡◌, ◌<◌, ◌≤◌, ◌^◌, ◌∷◌, [], ◌⊎◌, length, All, IfOk, IfSome, IsPermutation};
+ghost use Rattle.sim_base.specs.declared.trace.Entry.TheVariants as entry;
+ghost use Rattle.epochs.specs.Views.{jobs_of};
 
 use crate::job::Done;
-use crate::merging::MergeFault;
-use crate::ordered::{Order, RunFault, run_in_order};
+use crate::merging::{MergeFault, merge, merge_whole};
+use crate::ordered::{Order, RunFault, results_of, run_in_order};
 use crate::part::Part;
+use crate::phase::Phase;
+use crate::planning::{Planned, plan};
 use crate::sim::Sim;
 use cpu_trace::trace::Trace;
+use sim_base::command::CommandRow;
 use sim_base::config::Config;
-use sim_base::message::{Cycle, Unit};
+use sim_base::message::{Cycle, Message, Unit};
 use sim_base::overrides::Overrides;
 use sim_base::place::{Field, FieldOrder};
 use sim_base::timing::Timing;
 use sim_base::trace::Entry;
+use statistics::cores::CoreStats;
+use statistics::final_state::FinalState;
+use statistics::outcome::Outcome;
+use statistics::stats::Stats;
 use std::alloc::{AllocError, Global};
 use std::test::Fail;
 
@@ -47,19 +56,75 @@ impl Order for Noting {
     }
 }
 
-/// A machine of one core and one channel.
-fn config(alloc: Global) -> Result<Config, AllocError>
-    ensures { IfOk result (λ config. config.cores ≡ 1) }
+/// The results from the last on.
+#[derive(Drop)]
+struct Reversed;
+
+impl Order for Reversed {
+    ghost use Rattle.std.specs.Prelude.{IsPermutation};
+
+    ghost may_give = { λ _ results arranged. IsPermutation results arranged };
+
+    fn arrange(&mut self, _phase: u64, mut results: Vec<Done>) -> Vec<Done> {
+        results.reverse();
+        results
+    }
+}
+
+/// The results in turn, from one further on in each phase.
+#[derive(Drop)]
+struct Turned;
+
+impl Order for Turned {
+    ghost use Rattle.std.specs.Prelude.{IsPermutation};
+
+    ghost may_give = { λ _ results arranged. IsPermutation results arranged };
+
+    fn arrange(&mut self, phase: u64, mut results: Vec<Done>) -> Vec<Done> {
+        let count = results.len();
+        if count == 0 {
+            return results;
+        }
+        results.rotate_left((phase % count as u64) as usize);
+        results
+    }
+}
+
+/// The last result stands in the middle, and so many are left.
+#[derive(Drop)]
+struct Leaves(usize);
+
+impl Order for Leaves {
+    fn arrange(&mut self, _phase: u64, mut results: Vec<Done>) -> Vec<Done> {
+        let count = results.len();
+        if count == 0 {
+            return results;
+        }
+        results.swap(count / 2, count - 1);
+        results.truncate(self.0);
+        results
+    }
+}
+
+/// A machine of so many cores and one channel.
+fn config(alloc: Global, cores: u16) -> Result<Config, AllocError>
+    requires few { (1 ≤ cores) × (cores ≤ 2) }
+    ensures { IfOk result (λ config. config.cores ≡ cores) }
 {
-    config_of(alloc, 2, 0)
+    config_of(alloc, cores, 2, 0)
 }
 
 /// The same, with one latency for all links and an interval of refreshes.
-fn config_of(alloc: Global, latency: u32, n_refi: u32) -> Result<Config, AllocError>
-    requires some { 1 ≤ latency }
-    requires few { latency ≤ 1000000 }
+fn config_of(
+    alloc: Global,
+    cores: u16,
+    latency: u32,
+    n_refi: u32,
+) -> Result<Config, AllocError>
+    requires few { (1 ≤ cores) × (cores ≤ 2) }
+    requires travels { (1 ≤ latency) × (latency ≤ 1000000) }
     requires refreshes { (n_refi ≡ 0) ⊎ ((100 ≤ n_refi) × (n_refi ≤ 100000)) }
-    ensures { IfOk result (λ config. config.cores ≡ 1) }
+    ensures { IfOk result (λ config. config.cores ≡ cores) }
 {
     let fields = Vec::from_array(
         alloc,
@@ -73,7 +138,7 @@ fn config_of(alloc: Global, latency: u32, n_refi: u32) -> Result<Config, AllocEr
         ],
     )?;
     Ok(Config {
-        cores: 1,
+        cores,
         channels: 1,
         ranks: 1,
         groups: 2,
@@ -118,7 +183,7 @@ fn config_of(alloc: Global, latency: u32, n_refi: u32) -> Result<Config, AllocEr
 /// One read, which is sent in cycle 0 and in the queue from cycle 2 on: ACT 2, RD 5.
 #[test]
 fn one_line_is_read(rt: HostRuntime) -> Result<(), Fail> {
-    let config = config(rt.alloc())?;
+    let config = config(rt.alloc(), 1)?;
     let trace = Trace::from_entries(rt.alloc(), &[Entry::Read(0)])?;
     let traces = Vec::from_array(rt.alloc(), [trace])?;
     let sim = Sim::start(rt.alloc(), &config, traces)?;
@@ -144,7 +209,7 @@ fn one_line_is_read(rt: HostRuntime) -> Result<(), Fail> {
 /// The same read, up to cycle 6: its row is open, its reply and its credit are in flight, and the credit comes first.
 #[test]
 fn one_line_is_left(rt: HostRuntime) -> Result<(), Fail> {
-    let config = config(rt.alloc())?;
+    let config = config(rt.alloc(), 1)?;
     let trace = Trace::from_entries(rt.alloc(), &[Entry::Read(0)])?;
     let traces = Vec::from_array(rt.alloc(), [trace])?;
     let sim = Sim::start(rt.alloc(), &config, traces)?;
@@ -189,7 +254,7 @@ fn seen_at(
     requires long { length entries.now ≤ 2 ^ 62 }
     requires early { cycle ≤ 10 ^ 12 }
 {
-    let config = config(alloc)?;
+    let config = config(alloc, 1)?;
     let trace = Trace::from_entries(alloc, entries)?;
     let traces = Vec::from_array(alloc, [trace])?;
     let sim = Sim::start(alloc, &config, traces)?;
@@ -262,7 +327,7 @@ fn noted(
 /// line is read. The credit comes in 7 and the reply in 15. In the other cycles nothing happens.
 #[test]
 fn a_read_takes_five_phases(rt: HostRuntime) -> Result<(), Fail> {
-    let config = config(rt.alloc())?;
+    let config = config(rt.alloc(), 1)?;
     let (sim, noting) = noted(rt.alloc(), &config, &[Entry::Read(0)], 40)?;
     assert_eq!(rt; sim.map(|s| s.now()), Some(40));
     assert_eq!(rt; noting.phases, 5);
@@ -280,7 +345,7 @@ fn a_read_takes_five_phases(rt: HostRuntime) -> Result<(), Fail> {
 /// Without a trace there are only refreshes, due in the cycles 100 and 200.
 #[test]
 fn two_refreshes_take_two_phases(rt: HostRuntime) -> Result<(), Fail> {
-    let config = config_of(rt.alloc(), 2, 100)?;
+    let config = config_of(rt.alloc(), 1, 2, 100)?;
     let (sim, noting) = noted(rt.alloc(), &config, &[], 250)?;
     assert_eq!(rt; sim.map(|s| s.now()), Some(250));
     assert_eq!(rt; noting.phases, 2);
@@ -296,7 +361,7 @@ fn two_refreshes_take_two_phases(rt: HostRuntime) -> Result<(), Fail> {
 /// queue is empty but for four cycles.
 #[test]
 fn a_slow_read_takes_three_phases(rt: HostRuntime) -> Result<(), Fail> {
-    let config = config_of(rt.alloc(), 1_000_000, 0)?;
+    let config = config_of(rt.alloc(), 1, 1_000_000, 0)?;
     let (sim, noting) = noted(rt.alloc(), &config, &[Entry::Read(0)], 1_000_000_000_000)?;
     let Some(sim) = sim else {
         assert!(rt; false);
@@ -361,5 +426,197 @@ fn faults_are_told(rt: HostRuntime) -> Result<(), Fail> {
         RunFault::Memory.to_string(alloc)?.as_str(),
         "there is no memory"
     );
+    Ok(())
+}
+
+/// Two cores that read one line each, before their first cycle.
+fn two_cores(alloc: Global, config: &Config) -> Result<Sim, AllocError>
+    requires cores { config.now.cores ≡ 2 }
+    ensures { let line = entry.Read 0 ∷ [] in IfOk result (λ sim. sim ≡ record { machine = config.now; traces = line ∷ line ∷ []; now = 0; phase = 0 }) }
+{
+    let line = [Entry::Read(0)];
+    let first = Trace::from_entries(alloc, &line)?;
+    let second = Trace::from_entries(alloc, &line)?;
+    let traces = Vec::from_array(alloc, [first, second])?;
+    Sim::start(alloc, config, traces)
+}
+
+/// A phase of their run, which begins in this cycle, and its results.
+fn phase_at(
+    alloc: Global,
+    config: &Config,
+    cycle: Cycle,
+) -> Result<Option<(Phase, Vec<Done>)>, RunFault>
+    requires cores { config.now.cores ≡ 2 }
+    requires early { cycle < 16 }
+    ensures { let line = entry.Read 0 ∷ [] in
+        IfOk result (λ found. IfSome found (λ f. (f.0.machine ≡ config.now) × (f.0.traces ≡ line ∷ line ∷ []) × (f.1.items ≡ jobs_of f.0))) }
+{
+    let sim = two_cores(alloc, config)?;
+    let sim = run_in_order(sim, alloc, cycle, &mut AsTheyCome)?;
+    match plan(sim, alloc, 16)? {
+        Planned::Quiet(_) => Ok(None),
+        Planned::Work(phase, jobs) => Ok(Some((phase, results_of(alloc, jobs)?))),
+    }
+}
+
+/// Two results in each other's places, if there are such places.
+fn exchange(results: &mut Vec<Done>, place: usize, other: usize)
+    ensures { IsPermutation results.old.items results.new.items }
+{
+    if place >= results.len() || other >= results.len() {
+        return;
+    }
+    results.swap(place, other);
+}
+
+/// Exchanges results of the run of a phase, one pair after the other, and keeps the first so many.
+fn picked(
+    phase: &Phase,
+    mut results: Vec<Done>,
+    pairs: &[(usize, usize)],
+    count: usize,
+) -> Vec<Done>
+    requires { All (λ d. (d.machine ≡ phase.now.machine) × (d.traces ≡ phase.now.traces)) results.items }
+    ensures { All (λ d. (d.machine ≡ phase.now.machine) × (d.traces ≡ phase.now.traces)) result.items }
+{
+    for &(place, other) in pairs {
+        exchange(&mut results, place, other);
+    }
+    results.truncate(count);
+    results
+}
+
+/// What is said of results of the first phase. They are picked out of those of its jobs (places 0 to 2), those of the jobs of the
+/// same phase of another, equal simulator (3 to 5), and those of the phase after it (6 to 8).
+fn told(
+    alloc: Global,
+    pairs: &[(usize, usize)],
+    count: usize,
+) -> Result<Option<MergeFault>, RunFault> {
+    let config = config(alloc, 2)?;
+    let Some((phase, mut results)) = phase_at(alloc, &config, 0)? else {
+        return Ok(None);
+    };
+    let Some((_, mut twins)) = phase_at(alloc, &config, 0)? else {
+        return Ok(None);
+    };
+    let Some((_, mut later)) = phase_at(alloc, &config, 2)? else {
+        return Ok(None);
+    };
+    results.append(&mut twins)?;
+    results.append(&mut later)?;
+    let results = picked(&phase, results, pairs, count);
+    Ok(merge(phase, alloc, results).err())
+}
+
+/// Results of a phase with two cores and a channel that are not one of each job.
+#[test]
+fn faults_are_found(rt: HostRuntime) -> Result<(), Fail> {
+    let alloc = rt.alloc();
+    // Two of core 0, and the channel's.
+    let second = told(alloc, &[(1, 3)], 3);
+    assert_eq!(rt; second, Ok(Some(MergeFault::Double(1))));
+    // Core 0's, then one of the phase after it, then core 0's again.
+    let first_of_two = told(alloc, &[(1, 6), (2, 3)], 3);
+    assert_eq!(rt; first_of_two, Ok(Some(MergeFault::Stranger(1))));
+    // Core 1's, core 0's, one of the phase after it, and core 1's again.
+    let third = told(alloc, &[(0, 1), (2, 6), (3, 4)], 4);
+    assert_eq!(rt; third, Ok(Some(MergeFault::Stranger(2))));
+    // Core 0's and the channel's.
+    let no_second = told(alloc, &[(1, 2)], 2);
+    assert_eq!(rt; no_second, Ok(Some(MergeFault::Missing(Unit::Core(1)))));
+    // None.
+    let none = told(alloc, &[], 0);
+    assert_eq!(rt; none, Ok(Some(MergeFault::Missing(Unit::Core(0)))));
+    // Core 0's, and one of the phase after it: a stranger comes before what is missing.
+    let stranger = told(alloc, &[(1, 6)], 2);
+    assert_eq!(rt; stranger, Ok(Some(MergeFault::Stranger(1))));
+    // All three.
+    let whole = told(alloc, &[(0, 2)], 3);
+    assert_eq!(rt; whole, Ok(None));
+    Ok(())
+}
+
+/// One result of each job, from the last on. A phase takes as many cycles as the latencies, 2.
+#[test]
+fn whole_results_go_together(rt: HostRuntime) -> Result<(), Fail> {
+    let alloc = rt.alloc();
+    let config = config(alloc, 2)?;
+    let Ok(Some((phase, mut results))) = phase_at(alloc, &config, 0) else {
+        assert!(rt; false);
+        return Ok(());
+    };
+    results.reverse();
+    let sim = merge_whole(phase, alloc, results)?;
+    assert_eq!(rt; sim.now(), 2);
+    Ok(())
+}
+
+/// Why a run stops whose order loses results.
+fn stopped(alloc: Global, left: usize) -> Result<Option<RunFault>, AllocError> {
+    let config = config(alloc, 2)?;
+    let sim = two_cores(alloc, &config)?;
+    Ok(run_in_order(sim, alloc, 16, &mut Leaves(left)).err())
+}
+
+/// Core 0's result and the channel's are left, or none.
+#[test]
+fn lost_results_stop_a_run(rt: HostRuntime) -> Result<(), Fail> {
+    let second = RunFault::Merge(MergeFault::Missing(Unit::Core(1)));
+    assert_eq!(rt; stopped(rt.alloc(), 2)?, Some(second));
+    let first = RunFault::Merge(MergeFault::Missing(Unit::Core(0)));
+    assert_eq!(rt; stopped(rt.alloc(), 0)?, Some(first));
+    Ok(())
+}
+
+/// What a run did and left: its commands, what its cores counted, and its messages in flight.
+type Left = (Vec<CommandRow>, Vec<CoreStats>, Vec<Message>);
+
+/// What two cores that read one line each did and left before cycle 16.
+fn left_by<O: Order>(alloc: Global, order: &mut O) -> Result<Left, RunFault> {
+    let config = config(alloc, 2)?;
+    let sim = two_cores(alloc, &config)?;
+    let sim = run_in_order(sim, alloc, 16, order)?;
+    let outcome = sim.outcome(alloc)?;
+    let Outcome {
+        commands,
+        stats,
+        last,
+        ..
+    } = outcome;
+    let Stats { cores, .. } = stats;
+    let FinalState { in_flight, .. } = last;
+    Ok((commands, cores, in_flight))
+}
+
+/// ACT 2, RD 5, and RD 10, as a burst of the same group comes 5 cycles after another at the soonest. The replies arrive in the
+/// cycles 15 and 20.
+#[test]
+fn orders_do_not_matter(rt: HostRuntime) -> Result<(), Fail> {
+    let alloc = rt.alloc();
+    let Ok((commands, cores, flight)) = left_by(alloc, &mut AsTheyCome) else {
+        assert!(rt; false);
+        return Ok(());
+    };
+    let cycles = (
+        commands.first().map(|row| row.cycle),
+        commands.last().map(|row| row.cycle),
+    );
+    let arrival = flight.first().map(|m| m.arrival);
+    let retired = cores.first().map(|core| core.retired);
+    assert_eq!(rt; (commands.len(), cycles), (3, (Some(2), Some(10))));
+    assert_eq!(rt; (flight.len(), arrival, retired), (1, Some(20), Some(1)));
+    let reversed = left_by(alloc, &mut Reversed);
+    let turned = left_by(alloc, &mut Turned);
+    for other in [reversed, turned] {
+        let Ok((other_commands, other_cores, other_flight)) = other else {
+            assert!(rt; false);
+            return Ok(());
+        };
+        assert!(rt; other_commands == commands);
+        assert!(rt; other_cores == cores);
+        assert!(rt; other_flight == flight);
+    }
     Ok(())
 }

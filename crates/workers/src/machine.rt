@@ -10,8 +10,8 @@ ghost use Rattle.workers.specs.Runs.{IsOfHost};
 
 use crate::claims::Claims;
 use crate::gate::Gate;
-use crate::running::merged;
 use cpu_trace::trace::Trace;
+use epochs::merging::merge_whole;
 use epochs::planning::{Planned, plan};
 use epochs::sim::Sim;
 use sim_base::config::Config;
@@ -38,7 +38,7 @@ fn one_phase<R: Threads + Wait + Sync, G: Gate + Sync>(
         Planned::Quiet(after) => Ok(after),
         Planned::Work(phase, jobs) => {
             let results = claims.run_phase(jobs)?;
-            merged(phase, alloc, results)
+            Ok(merge_whole(phase, alloc, results)?)
         }
     }
 }

@@ -1,32 +1,16 @@
 //! A run to its limit, phase by phase.
 
-ghost use Rattle.std.specs.Prelude.{◌≡◌, ◌<◌, ◌≤◌, ◌^◌, IsPermutation, IfOk, IfErr};
-ghost use Rattle.epochs.specs.Merging.{after};
+ghost use Rattle.std.specs.Prelude.{◌<◌, ◌≤◌, ◌^◌, IfOk, IfErr};
 ghost use Rattle.epochs.specs.Ordered.{IsFurther, HasReached};
-ghost use Rattle.epochs.specs.Views.{jobs_of};
 ghost use Rattle.workers.specs.Runs.{IsOfHost};
 
 use crate::runner::Runner;
-use epochs::job::Done;
-use epochs::merging::merge;
-use epochs::phase::Phase;
+use epochs::merging::merge_whole;
 use epochs::planning::{Planned, plan};
 use epochs::sim::Sim;
 use sim_base::fault::Fault;
 use sim_base::message::Cycle;
 use std::alloc::Global;
-
-/// The simulator at the end of a phase, from one result of each job, in whatever order. Only memory can be refused.
-pub(crate) fn merged(phase: Phase, alloc: Global, results: Vec<Done>) -> Result<Sim, Fault>
-    requires all { IsPermutation (jobs_of phase) results.items }
-    ensures ok { IfOk result (λ sim. sim ≡ after phase) }
-    ensures refused { IfErr result IsOfHost }
-{
-    match merge(phase, alloc, results) {
-        Ok(sim) => Ok(sim),
-        Err(_) => Err(Fault::Memory),
-    }
-}
 
 /// A simulator one phase further, by a runner.
 fn one_phase<N: Runner>(sim: Sim, alloc: Global, limit: Cycle, runner: &mut N) -> Result<Sim, Fault>
@@ -39,7 +23,7 @@ fn one_phase<N: Runner>(sim: Sim, alloc: Global, limit: Cycle, runner: &mut N) -
         Planned::Quiet(after) => Ok(after),
         Planned::Work(phase, jobs) => {
             let results = runner.run_phase(jobs)?;
-            merged(phase, alloc, results)
+            Ok(merge_whole(phase, alloc, results)?)
         }
     }
 }

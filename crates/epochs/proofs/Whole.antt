@@ -1,0 +1,129 @@
+-- Results of a phase that are those of its jobs, each once: nothing is wrong with them.
+use Rattle.std.proofs.Common.{◌≡◌, ℕ, zero, suc, ◌+◌, ◌<◌, ◌≤◌, Bool, true, false, cond, not, ◌||◌, List, [], ◌∷◌, ◌++◌, map, Some, None, All, IsPermutation, ◌⊎◌, inl, inr, refl, sym, ap, ap₂, subst, ◌∙◌, append_assoc, arith}
+use Rattle.std.specs.Prelude.{find, option_map, sum_by}
+use Rattle.std.specs.List.{range_with_len}
+use Rattle.std.proofs.lemmas.Bool.{cond-false}
+use Rattle.std.proofs.lemmas.List.Elements.{All-map}
+use Rattle.std.proofs.lemmas.List.Sorted.{All-permutation, IsPermutation-map, list_any-IsPermutation, sum_by-IsPermutation}
+use Rattle.std.proofs.lemmas.List.Sums.{sum_by-cons, sum_by-append}
+use Rattle.std.proofs.lemmas.Simd.{map-map}
+use Rattle.sim_base.specs.History.{below}
+use Rattle.epochs.specs.Merging.{same_name, is_among, names_of, first_of, first_fault, missing, merge_fault, IsOf}
+use Rattle.epochs.specs.Units.{unit_at, unit_count}
+use Rattle.epochs.specs.Views.{PhaseView, JobView, name_at, job_at, jobs_of}
+use Rattle.epochs.specs.declared.job.JobName.{JobName}
+use Rattle.epochs.specs.declared.merging.MergeFault.{MergeFault}
+use Rattle.epochs.specs.declared.merging.MergeFault.TheVariants.{Missing, Memory}
+use Rattle.epochs.proofs.Seating.{same_name-self, same_name-is, name-place, or-true, place-among, fault-none, first-none_yet, first-end}
+
+-- 1 for a name that is this one
+abbrev one : JobName → JobName → ℕ
+one name n = cond (same_name n name) 1 0
+
+-- how often a name stands in a list
+abbrev times : JobName → List JobName → ℕ
+times name names = sum_by (one name) names
+
+differ : false ≡ true → ⊥
+differ e = cc
+
+nowhere : (name : JobName) (f : ℕ → JobName) (a n : ℕ) → ((i : ℕ) → a ≤ i → same_name (f i) name ≡ false) → times name (map f (range_with_len a n)) ≡ 0
+nowhere name f a zero h = refl
+nowhere name f a (suc n) h =
+    let here : one name (f a) ≡ 0 = ap (λ b. cond b 1 0) (h a (omega arith)) in
+    let rest = nowhere name f (a + 1) n (λ i l. h i (omega arith)) in
+    let both = sum_by-cons (one name) (f a) (map f (range_with_len (a + 1) n)) in
+    omega arith
+
+-- of names that differ each stands once
+once : (name : JobName) (f : ℕ → JobName) → ((i j : ℕ) → f i ≡ f j → i ≡ j) → (a n : ℕ) → times name (map f (range_with_len a n)) ≤ 1
+once name f apart a zero = omega arith
+once name f apart a (suc n) = by (same_name (f a) name) refl (once name f apart (a + 1) n)
+  where
+    by : (b : Bool) → same_name (f a) name ≡ b → times name (map f (range_with_len (a + 1) n)) ≤ 1 → times name (f a ∷ map f (range_with_len (a + 1) n)) ≤ 1
+    by false e h =
+        let here : one name (f a) ≡ 0 = ap (λ b. cond b 1 0) e in
+        let both = sum_by-cons (one name) (f a) (map f (range_with_len (a + 1) n)) in
+        omega arith
+    by true e h =
+        let here : one name (f a) ≡ 1 = ap (λ b. cond b 1 0) e in
+        let rest = nowhere name f (a + 1) n (λ i l. other i l (same_name (f i) name) refl) in
+        let both = sum_by-cons (one name) (f a) (map f (range_with_len (a + 1) n)) in
+        omega arith
+      where
+        other : (i : ℕ) → a + 1 ≤ i → (b : Bool) → same_name (f i) name ≡ b → same_name (f i) name ≡ false
+        other i l false g = g
+        other i l true g =
+            let same = apart i a (same_name-is _ _ g ∙ sym (same_name-is _ _ e)) in
+            absurd (omega arith)
+
+-- a name that is among others stands there
+stands : (name : JobName) (names : List JobName) → is_among names name ≡ true → 1 ≤ times name names
+stands name [] e = absurd (differ e)
+stands name (n ∷ names) e = by (same_name n name) refl (stands name names)
+  where
+    by : (b : Bool) → same_name n name ≡ b → (is_among names name ≡ true → 1 ≤ times name names) → 1 ≤ times name (n ∷ names)
+    by true g h =
+        let here : one name n ≡ 1 = ap (λ b. cond b 1 0) g in
+        let both = sum_by-cons (one name) n names in
+        omega arith
+    by false g h =
+        let rest = h (sym (ap (λ b. b || is_among names name) g) ∙ e) in
+        let both = sum_by-cons (one name) n names in
+        omega arith
+
+-- names of jobs of a phase, none of them twice, are neither strangers nor doubles
+no-first_fault : (p : PhaseView) (earlier names : List JobName) → ((name : JobName) → times name (earlier ++ names) ≤ 1)
+    → ((name : JobName) → is_among names name ≡ true → is_among (names_of p) name ≡ true) → first_fault p earlier names ≡ None
+no-first_fault p earlier [] single known = first-end p earlier
+no-first_fault p earlier (name ∷ names) single known =
+    first-none_yet p earlier names name (fault-none p earlier name (known name here) (new (is_among earlier name) refl))
+    ∙ no-first_fault p (earlier ++ name ∷ []) names (λ n. subst (λ l. times n l ≤ 1) (sym (append_assoc earlier (name ∷ []) names)) (single n))
+    (λ n e. known n (ap (λ b. same_name name n || b) e ∙ or-true (same_name name n)))
+  where
+    here : is_among (name ∷ names) name ≡ true
+    here = ap (λ b. b || is_among names name) (same_name-self name)
+
+    new : (b : Bool) → is_among earlier name ≡ b → is_among earlier name ≡ false
+    new false e = e
+    new true e =
+        let before = stands name earlier e in
+        let again = stands name (name ∷ names) here in
+        let both = sum_by-append (one name) earlier (name ∷ names) in
+        let most = single name in
+        absurd (omega arith)
+
+none-found : (b : ℕ → Bool) (a n : ℕ) → ((i : ℕ) → i < a + n → b i ≡ false) → find b (range_with_len a n) ≡ None
+none-found b a zero h = refl
+none-found b a (suc n) h = cond-false _ _ _ (h a (omega arith)) ∙ none-found b (a + 1) n (λ i l. h i (omega arith))
+
+no-missing : (p : PhaseView) (names : List JobName) → ((place : ℕ) → place < unit_count p.machine → is_among names (name_at p place) ≡ true) → missing p names ≡ None
+unfolding missing
+no-missing p names h =
+    ap (option_map (λ place. Missing (unit_at p.machine place)))
+    (none-found (λ place. not (is_among names (name_at p place))) 0 (unit_count p.machine) (λ i l. ap not (h i (omega arith))))
+
+-- results of which there is one of each job go together
+pub whole-fits : (p : PhaseView) (results : List JobView) → IsPermutation (jobs_of p) results → merge_fault p (map (λ (d : JobView). d.name) results) ≡ None
+whole-fits p results same =
+    let names = map (λ (d : JobView). d.name) results in
+    let places = below (unit_count p.machine) in
+    let moved : IsPermutation (names_of p) names =
+    subst (λ l. IsPermutation l names) (map-map (λ (d : JobView). d.name) (job_at p) places) (IsPermutation-map (λ (d : JobView). d.name) (jobs_of p) results same) in
+    let alike = λ (n : JobName). list_any-IsPermutation (λ m. same_name m n) (names_of p) names moved in
+    ap₂ first_of
+    (no-first_fault p [] names
+    (λ n. subst (λ k. k ≤ 1) (sym (sum_by-IsPermutation (one n) (names_of p) names moved)) (once n (name_at p) (name-place p) 0 (unit_count p.machine)))
+    (λ n e. alike n ∙ e))
+    (no-missing p names (λ place l. sym (alike (name_at p place)) ∙ place-among p place l))
+
+-- so that only memory can be refused
+pub only-refused : (p : PhaseView) (results : List JobView) (fault : MergeFault) → IsPermutation (jobs_of p) results
+    → (fault ≡ Memory) ⊎ (merge_fault p (map (λ (d : JobView). d.name) results) ≡ Some fault) → fault ≡ Memory
+only-refused p results fault same (inl e) = e
+only-refused p results fault same (inr e) = let f : None ≡ Some fault = sym (whole-fits p results same) ∙ e in cc
+
+-- and they are of the phase's run
+pub whole-of : (p : PhaseView) (results : List JobView) → IsPermutation (jobs_of p) results → All (IsOf p) results
+whole-of p results same =
+    All-permutation (IsOf p) (jobs_of p) results same (All-map (IsOf p) (job_at p) (below (unit_count p.machine)) (λ _ _ _ _. (refl, refl)))
