@@ -115,12 +115,7 @@ fn config(alloc: Global, cores: u16) -> Result<Config, AllocError>
 }
 
 /// The same, with one latency for all links and an interval of refreshes.
-fn config_of(
-    alloc: Global,
-    cores: u16,
-    latency: u32,
-    n_refi: u32,
-) -> Result<Config, AllocError>
+fn config_of(alloc: Global, cores: u16, latency: u32, n_refi: u32) -> Result<Config, AllocError>
     requires few { (1 ≤ cores) × (cores ≤ 2) }
     requires travels { (1 ≤ latency) × (latency ≤ 1000000) }
     requires refreshes { (n_refi ≡ 0) ⊎ ((100 ≤ n_refi) × (n_refi ≤ 100000)) }
