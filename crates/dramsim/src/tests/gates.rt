@@ -6,6 +6,7 @@ use crate::runs::simulate;
 use epochs::job::JobName;
 use sim_base::message::Unit;
 use std::alloc::{AllocError, Global};
+use std::process::Abort;
 use std::sync::atomic::{AtomicU64, Ordering};
 use std::test::Fail;
 use std::thread;
@@ -130,6 +131,17 @@ impl Gate for Meeting {
     }
 }
 
+/// How many phases there were, where each job of each was entered once and left once.
+fn phases_of(rt: &impl Abort, gate: &Meeting) -> u64 {
+    let mut count = 0u64;
+    for passes in &gate.phases {
+        let ran = u64::from(passes.all.entered.load(Ordering::SeqCst) != 0);
+        assert!(rt; passes.are(ran), "phase {count}, {} workers", gate.workers);
+        count = count.wrapping_add(ran);
+    }
+    count
+}
+
 /// So many workers are at work at once in each phase, and each job is run once.
 #[test]
 fn workers_meet_in_every_phase(rt: HostRuntime) -> Result<(), Fail> {
@@ -146,16 +158,7 @@ fn workers_meet_in_every_phase(rt: HostRuntime) -> Result<(), Fail> {
             "{workers} workers"
         );
         assert_eq!(rt; gate.faults.load(Ordering::SeqCst), 0);
-        let mut ran = 0u64;
-        for (phase, passes) in gate.phases.iter().enumerate() {
-            let some = passes.all.entered.load(Ordering::SeqCst) != 0;
-            assert!(rt;
-                passes.are(u64::from(some)),
-                "phase {phase}, {workers} workers"
-            );
-            ran = ran.wrapping_add(u64::from(some));
-        }
-        assert!(rt; ran > 0, "{workers} workers");
+        assert!(rt; phases_of(&rt, &gate) > 0);
     }
     Ok(())
 }

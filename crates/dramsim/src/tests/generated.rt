@@ -2,7 +2,10 @@
 
 use super::outcomes::assert_same;
 use std::alloc::Global;
+use std::process::Abort;
+use std::sync::Wait;
 use std::test::Fail;
+use std::thread::Threads;
 
 /// Numbers that look random, the same for each seed.
 #[derive(Drop)]
@@ -152,19 +155,48 @@ fn trace(alloc: Global, random: &mut Random) -> Result<Vec<u8>, Fail> {
     Ok(text.into_bytes())
 }
 
-#[test]
-fn generated_machines(rt: HostRuntime) -> Result<(), Fail> {
+/// The texts of the traces of so many cores.
+fn traces(alloc: Global, random: &mut Random, cores: u64) -> Result<Vec<Vec<u8>>, Fail> {
+    let mut texts = Vec::new(alloc);
+    for _ in 0..cores {
+        texts.push(trace(alloc, random)?)?;
+    }
+    Ok(texts)
+}
+
+/// Compares the runs of ten machines, with seeds from this one on.
+fn assert_ten<R: Abort + Threads + Wait + Sync + AllocGlobal>(
+    rt: &R,
+    first: u64,
+) -> Result<(), Fail> {
     let alloc = rt.alloc();
-    for seed in 0..40 {
-        let mut random = Random::new(seed);
+    for step in 0..10 {
+        let mut random = Random::new(first.wrapping_add(step));
         let cores = random.between(1, 4);
         let config = document(alloc, &mut random, cores)?;
-        let mut texts = Vec::new(alloc);
-        for _ in 0..cores {
-            texts.push(trace(alloc, &mut random)?)?;
-        }
+        let texts = traces(alloc, &mut random, cores)?;
         let limit = random.between(50, 400);
-        assert_same(&rt, config.as_str(), &texts, limit, &[3])?;
+        assert_same(rt, config.as_str(), &texts, limit, &[3])?;
     }
     Ok(())
+}
+
+#[test]
+fn generated_machines_from_0(rt: HostRuntime) -> Result<(), Fail> {
+    assert_ten(&rt, 0)
+}
+
+#[test]
+fn generated_machines_from_10(rt: HostRuntime) -> Result<(), Fail> {
+    assert_ten(&rt, 10)
+}
+
+#[test]
+fn generated_machines_from_20(rt: HostRuntime) -> Result<(), Fail> {
+    assert_ten(&rt, 20)
+}
+
+#[test]
+fn generated_machines_from_30(rt: HostRuntime) -> Result<(), Fail> {
+    assert_ten(&rt, 30)
 }

@@ -2,7 +2,7 @@
 //! faster than the others, so that phases are of one cycle.
 
 use super::outcomes::{assert_same, texts_of};
-use super::{PROFILE_S, profile_s};
+use super::profile_s;
 use std::process::Abort;
 use std::sync::Wait;
 use std::test::Fail;
@@ -46,16 +46,26 @@ fn assert_row<R: Abort + Threads + Wait + Sync + AllocGlobal>(
 }
 
 #[test]
-fn rows_of_one_core(rt: HostRuntime) -> Result<(), Fail> {
+fn rows_of_reads(rt: HostRuntime) -> Result<(), Fail> {
     let rows = [
         ("0 0\n", 15),
         ("0 0\n0 64\n", 32),
         ("0 0\n0 8192\n", 64),
+        ("0 0\n0 4294967296\n", 64),
+    ];
+    for (trace, limit) in rows {
+        assert_row(&rt, &[], "", &[trace], limit)?;
+    }
+    Ok(())
+}
+
+#[test]
+fn rows_with_conflicts_writes_and_plain_entries(rt: HostRuntime) -> Result<(), Fail> {
+    let rows = [
         ("0 0\n0 65536\n0 64\n0 128\n", 64),
         ("0 0 8192\n", 64),
         ("0 0 64\n0 64\n", 64),
         ("", 0),
-        ("0 0\n0 4294967296\n", 64),
         ("3 0\n", 64),
     ];
     for (trace, limit) in rows {
