@@ -16,6 +16,7 @@ use std::alloc::Global;
 use std::io::Write;
 use std::sync::Wait;
 use std::thread::Threads;
+use workers::gate::Open;
 
 /// The status of a program that did what it was asked.
 const DONE: u8 = 0;
@@ -89,7 +90,7 @@ fn perform_run<R: Threads + Wait + Sync, F: FileSet>(
 ) -> Result<(), Fault> {
     let config = files.read(alloc, config)?;
     let texts = read_texts(alloc, files, traces)?;
-    let run = simulate(rt, alloc, &config, &texts, cycles, workers)?;
+    let run = simulate(rt, alloc, &Open, &config, &texts, cycles, workers)?;
     write_tables(alloc, files, out, &run)
 }
 

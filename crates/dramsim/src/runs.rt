@@ -16,7 +16,7 @@ use statistics::outcome::Outcome;
 use std::alloc::Global;
 use std::sync::Wait;
 use std::thread::Threads;
-use workers::gate::Open;
+use workers::gate::Gate;
 use workers::machine::run_machine;
 
 /// The greatest limit of a run, in cycles.
@@ -118,15 +118,17 @@ fn read_input(
 
 /// Runs the machine that a configuration and one trace a core describe, for at most `cycles` cycles, and gives its commands, its
 /// statistics and the state in which it ends. Each phase is run by so many workers at most, 1 to 64, each in a thread of its
-/// own; with one worker, in the thread of the caller. What comes out does not depend on them.
+/// own; with one worker, in the thread of the caller. A worker passes the gate at the beginning and at the end of each job. What
+/// comes out depends on neither the workers nor the gate.
 ///
 /// The input is tested in this order: the configuration, the number of traces, the number of workers (1 to 64), the limit (at
 /// most 10^12 cycles), and the traces by core. The first fault is answered. `Fault::Memory` may come at any time, and the run
 /// itself is refused by nothing but this and `Fault::WorkerStart`. The table of its commands is legal, as `check` reads it under
 /// the same configuration.
-pub fn simulate<R: Threads + Wait + Sync>(
+pub fn simulate<R: Threads + Wait + Sync, G: Gate + Sync>(
     rt: &R,
     alloc: Global,
+    gate: &G,
     config: &[u8],
     texts: &[Vec<u8>],
     cycles: Cycle,
@@ -140,7 +142,7 @@ pub fn simulate<R: Threads + Wait + Sync>(
         Ok(input) => input,
         Err(fault) => return Err(fault),
     };
-    run_machine(rt, alloc, &Open, workers as usize, &config, traces, cycles)
+    run_machine(rt, alloc, gate, workers as usize, &config, traces, cycles)
 }
 
 /// The same run by the one-clock machine, one cycle after the other, with no workers: their number is only tested. Tests compare

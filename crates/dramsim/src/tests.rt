@@ -11,6 +11,12 @@ use std::test::Fail;
 use std::thread::Threads;
 
 mod checks;
+mod faults;
+mod gates;
+mod generated;
+mod memory;
+mod outcomes;
+mod same;
 mod tables;
 
 const PROFILE_S: &str =

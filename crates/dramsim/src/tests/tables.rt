@@ -1,8 +1,6 @@
 //! Numbers of statistics and of final states, found by hand, and files that fail.
 
-use super::{
-    Failure, MemoryFiles, PROFILE_S, files_of, profile_s, run_over, run_program, summary_of,
-};
+use super::{Failure, HEADER, MemoryFiles, PROFILE_S, files_of, profile_s, run_over, run_program};
 use std::alloc::Global;
 use std::sync::Wait;
 use std::test::Fail;
@@ -437,12 +435,12 @@ fn many_cores(rt: HostRuntime) -> Result<(), Fail> {
     let traces = ["0 0\n"; 256];
     let files = files_of(&rt, many.as_str(), &traces, "1300")?;
     let table = files.text_at(alloc, "d/commands.csv")?;
-    let commands = summary_of(alloc, table.as_str())?;
-    let mut want = String::from_str(alloc, "ACT 2, ")?;
+    let mut want = format!(in alloc; "{HEADER}2,0,ACT,0,0,0,,0,0\n")?;
     for core in 0..256u32 {
-        want.push_str(format!(in alloc; "RD {}, ", 5 + 5 * core)?.as_str())?;
+        let cycle = 5 + 5 * core;
+        want.push_str(format!(in alloc; "{cycle},0,RD,0,0,0,0,{core},0\n")?.as_str())?;
     }
-    assert!(rt; commands.as_str() == want.as_str());
+    assert!(rt; table.as_str() == want.as_str());
     let counted = files.text_at(alloc, "d/stats.csv")?;
     assert!(rt;
         has_lines(
