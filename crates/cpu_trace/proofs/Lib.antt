@@ -1,6 +1,7 @@
-pub mod Growth
+pub mod Behind
 pub mod Digits
 pub mod GrammarLemmas
+pub mod Growth
 pub mod Joining
 pub mod Kept
 pub mod LineTurns
