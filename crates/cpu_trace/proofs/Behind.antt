@@ -1,12 +1,20 @@
 -- The lines of a text in pieces, and what is read of lines that follow others.
-use Rattle.std.proofs.Common.{◌≡◌, ℕ, suc, ◌+◌, ◌^◌, ◌<◌, ◌≤◌, Bool, true, false, cond, leb, eqb, List, [], ◌∷◌, ◌++◌, length, Option, Some, None, Result, Ok, Err, refl, sym, ap, ◌∙◌, arith, append_assoc, length-append, rules}
+use Rattle.std.proofs.Common.{◌≡◌, ℕ, suc, ◌+◌, ◌^◌, ◌<◌, ◌≤◌, Bor, Bool, true, false, cond, leb, List, [], ◌∷◌, ◌++◌, length, Option, Some, Result, Ok, Err, refl, sym, ap, ◌∙◌, arith, append_assoc, length-append}
 use Rattle.std.proofs.lemmas.Bool.{leb-true, leb-false}
-use Rattle.std.proofs.lemmas.List.Splits.{length-slice_split, slice_split-cons_yes, slice_split-cons_no}
-use Rattle.std.specs.List.{slice_split, onto_first}
+use Rattle.std.proofs.lemmas.List.Splits.{length-slice_split}
+use Rattle.std.proofs.lemmas.List.Sums.{count_by-le-length}
+use Rattle.std.proofs.lemmas.Grind.{flat_map-append}
+use Rattle.std.proofs.lemmas.List.{append-nil}
+use Rattle.std.specs.List.{AllZip, slice_split, onto_first}
 use Rattle.sim_base.specs.declared.fault.LineCause.{LineCause}
 use Rattle.sim_base.specs.declared.trace.Entry.{Entry}
 use Rattle.sim_base.specs.TraceText.{◌>>=◌, is_line_feed, lines_of, line_entries, BadLine, in_line, entries_of_lines}
-use Rattle.cpu_trace.specs.Reading.{kept, appended, joined, kept_of}
+use Rattle.cpu_trace.specs.Reading.{kept, joined, kept_of}
+use Rattle.cpu_trace.specs.declared.reading.Reading.{Reading}
+use Rattle.cpu_trace.specs.declared.reading.Unread.{Unread}
+use Rattle.cpu_trace.specs.declared.reading.Unread.TheVariants as unread
+use Rattle.cpu_trace.specs.Pieces.{lines_of_pieces}
+use Rattle.cpu_trace.specs.Reading.{IsReadingOf, IsUnreadOf, IsRead, told_behind, lines_told}
 use Rattle.cpu_trace.proofs.Kept.{kept-short, kept-long, appended-kept}
 
 -- a byte more at the start of the first of some parts
@@ -19,13 +27,23 @@ cut-cases true byte parts others some = refl
 cut-cases false byte parts others some = onto_first-append byte parts others some
 
 -- a text that is cut at a line feed has the lines of what stands before it, and then those of what stands behind it
-pub lines_of-cut : (front back : List ℕ) → lines_of (front ++ 10 ∷ back) ≡ lines_of front ++ lines_of back
+lines_of-cut : (front back : List ℕ) → lines_of (front ++ 10 ∷ back) ≡ lines_of front ++ lines_of back
 unfolding lines_of
 lines_of-cut [] back = refl
 lines_of-cut (byte ∷ front) back =
     let some : 0 < length (slice_split is_line_feed front) = omega (arith, length-slice_split is_line_feed front) in
     ap (λ parts. cond (is_line_feed byte) ([] ∷ parts) (onto_first byte parts)) (lines_of-cut front back)
     ∙ cut-cases (is_line_feed byte) byte (slice_split is_line_feed front) (slice_split is_line_feed back) some
+
+-- a piece more, which is cut off what was left
+pub lines_of_pieces-push : (text rest behind : List ℕ) (pieces grown : List (Bor (List ℕ))) (piece : Bor (List ℕ)) → grown ≡ pieces ++ piece ∷ [] → rest ≡ piece.now ++ 10 ∷ behind → lines_of text ≡ lines_of_pieces pieces ++ lines_of rest → lines_of text ≡ lines_of_pieces grown ++ lines_of behind
+lines_of_pieces-push text rest behind pieces grown piece e parts same =
+    let more : lines_of_pieces grown ≡ lines_of_pieces pieces ++ lines_of piece.now =
+    ap lines_of_pieces e ∙ flat_map-append (λ (p : Bor (List ℕ)). lines_of p.now) pieces (piece ∷ []) ∙ ap (λ l. lines_of_pieces pieces ++ l) (append-nil (lines_of piece.now)) in
+    same
+    ∙ ap (λ l. lines_of_pieces pieces ++ l) (ap lines_of parts ∙ lines_of-cut piece.now behind)
+    ∙ sym (append_assoc (lines_of_pieces pieces) (lines_of piece.now) (lines_of behind))
+    ∙ ap (λ l. l ++ lines_of behind) (sym more)
 
 -- a bad line, or none, of lines that stand behind so many others
 abbrev later : {A : Type 0} → ℕ → Result A BadLine → Result A BadLine
@@ -97,15 +115,18 @@ kept_of-append lines behind =
 pub kept_of-good : (lines behind : List (List ℕ)) (so_far more : Option (List Entry)) → kept_of lines ≡ Ok so_far → kept_of behind ≡ Ok more → kept_of (lines ++ behind) ≡ Ok (joined so_far more)
 kept_of-good lines behind so_far more e f = kept_of-append lines behind ∙ rw (e, f) refl
 
-pub kept_of-bad : (lines behind : List (List ℕ)) (so_far : Option (List Entry)) (line : ℕ) (cause : LineCause) → kept_of lines ≡ Ok so_far → kept_of behind ≡ Err (record { line = line; cause = cause }) → kept_of (lines ++ behind) ≡ Err (record { line = length lines + line; cause = cause })
-kept_of-bad lines behind so_far line cause e f = kept_of-append lines behind ∙ rw (e, f) refl
+pub IsUnreadOf-behind : (lines behind : List (List ℕ)) (so_far : Option (List Entry)) (why : Unread) → kept_of lines ≡ Ok so_far → IsUnreadOf behind why → IsUnreadOf (lines ++ behind) (told_behind (length lines) why)
+IsUnreadOf-behind lines behind so_far (unread.BadLine line cause) e f = kept_of-append lines behind ∙ rw (e, f) refl
+IsUnreadOf-behind lines behind so_far unread.Memory e f = tt
 
 pub kept_of-none : kept_of [] ≡ Ok (Some [])
 unfolding kept_of entries_of_lines
 kept_of-none = ap Ok (kept-short [] (omega arith))
 
-pub kept_of-bad_before : (lines behind : List (List ℕ)) (bad : BadLine) → kept_of lines ≡ Err bad → kept_of (lines ++ behind) ≡ Err bad
-kept_of-bad_before lines behind bad e = kept_of-append lines behind ∙ rw e refl
+-- a bad line decides, whatever stands behind it
+pub IsUnreadOf-before : (lines behind : List (List ℕ)) (why : Unread) → IsUnreadOf lines why → IsUnreadOf (lines ++ behind) why
+IsUnreadOf-before lines behind (unread.BadLine line cause) e = kept_of-append lines behind ∙ rw e refl
+IsUnreadOf-before lines behind unread.Memory e = tt
 
 -- a bad line is one of the lines
 bad_line-cases : (number n : ℕ) (first : Result (List Entry) LineCause) (rest : Result (List Entry) BadLine) (bad : BadLine) → ((worse : BadLine) → rest ≡ Err worse → worse.line < n + (number + 1)) → (in_line number first >>= λ more. rest >>= λ ends. Ok (more ++ ends)) ≡ Err bad → bad.line < suc n + number
@@ -128,8 +149,53 @@ unkept-cases : (read : Result (List Entry) BadLine) (bad : BadLine) → (read >>
 unkept-cases (Ok entries) bad e = cc
 unkept-cases (Err other) bad e = cc
 
-pub unkept-line : (lines : List (List ℕ)) (line : ℕ) (cause : LineCause) → kept_of lines ≡ Err (record { line = line; cause = cause }) → line ≤ length lines
+unkept-line : (lines : List (List ℕ)) (line : ℕ) (cause : LineCause) → kept_of lines ≡ Err (record { line = line; cause = cause }) → line ≤ length lines
 unfolding kept_of
 unkept-line lines line cause e =
     let below = bad_line-below 1 lines (record { line = line; cause = cause }) (unkept-cases (entries_of_lines 1 lines) (record { line = line; cause = cause }) e) in
     omega (arith, below)
+
+-- no reading tells of more lines than there are
+lines_told-le : (lines : List (List ℕ)) (result : Result Reading Unread) → IsRead lines result → lines_told result ≤ length lines
+lines_told-le lines (Ok reading) h = omega (arith, h.counted)
+lines_told-le lines (Err (unread.BadLine line cause)) h = unkept-line lines line cause h
+lines_told-le lines (Err unread.Memory) h = omega arith
+
+-- readings of pieces, in their order
+abbrev pub AreRead : List (Bor (List ℕ)) → List (Result Reading Unread) → Type 0
+AreRead pieces readings = AllZip (λ (piece : Bor (List ℕ)) reading. IsRead (lines_of piece.now) reading) pieces readings
+
+-- what follows lines that were read: a piece and its reading, and those of the pieces behind it
+pub record IsNextRead (text : List ℕ) (lines : List (List ℕ)) (result : Result Reading Unread) (rest : List (Result Reading Unread)) : Type 0 where
+  pub piece : List (List ℕ)
+  pub behind : List (Bor (List ℕ))
+  pub same : lines_of text ≡ (lines ++ piece) ++ lines_of_pieces behind
+  pub is_read : IsRead piece result
+  pub are_read : AreRead behind rest
+
+pub IsNextRead-first : (text : List ℕ) (lines : List (List ℕ)) (pieces : List (Bor (List ℕ))) (readings : List (Result Reading Unread)) (result : Result Reading Unread) (rest : List (Result Reading Unread)) → readings ≡ result ∷ rest → lines_of text ≡ lines ++ lines_of_pieces pieces → AreRead pieces readings → IsNextRead text lines result rest
+IsNextRead-first text lines [] readings result rest e same h = absurd (rw e at h)
+IsNextRead-first text lines (piece ∷ pieces) readings result rest e same h =
+    let both : IsRead (lines_of piece.now) result × AreRead pieces rest = rw e at h in
+    record {
+      piece = lines_of piece.now;
+      behind = pieces;
+      same = same ∙ sym (append_assoc lines (lines_of piece.now) (lines_of_pieces pieces));
+      is_read = both.0;
+      are_read = both.1;
+    }
+
+-- a text has fewer lines than a number of 64 bits counts
+pub few_lines : (text : List ℕ) (lines : List (List ℕ)) (reading : Reading) (result : Result Reading Unread) (rest : List (Result Reading Unread)) → length text < 2 ^ 63 → IsReadingOf lines reading → IsNextRead text lines result rest → reading.lines + lines_told result < 2 ^ 64
+unfolding lines_of
+few_lines text lines reading result rest short h next =
+    let all : length (lines_of text) ≤ length text + 1 = omega (arith, length-slice_split is_line_feed text, count_by-le-length is_line_feed text) in
+    let told = lines_told-le next.piece result next.is_read in
+    omega (arith, short, all, told, h.counted, ap length next.same, length-append (lines ++ next.piece) (lines_of_pieces next.behind), length-append lines next.piece)
+
+-- no pieces are left
+pub all_read : (text : List ℕ) (lines : List (List ℕ)) (pieces : List (Bor (List ℕ))) (readings : List (Result Reading Unread)) → 0 ≡ length readings → lines_of text ≡ lines ++ lines_of_pieces pieces → AreRead pieces readings → lines_of text ≡ lines
+all_read text lines [] [] n same h = same ∙ append-nil lines
+all_read text lines (piece ∷ pieces) [] n same h = absurd h
+all_read text lines [] (result ∷ readings) n same h = absurd h
+all_read text lines (piece ∷ pieces) (result ∷ readings) n same h = absurd (omega (arith, n))

@@ -89,9 +89,11 @@ IsNextAdded-first all whole next m memory len h e =
       rises = h.2;
     }
 
-pub IsNextAdded-at : (all whole : List Entry) (next : ℕ) (m : MemoryEntry) (memory : List MemoryEntry) (i len : ℕ) → i < length memory → m ≡ get_or memory i m → IsAscending next (drop i memory) len → all ++ entries_after next (drop i memory) len ≡ whole → IsNextAdded all whole next m (drop (i + 1) memory) len
-IsNextAdded-at all whole next m memory i len lt is h e =
-    let first : drop i memory ≡ m ∷ drop (i + 1) memory = drop_more memory i m lt ∙ ap (λ x. x ∷ drop (i + 1) memory) (sym is) in
+pub IsNextAdded-at : (all whole : List Entry) (next : ℕ) (m : MemoryEntry) (shown memory : List MemoryEntry) (i len : ℕ) → shown ≡ memory → i < length shown → m ≡ get_or shown i m → IsAscending next (drop i memory) len → all ++ entries_after next (drop i memory) len ≡ whole → IsNextAdded all whole next m (drop (i + 1) memory) len
+IsNextAdded-at all whole next m shown memory i len s lt is h e =
+    let within : i < length memory = rw s at lt in
+    let here : m ≡ get_or memory i m = rw s at is in
+    let first : drop i memory ≡ m ∷ drop (i + 1) memory = drop_more memory i m within ∙ ap (λ x. x ∷ drop (i + 1) memory) (sym here) in
     IsNextAdded-first all whole next m (drop (i + 1) memory) len (rw first at h) (rw first at e)
 
 -- the Plain entries behind the last memory entry

@@ -35,7 +35,7 @@ ok_or-cases true core entries e = rw e refl
 ok_or-cases false core entries e = rw e refl
 
 -- the answer by what is kept, or by the first bad line
-abbrev pub answer_by : ℕ → Result (Option (List Entry)) BadLine → Result (List Entry) Fault
+abbrev answer_by : ℕ → Result (Option (List Entry)) BadLine → Result (List Entry) Fault
 answer_by core read = in_trace core read >>= λ so_far. ok_or so_far (TraceTooLong core)
 
 answer_by-cases : (core : ℕ) (read : Result (List Entry) BadLine) → (in_trace core read >>= limited core) ≡ answer_by core (read >>= λ entries. Ok (kept entries))
@@ -43,9 +43,18 @@ answer_by-cases core (Ok entries) = sym (ok_or-cases _ core entries refl)
 answer_by-cases core (Err bad) = refl
 
 -- the answer for a text is that by what is kept of its lines
-pub trace_answer-kept : (core : ℕ) (text : List ℕ) → trace_answer core text ≡ answer_by core (kept_of (lines_of text))
+trace_answer-kept : (core : ℕ) (text : List ℕ) → trace_answer core text ≡ answer_by core (kept_of (lines_of text))
 unfolding trace_answer trace_entries kept_of
 trace_answer-kept core text = answer_by-cases core (entries_of_lines 1 (lines_of text))
+
+pub trace_answer-good : (core : ℕ) (text : List ℕ) (so_far : Option (List Entry)) (entries trace : List Entry) → kept_of (lines_of text) ≡ Ok so_far → so_far ≡ Some entries → trace ≡ entries → trace_answer core text ≡ Ok trace
+trace_answer-good core text so_far entries trace e some same = trace_answer-kept core text ∙ ap (answer_by core) e ∙ rw (some, same) refl
+
+pub trace_answer-long : (core : ℕ) (text : List ℕ) (so_far : Option (List Entry)) → kept_of (lines_of text) ≡ Ok so_far → so_far ≡ None → trace_answer core text ≡ Err (TraceTooLong core)
+trace_answer-long core text so_far e none = trace_answer-kept core text ∙ ap (answer_by core) e ∙ rw none refl
+
+pub trace_answer-bad : (core : ℕ) (text : List ℕ) (line : ℕ) (cause : LineCause) → kept_of (lines_of text) ≡ Err (record { line = line; cause = cause }) → trace_answer core text ≡ Err (TraceLine core line cause)
+trace_answer-bad core text line cause e = trace_answer-kept core text ∙ ap (answer_by core) e
 
 -- what is kept from a line on, after what was kept so far
 unfoldable pub kept_from : Option (List Entry) → ℕ → List (List ℕ) → Result (Option (List Entry)) BadLine

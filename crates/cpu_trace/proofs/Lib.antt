@@ -7,5 +7,6 @@ pub mod Kept
 pub mod LineTurns
 pub mod Meaning
 pub mod Numbers
+pub mod Refusals
 pub mod Spelling
 pub mod Tokens

@@ -4,8 +4,12 @@
 --     kept_of lines      what is kept of the entries of lines, or their first bad line
 --     IsReadingOf lines reading, IsUnreadOf lines unread      what is read of lines, and why they are not read
 --     IsRead lines result      either of these
---     lines_told result      how many lines a result tells of
-use Rattle.std.specs.Prelude.{◌≡◌, ⊤, ℕ, ◌^◌, nat_le, List, ◌++◌, length, Option, Some, None, option_and_then, Result, Ok, Err, MatchResult, if◌then◌else◌}
+--     told_behind before unread      why lines behind so many others are not read
+--     fault_of core unread      the fault of a core's trace whose lines are not read
+--     line_told unread, lines_told result      how many lines there are at least
+use Rattle.std.specs.Prelude.{◌≡◌, ⊤, ℕ, ◌+◌, ◌^◌, nat_le, List, ◌++◌, length, Option, Some, None, option_and_then, Result, Ok, Err, MatchResult, if◌then◌else◌}
+use Rattle.sim_base.specs.declared.fault.Fault.{Fault}
+use Rattle.sim_base.specs.declared.fault.Fault.TheVariants as fault
 use Rattle.sim_base.specs.declared.trace.Entry.{Entry}
 use Rattle.sim_base.specs.TraceText.{◌>>=◌, BadLine, entries_of_lines}
 use Rattle.cpu_trace.specs.declared.reading.Reading.{Reading}
@@ -42,8 +46,22 @@ IsUnreadOf lines unread.Memory = ⊤
 abbrev pub IsRead : List (List ℕ) → Result Reading Unread → Type 0
 IsRead lines result = MatchResult result (IsReadingOf lines) (IsUnreadOf lines)
 
+-- why lines behind so many others are not read
+abbrev pub told_behind : ℕ → Unread → Unread
+told_behind before (unread.BadLine line cause) = unread.BadLine (before + line) cause
+told_behind before unread.Memory = unread.Memory
+
+-- the fault of a core's trace whose lines are not read
+abbrev pub fault_of : ℕ → Unread → Fault
+fault_of core (unread.BadLine line cause) = fault.TraceLine core line cause
+fault_of core unread.Memory = fault.Memory
+
+-- the line that it is told of, if there is one
+abbrev pub line_told : Unread → ℕ
+line_told (unread.BadLine line cause) = line
+line_told unread.Memory = 0
+
 -- how many lines there are, or how many at least, by what was read of them
 abbrev pub lines_told : Result Reading Unread → ℕ
 lines_told (Ok reading) = reading.lines
-lines_told (Err (unread.BadLine line cause)) = line
-lines_told (Err unread.Memory) = 0
+lines_told (Err why) = line_told why

@@ -76,7 +76,10 @@ pub(crate) fn read_in_pieces<R: Threads + Sync>(
     let pieces = cut(alloc, text, size)?;
     let mut all = Reading::new(alloc);
     for reading in read_pieces(rt, alloc, &pieces)? {
-        all = all.followed_by(reading)?;
+        all = match all.followed_by(reading) {
+            Ok(all) => all,
+            Err(why) => return Err(why),
+        };
     }
     Ok(all)
 }

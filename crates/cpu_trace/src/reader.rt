@@ -52,8 +52,7 @@ pub(crate) fn read_trace_in_pieces<R: Threads + Sync>(
             Some(entries) => Ok(Trace::new(alloc, entries)?),
             None => Err(Fault::TraceTooLong { core }),
         },
-        Err(Unread::BadLine { line, cause }) => Err(Fault::TraceLine { core, line, cause }),
-        Err(Unread::Memory) => Err(Fault::Memory),
+        Err(why) => Err(why.fault(core)),
     }
 }
 

@@ -2,11 +2,12 @@
 
 ghost use Rattle.std.specs.Prelude.{◌≡◌, ℕ, ◌+◌, ◌^◌, ◌<◌, ◌≤◌, ◌↔◌, List, [], ◌++◌, length, IsTrue, IfOk, OnOk};
 ghost use Rattle.cpu_trace.specs.Lines.{entries_in};
-ghost use Rattle.cpu_trace.specs.Reading.{appended, joined, lines_told, IsReadingOf, IsRead};
+ghost use Rattle.cpu_trace.specs.Reading.{appended, joined, told_behind, fault_of, line_told, lines_told, IsReadingOf, IsRead};
 
 use crate::entries::{Entries, MOST_ENTRIES};
 use crate::line::Line;
-use sim_base::fault::LineCause;
+use sim_base::fault::{Fault, LineCause};
+use sim_base::message::CoreId;
 use sim_base::trace::Entry;
 use std::alloc::{AllocError, Global};
 
@@ -33,6 +34,32 @@ impl From<AllocError> for Unread {
 
     fn from(_error: AllocError) -> Self {
         Unread::Memory
+    }
+}
+
+impl Unread {
+    /// Why lines are not read that stand behind so many others.
+    fn told_behind(self, lines: u64) -> Unread
+        requires { lines + line_told self < 2 ^ 64 }
+        ensures { result ≡ told_behind lines self }
+    {
+        match self {
+            Unread::BadLine { line, cause } => Unread::BadLine {
+                line: lines + line,
+                cause,
+            },
+            Unread::Memory => Unread::Memory,
+        }
+    }
+
+    /// The fault of a core's trace whose lines are not read.
+    pub(crate) fn fault(self, core: CoreId) -> Fault
+        ensures { result ≡ fault_of core self }
+    {
+        match self {
+            Unread::BadLine { line, cause } => Fault::TraceLine { core, line, cause },
+            Unread::Memory => Fault::Memory,
+        }
     }
 }
 
@@ -80,10 +107,7 @@ pub(crate) fn extended(
 }
 
 // What was kept of lines, with what was kept of those behind them.
-fn joined(
-    so_far: Option<Entries>,
-    more: &Option<Entries>,
-) -> Result<Option<Entries>, AllocError>
+fn joined(so_far: Option<Entries>, more: &Option<Entries>) -> Result<Option<Entries>, AllocError>
     ensures { IfOk result (λ all. all ≡ joined so_far more.now) }
 {
     let (Some(mut entries), Some(more)) = (so_far, more) else {
@@ -117,11 +141,7 @@ impl Reading {
                 lines: self.lines + more.lines,
                 kept: joined(self.kept, &more.kept)?,
             }),
-            Err(Unread::BadLine { line, cause }) => Err(Unread::BadLine {
-                line: self.lines + line,
-                cause,
-            }),
-            Err(Unread::Memory) => Err(Unread::Memory),
+            Err(why) => Err(why.told_behind(self.lines)),
         }
     }
 }

@@ -13,8 +13,7 @@ pub loop-index-preserved : goal.loop-index-preserved
 loop-index-preserved c =
     let piece = c.args.piece.now in
     let turn = line_turn piece _ c.loop-index.yielded _ c.loop-index.yielded_by _ _ _ c.in-Some.is c.next.ensures.steps _ c.into_iter-index-iterator.ensures.into_iter_gives c.enumerate-index-items.ensures.count _ c.enumerate-index-items.ensures.source c.split.ensures.rest c.split.ensures.done c.split.ensures.closure (λ byte r q called. search rules) in
-    rw length_push
-    (
+    rw length_push (
       ap (λ n. n + 1) turn.1,
       c.loop-index.invariant.1 ∙ kept_from-good c.loop-index.kept c.in_ok-kept-in-Ok.kept (lines_of piece) _ c.in-Some.line.now (entries_in c.in-Ok.numbers) turn.0 turn.2 c.in-Ok.ensures c.in_ok-kept-in-Ok.ensures,
     )

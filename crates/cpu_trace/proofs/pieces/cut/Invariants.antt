@@ -4,8 +4,8 @@ use Rattle.sim_base.specs.TraceText.{lines_of}
 use Rattle.cpu_trace.specs.Pieces.{lines_of_pieces}
 use Rattle.cpu_trace.proofs.pieces.cut.Given as goal
 
-abbrev pub invariant-loop-piece : goal.invariant-loop-place
+abbrev pub invariant-loop-piece : goal.invariant-loop-piece
 invariant-loop-piece l = lines_of l.text ≡ lines_of_pieces l.pieces.items ++ lines_of l.rest
 
-abbrev pub decreases-loop-piece : goal.decreases-loop-place
+abbrev pub decreases-loop-piece : goal.decreases-loop-piece
 decreases-loop-piece l = length l.rest
