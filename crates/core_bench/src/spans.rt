@@ -8,6 +8,7 @@ use sim_base::document::read_config;
 use sim_base::message::{Cycle, Load, Message};
 use std::alloc::{AllocError, Global};
 use std::rt::Clock;
+use std::thread::Threads;
 use std::time::Instant;
 
 const MACHINE: &str = "\
@@ -128,15 +129,20 @@ fn run_at_once(rt: &impl Clock, alloc: Global, core: &FedCore) -> Result<Did> {
     })
 }
 
-fn start_core(alloc: Global, config: &Config, lines: u64) -> Result<FedCore> {
-    let trace = sparse_trace(alloc, lines)?;
+fn start_core<R: Threads + Sync>(
+    rt: &R,
+    alloc: Global,
+    config: &Config,
+    lines: u64,
+) -> Result<FedCore> {
+    let trace = sparse_trace(rt, alloc, lines)?;
     Ok(FedCore::start(alloc, config, 0, trace)?)
 }
 
 /// Runs a core until it has retired a trace of so many lines, span by span, and then one anew over all these cycles, in one span.
-pub fn run_lines(rt: &impl Clock, alloc: Global, lines: u64) -> Result<Runs> {
+pub fn run_lines<R: Clock + Threads + Sync>(rt: &R, alloc: Global, lines: u64) -> Result<Runs> {
     let config = read_config(alloc, MACHINE.as_bytes())?;
-    let core = start_core(alloc, &config, lines)?;
+    let core = start_core(rt, alloc, &config, lines)?;
     let start = Instant::now(rt)?;
     let core = run_spans(alloc, &config, core, lines.wrapping_mul(1001))?;
     let fed = Did {

@@ -4,6 +4,7 @@ use anyhow::Result;
 use cpu_trace::reader::read_trace;
 use cpu_trace::trace::Trace;
 use std::alloc::Global;
+use std::thread::Threads;
 
 /// Lines of 64 bytes that the addresses lie in: 2^22.
 const LINES: u64 = 4_194_304;
@@ -16,7 +17,7 @@ fn next_of(state: u64) -> u64 {
 }
 
 /// A trace of so many lines, each with 1,000 Plain entries and a Read of an address that looks random.
-pub fn sparse_trace(alloc: Global, lines: u64) -> Result<Trace> {
+pub fn sparse_trace<R: Threads + Sync>(rt: &R, alloc: Global, lines: u64) -> Result<Trace> {
     let mut text = String::new(alloc);
     let mut state = 1u64;
     for _ in 0..lines {
@@ -25,5 +26,5 @@ pub fn sparse_trace(alloc: Global, lines: u64) -> Result<Trace> {
         let line = format!(in alloc; "1000 {address}\n")?;
         text.push_str(&line)?;
     }
-    Ok(read_trace(alloc, 0, text.as_bytes())?)
+    Ok(read_trace(rt, alloc, 0, text.as_bytes())?)
 }

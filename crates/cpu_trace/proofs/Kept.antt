@@ -8,7 +8,7 @@ use Rattle.sim_base.specs.declared.fault.Fault.TheVariants.{TraceLine, TraceTooL
 use Rattle.sim_base.specs.declared.fault.LineCause.{LineCause}
 use Rattle.sim_base.specs.declared.trace.Entry.{Entry}
 use Rattle.sim_base.specs.TraceText.{◌>>=◌, lines_of, line_entries, BadLine, in_line, entries_of_lines, trace_entries, in_trace, limited, trace_answer}
-use Rattle.cpu_trace.specs.Reading.{kept, appended}
+use Rattle.cpu_trace.specs.Reading.{kept, appended, kept_of}
 
 pub kept-short : (entries : List Entry) → length entries ≤ 2 ^ 62 → kept entries ≡ Some entries
 unfolding kept
@@ -34,60 +34,81 @@ unfolding kept limited
 ok_or-cases true core entries e = rw e refl
 ok_or-cases false core entries e = rw e refl
 
--- what is answered from a line on, after what was kept so far
-unfoldable pub answer_from : ℕ → Option (List Entry) → ℕ → List (List ℕ) → Result (List Entry) Fault
-answer_from core so_far number [] = ok_or so_far (TraceTooLong core)
-answer_from core so_far number (line ∷ lines) = in_trace core (in_line number (line_entries line)) >>= λ entries. answer_from core (appended so_far entries) (number + 1) lines
+-- the answer by what is kept, or by the first bad line
+abbrev answer_by : ℕ → Result (Option (List Entry)) BadLine → Result (List Entry) Fault
+answer_by core read = in_trace core read >>= λ so_far. ok_or so_far (TraceTooLong core)
 
--- the answer for lines, after these entries
-abbrev answer_after : ℕ → List Entry → Result (List Entry) BadLine → Result (List Entry) Fault
-answer_after core entries rest = in_trace core rest >>= λ more. limited core (entries ++ more)
+answer_by-cases : (core : ℕ) (read : Result (List Entry) BadLine) → (in_trace core read >>= limited core) ≡ answer_by core (read >>= λ entries. Ok (kept entries))
+answer_by-cases core (Ok entries) = sym (ok_or-cases _ core entries refl)
+answer_by-cases core (Err bad) = refl
 
-answer_after-line : (core : ℕ) (entries first : List Entry) (rest : Result (List Entry) BadLine) → answer_after core (entries ++ first) rest ≡ answer_after core entries (rest >>= λ others. Ok (first ++ others))
-answer_after-line core entries first (Ok others) = ap (limited core) (append_assoc entries first others)
-answer_after-line core entries first (Err bad) = refl
+-- the answer for a text is that by what is kept of its lines
+trace_answer-kept : (core : ℕ) (text : List ℕ) → trace_answer core text ≡ answer_by core (kept_of (lines_of text))
+unfolding trace_answer trace_entries kept_of
+trace_answer-kept core text = answer_by-cases core (entries_of_lines 1 (lines_of text))
 
-answer_from-line : (core : ℕ) (entries : List Entry) (number : ℕ) (first : Result (List Entry) LineCause) (lines : List (List ℕ)) → ((all : List Entry) → answer_from core (kept all) (number + 1) lines ≡ answer_after core all (entries_of_lines (number + 1) lines)) → (in_trace core (in_line number first) >>= λ more. answer_from core (appended (kept entries) more) (number + 1) lines) ≡ answer_after core entries (in_line number first >>= λ more. entries_of_lines (number + 1) lines >>= λ others. Ok (more ++ others))
-answer_from-line core entries number (Ok first) lines rest =
-    ap (λ so_far. answer_from core so_far (number + 1) lines) (appended-kept entries first) ∙ rest (entries ++ first) ∙ answer_after-line core entries first (entries_of_lines (number + 1) lines)
-answer_from-line core entries number (Err cause) lines rest = refl
+pub trace_answer-good : (core : ℕ) (text : List ℕ) (so_far : Option (List Entry)) (entries trace : List Entry) → kept_of (lines_of text) ≡ Ok so_far → so_far ≡ Some entries → trace ≡ entries → trace_answer core text ≡ Ok trace
+trace_answer-good core text so_far entries trace e some same = trace_answer-kept core text ∙ ap (answer_by core) e ∙ rw (some, same) refl
 
-answer_from-is : (core : ℕ) (entries : List Entry) (number : ℕ) (lines : List (List ℕ)) → answer_from core (kept entries) number lines ≡ answer_after core entries (entries_of_lines number lines)
-unfolding answer_from entries_of_lines
-answer_from-is core entries number [] = ok_or-cases _ core entries refl ∙ ap (limited core) (sym (append-nil entries))
-answer_from-is core entries number (line ∷ lines) =
-    answer_from-line core entries number (line_entries line) lines (λ all. answer_from-is core all (number + 1) lines)
+pub trace_answer-long : (core : ℕ) (text : List ℕ) (so_far : Option (List Entry)) → kept_of (lines_of text) ≡ Ok so_far → so_far ≡ None → trace_answer core text ≡ Err (TraceTooLong core)
+trace_answer-long core text so_far e none = trace_answer-kept core text ∙ ap (answer_by core) e ∙ rw none refl
 
--- the answer for a text is the answer from its first line on
-pub answer_from-first : (core : ℕ) (text : List ℕ) → answer_from core (Some []) 1 (lines_of text) ≡ trace_answer core text
-unfolding trace_answer trace_entries
-answer_from-first core text =
-    ap (λ so_far. answer_from core so_far 1 (lines_of text)) (sym (kept-short [] (omega arith))) ∙ answer_from-is core [] 1 (lines_of text)
+pub trace_answer-bad : (core : ℕ) (text : List ℕ) (line : ℕ) (cause : LineCause) → kept_of (lines_of text) ≡ Err (record { line = line; cause = cause }) → trace_answer core text ≡ Err (TraceLine core line cause)
+trace_answer-bad core text line cause e = trace_answer-kept core text ∙ ap (answer_by core) e
+
+-- what is kept from a line on, after what was kept so far
+unfoldable pub kept_from : Option (List Entry) → ℕ → List (List ℕ) → Result (Option (List Entry)) BadLine
+kept_from so_far number [] = Ok so_far
+kept_from so_far number (line ∷ lines) = in_line number (line_entries line) >>= λ entries. kept_from (appended so_far entries) (number + 1) lines
+
+-- what is kept of lines, after these entries
+abbrev kept_after : List Entry → Result (List Entry) BadLine → Result (Option (List Entry)) BadLine
+kept_after entries rest = rest >>= λ more. Ok (kept (entries ++ more))
+
+kept_after-line : (entries first : List Entry) (rest : Result (List Entry) BadLine) → kept_after (entries ++ first) rest ≡ kept_after entries (rest >>= λ others. Ok (first ++ others))
+kept_after-line entries first (Ok others) = ap (λ all. Ok (kept all)) (append_assoc entries first others)
+kept_after-line entries first (Err bad) = refl
+
+kept_from-line : (entries : List Entry) (number : ℕ) (first : Result (List Entry) LineCause) (lines : List (List ℕ)) → ((all : List Entry) → kept_from (kept all) (number + 1) lines ≡ kept_after all (entries_of_lines (number + 1) lines)) → (in_line number first >>= λ more. kept_from (appended (kept entries) more) (number + 1) lines) ≡ kept_after entries (in_line number first >>= λ more. entries_of_lines (number + 1) lines >>= λ others. Ok (more ++ others))
+kept_from-line entries number (Ok first) lines rest =
+    ap (λ so_far. kept_from so_far (number + 1) lines) (appended-kept entries first) ∙ rest (entries ++ first) ∙ kept_after-line entries first (entries_of_lines (number + 1) lines)
+kept_from-line entries number (Err cause) lines rest = refl
+
+kept_from-is : (entries : List Entry) (number : ℕ) (lines : List (List ℕ)) → kept_from (kept entries) number lines ≡ kept_after entries (entries_of_lines number lines)
+unfolding kept_from entries_of_lines
+kept_from-is entries number [] = ap (λ all. Ok (kept all)) (sym (append-nil entries))
+kept_from-is entries number (line ∷ lines) =
+    kept_from-line entries number (line_entries line) lines (λ all. kept_from-is all (number + 1) lines)
+
+-- what is kept of lines is what is kept from the first on
+pub kept_from-first : (lines : List (List ℕ)) → kept_of lines ≡ kept_from (Some []) 1 lines
+unfolding kept_of
+kept_from-first lines = sym (ap (λ so_far. kept_from so_far 1 lines) (sym (kept-short [] (omega arith))) ∙ kept_from-is [] 1 lines)
 
 -- the lines from a place on begin with the line there
-lines_from : (core : ℕ) (so_far : Option (List Entry)) (lines : List (List ℕ)) (n : ℕ) (line : List ℕ) → n < length lines → line ≡ get_or lines n line → answer_from core so_far (n + 1) (drop n lines) ≡ answer_from core so_far (n + 1) (line ∷ drop (n + 1) lines)
-lines_from core so_far lines n line lt e =
-    ap (answer_from core so_far (n + 1)) (drop_more lines n line lt ∙ ap (λ l. l ∷ drop (n + 1) lines) (sym e))
+lines_from : (so_far : Option (List Entry)) (lines : List (List ℕ)) (n : ℕ) (line : List ℕ) → n < length lines → line ≡ get_or lines n line → kept_from so_far (n + 1) (drop n lines) ≡ kept_from so_far (n + 1) (line ∷ drop (n + 1) lines)
+lines_from so_far lines n line lt e =
+    ap (kept_from so_far (n + 1)) (drop_more lines n line lt ∙ ap (λ l. l ∷ drop (n + 1) lines) (sym e))
 
 -- one line on
-pub answer_from-good : (core : ℕ) (so_far after : Option (List Entry)) (lines : List (List ℕ)) (n : ℕ) (line : List ℕ) (entries : List Entry) → n < length lines → line ≡ get_or lines n line → line_entries line ≡ Ok entries → after ≡ appended so_far entries → answer_from core so_far (n + 1) (drop n lines) ≡ answer_from core after (n + 1 + 1) (drop (n + 1) lines)
-unfolding answer_from
-answer_from-good core so_far after lines n line entries lt e good more =
-    lines_from core so_far lines n line lt e
-    ∙ ap (λ r. in_trace core (in_line (n + 1) r) >>= λ es. answer_from core (appended so_far es) (n + 1 + 1) (drop (n + 1) lines)) good
-    ∙ ap (λ o. answer_from core o (n + 1 + 1) (drop (n + 1) lines)) (sym more)
+pub kept_from-good : (so_far after : Option (List Entry)) (lines : List (List ℕ)) (n : ℕ) (line : List ℕ) (entries : List Entry) → n < length lines → line ≡ get_or lines n line → line_entries line ≡ Ok entries → after ≡ appended so_far entries → kept_from so_far (n + 1) (drop n lines) ≡ kept_from after (n + 1 + 1) (drop (n + 1) lines)
+unfolding kept_from
+kept_from-good so_far after lines n line entries lt e good more =
+    lines_from so_far lines n line lt e
+    ∙ ap (λ r. in_line (n + 1) r >>= λ es. kept_from (appended so_far es) (n + 1 + 1) (drop (n + 1) lines)) good
+    ∙ ap (λ o. kept_from o (n + 1 + 1) (drop (n + 1) lines)) (sym more)
 
 -- a bad line decides
-pub answer_from-bad : (core : ℕ) (so_far : Option (List Entry)) (lines : List (List ℕ)) (n : ℕ) (line : List ℕ) (cause : LineCause) → n < length lines → line ≡ get_or lines n line → line_entries line ≡ Err cause → answer_from core so_far (n + 1) (drop n lines) ≡ Err (TraceLine core (n + 1) cause)
-unfolding answer_from
-answer_from-bad core so_far lines n line cause lt e bad =
-    lines_from core so_far lines n line lt e
-    ∙ ap (λ r. in_trace core (in_line (n + 1) r) >>= λ es. answer_from core (appended so_far es) (n + 1 + 1) (drop (n + 1) lines)) bad
+pub kept_from-bad : (so_far : Option (List Entry)) (lines : List (List ℕ)) (n : ℕ) (line : List ℕ) (cause : LineCause) → n < length lines → line ≡ get_or lines n line → line_entries line ≡ Err cause → kept_from so_far (n + 1) (drop n lines) ≡ Err (record { line = n + 1; cause = cause })
+unfolding kept_from
+kept_from-bad so_far lines n line cause lt e bad =
+    lines_from so_far lines n line lt e
+    ∙ ap (λ r. in_line (n + 1) r >>= λ es. kept_from (appended so_far es) (n + 1 + 1) (drop (n + 1) lines)) bad
 
 -- after the last line
-pub answer_from-end : (core : ℕ) (so_far : Option (List Entry)) (lines : List (List ℕ)) (n : ℕ) → n ≡ length lines → answer_from core so_far (n + 1) (drop n lines) ≡ ok_or so_far (TraceTooLong core)
-unfolding answer_from
-answer_from-end core so_far lines n e = ap (answer_from core so_far (n + 1)) (drop_all n lines (omega (arith, e)))
+pub kept_from-end : (so_far : Option (List Entry)) (lines : List (List ℕ)) (n : ℕ) → n ≡ length lines → kept_from so_far (n + 1) (drop n lines) ≡ Ok so_far
+unfolding kept_from
+kept_from-end so_far lines n e = ap (kept_from so_far (n + 1)) (drop_all n lines (omega (arith, e)))
 
 -- a trace that is not too long has the entries of its text
 limited-cases : (b : Bool) (core : ℕ) (all entries : List Entry) → leb (length all) (2 ^ 62) ≡ b → limited core all ≡ Ok entries → all ≡ entries

@@ -1,10 +1,12 @@
-pub mod Growth
+pub mod Behind
 pub mod Digits
 pub mod GrammarLemmas
+pub mod Growth
 pub mod Joining
 pub mod Kept
 pub mod LineTurns
 pub mod Meaning
 pub mod Numbers
+pub mod Refusals
 pub mod Spelling
 pub mod Tokens

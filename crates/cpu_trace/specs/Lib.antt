@@ -3,4 +3,5 @@ pub mod NextMemory
 pub mod Numerals
 pub mod Lines
 pub mod Reading
+pub mod Pieces
 pub mod Marks

@@ -71,12 +71,26 @@ impl Entries {
         Ok(())
     }
 
-    /// Adds a Plain entry.
-    pub(crate) fn add_plain(&mut self)
-        requires { length self.old < 2 ^ 62 }
-        ensures { self.new ≡ self.old ++ Entry.Plain ∷ [] }
+    // Adds a run of Plain entries.
+    fn add_plain(&mut self, plain: u64)
+        requires { length self.old + plain ≤ 2 ^ 62 }
+        ensures { self.new ≡ self.old ++ replicate plain Entry.Plain }
     {
-        self.len += 1;
+        self.len += plain;
+    }
+
+    /// Adds other entries behind these.
+    pub(crate) fn append(&mut self, others: &Entries) -> Result<(), AllocError>
+        requires { length self.old + length others.now ≤ 2 ^ 62 }
+        ensures { OnOk result (self.new ≡ self.old ++ others.now) }
+    {
+        let mut next = 0;
+        for stored in &others.memory {
+            self.add(stored.number() - next, stored.entry())?;
+            next = stored.number() + 1;
+        }
+        self.add_plain(others.len - next);
+        Ok(())
     }
 
     /// These entries, one after another.
@@ -87,7 +101,7 @@ impl Entries {
         let mut all = Entries::new(alloc);
         for entry in entries {
             match entry {
-                Entry::Plain => all.add_plain(),
+                Entry::Plain => all.add_plain(1),
                 Entry::Read(_) | Entry::Write(_) => all.add(0, *entry)?,
             }
         }

@@ -6,7 +6,10 @@ pub mod entries;
 pub mod grammar;
 mod line;
 pub mod number;
+mod piece;
+mod pieces;
 pub mod reader;
+mod reading;
 mod stored;
 #[cfg(test)]
 mod tests;

@@ -66,7 +66,11 @@ fn check_limits(cores: u16, texts: usize, cycles: Cycle, workers: u64) -> Result
 }
 
 // The traces of the cores, in their order.
-fn read_traces(alloc: Global, texts: &[Vec<u8>]) -> Result<Vec<Trace>, Fault>
+fn read_traces<R: Threads + Sync>(
+    rt: &R,
+    alloc: Global,
+    texts: &[Vec<u8>],
+) -> Result<Vec<Trace>, Fault>
     requires { length texts.now ≤ 256 }
     ensures ok { IfOk result (λ v. traces_of 0 (map (λ t. t.items) texts.now) ≡ Ok v.items) }
     ensures count { IfOk result (λ v. vec_len v ≡ length texts.now) }
@@ -75,7 +79,7 @@ fn read_traces(alloc: Global, texts: &[Vec<u8>]) -> Result<Vec<Trace>, Fault>
     let mut traces = Vec::new(alloc);
     for text in texts {
         let core = traces.len() as CoreId;
-        let trace = match read_trace(alloc, core, text) {
+        let trace = match read_trace(rt, alloc, core, text) {
             Ok(trace) => trace,
             Err(fault) => return Err(fault),
         };
@@ -87,7 +91,8 @@ fn read_traces(alloc: Global, texts: &[Vec<u8>]) -> Result<Vec<Trace>, Fault>
 }
 
 // The configuration and the traces, after all tests of a run's input.
-fn read_input(
+fn read_input<R: Threads + Sync>(
+    rt: &R,
     alloc: Global,
     config: &[u8],
     texts: &[Vec<u8>],
@@ -109,7 +114,7 @@ fn read_input(
     if let Err(fault) = check_limits(config.cores, texts.len(), cycles, workers) {
         return Err(fault);
     }
-    let traces = match read_traces(alloc, texts) {
+    let traces = match read_traces(rt, alloc, texts) {
         Ok(traces) => traces,
         Err(fault) => return Err(fault),
     };
@@ -138,16 +143,17 @@ pub fn simulate<R: Threads + Wait + Sync, G: Gate + Sync>(
     ensures legal { IfOk result (IsJudgedLegal config.now) }
     ensures refused { IfErr result (λ e. e ≢ Fault.Memory → e ≢ Fault.WorkerStart → input_of config.now (map (λ t. t.items) texts.now) cycles workers ≡ Err e) }
 {
-    let (config, traces) = match read_input(alloc, config, texts, cycles, workers) {
+    let (config, traces) = match read_input(rt, alloc, config, texts, cycles, workers) {
         Ok(input) => input,
         Err(fault) => return Err(fault),
     };
     run_machine(rt, alloc, gate, workers as usize, &config, traces, cycles)
 }
 
-/// The same run by the one-clock machine, one cycle after the other, with no workers: their number is only tested. Tests compare
-/// with it.
-pub fn simulate_plain(
+/// The same run by the one-clock machine, one cycle after the other, with no workers: their number is only tested, and threads
+/// read long traces alone. Tests compare with it.
+pub fn simulate_plain<R: Threads + Sync>(
+    rt: &R,
     alloc: Global,
     config: &[u8],
     texts: &[Vec<u8>],
@@ -158,7 +164,7 @@ pub fn simulate_plain(
     ensures legal { IfOk result (IsJudgedLegal config.now) }
     ensures refused { IfErr result (λ e. e ≢ Fault.Memory → input_of config.now (map (λ t. t.items) texts.now) cycles workers ≡ Err e) }
 {
-    let (config, traces) = match read_input(alloc, config, texts, cycles, workers) {
+    let (config, traces) = match read_input(rt, alloc, config, texts, cycles, workers) {
         Ok(input) => input,
         Err(fault) => return Err(fault),
     };

@@ -7,6 +7,7 @@ use sim_base::config::Config;
 use sim_base::document::read_config;
 use std::alloc::{AllocError, Global};
 use std::test::Fail;
+use std::thread::Threads;
 
 /// Keys with the least and the greatest of their numbers. Any choice of them keeps the relations between keys.
 const NUMBERS: [(&str, u64, u64); 23] = [
@@ -129,6 +130,7 @@ fn trace_text(alloc: Global, random: &mut Random) -> Result<String, Fail> {
 
 /// A trace for each core of a machine.
 pub(crate) fn traces(
+    rt: &(impl Threads + Sync),
     alloc: Global,
     random: &mut Random,
     config: &Config,
@@ -136,7 +138,7 @@ pub(crate) fn traces(
     let mut traces = Vec::new(alloc);
     for core in 0..config.cores {
         let text = trace_text(alloc, random)?;
-        traces.push(read_trace(alloc, core, text.as_bytes())?)?;
+        traces.push(read_trace(rt, alloc, core, text.as_bytes())?)?;
     }
     Ok(traces)
 }

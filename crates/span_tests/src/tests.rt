@@ -14,6 +14,7 @@ use statistics::outcome::Outcome;
 use std::alloc::Global;
 use std::process::Abort;
 use std::test::Fail;
+use std::thread::Threads;
 
 /// Runs the units to a cycle, over spans of random lengths, and over quiet cycles at once where that is wanted.
 fn run_units(
@@ -119,7 +120,7 @@ fn assert_same(
 
 /// Compares on machines of some seeds.
 fn assert_seeds(
-    rt: &impl Abort,
+    rt: &(impl Abort + Threads + Sync),
     alloc: Global,
     seeds: u64,
     count: u64,
@@ -129,7 +130,7 @@ fn assert_seeds(
         let seed = seeds.wrapping_add(step);
         let mut random = Random::new(seed);
         let config = machine(alloc, &mut random)?;
-        let traces = traces(alloc, &mut random, &config)?;
+        let traces = traces(rt, alloc, &mut random, &config)?;
         let limit = random.between(50, 400);
         assert_same(rt, alloc, &config, &traces, limit, seed, jumps)?;
     }

@@ -13,7 +13,7 @@ fn main(rt: HostRuntime) -> Result<()> {
     let path = words.next().context("no file is named")?;
     let text = fs::read(&rt, path.as_str())?;
     let start = Instant::now(&rt)?;
-    let trace = read_trace(rt.alloc(), 0, &text)?;
+    let trace = read_trace(&rt, rt.alloc(), 0, &text)?;
     let spent = start.elapsed(&rt)?.as_millis();
     println!(rt; "{} entries", trace.len())?;
     if words.next().is_some() {

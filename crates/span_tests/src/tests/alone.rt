@@ -77,7 +77,7 @@ fn a_channel_alone_whole_and_cut(rt: HostRuntime) -> Result<(), Fail> {
 fn a_core_alone_with_one_credit(rt: HostRuntime) -> Result<(), Fail> {
     let alloc = rt.alloc();
     let config = profile_s(alloc, &["read_credits = 1"], "")?;
-    let mut traces = traces_of(alloc, &["0 0\n0 64\n"])?;
+    let mut traces = traces_of(&rt, alloc, &["0 0\n0 64\n"])?;
     let trace = traces.pop().ok_or("no trace")?;
     let credit = Message {
         link: 2,

@@ -12,6 +12,7 @@ use sim_base::message::CoreId;
 use std::alloc::{AllocError, Global};
 use std::process::Abort;
 use std::test::Fail;
+use std::thread::Threads;
 
 /// One core, one channel of two groups of four banks, 128 lines a row, window 8, width 2, all latencies 2, no refresh.
 const PROFILE_S: &str =
@@ -47,11 +48,15 @@ pub(super) fn profile_s(alloc: Global, changes: &[&str], more: &str) -> Result<C
     Ok(read_config(alloc, text.as_bytes())?)
 }
 
-pub(super) fn traces_of(alloc: Global, texts: &[&str]) -> Result<Vec<Trace>, Fail> {
+pub(super) fn traces_of(
+    rt: &(impl Threads + Sync),
+    alloc: Global,
+    texts: &[&str],
+) -> Result<Vec<Trace>, Fail> {
     let mut traces = Vec::new(alloc);
     let mut core: CoreId = 0;
     for text in texts {
-        traces.push(read_trace(alloc, core, text.as_bytes())?)?;
+        traces.push(read_trace(rt, alloc, core, text.as_bytes())?)?;
         core = core.wrapping_add(1);
     }
     Ok(traces)
@@ -81,14 +86,14 @@ pub(super) fn summary(alloc: Global, commands: &[CommandRow]) -> Result<String, 
 
 /// A worked row: its commands, and all of it as in the plain machine, whole, cut into spans by two seeds, and with jumps.
 fn assert_row(
-    rt: &impl Abort,
+    rt: &(impl Abort + Threads + Sync),
     alloc: Global,
     config: &Config,
     texts: &[&str],
     limit: u64,
     want: &str,
 ) -> Result<(), Fail> {
-    let traces = traces_of(alloc, texts)?;
+    let traces = traces_of(rt, alloc, texts)?;
     let start = Units::start(alloc, config, &traces)?;
     let mut units = run_units(alloc, start, &mut Random::new(7), limit, true)?;
     units.commands.sort_by_key(|row| (row.cycle, row.channel))?;
@@ -101,7 +106,7 @@ fn assert_row(
 
 /// The same under profile S, with other lines for some keys, and more lines at its end.
 fn assert_row_of_s(
-    rt: &impl Abort,
+    rt: &(impl Abort + Threads + Sync),
     alloc: Global,
     changes: &[&str],
     more: &str,

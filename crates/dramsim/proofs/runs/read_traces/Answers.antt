@@ -6,7 +6,7 @@ use Rattle.dramsim.proofs.TraceLists.{prepend, texts_from, traces_here, refused_
 use Rattle.dramsim.proofs.runs.read_traces.Goals as goal
 
 pub returns-in-Err-clause-refused : goal.returns-in-Err-clause-refused
-returns-in-Err-clause-refused c = λ h.
+returns-in-Err-clause-refused g c = λ h.
     let texts = c.args.texts.now in
     let i = c.loop-text.text-index in
     let item = c.text-item.result in
@@ -16,7 +16,7 @@ returns-in-Err-clause-refused c = λ h.
     c.loop-text.invariant.read ∙ refused_here texts c.loop-text.traces.items i item c.in-Err.fault (omega arith) e
 
 pub loop-text-preserved : goal.loop-text-preserved
-loop-text-preserved c =
+loop-text-preserved g c =
     let texts = c.args.texts.now in
     let i = c.loop-text.text-index in
     let item = c.text-item.result in
@@ -34,5 +34,5 @@ loop-text-preserved c =
     }
 
 pub returns-clause-ok : goal.returns-clause-ok
-returns-clause-ok c =
+returns-clause-ok g c =
     c.loop-text.invariant.read ∙ traces_end c.args.texts.now c.loop-text.traces.items c.loop-text.text-index (omega arith)

@@ -5,7 +5,7 @@ use Rattle.dramsim.proofs.TraceLists.{prepend}
 use Rattle.dramsim.proofs.runs.read_traces.Given as goal
 
 abbrev pub invariant-loop-text : goal.invariant-loop-text
-invariant-loop-text l = record {
+invariant-loop-text g l = record {
   read : traces_of 0 (map (λ t. t.items) l.texts) ≡ prepend l.traces.items (traces_of l.text-index (map (λ t. t.items) (drop l.text-index l.texts)));
   count : vec_len l.traces ≡ l.text-index;
 }

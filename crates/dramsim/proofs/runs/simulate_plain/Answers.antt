@@ -7,10 +7,10 @@ use Rattle.dramsim.proofs.Judged.{run-judged}
 use Rattle.dramsim.proofs.runs.simulate_plain.Goals as goal
 
 pub run_plain-requires-clause-one_trace_a_core : goal.run_plain-requires-clause-one_trace_a_core
-run_plain-requires-clause-one_trace_a_core c = c.deref.ensures.len ∙ (c.in-Ok.ensures {u = tt}).count
+run_plain-requires-clause-one_trace_a_core g c = c.deref.ensures.len ∙ (c.in-Ok.ensures {u = tt}).count
 
 pub returns-clause-run : goal.returns-clause-run
-returns-clause-run c =
+returns-clause-run g c =
     let given = c.in-Ok.ensures {u = tt} in
     record {
       machine = c.in-Ok.input.0;
@@ -23,7 +23,7 @@ returns-clause-run c =
     }
 
 pub returns-clause-legal : goal.returns-clause-legal
-returns-clause-legal c =
+returns-clause-legal g c =
     let given = c.in-Ok.ensures {u = tt} in
     run-judged c.args.config.now c.in-Ok.input.0 (texts_from c.args.texts.now 0) c.in-Ok.input.1.items c.args.cycles c.in-Ok-run_plain.outcome
     given.configured given.traces given.cycles

@@ -3,7 +3,7 @@ use Rattle.std.proofs.lemmas.Bool.{false≢true}
 use Rattle.cpu_trace.specs.Lines.{entries_in}
 use Rattle.cpu_trace.specs.Reading.{appended}
 use Rattle.cpu_trace.proofs.Kept.{kept-short, kept-long}
-use Rattle.cpu_trace.proofs.reader.extended.Goals as goal
+use Rattle.cpu_trace.proofs.reading.extended.Goals as goal
 
 pub returns-then-not-has_room : goal.returns-then-not-has_room
 returns-then-not-has_room c =
