@@ -29,7 +29,7 @@ fn assert_refused<R: Abort + Threads + Wait + Sync + AllocGlobal>(
     let bytes = config.as_bytes();
     let by_workers = simulate(rt, alloc, &Open, bytes, &texts, cycles, workers).err();
     assert_eq!(rt; by_workers, Some(want));
-    let plain = simulate_plain(alloc, bytes, &texts, cycles, workers).err();
+    let plain = simulate_plain(rt, alloc, bytes, &texts, cycles, workers).err();
     assert_eq!(rt; plain, Some(want));
     Ok(())
 }

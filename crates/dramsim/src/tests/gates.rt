@@ -148,7 +148,7 @@ fn workers_meet_in_every_phase(rt: HostRuntime) -> Result<(), Fail> {
     let alloc = rt.alloc();
     let config = profile_s(alloc, &["cores = 2"], "")?;
     let texts = texts_of(alloc, &["0 0\n", "0 64\n"])?;
-    let plain = plain_tables(alloc, config.as_str(), &texts, 32)?;
+    let plain = plain_tables(&rt, alloc, config.as_str(), &texts, 32)?;
     for workers in [1, 2, 3] {
         let gate = Meeting::new(alloc, workers, 32)?;
         let bytes = config.as_bytes();
@@ -202,7 +202,7 @@ fn workers_claim_their_jobs(rt: HostRuntime) -> Result<(), Fail> {
         released: AtomicU64::new(0),
     };
     let outcome = simulate(&rt, alloc, &gate, config.as_bytes(), &texts, 32, 2)?;
-    let plain = plain_tables(alloc, config.as_str(), &texts, 32)?;
+    let plain = plain_tables(&rt, alloc, config.as_str(), &texts, 32)?;
     assert!(rt; Tables::of(alloc, &outcome)?.is(&plain));
     assert_eq!(rt; gate.released.load(Ordering::SeqCst), 1);
     assert!(rt; gate.passes.are(6));

@@ -52,13 +52,14 @@ pub(super) fn texts_of(alloc: Global, traces: &[&str]) -> Result<Vec<Vec<u8>>, A
 }
 
 /// The tables of a run by the plain machine.
-pub(super) fn plain_tables(
+pub(super) fn plain_tables<R: Threads + Sync>(
+    rt: &R,
     alloc: Global,
     config: &str,
     texts: &[Vec<u8>],
     cycles: Cycle,
 ) -> Result<Tables, Fault> {
-    let outcome = simulate_plain(alloc, config.as_bytes(), texts, cycles, 1)?;
+    let outcome = simulate_plain(rt, alloc, config.as_bytes(), texts, cycles, 1)?;
     Tables::of(alloc, &outcome)
 }
 
@@ -71,7 +72,7 @@ pub(super) fn assert_same<R: Abort + Threads + Wait + Sync + AllocGlobal>(
     workers: &[u64],
 ) -> Result<(), Fail> {
     let alloc = rt.alloc();
-    let plain = plain_tables(alloc, config, texts, cycles)?;
+    let plain = plain_tables(rt, alloc, config, texts, cycles)?;
     for count in workers {
         let outcome = simulate(rt, alloc, &Open, config.as_bytes(), texts, cycles, *count)?;
         let tables = Tables::of(alloc, &outcome)?;
