@@ -23,7 +23,7 @@ pub read_traces-requires : goal.read_traces-requires
 read_traces-requires g c =
     let e : length c.args.texts.now ≡ c.in-Ok.config.cores = limits_count c.in-Ok.config.cores (length c.args.texts.now) c.args.cycles c.args.workers (sym c.check_limits.ensures ∙ c.in_default.is) in
     let few : c.in-Ok.config.cores ≤ 256 = c.in-Ok.config.machine_in_range.cores_in.1 in
-    omega arith
+    (c.type_bounds.sync-R, omega arith)
 
 pub returns-in-Err-read_traces-clause-refused : goal.returns-in-Err-read_traces-clause-refused
 returns-in-Err-read_traces-clause-refused g c = λ h.
