@@ -73,9 +73,10 @@ const NUMBERS: [(&str, u64, u64); 25] = [
 
 /// The keys that say how many units there are, and how addresses lie.
 fn shape(alloc: Global, random: &mut Random, cores: u64, channels: u64) -> Result<String, Fail> {
-    let groups = 1 << random.between(1, 2);
-    let columns = 1 << random.between(2, 3);
-    let ranks = 1 << random.between(0, 2);
+    let groups = if random.once_in(2) { 2 } else { 4 };
+    let columns = if random.once_in(2) { 4 } else { 8 };
+    let several = if random.once_in(2) { 2 } else { 4 };
+    let ranks = if random.once_in(3) { 1 } else { several };
     let order = if random.once_in(2) {
         "\"channel\", \"column\", \"rank\", \"group\", \"bank\", \"row\""
     } else {
@@ -88,7 +89,7 @@ fn shape(alloc: Global, random: &mut Random, cores: u64, channels: u64) -> Resul
 
 /// Refresh, drain, and where the run ends.
 fn modes(alloc: Global, random: &mut Random, cores: u64) -> Result<String, Fail> {
-    let often = random.between(45, 110);
+    let often = random.between(55, 110);
     let interval = if random.once_in(3) { 0 } else { often };
     let credits = random.between(1, 4);
     let most = random.below(cores.wrapping_mul(credits).wrapping_add(1));

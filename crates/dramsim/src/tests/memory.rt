@@ -52,15 +52,18 @@ fn has_stats(outcome: &Outcome) -> bool {
         && outcome.stats.channels.as_slice() == [channel].as_slice()
 }
 
+/// Whether this is the outcome of that run.
+fn is_right(outcome: &Outcome) -> bool {
+    has_commands(outcome) && has_stats(outcome) && outcome.last.in_flight.is_empty()
+}
+
 /// Whether a run by so many workers gives what it is to give, or is refused for want of memory, or of a worker.
 fn is_right_or_refused<R: Threads + Wait + Sync>(rt: &R, alloc: Global, workers: u64) -> bool {
     let Ok(texts) = texts_of(alloc, &["0 0\n"]) else {
         return true;
     };
     match simulate(rt, alloc, &Open, PROFILE_S.as_bytes(), &texts, 16, workers) {
-        Ok(outcome) => {
-            has_commands(&outcome) && has_stats(&outcome) && outcome.last.in_flight.is_empty()
-        }
+        Ok(outcome) => is_right(&outcome),
         Err(fault) => fault == Fault::Memory || workers > 1 && fault == Fault::WorkerStart,
     }
 }
