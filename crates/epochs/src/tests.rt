@@ -1,6 +1,6 @@
 //! Small runs, as they are worked out by hand, and what faults say.
 
-ghost use Rattle.std.specs.Prelude.{◌≡◌, ◌<◌, ◌≤◌, ◌^◌, ◌∷◌, [], ◌⊎◌, length, All, IfOk, IfSome, IsPermutation};
+ghost use Rattle.std.specs.Prelude.{◌≡◌, ◌<◌, ◌≤◌, ◌^◌, ◌∷◌, [], ◌⊎◌, length, All, IfOk, IsPermutation};
 ghost use Rattle.sim_base.specs.declared.trace.Entry.TheVariants as entry;
 ghost use Rattle.epochs.specs.Views.{jobs_of};
 
@@ -97,10 +97,7 @@ struct Leaves(usize);
 impl Order for Leaves {
     fn arrange(&mut self, _phase: u64, mut results: Vec<Done>) -> Vec<Done> {
         let count = results.len();
-        if count == 0 {
-            return results;
-        }
-        results.swap(count / 2, count - 1);
+        exchange(&mut results, count / 2, count.saturating_sub(1));
         results.truncate(self.0);
         results
     }
@@ -436,22 +433,29 @@ fn two_cores(alloc: Global, config: &Config) -> Result<Sim, AllocError>
     Sim::start(alloc, config, traces)
 }
 
-/// A phase of their run, which begins in this cycle, and its results.
-fn phase_at(
-    alloc: Global,
-    config: &Config,
-    cycle: Cycle,
-) -> Result<Option<(Phase, Vec<Done>)>, RunFault>
+/// A phase, and the results of its jobs.
+#[derive(Drop)]
+struct Found {
+    phase: Phase,
+    results: Vec<Done>,
+}
+
+/// The phase of their run that begins in this cycle. A fault stands for one that has no work, too.
+fn phase_at(alloc: Global, config: &Config, cycle: Cycle) -> Result<Found, RunFault>
     requires cores { config.now.cores ≡ 2 }
     requires early { cycle < 16 }
-    ensures { let line = entry.Read 0 ∷ [] in
-        IfOk result (λ found. IfSome found (λ f. (f.0.machine ≡ config.now) × (f.0.traces ≡ line ∷ line ∷ []) × (f.1.items ≡ jobs_of f.0))) }
+    ensures machine { IfOk result (λ found. found.phase.machine ≡ config.now) }
+    ensures traces { let line = entry.Read 0 ∷ [] in IfOk result (λ found. found.phase.traces ≡ line ∷ line ∷ []) }
+    ensures results { IfOk result (λ found. found.results.items ≡ jobs_of found.phase) }
 {
     let sim = two_cores(alloc, config)?;
     let sim = run_in_order(sim, alloc, cycle, &mut AsTheyCome)?;
     match plan(sim, alloc, 16)? {
-        Planned::Quiet(_) => Ok(None),
-        Planned::Work(phase, jobs) => Ok(Some((phase, results_of(alloc, jobs)?))),
+        Planned::Quiet(_) => Err(RunFault::Memory),
+        Planned::Work(phase, jobs) => {
+            let results = results_of(alloc, jobs)?;
+            Ok(Found { phase, results })
+        }
     }
 }
 
@@ -490,15 +494,18 @@ fn told(
     count: usize,
 ) -> Result<Option<MergeFault>, RunFault> {
     let config = config(alloc, 2)?;
-    let Some((phase, mut results)) = phase_at(alloc, &config, 0)? else {
-        return Ok(None);
-    };
-    let Some((_, mut twins)) = phase_at(alloc, &config, 0)? else {
-        return Ok(None);
-    };
-    let Some((_, mut later)) = phase_at(alloc, &config, 2)? else {
-        return Ok(None);
-    };
+    let first = phase_at(alloc, &config, 0)?;
+    let second = phase_at(alloc, &config, 0)?;
+    let third = phase_at(alloc, &config, 2)?;
+    let Found { phase, mut results } = first;
+    let Found {
+        results: mut twins,
+        ..
+    } = second;
+    let Found {
+        results: mut later,
+        ..
+    } = third;
     results.append(&mut twins)?;
     results.append(&mut later)?;
     let results = picked(&phase, results, pairs, count);
@@ -538,10 +545,11 @@ fn faults_are_found(rt: HostRuntime) -> Result<(), Fail> {
 fn whole_results_go_together(rt: HostRuntime) -> Result<(), Fail> {
     let alloc = rt.alloc();
     let config = config(alloc, 2)?;
-    let Ok(Some((phase, mut results))) = phase_at(alloc, &config, 0) else {
+    let Ok(found) = phase_at(alloc, &config, 0) else {
         assert!(rt; false);
         return Ok(());
     };
+    let Found { phase, mut results } = found;
     results.reverse();
     let sim = merge_whole(phase, alloc, results)?;
     assert_eq!(rt; sim.now(), 2);
