@@ -1,5 +1,5 @@
 -- What a command is, whose settings are plain.
-use Rattle.std.proofs.Common.{◌≡◌, ◌&&◌, Bool, true, false, not, refl, ap, ◌∙◌}
+use Rattle.std.proofs.Common.{◌≡◌, ◌&&◌, Bool, true, false, not, refl, ap}
 use Rattle.clap.specs.Words.{App}
 
 -- the third of four tests

@@ -1,6 +1,5 @@
 -- The verdict on the table of a run.
-use Rattle.std.proofs.Common.{◌≡◌, ℕ, zero, suc, ◌+◌, ◌<◌, ◌≤◌, ◌^◌, Bool, true, false, ◌&&◌, cond, leb, List, [], ◌∷◌, length, Result, Ok, Err, refl, sym, ap, subst, ◌∙◌, arith}
-use Rattle.std.specs.Prelude.{All}
+use Rattle.std.proofs.Common.{◌≡◌, ℕ, zero, suc, ◌+◌, ◌≤◌, ◌^◌, Bool, true, false, ◌&&◌, cond, leb, List, [], ◌∷◌, length, Result, Ok, Err, refl, ap, subst, ◌∙◌, arith}
 use Rattle.std.specs.List.{AllByRecursion as Each}
 use Rattle.std.proofs.lemmas.Bool.Decides.{nat_tests}
 use Rattle.std.proofs.lemmas.List.Elements.{All-from_recursion}
@@ -11,13 +10,11 @@ use Rattle.sim_base.specs.declared.trace.Entry.{Entry}
 use Rattle.sim_base.specs.Document.{document_of}
 use Rattle.sim_base.specs.Values.{values_of}
 use Rattle.sim_base.specs.TraceText.{◌>>=◌, trace_answer, in_trace, trace_entries, limited}
-use Rattle.sim_base.specs.History.{commands}
 use Rattle.sim_base.specs.Machine.{run, is_over, cycles_run}
 use Rattle.statistics.specs.Runs.{outcome_of, outcome_after}
 use Rattle.statistics.specs.Values.{RunOutcome}
 use Rattle.reports.specs.Commands.{commands_text}
 use Rattle.rule_check.specs.Verdict.{records_of, verdict}
-use Rattle.rule_check.specs.declared.verdict.Verdict.TheVariants.{Legal}
 use Rattle.table_laws.proofs.Verdicts.{runs-legal}
 use Rattle.dramsim.specs.Runs.{traces_of, IsJudgedLegal}
 

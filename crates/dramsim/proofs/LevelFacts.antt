@@ -1,16 +1,15 @@
 -- One level of a command line that passes: the values that it gives, and the subcommand that it meets.
-use Rattle.std.proofs.Common.{◌≡◌, ◌&&◌, ◌||◌, ◌<◌, ℕ, Bool, true, false, not, List, [], ◌∷◌, ◌++◌, length, codes, slice_get, option_and_then, option_map, Option, Some, None, is_some, refl, sym, ap, subst, ◌∙◌, arith}
-use Rattle.std.specs.List.{find, fold, list_all, list_any}
+use Rattle.std.proofs.Common.{◌≡◌, ◌&&◌, ◌||◌, ◌<◌, ℕ, Bool, true, false, not, List, [], ◌∷◌, codes, Option, Some, None, refl, sym, ap, subst, ◌∙◌, arith}
+use Rattle.std.specs.List.{find, fold, list_all}
 use Rattle.std.specs.Option.{option_map_or}
 use Rattle.std.specs.Str.{bytes_eq}
 use Rattle.std.proofs.lemmas.Slice.Eq.{bytes_eq-Decides}
 use Rattle.clap.proofs.WalkLemmas.{both}
 use Rattle.clap.specs.Facts.{explicit_source}
 use Rattle.clap.specs.Lexer.{long_of, short_of}
-use Rattle.clap.specs.Simple.{App, Shape, entered, label_of, names_of}
-use Rattle.clap.specs.Walk.{Held, Names, Outcome, Row, Rule, Step, Text, Waiting, Walk, after_flag, after_step, all_of, answers_to, arg_by_id, arg_by_index, arg_by_long, bundle, default_rows, done, finished, first_of, has_row, idle, long_met, long_or_other, next, nothing_held, one_of, option, option_word, plain, plain_word, positional, reading_by, refused, rows_after, settled, short_or_plain, subcommand, subcommand_met, subcommand_or_other, to_positional, trailing, value, waits, walk, walk_from, walked, walked_from, with_default, word_met}
-use Rattle.clap.specs.Takes.{built_takes, entered_passes, is_given, is_valid, level_passes, other_passes, settle_passes, turn_passes, walk_passes, word_passes}
-use Rattle.clap.specs.declared.builder.value_parser.Reading.TheVariants.{AsWritten}
+use Rattle.clap.specs.Simple.{Shape}
+use Rattle.clap.specs.Walk.{Held, Names, Outcome, Row, Rule, Step, Text, Waiting, Walk, after_flag, after_step, all_of, arg_by_index, arg_by_long, bundle, done, first_of, has_row, idle, long_met, long_or_other, next, nothing_held, one_of, option, plain, plain_word, positional, refused, rows_after, settled, short_or_plain, subcommand, subcommand_met, subcommand_or_other, to_positional, trailing, value, waits, walk, walk_from, walked, walked_from, with_default, word_met}
+use Rattle.clap.specs.Takes.{is_given, is_valid, level_passes, other_passes, settle_passes, turn_passes, walk_passes, word_passes}
 use Rattle.dramsim.proofs.RowFacts.{AreFit, FitRows, FitsRow, passes_for}
 use Rattle.dramsim.proofs.WalkFacts.{settled-fits, walk-fits}
 

@@ -1,8 +1,7 @@
 -- What the matches of a parse give.
-use Rattle.std.proofs.Common.{◌≡◌, ◌∙◌, ℕ, Bool, true, List, Option, Some, None, Ok, Err, option_map, refl, sym, ap, rules}
+use Rattle.std.proofs.Common.{◌≡◌, ℕ, Option, Some, None, Ok, refl}
 use Rattle.std.specs.Str.Parse.{ParsesUnsigned, ExplainsUnsignedError, HasUnsignedDigitsIfOk}
 use Rattle.std.specs.declared.num.ParseIntError.{ParseIntError}
-use Rattle.std.proofs.lemmas.Option.{same_Some}
 use Rattle.std.proofs.lemmas.Result.{OkIff-at_ok}
 use Rattle.clap.specs.Words.{ReadsOne, Text}
 use Rattle.dramsim.specs.Ask.{IsCount, IsCountText}

@@ -1,22 +1,21 @@
 -- What the command line takes gives each argument that its command needs.
-use Rattle.std.proofs.Common.{◌≡◌, ◌⊎◌, inl, inr, Bool, true, false, not, ◌&&◌, ◌||◌, List, [], ◌∷◌, codes, Option, Some, None, is_some, refl, sym, ap, subst, ◌∙◌}
+use Rattle.std.proofs.Common.{◌≡◌, ◌⊎◌, inl, inr, Bool, true, false, not, ◌&&◌, ◌||◌, List, [], ◌∷◌, codes, Option, Some, None, is_some, refl, sym, subst}
 use Rattle.std.specs.Prelude.{IsSome}
 use Rattle.std.specs.List.{find}
 use Rattle.std.specs.Option.{option_map_or}
 use Rattle.std.specs.Str.{bytes_eq}
 use Rattle.std.proofs.lemmas.Slice.Eq.{bytes_eq-Decides}
-use Rattle.clap.proofs.OnLiterals.{clap_on_literals}
 use Rattle.clap.proofs.ValueTestLemmas.{accepts-Accepts}
 use Rattle.clap.proofs.WalkLemmas.{both}
 use Rattle.clap.specs.Simple.{App, Shape, argument_words, built, built_leaf, entered, help_shape, inherited, is_simple, label_of, marked_built, names_of, with_leaf_noted}
-use Rattle.clap.specs.Walk.{Row, Text, answers_to, finished, nothing_held, rows_after, walk, walk_from}
+use Rattle.clap.specs.Walk.{Text, answers_to, nothing_held, rows_after, walk, walk_from}
 use Rattle.clap.specs.ValueTests.{accepts}
-use Rattle.clap.specs.Takes.{built_takes, entered_passes, is_given, is_valid, level_passes, settle_passes, walk_passes}
+use Rattle.clap.specs.Takes.{built_takes, entered_passes, is_given, level_passes, settle_passes, walk_passes}
 use Rattle.clap.specs.declared.builder.value_parser.ValueParser.TheVariants.{Unsigned}
 use Rattle.dramsim.specs.CommandLine.{program_app, run_app, check_app, map_app}
 use Rattle.dramsim.specs.Ask.{is_taken, command_of, GivesAll, GivesRun, GivesCheck, GivesMap, IsCountText}
 use Rattle.dramsim.proofs.RowFacts.{AreFit}
-use Rattle.dramsim.proofs.LevelFacts.{IsGiven, StopsOn, given, level-gives, walk-stop}
+use Rattle.dramsim.proofs.LevelFacts.{StopsOn, given, level-gives, walk-stop}
 
 -- ---- the subcommand that is entered
 

@@ -1,8 +1,8 @@
 -- The first test that is not passed is answered; else these are the configuration and the traces of the input.
-use Rattle.std.proofs.Common.{◌≡◌, ℕ, ◌≤◌, ◌^◌, List, length, map, Ok, Err, vec_len, refl, sym, ap, ◌∙◌, arith}
+use Rattle.std.proofs.Common.{◌≡◌, ◌≤◌, length, sym, ap, ◌∙◌, arith}
 use Rattle.std.proofs.lemmas.List.{length-map}
 use Rattle.sim_base.specs.Values.{values_of}
-use Rattle.dramsim.specs.Runs.{limits_of, traces_of, input_of}
+use Rattle.dramsim.specs.Runs.{limits_of}
 use Rattle.dramsim.proofs.TraceLists.{texts_from}
 use Rattle.dramsim.proofs.Inputs.{input_config, input_limits, input_traces, limits_count, limits_workers, limits_cycles}
 use Rattle.dramsim.proofs.runs.read_input.Goals as goal

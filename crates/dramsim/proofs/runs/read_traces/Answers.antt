@@ -1,5 +1,5 @@
 -- Each text in turn is read or refused as it should be.
-use Rattle.std.proofs.Common.{◌≡◌, ℕ, ◌+◌, ◌<◌, ◌≤◌, List, [], ◌∷◌, ◌++◌, Ok, Err, get_or, vec_len, refl, sym, ap, ap₂, ◌∙◌, arith}
+use Rattle.std.proofs.Common.{◌≡◌, ◌+◌, [], ◌∷◌, ◌++◌, Ok, Err, get_or, vec_len, sym, ap, ap₂, ◌∙◌, arith}
 use Rattle.sim_base.specs.TraceText.{trace_answer}
 use Rattle.dramsim.specs.Runs.{traces_of}
 use Rattle.dramsim.proofs.TraceLists.{prepend, texts_from, traces_here, refused_here, traces_end}

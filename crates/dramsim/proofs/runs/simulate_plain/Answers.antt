@@ -1,5 +1,5 @@
 -- The run is that of the configuration and the traces.
-use Rattle.std.proofs.Common.{◌≡◌, ap, ◌∙◌}
+use Rattle.std.proofs.Common.{ap, ◌∙◌}
 use Rattle.sim_base.specs.Machine.{cycles_run}
 use Rattle.statistics.specs.Runs.{outcome_of}
 use Rattle.dramsim.proofs.TraceLists.{texts_from}

@@ -1,6 +1,6 @@
-use Rattle.std.proofs.Common.{◌≡◌, ◌∙◌, map, List, true}
+use Rattle.std.proofs.Common.{map}
 use Rattle.std.proofs.lemmas.Result.{IfOk-weaker}
-use Rattle.clap.specs.Words.{Text, app_of, subcommand_rows_of}
+use Rattle.clap.specs.Words.{app_of, subcommand_rows_of}
 use Rattle.dramsim.proofs.AskLemmas.{matched, failed, passes, asked_from, answered_from, help_from, helped_from, no_command, refused_from}
 use Rattle.dramsim.proofs.TakenLemmas.{taken_gives_all}
 use Rattle.dramsim.proofs.words.read_words.Goals as goal
