@@ -212,7 +212,8 @@ fn a_machine_works_where_something_happens(rt: HostRuntime) -> Result<(), Fail> 
         rt.alloc(),
         1_000_000_000_000,
         &mut counting,
-    ).expect(&rt, "a run");
+    )
+    .expect(&rt, "a run");
     assert_eq!(rt; sim.now(), 1_000_000_000_000);
     assert_eq!(rt; counting.phases, 12);
     Ok(())
