@@ -88,6 +88,3 @@ pub fn address_of(config: &Config, place: &Place) -> u64
     }
     address
 }
-
-#[cfg(test)]
-mod tests;

@@ -1,4 +1,3 @@
-pub mod Found
 pub mod Places
 pub mod Bounds
 pub mod Noting

@@ -181,15 +181,6 @@ data-acts banks t cycle (Pre b source) k m = cc
 data-acts banks t cycle (Prea rank) k m = cc
 data-acts banks t cycle (Ref rank) k m = cc
 
--- and closes and opens no row
-pub kept-row : (command : Command) (k : ℕ) (row : Option ℕ) → moves_data (kind_of command) ≡ true → row ≡ row_after (bank_at k) row command
-kept-row (Rd b r column source) k row m = refl
-kept-row (Wr b r column source) k row m = refl
-kept-row (Act b r source) k row m = cc
-kept-row (Pre b source) k row m = cc
-kept-row (Prea rank) k row m = cc
-kept-row (Ref rank) k row m = cc
-
 pub no-act : (k : Kind) → moves_data k ≡ true → is_kind k kind.Act ≡ false
 no-act kind.Rd m = refl
 no-act kind.Wr m = refl
@@ -235,14 +226,6 @@ act-tests t cycle end false state =
     let prea : state.prea ≡ max state.prea (held_until t cycle kind.Act kind.Prea OtherRank) = omega (arith, none.0) in
     let refresh : state.refresh ≡ max state.refresh (held_until t cycle kind.Act kind.Ref OtherRank) = omega (arith, none.1) in
     λ i. record { prea = prea i; refresh = refresh i; window = state.window }
-
--- the row of the own bank alone
-pub put-row : {Z : Type 0} (v : Vec (Option ℕ) Z) (lent ys : List (Option ℕ)) (bank : BankId) (own row : Option ℕ) → lent ≡ v.items → length ys ≡ length lent
-    → ((k : ℕ) (d : Option ℕ) → get_or ys k d ≡ cond (is_own own k) row (get_or lent k d)) → ((k : ℕ) → is_own own k ≡ is_bank (bank_at k) bank)
-    → IsPut v.items (with_items v ys).items (λ k before. cond (is_bank (bank_at k) bank) row before)
-put-row v lent ys bank own row is long each number =
-    put v lent ys (λ k before. cond (is_bank (bank_at k) bank) row before) is long
-    (λ k d l. each k d ∙ ap (λ (b : Bool). cond b row (get_or lent k d)) (number k))
 
 -- the words of the own rank alone
 pub put-rank : {Z : Type 0} (v : Vec RankState Z) (lent ys : List RankState) (t : Timing) (cycle rank : ℕ) (command : Command)

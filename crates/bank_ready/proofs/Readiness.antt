@@ -10,7 +10,7 @@ use Rattle.sim_base.specs.declared.place.BankId.{BankId}
 use Rattle.sim_base.specs.declared.command.Kind.{Kind}
 use Rattle.sim_base.specs.declared.command.Command.{Command}
 use Rattle.sim_base.specs.declared.command.CommandRow.{CommandRow}
-use Rattle.sim_base.specs.Rules.{kind_of, rank_of, bank_of, is_past_gap, keeps_distances, row_after, open_row}
+use Rattle.sim_base.specs.Rules.{kind_of, rank_of, bank_of, is_past_gap, keeps_distances}
 use Rattle.timing.specs.Holds.{hold}
 use Rattle.bank_ready.specs.Ready.{held_until, held_by, ready_from}
 
@@ -21,10 +21,6 @@ unfolding ready_from
 ready_from-more t history i later rank bank =
     let f = held_by t later rank bank in
     rw (map-append f history (i ∷ [])) (fold-append max 0 (map f history) (f i ∷ []))
-
-pub open_row-more : (bank : BankId) (history : List CommandRow) (i : CommandRow) → open_row bank (history ++ i ∷ []) ≡ row_after bank (open_row bank history) i.command
-unfolding open_row
-open_row-more bank history i = fold-append (λ row (j : CommandRow). row_after bank row j.command) None history (i ∷ [])
 
 -- where a rule binds two commands by g, and where none does
 passed : (b : Bool) (cycle g now : ℕ) → (unwrap_or (option_map (λ gap. cycle + gap) (cond b (Some g) None)) 0 ≤ now) ↔ IsTrue (not b || leb (cycle + g) now)

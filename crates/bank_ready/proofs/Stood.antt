@@ -12,14 +12,13 @@ use Rattle.sim_base.specs.declared.command.Kind.{Kind}
 use Rattle.sim_base.specs.declared.command.Kind.TheVariants as kind
 use Rattle.sim_base.specs.declared.command.CommandRow.{CommandRow}
 use Rattle.sim_base.specs.History.{below}
-use Rattle.sim_base.specs.Rules.{row_after, open_row}
 use Rattle.bank_ready.specs.Ready.{held_by, ready_from, window_ends}
 use Rattle.bank_ready.specs.Words.{act_word, rd_word, wr_word, pre_word, bank_at, no_acts, window_from, word_from, act_word_from, word_until, acts_in, rank_state_from, rank_state_after}
 use Rattle.bank_ready.specs.Noted.{IsRaised, window_word, IsFloorRaised, IsNoted}
 use Rattle.bank_ready.specs.Stands.{StandsFor, Ascends, IsFloor}
 use Rattle.bank_ready.specs.declared.words.RankState.{RankState}
 use Rattle.bank_ready.specs.declared.banks.Banks.{Banks}
-use Rattle.bank_ready.proofs.Readiness.{ready_from-more, open_row-more}
+use Rattle.bank_ready.proofs.Readiness.{ready_from-more}
 use Rattle.bank_ready.proofs.Window.{window_from-more, oldest-first}
 
 -- what is read in a list that was made by number
@@ -133,9 +132,6 @@ noted banks after s history i h later e =
           ∙ word-more banks.delays.value s history i kind.Pre k h.timing;
       rd_floor = floor-more banks.delays.value s history i kind.Rd banks.rd_floor after.rd_floor h.timing h.rd_floor e.rd_floor;
       wr_floor = floor-more banks.delays.value s history i kind.Wr banks.wr_floor after.wr_floor h.timing h.wr_floor e.wr_floor;
-      rows =
-          changed (λ k. open_row (bank_at k) history) (λ k. open_row (bank_at k) more) (λ k row. row_after (bank_at k) row i.command) n banks.rows.items after.rows.items None
-          h.rows e.row_count (λ k l. e.rows k None l) (λ k l. sym (open_row-more (bank_at k) history i));
       rank_states =
           changed (rank_state_from t history) (rank_state_from t more) (rank_state_after t i.cycle i.command) s.ranks banks.ranks.items after.ranks.items unused
           h.rank_states e.rank_count
@@ -166,10 +162,9 @@ pub stands-first : (banks : Banks) (s : Config) → banks.delays.value ≡ s.tim
     → banks.wr.items ≡ replicate (16 * s.ranks) 0 → banks.wr_groups.items ≡ replicate (4 * s.ranks) 0
     → banks.pre.items ≡ replicate (16 * s.ranks) 0
     → banks.rd_floor ≡ 0 → banks.wr_floor ≡ 0
-    → banks.rows.items ≡ replicate (16 * s.ranks) None
     → banks.ranks.items ≡ replicate s.ranks (record { prea = 0; refresh = 0; window = no_acts }) → StandsFor banks s []
-unfolding ready_from open_row window_from window_ends
-stands-first banks s t act act_groups rd rd_groups wr wr_groups pre rd_floor wr_floor rows ranks =
+unfolding ready_from window_from window_ends
+stands-first banks s t act act_groups rd rd_groups wr wr_groups pre rd_floor wr_floor ranks =
     let n = 16 * s.ranks in
     let unused : RankState = record { prea = 0; refresh = 0; window = no_acts } in
     record {
@@ -181,7 +176,6 @@ stands-first banks s t act act_groups rd rd_groups wr wr_groups pre rd_floor wr_
       pre_words = λ k l. ap (λ xs. get_or xs k 0) pre ∙ get_or-replicate n k 0 0 l;
       rd_floor = λ rank bank. omega (arith, rd_floor);
       wr_floor = λ rank bank. omega (arith, wr_floor);
-      rows = rows ∙ fill_by_all (λ k. open_row (bank_at k) []) _ n None (length-replicate n None) (λ k l. get_or-replicate n k None None l);
       rank_states = ranks ∙ fill_by_all (rank_state_from s.timing []) _ s.ranks unused (length-replicate s.ranks unused) (λ k l. get_or-replicate s.ranks k unused unused l);
       ascending = tt;
     }

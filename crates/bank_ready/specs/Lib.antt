@@ -1,5 +1,4 @@
 pub mod Ready
-pub mod Delays
 pub mod Words
 pub mod Noted
 pub mod Stands

@@ -9,10 +9,10 @@ use Rattle.sim_base.specs.declared.place.BankId.{BankId}
 use Rattle.sim_base.specs.declared.command.Command.{Command}
 use Rattle.sim_base.specs.declared.command.Kind.{Kind}
 use Rattle.sim_base.specs.declared.command.Kind.TheVariants.{Act, Rd, Wr, Pre}
-use Rattle.sim_base.specs.Rules.{kind_of, row_after}
+use Rattle.sim_base.specs.Rules.{kind_of}
 use Rattle.timing.specs.Relation.{relation_to}
 use Rattle.bank_ready.specs.Ready.{held_until}
-use Rattle.bank_ready.specs.Words.{act_word, rd_word, wr_word, pre_word, bank_at, word_until, acts_in, no_acts, rank_state_after}
+use Rattle.bank_ready.specs.Words.{act_word, rd_word, wr_word, pre_word, word_until, acts_in, no_acts, rank_state_after}
 use Rattle.bank_ready.specs.declared.words.RankState.{RankState}
 use Rattle.bank_ready.specs.declared.banks.Banks.{Banks}
 
@@ -31,7 +31,7 @@ abbrev pub IsFloorRaised : Timing → ℕ → Command → Kind → ℕ → ℕ �
 IsFloorRaised t cycle command later before after =
     (rank : ℕ) (bank : Option BankId) → after ≤ max before (held_until t cycle (kind_of command) later (relation_to command rank bank))
 
--- one command more is noted in the words of each bank, its row and each rank, by these distances
+-- one command more is noted in the words of each bank and each rank, by these distances
 pub record IsNoted (banks after : Banks) (t : Timing) (cycle : ℕ) (command : Command) : Type 0 where
   pub delays : after.delays ≡ banks.delays
   pub act : IsRaised (16 * length banks.ranks.items) (act_word banks) (act_word after) (λ k. max (word_until t cycle command Act k) (window_word banks command k))
@@ -40,7 +40,5 @@ pub record IsNoted (banks after : Banks) (t : Timing) (cycle : ℕ) (command : C
   pub pre : IsRaised (16 * length banks.ranks.items) (pre_word banks) (pre_word after) (word_until t cycle command Pre)
   pub rd_floor : IsFloorRaised t cycle command Rd banks.rd_floor after.rd_floor
   pub wr_floor : IsFloorRaised t cycle command Wr banks.wr_floor after.wr_floor
-  pub row_count : length after.rows.items ≡ length banks.rows.items
-  pub rows : (k : ℕ) (d : Option ℕ) → k < length banks.rows.items → slice_index_or after.rows.items k d ≡ row_after (bank_at k) (slice_index_or banks.rows.items k d) command
   pub rank_count : length after.ranks.items ≡ length banks.ranks.items
   pub ranks : (k : ℕ) (d : RankState) → k < length banks.ranks.items → slice_index_or after.ranks.items k d ≡ rank_state_after t cycle command k (slice_index_or banks.ranks.items k d)

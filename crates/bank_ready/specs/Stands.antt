@@ -14,7 +14,7 @@ use Rattle.sim_base.specs.declared.command.Kind.{Kind}
 use Rattle.sim_base.specs.declared.command.Kind.TheVariants.{Rd, Wr, Pre}
 use Rattle.sim_base.specs.declared.command.CommandRow.{CommandRow}
 use Rattle.sim_base.specs.History.{below}
-use Rattle.sim_base.specs.Rules.{is_allowed, open_row}
+use Rattle.sim_base.specs.Rules.{is_allowed}
 use Rattle.bank_ready.specs.Ready.{ready_from}
 use Rattle.bank_ready.specs.Words.{act_word, rd_word, wr_word, pre_word, act_word_from, word_from, rank_state_from, bank_at}
 use Rattle.bank_ready.specs.declared.banks.Banks.{Banks}
@@ -37,7 +37,7 @@ abbrev pub IsFloor : Timing → List CommandRow → Kind → ℕ → Type 0
 IsFloor t history later floor = (rank : ℕ) (bank : Option BankId) → floor ≤ ready_from t history later rank bank
 
 -- Commands whose cycles ascend made each word the least cycle from which on none of them holds back such a command, an ACT's also
--- by the four-activate window, each floor a cycle before which they allow no such command in any bank, each row the one that is open,
+-- by the four-activate window, each floor a cycle before which they allow no such command in any bank,
 -- and each window the last four ACTs of its rank.
 pub record StandsFor (banks : Banks) (s : Config) (history : List CommandRow) : Type 0 where
   pub timing : banks.delays.value ≡ s.timing
@@ -48,6 +48,5 @@ pub record StandsFor (banks : Banks) (s : Config) (history : List CommandRow) : 
   pub pre_words : (k : ℕ) → k < 16 * s.ranks → pre_word banks k ≡ word_from s.timing history Pre k
   pub rd_floor : IsFloor s.timing history Rd banks.rd_floor
   pub wr_floor : IsFloor s.timing history Wr banks.wr_floor
-  pub rows : banks.rows.items ≡ map (λ k. open_row (bank_at k) history) (below (16 * s.ranks))
   pub rank_states : banks.ranks.items ≡ map (rank_state_from s.timing history) (below s.ranks)
   pub ascending : Ascends history

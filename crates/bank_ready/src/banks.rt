@@ -2,21 +2,21 @@
 
 ghost use Rattle.std.specs.Prelude.{◌≡◌, ◌+◌, ◌*◌, ◌^◌, ◌<◌, ◌≤◌, length};
 
-use crate::delays::Delays;
 use crate::words::{
-    RankState, Window, bound_until, close_rank, note_act_in_rank, note_row, number_of, own_number,
-    raise_acts, raise_data, raise_own, raise_rank, raise_rank_groups, raise_rank_words,
+    RankState, Window, bound_until, note_act_in_rank, own_number, raise_acts, raise_data,
+    raise_own, raise_rank, raise_rank_groups, raise_rank_words,
 };
 use sim_base::command::{Command, Kind, Relation};
 use sim_base::config::Config;
 use sim_base::message::Cycle;
 use sim_base::place::BankId;
 use std::alloc::{AllocError, Global};
+use timing::gap_table::GapTable;
 
 /// The banks of a channel. It stands for the list of commands that were noted, each with its cycle.
 #[derive(Drop)]
 pub struct Banks {
-    delays: Box<Delays>,
+    delays: Box<GapTable>,
     /// The least cycle from which on each command of a bank is held back no more, by the bank's number: for an ACT, a RD and a WR
     /// the later one of the bank's own and of that of its group, by the group's number among those of all ranks.
     act: Vec<Cycle>,
@@ -29,8 +29,6 @@ pub struct Banks {
     /// A cycle before which no RD is allowed in any bank, and one before which no WR is.
     rd_floor: Cycle,
     wr_floor: Cycle,
-    /// The open rows, by the bank's number.
-    rows: Vec<Option<u32>>,
     ranks: Vec<RankState>,
     ghost few: { length ranks.items ≤ 4 },
     ghost all_acts: { length act.items ≡ 16 * length ranks.items },
@@ -40,7 +38,6 @@ pub struct Banks {
     ghost all_wrs: { length wr.items ≡ 16 * length ranks.items },
     ghost all_wr_groups: { length wr_groups.items ≡ 4 * length ranks.items },
     ghost all_pres: { length pre.items ≡ 16 * length ranks.items },
-    ghost all_rows: { length rows.items ≡ 16 * length ranks.items },
 }
 
 /// A rank that had no command.
@@ -65,7 +62,7 @@ impl Banks {
     ghost use Rattle.sim_base.specs.declared.command.Command.{Command};
     ghost use Rattle.sim_base.specs.declared.command.CommandRow.{CommandRow};
     ghost use Rattle.sim_base.specs.declared.command.Source.{Source};
-    ghost use Rattle.sim_base.specs.Rules.{kind_of, bank_of, rank_of, open_row};
+    ghost use Rattle.sim_base.specs.Rules.{kind_of, bank_of, rank_of};
     ghost use Rattle.bank_ready.specs.Words.{names_bank, names_rank, moves_data, bank_at};
     ghost use Rattle.bank_ready.specs.Noted.{IsNoted};
     ghost use Rattle.bank_ready.specs.Stands.{rank_count, IsAllowedFrom, StandsFor};
@@ -77,7 +74,7 @@ impl Banks {
     {
         let ranks = config.ranks as usize;
         Ok(Banks {
-            delays: Box::new(alloc, Delays::of(config))?,
+            delays: Box::new(alloc, GapTable::of(config))?,
             act: vec![in alloc; 0; 16 * ranks]?,
             act_groups: vec![in alloc; 0; 4 * ranks]?,
             rd: vec![in alloc; 0; 16 * ranks]?,
@@ -87,7 +84,6 @@ impl Banks {
             pre: vec![in alloc; 0; 16 * ranks]?,
             rd_floor: 0,
             wr_floor: 0,
-            rows: vec![in alloc; None; 16 * ranks]?,
             ranks: vec![in alloc; unused_rank(); ranks]?,
         })
     }
@@ -109,22 +105,6 @@ impl Banks {
             Kind::Pre => self.pre[bank],
             Kind::Prea | Kind::Ref => unreachable!(),
         }
-    }
-
-    /// The least cycle from which on a command of this kind, which names a bank, is held back no more: by the distances to
-    /// the commands before it and, for an ACT, by the four-activate window.
-    #[inline(always)]
-    #[tactic(auto, using(crate::proofs::Places::bank_at_number))]
-    pub fn earliest(&self, kind: Kind, bank: BankId) -> Cycle
-        requires kind { IsTrue (names_bank kind) }
-        requires rank { bank.rank < rank_count self.now }
-        requires group { bank.group < 4 }
-        requires bank { bank.bank < 4 }
-        ensures least { (s : Config) (history : List CommandRow) (command : Command)
-            → StandsFor self.now s history → kind_of command ≡ kind → bank_of command ≡ Some bank
-            → IsAllowedFrom s history command result }
-    {
-        self.earliest_in(kind, number_of(bank))
     }
 
     /// A cycle before which no command of this kind, which moves data, is allowed in any bank.
@@ -158,36 +138,13 @@ impl Banks {
         }
     }
 
-    /// The row that is open in the bank with this number.
-    #[inline(always)]
-    pub fn open_row_in(&self, bank: usize) -> Option<u32>
-        requires { bank < 16 * rank_count self.now }
-        ensures { (s : Config) (history : List CommandRow)
-            → StandsFor self.now s history → result ≡ open_row (bank_at bank) history }
-    {
-        self.rows[bank]
-    }
-
-    /// The row that is open in a bank.
-    #[inline(always)]
-    #[tactic(auto, using(crate::proofs::Places::bank_at_number))]
-    pub fn open_row(&self, bank: BankId) -> Option<u32>
-        requires rank { bank.rank < rank_count self.now }
-        requires group { bank.group < 4 }
-        requires bank { bank.bank < 4 }
-        ensures { (s : Config) (history : List CommandRow)
-            → StandsFor self.now s history → result ≡ open_row bank history }
-    {
-        self.open_row_in(number_of(bank))
-    }
-
     /// Notes an ACT, in its bank, in the words of ACTs of the groups of its rank and in those of the whole rank.
     #[inline(always)]
     #[tactic(auto, unfolding(sim_base::specs::Rules::is_bound))]
-    fn note_act(&mut self, bank: BankId, row: u32, cycle: Cycle)
+    fn note_act(&mut self, bank: BankId, cycle: Cycle)
         requires rank { bank.rank < rank_count self.old }
         requires cycle { cycle < 2 ^ 62 }
-        ensures { (source : Source) → IsNoted self.old self.new self.old.delays.value cycle (Command.Act bank row source) }
+        ensures { (row : ℕ) (source : Source) → IsNoted self.old self.new self.old.delays.value cycle (Command.Act bank row source) }
     {
         let delays = &*self.delays;
         let own = own_number(bank);
@@ -201,7 +158,6 @@ impl Banks {
         raise_own(&mut self.rd, own, to_rd);
         raise_own(&mut self.wr, own, to_wr);
         raise_own(&mut self.pre, own, to_pre);
-        note_row(&mut self.rows, own, Some(row));
         let last = cycle + u64::from(delays.four_act_window());
         note_act_in_rank(delays, &mut self.ranks, bank.rank, cycle, last);
     }
@@ -239,7 +195,6 @@ impl Banks {
         let own = own_number(bank);
         let to_act = bound_until(delays, cycle, Kind::Pre, Kind::Act, Relation::SameBank);
         raise_own(&mut self.act, own, to_act);
-        note_row(&mut self.rows, own, None);
         raise_rank_words(delays, &mut self.ranks, bank.rank, cycle, Kind::Pre);
     }
 
@@ -254,7 +209,6 @@ impl Banks {
         let delays = &*self.delays;
         let to_act = bound_until(delays, cycle, Kind::Prea, Kind::Act, Relation::SameBank);
         raise_rank_groups(&mut self.act_groups, rank, to_act);
-        close_rank(&mut self.rows, rank);
         raise_rank_words(delays, &mut self.ranks, rank, cycle, Kind::Prea);
     }
 
@@ -285,7 +239,7 @@ impl Banks {
         ensures ranks { rank_count self.new ≡ rank_count self.old }
     {
         match command {
-            Command::Act { bank, row, .. } => self.note_act(bank, row, cycle),
+            Command::Act { bank, .. } => self.note_act(bank, cycle),
             Command::Rd { bank, .. } => self.note_data(Kind::Rd, bank, cycle),
             Command::Wr { bank, .. } => self.note_data(Kind::Wr, bank, cycle),
             Command::Pre { bank, .. } => self.note_pre(bank, cycle),

@@ -2,7 +2,4 @@
 #![tactic(auto)]
 
 pub mod banks;
-mod delays;
-#[cfg(test)]
-mod tests;
 pub mod words;

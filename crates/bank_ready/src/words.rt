@@ -1,7 +1,7 @@
 //! What a channel keeps of the commands that were issued: columns with a word for each bank or for each group, and what it keeps
 //! of each rank.
 
-ghost use Rattle.std.specs.Prelude.{◌≡◌, ◌+◌, ◌*◌, ◌/◌, ◌%◌, ◌^◌, ◌<◌, ◌≤◌, ◌==◌, max, ℕ, IsTrue, IfSome, None, Option, length, slice_index_or, if◌then◌else◌};
+ghost use Rattle.std.specs.Prelude.{◌≡◌, ◌+◌, ◌*◌, ◌/◌, ◌%◌, ◌^◌, ◌<◌, ◌≤◌, ◌==◌, max, ℕ, IsTrue, IfSome, length, slice_index_or, if◌then◌else◌};
 ghost use Rattle.sim_base.specs.Places.{is_bank};
 ghost use Rattle.sim_base.specs.declared.command.Relation.{Relation};
 ghost use Rattle.sim_base.specs.Rules.{is_bound};
@@ -9,10 +9,10 @@ ghost use Rattle.bank_ready.specs.Ready.{held_until};
 ghost use Rattle.bank_ready.specs.declared.words.RankState.{RankState};
 ghost use Rattle.bank_ready.specs.Words.{moves_data, group_relation_from, is_own, bank_at, number_of, act_pushed, rank_raised};
 
-use crate::delays::Delays;
 use sim_base::command::{Kind, Relation};
 use sim_base::message::Cycle;
 use sim_base::place::BankId;
+use timing::gap_table::GapTable;
 
 /// The last four ACTs of a rank, by the cycle from which on each no longer counts for the four-activate window; 0 in the place
 /// of each that there was not.
@@ -36,7 +36,7 @@ pub(crate) struct RankState {
 #[inline(always)]
 #[tactic(auto, using(crate::proofs::Bounds::held_if_bound))]
 pub(crate) fn bound_until(
-    delays: &Delays,
+    delays: &GapTable,
     cycle: Cycle,
     earlier: Kind,
     later: Kind,
@@ -46,7 +46,7 @@ pub(crate) fn bound_until(
     requires bound { IsTrue (is_bound delays.now earlier later relation) }
     ensures { result ≡ held_until delays.now cycle earlier later relation }
 {
-    cycle + delays.delay(earlier, later, relation)
+    cycle + delays.gap(earlier, later, relation)
 }
 
 /// The number of a bank among those of all ranks.
@@ -192,7 +192,7 @@ pub(crate) fn raise_all_groups(
 #[inline(always)]
 #[tactic(auto, using(crate::proofs::Bounds::data_bound, crate::proofs::Bounds::data_least, crate::proofs::Places::data_raised))]
 pub(crate) fn raise_data(
-    delays: &Delays,
+    delays: &GapTable,
     words: &mut [Cycle],
     bank: BankId,
     cycle: Cycle,
@@ -220,7 +220,7 @@ pub(crate) fn raise_data(
 #[inline(always)]
 #[tactic(auto, unfolding(sim_base::specs::Rules::is_bound), using(crate::proofs::Bounds::act_other_rank, crate::proofs::Places::act_raised))]
 pub(crate) fn raise_acts(
-    delays: &Delays,
+    delays: &GapTable,
     words: &mut [Cycle],
     bank: BankId,
     cycle: Cycle,
@@ -243,32 +243,10 @@ pub(crate) fn raise_acts(
     );
 }
 
-/// Notes the row of one bank, if there is such a bank.
-#[inline(always)]
-pub(crate) fn note_row(rows: &mut [Option<u32>], own: Option<usize>, row: Option<u32>)
-    requires { IfSome own (λ k. k < length rows.old) }
-    ensures { (k : ℕ) (d : Option ℕ) → slice_index_or rows.new k d ≡ (if is_own own k then row else slice_index_or rows.old k d) }
-{
-    if let Some(own) = own {
-        rows[own] = row;
-    }
-}
-
-/// Closes the rows of all banks of a rank.
-pub(crate) fn close_rank(rows: &mut [Option<u32>], rank: u32)
-    requires { 16 * rank + 16 ≤ length rows.old }
-    ensures { (k : ℕ) (d : Option ℕ) → slice_index_or rows.new k d ≡ (if k / 16 == rank then None else slice_index_or rows.old k d) }
-{
-    let first = 16 * rank as usize;
-    for place in 0..16 {
-        rows[first + place] = None;
-    }
-}
-
 /// From which cycle on a command in a rank holds back a PREA of it no more; 0 where no rule binds them.
 #[inline(always)]
 #[tactic(auto, using(crate::proofs::Bounds::prea_bound, crate::proofs::Bounds::pre_to_prea, crate::proofs::Bounds::prea_to_prea))]
-fn prea_until(delays: &Delays, cycle: Cycle, earlier: Kind) -> Cycle
+fn prea_until(delays: &GapTable, cycle: Cycle, earlier: Kind) -> Cycle
     requires { cycle < 2 ^ 62 }
     ensures { result ≡ held_until delays.now cycle earlier Kind.Prea Relation.SameBank }
 {
@@ -282,7 +260,7 @@ fn prea_until(delays: &Delays, cycle: Cycle, earlier: Kind) -> Cycle
 /// From which cycle on a command in a rank holds back a REF of it no more; 0 where no rule binds them.
 #[inline(always)]
 #[tactic(auto, using(crate::proofs::Bounds::refresh_bound, crate::proofs::Bounds::act_to_refresh, crate::proofs::Bounds::rd_to_refresh, crate::proofs::Bounds::wr_to_refresh))]
-fn refresh_until(delays: &Delays, cycle: Cycle, earlier: Kind) -> Cycle
+fn refresh_until(delays: &GapTable, cycle: Cycle, earlier: Kind) -> Cycle
     requires { cycle < 2 ^ 62 }
     ensures { result ≡ held_until delays.now cycle earlier Kind.Ref Relation.SameBank }
 {
@@ -297,7 +275,7 @@ fn refresh_until(delays: &Delays, cycle: Cycle, earlier: Kind) -> Cycle
 /// Raises the words of the commands of a whole rank, as far as a command of this kind in the rank holds them back.
 #[inline(always)]
 pub(crate) fn raise_rank_words(
-    delays: &Delays,
+    delays: &GapTable,
     ranks: &mut [RankState],
     rank: u32,
     cycle: Cycle,
@@ -316,7 +294,7 @@ pub(crate) fn raise_rank_words(
 /// Notes an ACT in the words and the window of its rank, for which it counts no longer from a cycle on.
 #[inline(always)]
 pub(crate) fn note_act_in_rank(
-    delays: &Delays,
+    delays: &GapTable,
     ranks: &mut [RankState],
     rank: u32,
     cycle: Cycle,

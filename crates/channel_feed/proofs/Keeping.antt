@@ -24,9 +24,10 @@ use Rattle.sim_base.specs.declared.message.Request.{Request}
 use Rattle.statistics.proofs.ChannelSteps.{issued_now, issued_commands-push}
 use Rattle.channel_step.specs.Past.{requests_of, IsOther, Differ}
 use Rattle.channel_step.specs.Channels.{StandsFor}
-use Rattle.channel_step.specs.Runs.{IsDone, CanRun, StandsAt}
+use Rattle.channel_step.specs.Runs.{CanRun, StandsAt}
+use Rattle.channel_feed.specs.Done.{IsDone}
 use Rattle.channel_step.specs.declared.channel.Channel.{Channel}
-use Rattle.channel_step.specs.declared.done.ChannelDone.{ChannelDone}
+use Rattle.channel_feed.specs.declared.done.ChannelDone.{ChannelDone}
 use Rattle.channel_step.specs.Fit.{queue_room, is_of, is_named_by, IsUnnamed, IsFit}
 use Rattle.channel_step.proofs.Chosen.{chosen-named}
 use Rattle.channel_step.proofs.Requests.{requests-append, requests-arrived, ArrivedBefore}

@@ -21,9 +21,10 @@ use Rattle.statistics.proofs.Messages.{NotBefore-sooner}
 use Rattle.channel_step.specs.Channels.{StandsFor}
 use Rattle.channel_step.specs.Fit.{queue_room, IsUnnamed, ComeByAge, IsFit}
 use Rattle.channel_step.specs.Past.{requests_of, CarriesRequest}
-use Rattle.channel_step.specs.Runs.{IsDone, CanRun}
+use Rattle.channel_step.specs.Runs.{CanRun}
+use Rattle.channel_feed.specs.Done.{IsDone}
 use Rattle.channel_step.specs.declared.channel.Channel.{Channel}
-use Rattle.channel_step.specs.declared.done.ChannelDone.{ChannelDone}
+use Rattle.channel_feed.specs.declared.done.ChannelDone.{ChannelDone}
 use Rattle.channel_step.proofs.Requests.{carries-stamped}
 use Rattle.channel_step.proofs.Spans.{channel_run-more, channel_run-same}
 use Rattle.channel_feed.specs.Fed.{rows_fed, mail_fed, IsReplayed}

@@ -18,10 +18,10 @@ use Rattle.sim_base.specs.declared.command.Command.{Command}
 use Rattle.sim_base.specs.declared.message.Message.{Message}
 use Rattle.sim_base.specs.declared.message.Request.{Request}
 use Rattle.channel_step.specs.Channels.{StandsFor}
-use Rattle.channel_step.specs.declared.done.ChannelDone.{ChannelDone}
+use Rattle.channel_feed.specs.declared.done.ChannelDone.{ChannelDone}
 use Rattle.channel_step.specs.Fit.{queue_room, IsFit, IsIdle}
 use Rattle.channel_step.specs.Past.{requests_of}
-use Rattle.channel_step.specs.Runs.{IsDone}
+use Rattle.channel_feed.specs.Done.{IsDone}
 use Rattle.channel_feed.specs.Fits.{may_come_all, firsts_after_all}
 use Rattle.channel_feed.specs.Kept.{IsAsked}
 use Rattle.channel_feed.specs.Rows.{rows_of}

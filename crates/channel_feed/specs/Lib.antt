@@ -1,3 +1,4 @@
+pub mod Done
 pub mod Rows
 pub mod Fits
 pub mod Kept

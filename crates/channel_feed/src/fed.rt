@@ -5,10 +5,10 @@ ghost use Rattle.channel_step.specs.Fit.{queue_room};
 ghost use Rattle.channel_feed.specs.Skips.{may_skip};
 ghost use Rattle.channel_feed.specs.Kept.{IsKept, IsKept-prop};
 
+use crate::done::{ChannelDone, run_alone};
 use crate::fault::FeedFault;
 use crate::fit::may_come_all;
 use channel_step::channel::Channel;
-use channel_step::done::ChannelDone;
 use sim_base::command::CommandRow;
 use sim_base::config::Config;
 use sim_base::message::{ChannelId, Cycle, Message};
@@ -192,7 +192,7 @@ impl FedChannel {
             mut mail,
         } = self;
         mail.extend_from_slice(inbox)?;
-        let done = channel.run(alloc, inbox, cycle, until)?;
+        let done = run_alone(alloc, channel, inbox, cycle, until)?;
         commands.extend_from_slice(&done.commands)?;
         Ok(FedChannelDone {
             channel: FedChannel {
@@ -235,7 +235,7 @@ impl FedChannel {
         ensures { IfOk result (λ done. IsReplayed self.now done) }
     {
         let channel = Channel::start(alloc, &self.config, self.number)?;
-        channel.run(alloc, &self.mail, 0, self.cycle)
+        run_alone(alloc, channel, &self.mail, 0, self.cycle)
     }
 }
 

@@ -9,7 +9,7 @@ use Rattle.sim_base.specs.declared.command.Command.{Command}
 use Rattle.sim_base.specs.declared.message.Message.{Message}
 use Rattle.bank_ready.specs.Stands.{rank_count}
 use Rattle.queue.specs.View.{QueueView, is_draining, drains_by}
-use Rattle.queue.specs.Columns.{write_count}
+use Rattle.queue_columns.specs.Columns.{write_count}
 use Rattle.fr_fcfs.specs.Requests.{IsInBanks}
 use Rattle.fr_fcfs.specs.Choices.{StandFor, choice_in}
 use Rattle.fr_fcfs.specs.Cycles.{IsNextAt}

@@ -6,6 +6,7 @@ use Rattle.std.specs.Prelude.{MatchOption}
 use Rattle.std.specs.List.{All, AllByRecursion as Each, cons_option, enumerate_from}
 use Rattle.std.proofs.lemmas.Bool.{true≢false}
 use Rattle.std.proofs.lemmas.List.Elements.{All-from_recursion}
+use Rattle.std.proofs.lemmas.List.Sums.{fold-append}
 use Rattle.sim_base.proofs.Ordered.{Each-weaker}
 use Rattle.sim_base.specs.declared.config.Config.{Config}
 use Rattle.sim_base.specs.Counts.{queued_max, is_hit}
@@ -17,6 +18,7 @@ use Rattle.sim_base.specs.declared.command.Command.TheVariants.{Act, Rd, Wr, Pre
 use Rattle.sim_base.specs.declared.command.CommandRow.{CommandRow}
 use Rattle.sim_base.specs.declared.message.Message.{Message}
 use Rattle.sim_base.specs.declared.message.Request.{Request}
+use Rattle.sim_base.specs.declared.place.BankId.{BankId}
 use Rattle.bank_ready.specs.Stands.{rank_count, StandsFor as BanksStandFor}
 use Rattle.bank_ready.specs.declared.banks.Banks.{Banks}
 use Rattle.refresh.specs.Refreshes.{RefreshCounts, owed, lowest_owed, StandsFor as RefreshesStandFor}
@@ -26,13 +28,12 @@ use Rattle.statistics.specs.declared.channels.ChannelStats.{ChannelStats}
 use Rattle.statistics.proofs.ChannelBounds.{channel_stats-fit}
 use Rattle.statistics.proofs.ChannelSteps.{issued_now, issued_commands-push}
 use Rattle.statistics.proofs.Lists.{length-push_suc}
-use Rattle.bank_ready.proofs.Readiness.{open_row-more}
-use Rattle.queue.specs.Columns.{bank_number}
+use Rattle.queue_columns.specs.Columns.{bank_number}
 use Rattle.heads.specs.declared.heads.Heads.{Heads}
 use Rattle.heads.specs.Heads.{bank_at}
 use Rattle.heads.specs.Stands.{bank_count, IsAmong, StandsFor as HeadsStandFor}
 use Rattle.heads.proofs.Stood.{same_rows}
-use Rattle.fr_fcfs.specs.Choices.{Serves, IsFor}
+use Rattle.fr_fcfs.specs.Choices.{Serves, IsFor, choice_in}
 use Rattle.fr_fcfs.specs.declared.choice.Choice.{Choice}
 use Rattle.channel_step.specs.Past.{Differ, is_named}
 use Rattle.channel_step.specs.Fit.{queue_room}
@@ -43,6 +44,8 @@ use Rattle.channel_step.specs.Owed.{RefIsOwed}
 use Rattle.channel_step.specs.Channels.{HeadsStand, StandsFor, IsInCycle, seen_of}
 use Rattle.channel_step.specs.declared.counting.Seen.{Seen}
 use Rattle.channel_step.proofs.Deciding.{settled-drains}
+use Rattle.channel_step.proofs.Foreseen.{foreseen-unknown}
+use Rattle.channel_step.specs.declared.ahead.Ahead.TheVariants.{Unknown}
 use Rattle.channel_step.specs.declared.channel.Channel.{Channel}
 use Rattle.channel_step.proofs.Requests.{unserved_by}
 use Rattle.channel_step.proofs.Marks.{marks-act, marks-no_act, moves_none, opens_none, map-remove, served-remove, served-none, hit-mark, column-opens_none}
@@ -181,7 +184,7 @@ stands-after : (c : Channel) (s : Config) (channel : ℕ) (rows : List (Option C
     → BanksStandFor banks s (issued_commands channel rows ++ issued_now channel (length rows) o)
     → RefreshesStandFor refresh s (issued_commands channel rows ++ issued_now channel (length rows) o)
     → stats ≡ channel_joined c.stats (channel_cycle_with s (issued_commands channel rows) (length c.waiting.queue.requests) (is_some (lowest_due s (issued_commands channel rows) (length rows))) c.waiting.queue.settled o)
-    → StandsFor (record c { cycle = c.cycle + 1; waiting = w; heads = heads; banks = banks; refresh = refresh; stats = stats }) s channel (rows ++ o ∷ []) mail
+    → StandsFor (record c { cycle = c.cycle + 1; waiting = w; heads = heads; banks = banks; refresh = refresh; ahead = Unknown; stats = stats }) s channel (rows ++ o ∷ []) mail
 unfolding channel_cycle_with
 stands-after c s channel rows mail o w heads banks refresh stats h e x count hs b r t =
     let history = issued_commands channel rows in
@@ -213,7 +216,12 @@ stands-after c s channel rows mail o w heads banks refresh stats h e x count hs 
       heads_stand = subst (HeadsStand heads w.queue.requests) (sym (issued_commands-push channel rows o)) hs;
       banks_stand = subst (BanksStandFor banks s) (sym (issued_commands-push channel rows o)) b;
       refreshes_stand = subst (RefreshesStandFor refresh s) (sym (issued_commands-push channel rows o)) r;
+      foresees = foreseen-unknown (choice_in s (issued_commands channel (rows ++ o ∷ [])) w.queue) w.queue.requests (c.cycle + 1);
     }
+
+open_row-more : (bank : BankId) (history : List CommandRow) (i : CommandRow) → open_row bank (history ++ i ∷ []) ≡ row_after bank (open_row bank history) i.command
+unfolding open_row
+open_row-more bank history i = fold-append (λ row (j : CommandRow). row_after bank row j.command) None history (i ∷ [])
 
 -- what it stands for when it has issued a command
 pub issued-stands : (c : Channel) (s : Config) (channel : ℕ) (rows : List (Option Command)) (mail : List Message) (now : ℕ) (chosen : Choice) (w : Queued) (heads : Heads) (banks : Banks) (refresh : RefreshCounts) (stats : ChannelStats)
@@ -223,7 +231,7 @@ pub issued-stands : (c : Channel) (s : Config) (channel : ℕ) (rows : List (Opt
     → BanksStandFor banks s (issued_commands channel rows ++ row_of channel now chosen.command ∷ [])
     → RefreshesStandFor refresh s (issued_commands channel rows ++ row_of channel now chosen.command ∷ [])
     → stats ≡ counted c s (issued_commands channel rows) (length rows) (Some chosen.command) (moves_unmarked c.waiting chosen.slot)
-    → StandsFor (record c { cycle = c.cycle + 1; waiting = w; heads = heads; banks = banks; refresh = refresh; stats = stats }) s channel (rows ++ Some chosen.command ∷ []) mail
+    → StandsFor (record c { cycle = c.cycle + 1; waiting = w; heads = heads; banks = banks; refresh = refresh; ahead = Unknown; stats = stats }) s channel (rows ++ Some chosen.command ∷ []) mail
 issued-stands c s channel rows mail now chosen w heads banks refresh stats h at e f x count hs b r t =
     let history = issued_commands channel rows in
     let left = leaves c.waiting history channel (length rows) chosen (joined-differ _ _ _ _ s channel rows mail h.joined) h.joined.marks_are f in

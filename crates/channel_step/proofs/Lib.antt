@@ -1,6 +1,7 @@
 pub mod Requests
 pub mod Spans
 pub mod Stretches
+pub mod Foreseen
 pub mod Marks
 pub mod Cycle
 pub mod Chosen

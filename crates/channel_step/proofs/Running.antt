@@ -112,3 +112,32 @@ run-turned c d s channel rows mail inbox from now until arrived n last commands 
           ∙ append_assoc (channel_messages s channel rows) messages turned.sent
           ∙ ap (λ x. channel_messages s channel rows ++ x) (sym turned.messages_are);
     }
+
+-- no cycle is over yet, and nothing was added to the lists
+pub turned-none : (c : Channel) (s : Config) (channel : ℕ) (rows : List (Option Command)) (mail inbox : List Message) (from until : ℕ) (commands : List CommandRow) (messages : List Message)
+    → StandsFor c s channel rows mail → IsFit s channel rows mail inbox from until → HasTurned c s channel rows mail inbox from from until 0 commands commands messages messages
+turned-none c s channel rows mail inbox from until commands messages h f =
+    record {
+      issued = [];
+      sent = [];
+      has_run = run-begins c s channel rows mail inbox from until h f;
+      commands_are = sym (append-nil commands);
+      messages_are = sym (append-nil messages);
+    }
+
+-- one turn more
+pub turned-more : (c d : Channel) (s : Config) (channel : ℕ) (rows : List (Option Command)) (mail inbox : List Message) (from now until arrived n last : ℕ)
+    (commands more_commands most_commands : List CommandRow) (messages more_messages most_messages : List Message) → length rows ≡ from → from ≤ now → now ≤ last
+    → HasTurned c s channel rows mail inbox from now until arrived commands more_commands messages more_messages
+    → HasTurned d s channel (channel_run s channel rows (mail ++ inbox) (now - from)) (mail ++ take arrived inbox) (rest_of inbox arrived) now (last + 1) until n
+    more_commands most_commands more_messages most_messages
+    → HasTurned d s channel rows mail inbox from (last + 1) until (arrived + n) commands most_commands messages most_messages
+turned-more c d s channel rows mail inbox from now until arrived n last commands more_commands most_commands messages more_messages most_messages at l m h turned =
+    record {
+      issued = h.issued ++ turned.issued;
+      sent = h.sent ++ turned.sent;
+      has_run = run-turned c d s channel rows mail inbox from now until arrived n last h.issued (h.issued ++ turned.issued) h.sent (h.sent ++ turned.sent) at l m h.has_run
+          (record { issued = turned.issued; sent = turned.sent; has_run = turned.has_run; commands_are = refl; messages_are = refl });
+      commands_are = turned.commands_are ∙ ap (λ x. x ++ turned.issued) h.commands_are ∙ append_assoc commands h.issued turned.issued;
+      messages_are = turned.messages_are ∙ ap (λ x. x ++ turned.sent) h.messages_are ∙ append_assoc messages h.sent turned.sent;
+    }

@@ -25,12 +25,14 @@ use Rattle.channel_step.specs.Stands.{marks_of}
 use Rattle.channel_step.specs.Counted.{cycle_with_hit}
 use Rattle.channel_step.specs.Fit.{queue_room}
 use Rattle.channel_step.specs.Queued.{settled}
-use Rattle.channel_step.specs.Channels.{HeadsStand, StandsFor, IsInCycle, passed}
+use Rattle.fr_fcfs.specs.Choices.{choice_in}
+use Rattle.channel_step.specs.Channels.{HeadsStand, IsForeseen, StandsFor, IsInCycle, passed}
 use Rattle.channel_step.specs.declared.channel.Channel.{Channel}
 use Rattle.channel_step.proofs.Requests.{ArrivedBefore, requests-arrived, waiting-until}
 use Rattle.channel_step.proofs.Spans.{drains_before-row}
 use Rattle.channel_step.proofs.Stretches.{idle-push, length-idle, idle-issued, idle-waiting, idle-drains, idle-cycle}
 use Rattle.channel_step.proofs.Cycle.{cycle-with}
+use Rattle.channel_step.proofs.Foreseen.{foreseen-later, foreseen-settled}
 use Rattle.channel_step.proofs.Deciding.{settled-drains}
 use Rattle.channel_step.proofs.Starting.{at-drains}
 
@@ -64,6 +66,7 @@ settled-in_cycle c s channel rows mail h =
       heads_stand = h.heads_stand;
       banks_stand = h.banks_stand;
       refreshes_stand = h.refreshes_stand;
+      foresees = foreseen-settled s (issued_commands channel rows) c.waiting.queue c.cycle c.ahead h.foresees;
     }
 
 -- the same, as it is told what is settled
@@ -177,6 +180,9 @@ passed-in_cycle c s channel rows mail n due until h before alike e =
       heads_stand = subst (HeadsStand c.heads c.waiting.queue.requests) (sym history) h.heads_stand;
       banks_stand = subst (BanksStandFor c.banks s) (sym history) h.banks_stand;
       refreshes_stand = subst (RefreshesStandFor c.refresh s) (sym history) h.refreshes_stand;
+      foresees =
+          subst (λ x. IsForeseen (choice_in s x c.waiting.queue) c.waiting.queue.requests until c.ahead) (sym history)
+          (foreseen-later (choice_in s (issued_commands channel rows) c.waiting.queue) c.waiting.queue.requests c.cycle until c.ahead (omega (arith, h.cycle_is)) h.foresees);
     }
 
 -- when at least one cycle was passed it stands after them
@@ -211,6 +217,7 @@ skipped-stands c s channel rows mail (suc k) h arrived before some =
       heads_stand = h.heads_stand;
       banks_stand = h.banks_stand;
       refreshes_stand = h.refreshes_stand;
+      foresees = h.foresees;
     }
 
 -- from which of the cycles before another one on a refresh is due

@@ -18,19 +18,21 @@ use Rattle.statistics.specs.Channels.{channel_none, channel_stats, draining_of}
 use Rattle.sim_base.specs.Rules.{open_row}
 use Rattle.heads.specs.Stands.{bank_count, StandsFor as HeadsStandFor}
 use Rattle.queue.specs.View.{QueueView, is_draining, drains_by}
-use Rattle.queue.specs.Columns.{write_count}
+use Rattle.queue_columns.specs.Columns.{write_count}
 use Rattle.fr_fcfs.specs.Requests.{IsInBanks}
 use Rattle.fr_fcfs.specs.Choices.{StandFor, choice_in}
 use Rattle.fr_fcfs.specs.Cycles.{IsFirstCycle}
 use Rattle.channel_step.specs.Past.{requests_of}
 use Rattle.channel_step.specs.Stands.{Recalls}
-use Rattle.channel_step.specs.Channels.{HeadsStand, StandsFor}
+use Rattle.channel_step.specs.Channels.{HeadsStand, IsForeseen, StandsFor}
 use Rattle.channel_step.specs.Runs.{StandsAt}
+use Rattle.channel_step.specs.declared.ahead.Ahead.TheVariants.{Unknown}
 use Rattle.channel_step.specs.declared.channel.Channel.{Channel}
 use Rattle.channel_step.proofs.Requests.{ArrivedBefore, requests-arrived, waiting-until}
 use Rattle.channel_step.proofs.Spans.{drains-next}
 use Rattle.channel_step.proofs.Stretches.{idle-choice}
 use Rattle.channel_step.proofs.Places.{queue-in_banks}
+use Rattle.channel_step.proofs.Foreseen.{foreseen-unknown}
 
 -- there is no past yet
 pub recalls-none : (s : Config) (channel : ℕ) → Recalls [] false [] (record channel_none { draining = draining_of s 0 }) s channel [] []
@@ -103,9 +105,9 @@ at-first c s channel rows mail from queue o h at e f =
 
 pub start-stands : (c : Channel) (s : Config) (number : ℕ) → c.config ≡ s → c.number ≡ number → c.cycle ≡ 0 → c.waiting ≡ no_requests (queue_room s) s.write_high s.write_low
     → BanksStandFor c.banks s [] → RefreshesStandFor c.refresh s [] → c.stats ≡ record channel_none { draining = draining_of s 0 } → bank_count c.heads ≡ 16 * s.ranks
-    → HeadsStandFor c.heads [] (λ bank. None) → StandsFor c s number [] []
+    → HeadsStandFor c.heads [] (λ bank. None) → c.ahead ≡ Unknown → StandsFor c s number [] []
 unfolding issued_commands open_row
-start-stands c s number config is cycle waiting banks refresh stats count heads =
+start-stands c s number config is cycle waiting banks refresh stats count heads ahead =
     let R : Queued → ChannelStats → Type 0 = λ w t. Recalls w.queue.requests w.queue.settled w.marks t s number [] [] in
     let base : R (no_requests (queue_room s) s.write_high s.write_low) (record channel_none { draining = draining_of s 0 }) = recalls-none s number in
     let none : length c.waiting.queue.requests ≡ 0 = ap (λ (w : Queued). length w.queue.requests) waiting in
@@ -126,4 +128,7 @@ start-stands c s number config is cycle waiting banks refresh stats count heads 
       heads_stand = subst (λ (w : Queued). HeadsStandFor c.heads w.queue.requests (λ bank. None)) (sym waiting) heads;
       banks_stand = banks;
       refreshes_stand = refresh;
+      foresees =
+          subst (IsForeseen (choice_in s [] c.waiting.queue) c.waiting.queue.requests c.cycle) (sym ahead)
+          (foreseen-unknown (choice_in s [] c.waiting.queue) c.waiting.queue.requests c.cycle);
     }

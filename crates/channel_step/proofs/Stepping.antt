@@ -16,7 +16,7 @@ use Rattle.sim_base.specs.declared.message.Message.{Message}
 use Rattle.sim_base.specs.declared.message.Request.{Request}
 use Rattle.statistics.proofs.ChannelMail.{AgreeUpTo-later}
 use Rattle.queue.specs.View.{drains_by}
-use Rattle.queue.specs.Columns.{bank_number, write_count}
+use Rattle.queue_columns.specs.Columns.{bank_number, write_count}
 use Rattle.heads.specs.declared.heads.Heads.{Heads}
 use Rattle.heads.specs.Stands.{bank_count}
 use Rattle.channel_step.specs.Past.{requests_of, IsRequestIn, CarriesRequest}
@@ -24,7 +24,10 @@ use Rattle.channel_step.specs.Fit.{queue_room, IsFit}
 use Rattle.channel_step.specs.Stands.{marks_of}
 use Rattle.channel_step.specs.Queued.{Queued, with_arrivals}
 use Rattle.channel_step.specs.Channels.{HeadsStand, StandsFor, IsInCycle}
+use Rattle.channel_step.specs.declared.ahead.Ahead.TheVariants.{Unknown}
 use Rattle.channel_step.specs.declared.channel.Channel.{Channel}
+use Rattle.fr_fcfs.specs.Choices.{choice_in}
+use Rattle.channel_step.proofs.Foreseen.{foreseen-unknown}
 use Rattle.channel_step.proofs.Requests.{carries-stamped}
 use Rattle.channel_step.proofs.Spans.{queue-next}
 use Rattle.channel_step.proofs.Cycle.{joined}
@@ -68,7 +71,7 @@ arrivals-room c s channel rows mail inbox now until h at l f =
 pub arrived-stands : (c : Channel) (s : Config) (channel : ℕ) (rows : List (Option Command)) (mail inbox : List Message) (now until : ℕ) (w : Queued) (heads : Heads) → StandsFor c s channel rows mail → length rows ≡ now → now < until
     → IsFit s channel rows mail inbox now until → w ≡ with_arrivals c.waiting (requests_of (take (due_count inbox now) inbox))
     → bank_count heads ≡ bank_count c.heads → HeadsStand heads w.queue.requests (issued_commands channel rows)
-    → IsInCycle (record c { waiting = w; heads = heads }) s channel rows (mail ++ take (due_count inbox now) inbox)
+    → IsInCycle (record c { waiting = w; heads = heads; ahead = Unknown }) s channel rows (mail ++ take (due_count inbox now) inbox)
 arrived-stands c s channel rows mail inbox now until w heads h at l f e count heads_stand =
     let new = take (due_count inbox now) inbox in
     let requests = requests_of new in
@@ -102,6 +105,7 @@ arrived-stands c s channel rows mail inbox now until w heads h at l f e count he
       heads_stand = heads_stand;
       banks_stand = h.banks_stand;
       refreshes_stand = h.refreshes_stand;
+      foresees = foreseen-unknown (choice_in s (issued_commands channel rows) w.queue) w.queue.requests c.cycle;
     }
 
 -- there is room for them
@@ -118,9 +122,9 @@ admit-room c s channel rows mail inbox now until n h at l f e =
 pub arrived-in_cycle : (c : Channel) (s : Config) (channel : ℕ) (rows : List (Option Command)) (mail inbox : List Message) (now until n : ℕ) (w : Queued) (heads : Heads) → StandsFor c s channel rows mail → length rows ≡ now → now < until
     → IsFit s channel rows mail inbox now until → n ≡ due_count inbox now → w ≡ with_arrivals c.waiting (requests_of (take n inbox))
     → bank_count heads ≡ bank_count c.heads → HeadsStand heads w.queue.requests (issued_commands channel rows)
-    → IsInCycle (record c { waiting = w; heads = heads }) s channel rows (mail ++ take n inbox)
+    → IsInCycle (record c { waiting = w; heads = heads; ahead = Unknown }) s channel rows (mail ++ take n inbox)
 arrived-in_cycle c s channel rows mail inbox now until n w heads h at l f e x count heads_stand =
-    subst (λ k. IsInCycle (record c { waiting = w; heads = heads }) s channel rows (mail ++ take k inbox)) (sym e)
+    subst (λ k. IsInCycle (record c { waiting = w; heads = heads; ahead = Unknown }) s channel rows (mail ++ take k inbox)) (sym e)
     (arrived-stands c s channel rows mail inbox now until w heads h at l f (x ∙ ap (λ k. with_arrivals c.waiting (requests_of (take k inbox))) e) count heads_stand)
 
 -- the banks that the requests ask for which are there then

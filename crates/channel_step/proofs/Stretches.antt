@@ -52,7 +52,7 @@ pub idle-waiting : (channel : ℕ) (rows : List (Option Command)) (mail : List M
 idle-waiting channel rows mail h n later l =
     ap (λ x. waiting x mail later) (idle-issued channel rows n) ∙ waiting-until (issued_commands channel rows) mail (length rows + 1) later l h
 
-settled_twice : (a b d : Bool) → (a || ((a || (d && b)) && b)) ≡ (a || (d && b))
+pub settled_twice : (a b d : Bool) → (a || ((a || (d && b)) && b)) ≡ (a || (d && b))
 settled_twice true b d = refl
 settled_twice false true true = refl
 settled_twice false true false = refl

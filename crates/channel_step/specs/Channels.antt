@@ -2,6 +2,8 @@
 --     HeadsStand heads requests history      heads are those of these requests, after these commands
 --     IsMadeFor c s channel      the channel with a number, of a machine with a configuration
 --     StandsFor c s channel rows mail      all that it keeps is what these rows, and the messages that arrived in them, make of it
+--     Foresees c s history      what a channel knows of its next command is so
+--     IsFound c s history now next      the next command from a cycle on, if there is one
 --     HasRank c rank, HasBank c bank      a channel of a machine with this rank, or with this bank
 --     IsInCycle c s channel rows mail      the same in the cycle after these rows, when what arrives in it has joined the queue
 --     IsNextBefore s channel rows mail end next      the next command before a cycle, and when it is issued, if there is one
@@ -9,11 +11,11 @@
 --     seen_of c now      what is seen of a channel in a cycle
 --     idle_cycle c now      the statistics of a cycle in which a channel issues nothing
 --     passed c until      its statistics after such cycles
-use Rattle.std.specs.Prelude.{◌≡◌, ℕ, ◌-◌, ◌*◌, ◌<◌, ◌≤◌, false, List, ◌++◌, length, replicate, is_some, nat_lt, Option, Some, None}
+use Rattle.std.specs.Prelude.{◌≡◌, ℕ, ◌-◌, ◌*◌, ◌<◌, ◌≤◌, false, List, ◌++◌, length, replicate, is_some, nat_lt, Option, Some, None, IfSome, option_map, slice_get}
 use Rattle.sim_base.specs.declared.config.Config.{Config}
 use Rattle.sim_base.specs.History.{issued_commands}
 use Rattle.sim_base.specs.Rules.{open_row}
-use Rattle.sim_base.specs.Scheduling.{choice}
+use Rattle.sim_base.specs.Scheduling.{choice, column_command, is_column_command}
 use Rattle.sim_base.specs.declared.command.Command.{Command}
 use Rattle.sim_base.specs.declared.command.CommandRow.{CommandRow}
 use Rattle.sim_base.specs.declared.message.Request.{Request}
@@ -28,9 +30,13 @@ use Rattle.queue.specs.View.{is_draining}
 use Rattle.statistics.specs.Channels.{channel_joined, channel_times}
 use Rattle.statistics.specs.declared.channels.ChannelStats.{ChannelStats}
 use Rattle.channel_step.specs.Counted.{cycle_with_hit}
+use Rattle.fr_fcfs.specs.Choices.{choice_in, IsFor}
+use Rattle.fr_fcfs.specs.Cycles.{IsNext}
 use Rattle.fr_fcfs.specs.declared.choice.Choice.{Choice}
 use Rattle.channel_step.specs.Fit.{queue_room, IsIdle}
 use Rattle.channel_step.specs.Stands.{Recalls, HasJoined}
+use Rattle.channel_step.specs.declared.ahead.Ahead.{Ahead}
+use Rattle.channel_step.specs.declared.ahead.Ahead.TheVariants.{Unknown, Known}
 use Rattle.channel_step.specs.declared.channel.Channel.{Channel}
 use Rattle.channel_step.specs.declared.counting.Seen.{Seen}
 
@@ -50,6 +56,38 @@ pub record IsMadeFor (c : Channel) (s : Config) (channel : ℕ) : Type 0 where
   pub within : length c.waiting.queue.requests ≤ queue_room s
   pub longest : c.stats.queued_max ≤ queue_room s
 
+-- a command is issued in a cycle, which serves the request at its place, and none in the cycles before it from one on
+pub record IsAheadAt (commands : ℕ → Option Command) (requests : List Request) (from cycle : ℕ) (choice : Choice) : Type 0 where
+  pub then_is : commands cycle ≡ Some choice.command
+  pub none_before : (t : ℕ) → from ≤ t → t < cycle → commands t ≡ None
+  pub place : IsFor requests choice
+
+-- the same, where it may not be known, or none is ever issued
+abbrev pub IsAhead : (ℕ → Option Command) → List Request → ℕ → Ahead → Type 0
+IsAhead commands requests from Unknown = Unit {0}
+IsAhead commands requests from (Known None) = (t : ℕ) → from ≤ t → commands t ≡ None
+IsAhead commands requests from (Known (Some next)) = IsAheadAt commands requests from next.0 next.1
+
+-- What is known of the next command is so from a cycle on:
+--     never      there is none
+--     then_is, none_before      it is issued in its cycle, and none before that
+--     serves, moves_none      the request at its place has its data moved, or none has
+pub record IsForeseen (commands : ℕ → Option Command) (requests : List Request) (from : ℕ) (ahead : Ahead) : Type 0 where
+  pub never : ahead ≡ Known None → (t : ℕ) → from ≤ t → commands t ≡ None
+  pub then_is : (cycle : ℕ) (choice : Choice) → ahead ≡ Known (Some (cycle, choice)) → commands cycle ≡ Some choice.command
+  pub none_before : (cycle : ℕ) (choice : Choice) → ahead ≡ Known (Some (cycle, choice)) → (t : ℕ) → from ≤ t → t < cycle → commands t ≡ None
+  pub serves : (cycle : ℕ) (choice : Choice) → ahead ≡ Known (Some (cycle, choice))
+      → (slot : ℕ) → choice.slot ≡ Some slot → option_map column_command (slice_get requests slot) ≡ Some choice.command
+  pub moves_none : (cycle : ℕ) (choice : Choice) → ahead ≡ Known (Some (cycle, choice)) → choice.slot ≡ None → is_column_command choice.command ≡ false
+
+-- what a channel knows of its next command is so after these commands, as long as nothing arrives
+abbrev pub Foresees : Channel → Config → List CommandRow → Type 0
+Foresees c s history = IsForeseen (choice_in s history c.waiting.queue) c.waiting.queue.requests c.cycle c.ahead
+
+-- the next command from a cycle on, with the place of the request that it serves, if there is one
+abbrev pub IsFound : Channel → Config → List CommandRow → ℕ → Option (ℕ × Choice) → Type 0
+IsFound c s history now next = IsNext (choice_in s history c.waiting.queue) now next × IfSome next (λ n. IsFor c.waiting.queue.requests n.1)
+
 -- All that a channel keeps between two cycles is what its rows so far, one a cycle, and the messages that arrived in them make of it.
 pub record StandsFor (c : Channel) (s : Config) (channel : ℕ) (rows : List (Option Command)) (mail : List Message) : Type 0 where
   pub made_for : IsMadeFor c s channel
@@ -58,6 +96,7 @@ pub record StandsFor (c : Channel) (s : Config) (channel : ℕ) (rows : List (Op
   pub heads_stand : HeadsStand c.heads c.waiting.queue.requests (issued_commands channel rows)
   pub banks_stand : BanksStandFor c.banks s (issued_commands channel rows)
   pub refreshes_stand : RefreshesStandFor c.refresh s (issued_commands channel rows)
+  pub foresees : Foresees c s (issued_commands channel rows)
 
 -- a channel stands for a past of a machine with this rank
 pub record HasRank (c : Channel) (rank : ℕ) : Type 0 where
@@ -87,6 +126,7 @@ pub record IsInCycle (c : Channel) (s : Config) (channel : ℕ) (rows : List (Op
   pub heads_stand : HeadsStand c.heads c.waiting.queue.requests (issued_commands channel rows)
   pub banks_stand : BanksStandFor c.banks s (issued_commands channel rows)
   pub refreshes_stand : RefreshesStandFor c.refresh s (issued_commands channel rows)
+  pub foresees : Foresees c s (issued_commands channel rows)
 
 -- a channel is in a cycle, after some rows
 pub record IsInSomeCycle (c : Channel) (now : ℕ) : Type 0 where

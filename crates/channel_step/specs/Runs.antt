@@ -3,7 +3,7 @@
 --     first_arrival inbox until      when the first of these messages arrives
 --     HasRun c s channel rows mail inbox from now until arrived commands messages      what the cycles so far leave
 --     HasTurned c s channel rows mail inbox now then until arrived commands commands_then messages messages_then      what one turn leaves
---     IsDone done s channel rows mail inbox from until      and for all cycles of a span
+--     IsDone c s channel rows mail inbox from until commands commands_then messages messages_then      what all cycles of a span leave
 --     CanRun c inbox from until      a channel stands for a past after which messages are fit for a span
 --     CanStep c inbox now      they are fit for a span that begins with this cycle
 --     StandsAt c from      a channel stands for some past at a cycle
@@ -19,7 +19,6 @@ use Rattle.sim_base.specs.declared.message.Message.{Message}
 use Rattle.channel_step.specs.Fit.{IsFit, IsIdle}
 use Rattle.channel_step.specs.Channels.{StandsFor}
 use Rattle.channel_step.specs.declared.channel.Channel.{Channel}
-use Rattle.channel_step.specs.declared.done.ChannelDone.{ChannelDone}
 
 -- the command of a cycle as a list of rows
 abbrev pub issued_in : ℕ → ℕ → Option Command → List CommandRow
@@ -48,12 +47,16 @@ pub record HasTurned (c : Channel) (s : Config) (channel : ℕ) (rows : List (Op
   pub commands_are : commands_then ≡ commands ++ issued
   pub messages_are : messages_then ≡ messages ++ sent
 
--- What comes back stands for the rows of the channel's run over the span and for all messages that were sent to it. The commands
--- and messages are those of the longer rows beyond those of the earlier ones.
-pub record IsDone (done : ChannelDone) (s : Config) (channel : ℕ) (rows : List (Option Command)) (mail inbox : List Message) (from until : ℕ) : Type 0 where
-  pub stands : StandsFor done.channel s channel (channel_run s channel rows (mail ++ inbox) (until - from)) (mail ++ inbox)
-  pub commands_are : issued_commands channel (channel_run s channel rows (mail ++ inbox) (until - from)) ≡ issued_commands channel rows ++ done.commands.items
-  pub messages_are : channel_messages s channel (channel_run s channel rows (mail ++ inbox) (until - from)) ≡ channel_messages s channel rows ++ done.messages.items
+-- After a span a channel stands for the rows of its run over it and for all messages that were sent to it. The commands and
+-- messages of the longer rows beyond those of the earlier ones were put behind what two lists held.
+pub record IsDone (c : Channel) (s : Config) (channel : ℕ) (rows : List (Option Command)) (mail inbox : List Message) (from until : ℕ) (commands commands_then : List CommandRow) (messages messages_then : List Message) : Type 0 where
+  pub issued : List CommandRow
+  pub sent : List Message
+  pub stands : StandsFor c s channel (channel_run s channel rows (mail ++ inbox) (until - from)) (mail ++ inbox)
+  pub commands_are : issued_commands channel (channel_run s channel rows (mail ++ inbox) (until - from)) ≡ issued_commands channel rows ++ issued
+  pub messages_are : channel_messages s channel (channel_run s channel rows (mail ++ inbox) (until - from)) ≡ channel_messages s channel rows ++ sent
+  pub commands_behind : commands_then ≡ commands ++ issued
+  pub messages_behind : messages_then ≡ messages ++ sent
 
 -- a channel stands for some past, after which these messages are fit for a span
 pub record CanRun (c : Channel) (inbox : List Message) (from until : ℕ) : Type 0 where

@@ -1,29 +1,34 @@
 //! A channel that is run alone over a span of cycles.
 
-ghost use Rattle.std.specs.Prelude.{◌≡◌, ℕ, ◌+◌, ◌-◌, ◌*◌, ◌<◌, ◌≤◌, ◌^◌, ◌==◌, take, take_while, ◌++◌, List, [], ◌∷◌, length, Option, Some, None, replicate, is_some, nat_le, IfSome, IfOk};
+ghost use Rattle.std.specs.Prelude.{◌≡◌, ℕ, ◌+◌, ◌-◌, ◌*◌, ◌<◌, ◌≤◌, ◌^◌, ◌==◌, take, take_while, ◌++◌, List, All, [], ◌∷◌, length, Option, Some, None, replicate, is_some, nat_le, IfSome, IfOk, OnOk};
 ghost use Rattle.sim_base.specs.History.{issued_commands};
 ghost use Rattle.sim_base.specs.Rules.{open_row};
 ghost use Rattle.sim_base.specs.Scheduling.{choice, due, waiting};
 ghost use Rattle.sim_base.specs.declared.config.Config.{Config};
 ghost use Rattle.sim_base.specs.declared.command.Command.{Command};
+ghost use Rattle.sim_base.specs.declared.command.CommandRow.{CommandRow};
 ghost use Rattle.sim_base.specs.declared.message.Message.{Message};
 ghost use Rattle.refresh.specs.Refreshes.{lowest_owed};
+ghost use Rattle.bank_ready.specs.Stands.{rank_count};
+ghost use Rattle.heads.specs.Stands.{bank_count};
 ghost use Rattle.queue.specs.View.{is_draining};
-ghost use Rattle.fr_fcfs.specs.Choices.{IsFor};
+ghost use Rattle.fr_fcfs.specs.Choices.{IsFor, StandFor, choice_in};
+ghost use Rattle.fr_fcfs.specs.Requests.{IsInBanks};
 ghost use Rattle.fr_fcfs.specs.Cycles.{IsFirstCycle};
 ghost use Rattle.statistics.specs.Channels.{channel_stats, channel_joined, ChannelFits};
 ghost use Rattle.channel_step.specs.Counted.{cycle_with_hit};
-ghost use Rattle.channel_step.specs.Channels.{StandsFor, HasRank, HasBank, IsInCycle, IsInSomeCycle, IsChosen, IsNextBefore, CountsDrains, seen_of, passed};
+ghost use Rattle.channel_step.specs.declared.ahead.Ahead.TheVariants.{Unknown};
+ghost use Rattle.channel_step.specs.Channels.{StandsFor, IsAhead, IsFound, HasRank, HasBank, IsInCycle, IsInSomeCycle, IsChosen, IsNextBefore, CountsDrains, seen_of, passed};
 ghost use Rattle.channel_step.specs.Fit.{queue_room, IsFit, IsIdle};
 ghost use Rattle.channel_step.specs.Runs.{CanStep, CanRun, CanSkip, HasTurned, IsDone, StandsAt, first_arrival};
 
+use crate::ahead::Ahead;
 use crate::counting::{Seen, drained};
-use crate::done::ChannelDone;
 use crate::noting::{likely_places, note_heads, note_refresh, request_at};
 use crate::sending::tell;
 use crate::waiting::Waiting;
 use bank_ready::banks::Banks;
-use fr_fcfs::choice::{Choice, next, wake};
+use fr_fcfs::choice::{Choice, next};
 use heads::Heads;
 use refresh::Refresh;
 use sim_base::command::{Command, CommandRow};
@@ -45,6 +50,8 @@ pub struct Channel {
     refresh: Refresh,
     stats: ChannelStats,
     heads: Heads,
+    /// What it issues next, if nothing arrives.
+    ahead: Ahead,
 }
 
 /// What a channel did from one cycle to another, the last that is over: how many messages arrived.
@@ -71,6 +78,7 @@ impl Channel {
             refresh: Refresh::new(config.timing.n_refi, config.ranks),
             stats,
             heads: Heads::with_room(alloc, banks_of(config))?,
+            ahead: Ahead::Unknown,
         })
     }
 
@@ -113,7 +121,7 @@ impl Channel {
         ensures { (s : Config) (channel : ℕ) (rows : List (Option Command)) (mail : List Message)
             → StandsFor self.now s channel rows mail → result ≡ open_row bank (issued_commands channel rows) }
     {
-        self.banks.open_row(bank)
+        self.heads.open_row(bank)
     }
 
     /// The first cycle from `from` on, where the channel stands, in which it issues a command, if nothing arrives; None where
@@ -125,34 +133,55 @@ impl Channel {
             → StandsFor self.old s channel rows mail → length rows ≡ from
             → IsFirstCycle (λ cycle. is_some (choice s channel (rows ++ replicate (cycle - from) None) mail)) from result }
     {
-        wake(
-            self.waiting.queue(),
-            &self.heads,
-            &self.banks,
-            &self.refresh,
-            self.config.groups,
-            from,
-        )
+        match self.find(from) {
+            Some((cycle, _)) => Some(cycle),
+            None => None,
+        }
     }
 
-    /// The next command that the channel issues, and in which cycle, if that is before `end` and nothing arrives before that.
-    fn look(&self, now: Cycle, end: Cycle) -> Option<(Cycle, Choice)>
-        requires { IsInSomeCycle self.now now }
-        ensures next { (s : Config) (channel : ℕ) (rows : List (Option Command)) (mail : List Message)
-            → IsInCycle self.now s channel rows mail → length rows ≡ now → IsNextBefore s channel rows mail end result }
-        ensures place { IfSome result (λ next. IsFor self.now.waiting.queue.requests next.1) }
+    /// The first cycle with a command from `now` on, if nothing arrives, and that command; None where there is none. It is looked for
+    /// only where it is not known.
+    #[inline(always)]
+    fn find(&self, now: Cycle) -> Option<(Cycle, Choice)>
+        requires places { All (IsInBanks (rank_count self.now.banks)) self.now.waiting.queue.requests }
+        requires banks { bank_count self.now.heads ≡ 16 * rank_count self.now.banks }
+        requires ranks { self.now.refresh.ranks ≤ rank_count self.now.banks }
+        requires groups { self.now.config.groups ≤ 4 }
+        ensures { (s : Config) (history : List CommandRow) → StandFor self.now.heads self.now.banks self.now.refresh self.now.waiting.queue self.now.config.groups s history
+            → IsAhead (choice_in s history self.now.waiting.queue) self.now.waiting.queue.requests self.now.cycle self.now.ahead → self.now.cycle ≤ now → IsFound self.now s history now result }
     {
-        let found = next(
-            self.waiting.queue(),
-            &self.heads,
-            &self.banks,
-            &self.refresh,
-            self.config.groups,
-            now,
-        );
+        match self.ahead {
+            Ahead::Known(None) => None,
+            Ahead::Known(Some((cycle, choice))) if now <= cycle => Some((cycle, choice)),
+            _ => next(
+                self.waiting.queue(),
+                &self.heads,
+                &self.banks,
+                &self.refresh,
+                self.config.groups,
+                now,
+            ),
+        }
+    }
+
+    /// The next command that the channel issues, and in which cycle, if that is before `end` and nothing arrives before that. Where
+    /// it is not, what was found is kept.
+    fn look(&mut self, now: Cycle, end: Cycle) -> Option<(Cycle, Choice)>
+        requires { IsInSomeCycle self.old now }
+        ensures same_queue { self.new.waiting ≡ self.old.waiting }
+        ensures in_cycle { (s : Config) (channel : ℕ) (rows : List (Option Command)) (mail : List Message)
+            → IsInCycle self.old s channel rows mail → IsInCycle self.new s channel rows mail }
+        ensures next { (s : Config) (channel : ℕ) (rows : List (Option Command)) (mail : List Message)
+            → IsInCycle self.old s channel rows mail → length rows ≡ now → IsNextBefore s channel rows mail end result }
+        ensures place { IfSome result (λ next. IsFor self.old.waiting.queue.requests next.1) }
+    {
+        let found = self.find(now);
         match found {
             Some((cycle, choice)) if cycle < end => Some((cycle, choice)),
-            _ => None,
+            _ => {
+                self.ahead = Ahead::Known(found);
+                None
+            }
         }
     }
 
@@ -167,13 +196,15 @@ impl Channel {
         }
     }
 
-    /// Counts a cycle in which a command is issued, which moves data of a row hit or not. The cycle is then over.
+    /// Counts a cycle in which a command is issued, which moves data of a row hit or not. The cycle is then over, and what comes next
+    /// is not known.
     fn count(&mut self, seen: Seen, command: &Command, hit: bool)
         requires cycle { self.old.cycle < 2 ^ 62 }
         requires drains { CountsDrains self.old }
         requires fits { ChannelFits (channel_joined self.old.stats (cycle_with_hit self.old.config seen.queued seen.refreshing seen.draining (Some command.now) hit)) }
-        ensures { self.new ≡ record self.old { cycle = self.old.cycle + 1; stats = channel_joined self.old.stats (cycle_with_hit self.old.config seen.queued seen.refreshing seen.draining (Some command.now) hit) } }
+        ensures { self.new ≡ record self.old { cycle = self.old.cycle + 1; ahead = Unknown; stats = channel_joined self.old.stats (cycle_with_hit self.old.config seen.queued seen.refreshing seen.draining (Some command.now) hit) } }
     {
+        self.ahead = Ahead::Unknown;
         let stats = &mut self.stats;
         stats.add_cycles(1, seen.queued, seen.refreshing, seen.draining);
         stats.add_command(command.kind(), hit);
@@ -213,11 +244,11 @@ impl Channel {
     }
 
     /// Whether a refresh of some rank is due in this cycle.
+    #[inline(always)]
     fn refreshing(&self) -> bool
-        requires { self.now.cycle < 2 ^ 62 }
         ensures { result ≡ is_some (lowest_owed self.now.refresh self.now.cycle) }
     {
-        self.due_from(self.cycle + 1) <= self.cycle
+        self.refresh.is_due_by(self.cycle)
     }
 
     /// Settles whether the channel drains its writes in the next cycle, where nothing arrives in it.
@@ -300,7 +331,8 @@ impl Channel {
         }
         let older = self.waiting.queue().len();
         self.waiting.admit(&inbox[..due])?;
-        self.heads.arrived(older, self.waiting.queue());
+        self.heads.arrived(older, &self.waiting.queue().columns());
+        self.ahead = Ahead::Unknown;
         Ok(due)
     }
 
@@ -358,37 +390,33 @@ impl Channel {
     }
 
     /// Runs the channel over the cycles from `from` on and before `until`, in which these messages arrive, by arrival and then
-    /// by link. The channel that comes back stands at `until`. On an error, which is want of memory alone, it is gone. It goes from
-    /// one cycle in which something arrives or is issued to the next, and skips those between.
+    /// by link. What it issues and sends is put behind what the commands and messages hold. Only memory can be refused; what the
+    /// channel and the lists hold is then not known. It goes from one cycle in which something arrives or is issued to the next, and
+    /// skips those between.
     #[inline(never)]
     pub fn run(
-        mut self,
-        alloc: Global,
+        &mut self,
         inbox: &[Message],
         from: Cycle,
         until: Cycle,
-    ) -> Result<ChannelDone, AllocError>
-        requires can_run { CanRun self inbox.now from until }
+        commands: &mut Vec<CommandRow>,
+        messages: &mut Vec<Message>,
+    ) -> Result<(), AllocError>
+        requires can_run { CanRun self.old inbox.now from until }
         requires span { from ≤ until }
         requires until { until ≤ 2 ^ 62 }
         ensures { (s : Config) (channel : ℕ) (rows : List (Option Command)) (mail : List Message)
-            → StandsFor self s channel rows mail → length rows ≡ from → IsFit s channel rows mail inbox.now from until
-            → IfOk result (λ done. IsDone done s channel rows mail inbox.now from until) }
+            → StandsFor self.old s channel rows mail → length rows ≡ from → IsFit s channel rows mail inbox.now from until
+            → OnOk result (IsDone self.new s channel rows mail inbox.now from until commands.old.items commands.new.items messages.old.items messages.new.items) }
     {
-        let mut commands = Vec::with_capacity(alloc, inbox.len().saturating_mul(3).max(16))?;
-        let mut messages = Vec::with_capacity(alloc, inbox.len().saturating_mul(2).max(16))?;
         let mut arrived = 0;
         let mut now = from;
         while now < until {
-            let turn = self.turn(&inbox[arrived..], now, until, &mut commands, &mut messages)?;
+            let turn = self.turn(&inbox[arrived..], now, until, commands, messages)?;
             arrived += turn.arrived;
             now = turn.last + 1;
         }
-        Ok(ChannelDone {
-            channel: self,
-            commands,
-            messages,
-        })
+        Ok(())
     }
 }
 

@@ -8,7 +8,7 @@ ghost use Rattle.sim_base.specs.declared.command.CommandRow.{CommandRow};
 ghost use Rattle.sim_base.specs.declared.message.Request.{Request};
 ghost use Rattle.bank_ready.specs.Stands.{rank_count, StandsFor as BanksStandFor};
 ghost use Rattle.refresh.specs.Refreshes.{StandsFor as RefreshesStandFor};
-ghost use Rattle.queue.specs.Columns.{bank_number};
+ghost use Rattle.queue_columns.specs.Columns.{bank_number};
 ghost use Rattle.heads.specs.Heads.{bank_at};
 ghost use Rattle.heads.specs.Stands.{bank_count, IsAmong, StandsFor as HeadsStandFor};
 ghost use Rattle.channel_step.specs.Queued.{requests_left};
@@ -71,7 +71,7 @@ fn note_served(heads: &mut Heads, queue: &Queue, slot: Option<usize>, served: Op
     let Some(request) = served else {
         return;
     };
-    heads.served(request, slot, queue);
+    heads.served(request, slot, &queue.columns());
 }
 
 /// Takes note of a choice in the heads, once the request that it serves, if it serves one, has left the queue.
@@ -84,5 +84,5 @@ pub(crate) fn note_heads(heads: &mut Heads, queue: &Queue, choice: &Choice, serv
         → HeadsStandFor heads.new queue.now.requests (λ bank. row_after (bank_at bank) (open_rows bank) choice.now.command) }
 {
     note_served(heads, queue, choice.slot, served);
-    heads.noted(choice.command, queue);
+    heads.noted(choice.command, &queue.columns());
 }

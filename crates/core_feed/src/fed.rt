@@ -12,8 +12,9 @@ ghost use Rattle.core_window.specs.Fit.{Fit, Runs};
 ghost use Rattle.core_window.specs.Rests.{IsNextAct};
 ghost use Rattle.statistics.specs.Cores.{core_stats};
 
+use crate::done::{CoreDone, run_alone};
 use crate::messages::{all_by, before, credits_from, has_reply};
-use core_window::core_unit::{Core, CoreDone};
+use core_window::core_unit::Core;
 use cpu_trace::trace::Trace;
 use sim_base::config::Config;
 use sim_base::message::{CoreId, Cycle, LinkId, Load, Message};
@@ -166,7 +167,7 @@ impl FedCore {
             return Err(FeedFault::Memory);
         };
         let from = core.now();
-        let Ok(done) = core.run(alloc, inbox, from, until) else {
+        let Ok(done) = run_alone(alloc, core, inbox, from, until) else {
             return Err(FeedFault::Memory);
         };
         let CoreDone { core, messages } = done;
@@ -235,7 +236,7 @@ impl FedCore {
         ensures sent { IfOk result (λ done. done.messages.items ≡ sent_by (feed_of self.now)) }
     {
         let core = Core::start(alloc, &self.config, self.id, self.trace.copy()?)?;
-        core.run(alloc, &self.mail, 0, self.core.now())
+        run_alone(alloc, core, &self.mail, 0, self.core.now())
     }
 
     /// The cycle where the core stands: all before it are done.

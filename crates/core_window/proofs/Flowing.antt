@@ -156,7 +156,7 @@ flow-steady a one two r n ahead l plain more flow =
       unfinished = unfinished a.config.width a.config.window a.stats.issued a.stats.retired (length a.trace) r n a.waiting flow l more;
     }
 
-flow-none : (a : CoreView) (row : CoreRow) (why : Stop) → IsSteady a 0 row why
+pub flow-none : (a : CoreView) (row : CoreRow) (why : Stop) → IsSteady a 0 row why
 flow-none a row why = record { turns = λ k l. absurd (omega arith); unfinished = inl (omega arith) }
 
 -- up to the next memory entry, and up to the last entry of the trace

@@ -5,6 +5,7 @@ pub mod Retiring
 pub mod Issuing
 pub mod Stepping
 pub mod Turning
+pub mod Taking
 pub mod Receiving
 pub mod Running
 pub mod Stretching
@@ -12,3 +13,5 @@ pub mod Flowing
 pub mod Starting
 pub mod Fitting
 pub mod Resting
+pub mod Silent
+pub mod Sticking

@@ -2,7 +2,7 @@
 use Rattle.std.proofs.Common.{◌⊎◌, inl, inr, ◌≡◌, ℕ, zero, suc, ◌+◌, ◌-◌, ◌*◌, ◌/◌, ◌%◌, ◌^◌, ◌<◌, ◌≤◌, Bool, true, false, cond, not, ◌&&◌, ◌||◌, eqb, List, [], ◌∷◌, ◌++◌, length, take, Option, Some, None, refl, sym, ap, ap₂, subst, ◌∙◌, add-one, arith, ⊎_elim}
 use Rattle.std.specs.Prelude.{slice_get, sum_by, filter, find, is_some}
 use Rattle.std.specs.Option.{IfSome}
-use Rattle.std.specs.List.{filter_map, range_with_len, cons_option}
+use Rattle.std.specs.List.{AllByRecursion as Each, filter_map, range_with_len, cons_option}
 use Rattle.std.proofs.Math.Seq.{take-length}
 use Rattle.std.proofs.lemmas.Nat.{mod-mul-add, mul-le}
 use Rattle.std.proofs.lemmas.Bool.{cases_lt, ne_eqb, eq-eqb, eqb-true, eqb-false, cond_both}
@@ -20,6 +20,7 @@ use Rattle.sim_base.specs.declared.message.Load.TheVariants as load
 use Rattle.sim_base.specs.declared.message.Message.{Message}
 use Rattle.sim_base.specs.declared.trace.Entry.{Entry}
 use Rattle.sim_base.proofs.Each.{Each-append}
+use Rattle.sim_base.proofs.Ordered.{Each-weaker}
 use Rattle.statistics.specs.Counts.{one_if}
 use Rattle.statistics.specs.Cores.{core_stats, core_joined, replies_in, is_reply_in, waited}
 use Rattle.statistics.specs.declared.cores.CoreStats.{CoreStats}
@@ -34,7 +35,7 @@ use Rattle.core_window.specs.Replies.{MayTakeReply, after_reply}
 use Rattle.core_window.specs.Stands.{IsPast, FollowsItsEntry, is_credit_from, credits_had, credits_spent}
 use Rattle.core_window.specs.Turns.{more_credit, credits_of_kind}
 use Rattle.core_window.specs.Views.{CoreView}
-use Rattle.core_window.specs.Waiting.{is_read_at, is_answered, waiting_read, reads_waiting}
+use Rattle.core_window.specs.Waiting.{is_read_at, is_answered, waiting_read, reads_waiting, IsByNumber}
 use Rattle.core_window.specs.declared.waiting.WaitingRead.{WaitingRead}
 use Rattle.core_window.proofs.Ranges.{filter_map_range-same}
 use Rattle.core_window.proofs.Stepping.{follows-read, replies-le}
@@ -118,6 +119,27 @@ own trace rows mail k = by (is_read_at trace k && not (is_answered mail k))
     by : (b : Bool) → IfSome (cond {A = Option WaitingRead} b (Some (record { entry = k; issued = issue_cycle rows k })) None) (λ w. w.entry ≡ k)
     by true = refl
     by false = tt
+
+-- numbers in a row that are kept stay in their order
+by_number : (f : ℕ → Option WaitingRead) → ((k : ℕ) → IfSome (f k) (λ w. w.entry ≡ k)) → (n a : ℕ)
+    → IsByNumber (filter_map f (range_with_len a n)) × Each (λ (w : WaitingRead). a ≤ w.entry) (filter_map f (range_with_len a n))
+by_number f h zero a = (tt, tt)
+by_number f h (suc n) a = by (f a) (h a) (by_number f h n (a + 1))
+  where
+    others : List WaitingRead
+    others = filter_map f (range_with_len (a + 1) n)
+
+    by : (o : Option WaitingRead) → IfSome o (λ w. w.entry ≡ a) → IsByNumber others × Each (λ (w : WaitingRead). a + 1 ≤ w.entry) others
+        → IsByNumber (cons_option o others) × Each (λ (w : WaitingRead). a ≤ w.entry) (cons_option o others)
+    by None is r = (r.0, Each-weaker (λ (w : WaitingRead). a + 1 ≤ w.entry) (λ w. a ≤ w.entry) (λ w l. omega arith) others r.1)
+    by (Some read) is r = (
+      (Each-weaker (λ (w : WaitingRead). a + 1 ≤ w.entry) (λ w. read.entry < w.entry) (λ w l. omega arith) others r.1, r.0),
+      (omega arith, Each-weaker (λ (w : WaitingRead). a + 1 ≤ w.entry) (λ w. a ≤ w.entry) (λ w l. omega arith) others r.1),
+    )
+
+pub waiting-by_number : (trace : List Entry) (rows : List CoreRow) (mail : List Message) → IsByNumber (reads_waiting trace rows mail)
+unfolding reads_waiting
+waiting-by_number trace rows mail = (by_number (waiting_read trace rows mail) (own trace rows mail) (issued_before rows) 0).0
 
 find_own : (f : ℕ → Option WaitingRead) → ((k : ℕ) → IfSome (f k) (λ w. w.entry ≡ k)) → (e : ℕ) (r : WaitingRead) → f e ≡ Some r → r.entry ≡ e
     → (n a : ℕ) → a ≤ e → e < a + n → find (λ w. eqb w.entry e) (filter_map f (range_with_len a n)) ≡ Some r

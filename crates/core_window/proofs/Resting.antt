@@ -4,9 +4,9 @@ use Rattle.std.specs.Prelude.{replicate}
 use Rattle.std.proofs.lemmas.List.{append-nil}
 use Rattle.std.proofs.lemmas.Bool.{cases_lt}
 use Rattle.sim_base.specs.declared.config.Config.{Config}
-use Rattle.sim_base.specs.History.{issued_before}
+use Rattle.sim_base.specs.History.{issued_before, retired_before}
 use Rattle.sim_base.specs.Machine.{core_run}
-use Rattle.sim_base.specs.Windows.{step}
+use Rattle.sim_base.specs.Windows.{step, retires}
 use Rattle.sim_base.specs.declared.history.CoreRow.{CoreRow}
 use Rattle.sim_base.specs.declared.message.Message.{Message}
 use Rattle.sim_base.specs.declared.trace.Entry.{Entry}
@@ -17,7 +17,11 @@ use Rattle.statistics.specs.declared.cores.CoreStats.{CoreStats}
 use Rattle.core_window.specs.Inside.{StandsAt, IsStanding, IsLike, Does}
 use Rattle.core_window.specs.Rests.{idle_row, Rests, IsFirstAct, IsAtRest, MayRest, MaySkip}
 use Rattle.core_window.proofs.Stretching.{steady-none, steady-more, none_issues, idle-like}
-use Rattle.core_window.proofs.Turning.{like-self}
+use Rattle.core_window.proofs.Turning.{like-self, issued_of, retired_of}
+use Rattle.core_window.proofs.Retiring.{retires-by}
+use Rattle.core_window.specs.Causes.{first_undone}
+use Rattle.core_window.specs.Waiting.{reads_waiting}
+use Rattle.core_window.specs.declared.waiting.WaitingRead.{WaitingRead}
 use Rattle.sim_base.proofs.Ordered.{Each-weaker}
 use Rattle.std.specs.List.{AllByRecursion as Each}
 use Rattle.core_window.specs.Stands.{StandsFor}
@@ -111,6 +115,27 @@ first_act s core trace rows mail a row why memory from at acts turn h =
       since = omega (arith, h.now);
       rests = λ n l. let none : n ≡ 0 = omega (arith, h.now) in subst (λ k. Rests s core trace rows mail k) (sym none) (sym (append-nil rows));
       acts = λ e. acts (sym (does_row s core trace rows mail a row why memory turn h) ∙ ap (λ k. (step s core trace (core_run s core trace rows mail k) mail).0) (sym z) ∙ e);
+    }
+
+-- a core whose next entry is done retires it
+pub retires-first : (s : Config) (core : ℕ) (trace : List Entry) (rows : List CoreRow) (mail : List Message) (a : CoreView) (from : ℕ) → a.now ≡ from → 0 < a.config.width
+    → a.stats.retired < first_undone a.stats.issued a.waiting → StandsFor s core trace rows mail a → IsFirstAct s core trace rows mail from
+unfolding core_run step
+retires-first s core trace rows mail a from at width done h =
+    let z : from - length rows ≡ 0 = omega (arith, h.now) in
+    let st : StandsAt s core trace rows mail a = stands-at s core trace rows mail a h in
+    let P : Config → ℕ → ℕ → List WaitingRead → Type 0 = λ x i r ws. (0 < x.width) × (r < first_undone i ws) in
+    let f1 : P s a.stats.issued a.stats.retired a.waiting = subst (λ x. P x a.stats.issued a.stats.retired a.waiting) h.config (width, done) in
+    let f2 : P s (issued_before rows) a.stats.retired a.waiting = subst (λ x. P s x a.stats.retired a.waiting) (issued_of s core trace rows mail a st) f1 in
+    let f3 : P s (issued_before rows) (retired_before rows) a.waiting = subst (λ x. P s (issued_before rows) x a.waiting) (retired_of s core trace rows mail a st) f2 in
+    let f4 : P s (issued_before rows) (retired_before rows) (reads_waiting trace rows mail) = subst (P s (issued_before rows) (retired_before rows)) h.waiting f3 in
+    record {
+      since = omega (arith, h.now);
+      rests = λ n l. let none : n ≡ 0 = omega (arith, h.now) in subst (λ k. Rests s core trace rows mail k) (sym none) (sym (append-nil rows));
+      acts = λ e.
+          let idle : (step s core trace rows mail).0 ≡ idle_row = ap (λ k. (step s core trace (core_run s core trace rows mail k) mail).0) (sym z) ∙ e in
+          let none : retires s trace rows mail ≡ 0 = ap (λ (r : CoreRow). r.retired) idle in
+          omega (arith, f4.0, f4.1, none, retires-by s core trace rows mail h.past);
     }
 
 length-rested : (s : Config) (core : ℕ) (trace : List Entry) (rows : List CoreRow) (mail : List Message) (n : ℕ) → Rests s core trace rows mail n → length (rows ++ replicate n idle_row) ≡ length rows + n

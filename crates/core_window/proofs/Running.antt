@@ -25,8 +25,8 @@ use Rattle.statistics.specs.Runs.{credits_of}
 use Rattle.statistics.specs.declared.final_state.Credits.{Credits}
 use Rattle.statistics.proofs.Lists.{length-push_suc}
 use Rattle.statistics.proofs.Messages.{arrived-later, NotBefore-sooner}
-use Rattle.core_window.specs.Fit.{IsDue, IsByArrival, Fit, MayRun, Runs}
-use Rattle.core_window.specs.Inside.{credits_now, StandsAt, IsStanding, IsReceiving, IsMidway, Advances, GoesOn}
+use Rattle.core_window.specs.Fit.{IsDue, IsByArrival, Fit, MayRun, Runs, RunsOnto}
+use Rattle.core_window.specs.Inside.{credits_now, StandsAt, IsStanding, IsReceiving, IsMidway, Sends, Advances, GoesOn}
 use Rattle.core_window.specs.Stands.{StandsFor, is_credit_from, credits_had}
 use Rattle.core_window.specs.Views.{CoreView}
 use Rattle.core_window.proofs.Stepping.{with_none_arrived}
@@ -65,25 +65,37 @@ pub record IsUnderway (until : ℕ) (a : CoreView) (before : List Message) (b : 
   pub until_then : b.now ≤ until
   pub advances : Advances (b.now - a.now) a before b after
 
-pub underway-first : (until : ℕ) (a : CoreView) (sent : List Message) → a.now ≤ until → IsUnderway until a sent a sent
+-- no cycle
+pub advances-none : (a : CoreView) (sent : List Message) → Advances 0 a sent a sent
 unfolding core_run
+advances-none a sent = record { sent = []; behind = sym (append-nil sent); sends = λ s core trace rows mail h. (h, sym (append-nil (core_messages s core trace rows))) }
+
+pub underway-first : (until : ℕ) (a : CoreView) (sent : List Message) → a.now ≤ until → IsUnderway until a sent a sent
 underway-first until a sent l =
     let z : a.now - a.now ≡ 0 = omega arith in
     record {
       since = omega arith;
       until_then = l;
-      advances = subst (λ n. Advances n a sent a sent) (sym z) (λ s core trace rows mail h. (h, λ base e. e));
+      advances = subst (λ n. Advances n a sent a sent) (sym z) (advances-none a sent);
     }
 
 -- one stretch after another
-pub advances-add : (m n : ℕ) (a b d : CoreView) (x y z : List Message) → Advances m a x b y → Advances n b y d z → Advances (m + n) a x d z
-advances-add m n a b d x y z one two s core trace rows mail h =
+sends-add : (m n : ℕ) (a b d : CoreView) (x y : List Message) → Sends m a b x → Sends n b d y → Sends (m + n) a d (x ++ y)
+sends-add m n a b d x y one two s core trace rows mail h =
     let first = one s core trace rows mail h in
     let second = two s core trace (core_run s core trace rows mail m) mail first.0 in
     let e : core_run s core trace (core_run s core trace rows mail m) mail n ≡ core_run s core trace rows mail (m + n) = sym (core_run-add s core trace rows mail m n) in (
       subst (λ r. StandsAt s core trace r mail d) e second.0,
-      λ base f. ap (core_messages s core trace) (sym e) ∙ second.1 base (first.1 base f),
+      ap (core_messages s core trace) (sym e) ∙ second.1 ∙ ap (λ l. l ++ y) first.1 ∙ append_assoc (core_messages s core trace rows) x y,
     )
+
+pub advances-add : (m n : ℕ) (a b d : CoreView) (x y z : List Message) → Advances m a x b y → Advances n b y d z → Advances (m + n) a x d z
+advances-add m n a b d x y z one two =
+    record {
+      sent = one.sent ++ two.sent;
+      behind = two.behind ∙ ap (λ l. l ++ two.sent) one.behind ∙ append_assoc x one.sent two.sent;
+      sends = sends-add m n a b d one.sent two.sent one.sends two.sends;
+    }
 
 pub underway-more : (until : ℕ) (a b d : CoreView) (x y z : List Message) → IsUnderway until a x b y → GoesOn until b y d z → IsUnderway until a x d z
 underway-more until a b d x y z u g =
@@ -96,7 +108,7 @@ underway-more until a b d x y z u g =
 
 pub underway-standing : (until : ℕ) (a b : CoreView) (x y : List Message) → IsUnderway until a x b y → IsStanding a → IsStanding b
 underway-standing until a b x y u h =
-    record { s = h.s; core = h.core; trace = h.trace; rows = core_run h.s h.core h.trace h.rows h.mail (b.now - a.now); mail = h.mail; stands = (u.advances h.s h.core h.trace h.rows h.mail h.stands).0 }
+    record { s = h.s; core = h.core; trace = h.trace; rows = core_run h.s h.core h.trace h.rows h.mail (b.now - a.now); mail = h.mail; stands = (u.advances.sends h.s h.core h.trace h.rows h.mail h.stands).0 }
 
 -- all of the mail came before a cycle
 held-all : (s : Config) (core : ℕ) (mail sent : List Message) (channel : ℕ) (write : Bool) (until : ℕ) → Each (λ m. m.arrival < until) mail
@@ -171,11 +183,17 @@ stands-for s core trace rows mail a h before =
     }
 
 -- what a core that takes its inbox stands for, whatever it stood for
-abbrev pub IsTaking : CoreView → ℕ → ℕ → List Message → ℕ → CoreView → List Message → Type 0
-IsTaking a from until inbox taken b sent =
+abbrev pub HasTaken : CoreView → ℕ → ℕ → List Message → ℕ → CoreView → List Message → Type 0
+HasTaken a from until inbox taken b sent =
     (s : Config) (core : ℕ) (trace : List Entry) (rows : List CoreRow) (mail : List Message)
     → StandsFor s core trace rows mail a → Fit s core trace rows mail from until inbox
     → IsMidway s core trace rows mail from until inbox taken b sent
+
+-- the same, and what it sent is put behind what a list held
+pub record IsTaking (a : CoreView) (from until : ℕ) (inbox : List Message) (taken : ℕ) (b : CoreView) (held holds : List Message) : Type 0 where
+  pub sent : List Message
+  pub behind : holds ≡ held ++ sent
+  pub taking : HasTaken a from until inbox taken b sent
 
 -- a message stands at a place of an inbox
 pub record IsAt (inbox : List Message) (i : ℕ) (m : Message) : Type 0 where
@@ -220,7 +238,7 @@ Each-at P inbox i m h at = (subst (Each P) at.rest h).0
 -- a core goes on up to a cycle before which no message comes
 pub goes_on : (s : Config) (core : ℕ) (trace : List Entry) (rows : List CoreRow) (mail : List Message) (from until : ℕ) (inbox : List Message) (i : ℕ) (b d : CoreView) (x y : List Message) (t : ℕ)
     → length rows ≡ from → IsMidway s core trace rows mail from until inbox i b x → b.now ≤ t → t ≤ until → Each (λ m. t ≤ m.arrival) (drop i inbox)
-    → Advances (t - b.now) b x d y → IsMidway s core trace rows mail from until inbox i d y
+    → Sends (t - b.now) b d y → IsMidway s core trace rows mail from until inbox i d (x ++ y)
 goes_on s core trace rows mail from until inbox i b d x y t start mid l u others adv =
     let full = mail ++ inbox in
     let had = mail ++ take i inbox in
@@ -236,7 +254,8 @@ goes_on s core trace rows mail from until inbox i b d x y t start mid l u others
     let one = adv s core trace at had mid.stands in
     let stands : StandsAt s core trace (core_run s core trace rows full (t - from)) had d = subst (λ r. StandsAt s core trace r had d) same one.0 in
     let now : d.now ≡ t = omega (arith, stands.now, length-core_run s core trace rows full (t - from), mid.since) in
-    let messages : core_messages s core trace (core_run s core trace rows full (t - from)) ≡ core_messages s core trace rows ++ y = ap (core_messages s core trace) (sym same) ∙ one.1 (core_messages s core trace rows) mid.messages in
+    let messages : core_messages s core trace (core_run s core trace rows full (t - from)) ≡ core_messages s core trace rows ++ (x ++ y) =
+    ap (core_messages s core trace) (sym same) ∙ one.1 ∙ ap (λ l. l ++ y) mid.messages ∙ append_assoc (core_messages s core trace rows) x y in
     record {
       since = omega (arith, mid.since);
       stands = subst (λ k. StandsAt s core trace (core_run s core trace rows full (k - from)) had d) (sym now) stands;
@@ -246,7 +265,7 @@ goes_on s core trace rows mail from until inbox i b d x y t start mid l u others
     }
 
 pub now_at : (s : Config) (core : ℕ) (trace : List Entry) (rows : List CoreRow) (mail : List Message) (from until : ℕ) (inbox : List Message) (i : ℕ) (b d : CoreView) (x y : List Message) (t : ℕ)
-    → length rows ≡ from → IsMidway s core trace rows mail from until inbox i b x → b.now ≤ t → Advances (t - b.now) b x d y → d.now ≡ t
+    → length rows ≡ from → IsMidway s core trace rows mail from until inbox i b x → b.now ≤ t → Sends (t - b.now) b d y → d.now ≡ t
 now_at s core trace rows mail from until inbox i b d x y t start mid l adv =
     let at = core_run s core trace rows (mail ++ inbox) (b.now - from) in
     let one = adv s core trace at (mail ++ take i inbox) mid.stands in
@@ -278,9 +297,9 @@ may_take s core trace rows mail from until inbox i d y m mid at now fit =
     let split : inbox ≡ take i inbox ++ m ∷ drop (i + 1) inbox = sym (take-drop-all inbox i) ∙ ap (λ l. take i inbox ++ l) at.rest in
     subst (λ k. IsDue s core trace (core_run s core trace rows (mail ++ inbox) (k - from)) (mail ++ take i inbox) m) (sym now) (fit.due (take i inbox) (drop (i + 1) inbox) m split)
 
-pub taking-first : (a : CoreView) (from until : ℕ) (inbox : List Message) → a.now ≡ from → from ≤ until → IsTaking a from until inbox 0 a []
+has_taken-first : (a : CoreView) (from until : ℕ) (inbox : List Message) → a.now ≡ from → from ≤ until → HasTaken a from until inbox 0 a []
 unfolding core_run
-taking-first a from until inbox at l s core trace rows mail h fit =
+has_taken-first a from until inbox at l s core trace rows mail h fit =
     let z : a.now - from ≡ 0 = omega arith in
     record {
       since = omega arith;
@@ -291,44 +310,51 @@ taking-first a from until inbox at l s core trace rows mail h fit =
       until_then = omega arith;
     }
 
-pub taking-standing : (a : CoreView) (from until : ℕ) (inbox : List Message) (i : ℕ) (b : CoreView) (x : List Message) → MayRun a from until inbox → IsTaking a from until inbox i b x → IsStanding b
-taking-standing a from until inbox i b x may h =
+pub taking-first : (a : CoreView) (from until : ℕ) (inbox held : List Message) → a.now ≡ from → from ≤ until → IsTaking a from until inbox 0 a held held
+taking-first a from until inbox held at l = record { sent = []; behind = sym (append-nil held); taking = has_taken-first a from until inbox at l }
+
+pub taking-standing : (a : CoreView) (from until : ℕ) (inbox : List Message) (i : ℕ) (b : CoreView) (w x : List Message) → MayRun a from until inbox → IsTaking a from until inbox i b w x → IsStanding b
+taking-standing a from until inbox i b w x may h =
     record {
       s = may.s;
       core = may.core;
       trace = may.trace;
       rows = core_run may.s may.core may.trace may.rows (may.mail ++ inbox) (b.now - from);
       mail = may.mail ++ take i inbox;
-      stands = (h may.s may.core may.trace may.rows may.mail may.stands may.fit).stands;
+      stands = (h.taking may.s may.core may.trace may.rows may.mail may.stands may.fit).stands;
     }
 
-pub taking-order : (a : CoreView) (from until : ℕ) (inbox : List Message) (i : ℕ) (b : CoreView) (x : List Message) (m : Message) → MayRun a from until inbox → IsTaking a from until inbox i b x → IsAt inbox i m → b.now ≤ m.arrival
-taking-order a from until inbox i b x m may h at =
-    Each-at (λ (n : Message). b.now ≤ n.arrival) inbox i m (h may.s may.core may.trace may.rows may.mail may.stands may.fit).others at
+pub taking-order : (a : CoreView) (from until : ℕ) (inbox : List Message) (i : ℕ) (b : CoreView) (w x : List Message) (m : Message) → MayRun a from until inbox → IsTaking a from until inbox i b w x → IsAt inbox i m → b.now ≤ m.arrival
+taking-order a from until inbox i b w x m may h at =
+    Each-at (λ (n : Message). b.now ≤ n.arrival) inbox i m (h.taking may.s may.core may.trace may.rows may.mail may.stands may.fit).others at
 
 pub taking-within : (a : CoreView) (from until : ℕ) (inbox : List Message) (i : ℕ) (m : Message) → MayRun a from until inbox → IsAt inbox i m → m.arrival < until
 taking-within a from until inbox i m may at = Each-at (λ (n : Message). n.arrival < until) inbox i m (Each-drop (λ (n : Message). n.arrival < until) inbox i may.fit.until_then) at
 
-pub taking-until : (a : CoreView) (from until : ℕ) (inbox : List Message) (i : ℕ) (b : CoreView) (x : List Message) → MayRun a from until inbox → IsTaking a from until inbox i b x → b.now ≤ until
-taking-until a from until inbox i b x may h = (h may.s may.core may.trace may.rows may.mail may.stands may.fit).until_then
+pub taking-until : (a : CoreView) (from until : ℕ) (inbox : List Message) (i : ℕ) (b : CoreView) (w x : List Message) → MayRun a from until inbox → IsTaking a from until inbox i b w x → b.now ≤ until
+taking-until a from until inbox i b w x may h = (h.taking may.s may.core may.trace may.rows may.mail may.stands may.fit).until_then
 
 -- up to the cycle of the next message
-pub taking-on : (a : CoreView) (from until : ℕ) (inbox : List Message) (i : ℕ) (b d : CoreView) (x y : List Message) (m : Message) → a.now ≡ from → b.now ≤ m.arrival → IsAt inbox i m
-    → IsTaking a from until inbox i b x → Advances (m.arrival - b.now) b x d y → IsTaking a from until inbox i d y
-taking-on a from until inbox i b d x y m start l at h adv s core trace rows mail st fit =
+has_taken-on : (a : CoreView) (from until : ℕ) (inbox : List Message) (i : ℕ) (b d : CoreView) (x y : List Message) (m : Message) → a.now ≡ from → b.now ≤ m.arrival → IsAt inbox i m
+    → HasTaken a from until inbox i b x → Sends (m.arrival - b.now) b d y → HasTaken a from until inbox i d (x ++ y)
+has_taken-on a from until inbox i b d x y m start l at h adv s core trace rows mail st fit =
     goes_on s core trace rows mail from until inbox i b d x y m.arrival (sym st.now ∙ start) (h s core trace rows mail st fit) l
     (omega (arith, Each-at (λ (n : Message). n.arrival < until) inbox i m (Each-drop (λ (n : Message). n.arrival < until) inbox i fit.until_then) at))
     (next_first inbox i m fit.in_order at) adv
 
-pub taking-now : (a : CoreView) (from until : ℕ) (inbox : List Message) (i : ℕ) (b d : CoreView) (x y : List Message) (m : Message) → a.now ≡ from → b.now ≤ m.arrival
-    → MayRun a from until inbox → IsTaking a from until inbox i b x → Advances (m.arrival - b.now) b x d y → d.now ≡ m.arrival
-taking-now a from until inbox i b d x y m start l may h adv =
-    now_at may.s may.core may.trace may.rows may.mail from until inbox i b d x y m.arrival (sym may.stands.now ∙ start) (h may.s may.core may.trace may.rows may.mail may.stands may.fit) l adv
+pub taking-on : (a : CoreView) (from until : ℕ) (inbox : List Message) (i : ℕ) (b d : CoreView) (w x y : List Message) (m : Message) → a.now ≡ from → b.now ≤ m.arrival → IsAt inbox i m
+    → IsTaking a from until inbox i b w x → Advances (m.arrival - b.now) b x d y → IsTaking a from until inbox i d w y
+taking-on a from until inbox i b d w x y m start l at h adv =
+    record {
+      sent = h.sent ++ adv.sent;
+      behind = adv.behind ∙ ap (λ l. l ++ adv.sent) h.behind ∙ append_assoc w h.sent adv.sent;
+      taking = has_taken-on a from until inbox i b d h.sent adv.sent m start l at h.taking adv.sends;
+    }
 
-pub taking-receives : (a : CoreView) (from until : ℕ) (inbox : List Message) (i : ℕ) (d : CoreView) (y : List Message) (m : Message) → MayRun a from until inbox → IsTaking a from until inbox i d y
+pub taking-receives : (a : CoreView) (from until : ℕ) (inbox : List Message) (i : ℕ) (d : CoreView) (w y : List Message) (m : Message) → MayRun a from until inbox → IsTaking a from until inbox i d w y
     → IsAt inbox i m → d.now ≡ m.arrival → IsReceiving d m
-taking-receives a from until inbox i d y m may h at now =
-    let mid = h may.s may.core may.trace may.rows may.mail may.stands may.fit in
+taking-receives a from until inbox i d w y m may h at now =
+    let mid = h.taking may.s may.core may.trace may.rows may.mail may.stands may.fit in
     record {
       s = may.s;
       core = may.core;
@@ -337,18 +363,26 @@ taking-receives a from until inbox i d y m may h at now =
       mail = may.mail ++ take i inbox;
       stands = mid.stands;
       now = sym now ∙ mid.stands.now;
-      due = may_take may.s may.core may.trace may.rows may.mail from until inbox i d y m mid at now may.fit;
+      due = may_take may.s may.core may.trace may.rows may.mail from until inbox i d h.sent m mid at now may.fit;
     }
 
-pub taking-more : (a : CoreView) (from until : ℕ) (inbox : List Message) (i : ℕ) (d e : CoreView) (y : List Message) (m : Message) → IsTaking a from until inbox i d y
+has_taken-more : (a : CoreView) (from until : ℕ) (inbox : List Message) (i : ℕ) (d e : CoreView) (y : List Message) (m : Message) → HasTaken a from until inbox i d y
     → IsAt inbox i m → d.now ≡ m.arrival
     → ((s : Config) (core : ℕ) (trace : List Entry) (rows : List CoreRow) (mail : List Message) → StandsAt s core trace rows mail d → m.arrival ≡ length rows → IsDue s core trace rows mail m
     → StandsAt s core trace rows (mail ++ m ∷ []) e)
-    → IsTaking a from until inbox (i + 1) e y
-taking-more a from until inbox i d e y m h at now receives s core trace rows mail st fit =
+    → HasTaken a from until inbox (i + 1) e y
+has_taken-more a from until inbox i d e y m h at now receives s core trace rows mail st fit =
     let mid = h s core trace rows mail st fit in
     takes s core trace rows mail from until inbox i d e y m mid at
     (receives s core trace _ _ mid.stands (sym now ∙ mid.stands.now) (may_take s core trace rows mail from until inbox i d y m mid at now fit))
+
+pub taking-more : (a : CoreView) (from until : ℕ) (inbox : List Message) (i : ℕ) (d e : CoreView) (w y : List Message) (m : Message) → IsTaking a from until inbox i d w y
+    → IsAt inbox i m → d.now ≡ m.arrival
+    → ((s : Config) (core : ℕ) (trace : List Entry) (rows : List CoreRow) (mail : List Message) → StandsAt s core trace rows mail d → m.arrival ≡ length rows → IsDue s core trace rows mail m
+    → StandsAt s core trace rows (mail ++ m ∷ []) e)
+    → IsTaking a from until inbox (i + 1) e w y
+taking-more a from until inbox i d e w y m h at now receives =
+    record { sent = h.sent; behind = h.behind; taking = has_taken-more a from until inbox i d e h.sent m h.taking at now receives }
 
 Each-both : (P : Message → Type 0) (xs ys : List Message) → Each P xs → Each P ys → Each P (xs ++ ys)
 Each-both P [] ys h k = k
@@ -359,13 +393,13 @@ drop-all [] = refl
 drop-all (x ∷ xs) = drop-all xs
 
 -- all messages are taken
-pub taking-last : (a : CoreView) (from until : ℕ) (inbox : List Message) (b d : CoreView) (x y : List Message) → a.now ≡ from → b.now ≤ until
-    → IsTaking a from until inbox (length inbox) b x → Advances (until - b.now) b x d y → Runs a from until inbox d y
-taking-last a from until inbox b d x y start l h adv s core trace rows mail st fit =
+has_taken-last : (a : CoreView) (from until : ℕ) (inbox : List Message) (b d : CoreView) (x y : List Message) → a.now ≡ from → b.now ≤ until
+    → HasTaken a from until inbox (length inbox) b x → Sends (until - b.now) b d y → Runs a from until inbox d (x ++ y)
+has_taken-last a from until inbox b d x y start l h adv s core trace rows mail st fit =
     let n = length inbox in
     let before = h s core trace rows mail st fit in
     let len : length rows ≡ from = sym st.now ∙ start in
-    let mid : IsMidway s core trace rows mail from until inbox n d y =
+    let mid : IsMidway s core trace rows mail from until inbox n d (x ++ y) =
     goes_on s core trace rows mail from until inbox n b d x y until len before l (omega arith) (subst (Each (λ (m : Message). until ≤ m.arrival)) (sym (drop-all inbox)) tt) adv in
     let now : d.now ≡ until = now_at s core trace rows mail from until inbox n b d x y until len before l adv in
     let rows' = core_run s core trace rows (mail ++ inbox) (until - from) in
@@ -380,3 +414,12 @@ taking-last a from until inbox b d x y start l h adv s core trace rows mail st f
           (Each-weaker (λ (m : Message). m.arrival < until) (λ m. m.arrival < length rows') (λ m k. omega arith) inbox fit.until_then)),
       ap (λ k. core_messages s core trace (core_run s core trace rows (mail ++ inbox) (k - from))) (sym now) ∙ mid.messages,
     )
+
+pub taking-last : (a : CoreView) (from until : ℕ) (inbox : List Message) (b d : CoreView) (w x y : List Message) → a.now ≡ from → b.now ≤ until
+    → IsTaking a from until inbox (length inbox) b w x → Advances (until - b.now) b x d y → RunsOnto a from until inbox d w y
+taking-last a from until inbox b d w x y start l h adv =
+    record {
+      sent = h.sent ++ adv.sent;
+      behind = adv.behind ∙ ap (λ l. l ++ adv.sent) h.behind ∙ append_assoc w h.sent adv.sent;
+      runs = has_taken-last a from until inbox b d h.sent adv.sent start l h.taking adv.sends;
+    }

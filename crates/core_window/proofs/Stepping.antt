@@ -1,5 +1,5 @@
 -- A core that stands for some rows stands, after what it does in a cycle, for one row more.
-use Rattle.std.proofs.Common.{get_or, ◌≡◌, ℕ, ◌+◌, ◌-◌, ◌^◌, ◌<◌, ◌≤◌, min, Bool, true, false, cond, not, ◌&&◌, eqb, ltb, leb, List, [], ◌∷◌, ◌++◌, length, take, drop, Option, Some, None, refl, sym, ap, ap₂, subst, ◌∙◌, add-zero, zero-add, append_assoc, arith, ⊎_elim}
+use Rattle.std.proofs.Common.{get_or, ◌≡◌, ℕ, ◌+◌, ◌-◌, ◌^◌, ◌<◌, ◌≤◌, min, Bool, true, false, cond, not, ◌&&◌, eqb, ltb, leb, List, [], ◌∷◌, ◌++◌, length, take, drop, Option, Some, None, refl, sym, ap, ap₂, subst, ◌∙◌, add-zero, zero-add, arith, ⊎_elim}
 use Rattle.std.specs.Prelude.{slice_get, count_by, filter}
 use Rattle.std.specs.Option.{IfSome, option_to_list}
 use Rattle.std.specs.List.{AllByRecursion as Each, prefix_len, range_with_len}
@@ -30,7 +30,7 @@ use Rattle.statistics.proofs.CoreBounds.{retires-le, issues-le, core_stats-fit}
 use Rattle.statistics.proofs.CoreSteps.{core_stats-push, issued_before-push, retired_before-push}
 use Rattle.statistics.proofs.CoreStretches.{core_joined-assoc}
 use Rattle.statistics.proofs.Lists.{length-push_suc, take-push, option_or-none}
-use Rattle.core_window.specs.Inside.{credits_now, core_arrived, StandsAt, Advances}
+use Rattle.core_window.specs.Inside.{credits_now, core_arrived, StandsAt, Sends, Advances}
 use Rattle.core_window.specs.Stands.{IsPast, FollowsItsEntry, is_credit_from, credits_had, credits_spent}
 use Rattle.core_window.specs.Turns.{IsIssued, IsTurn, reads_issued, requests_issued, credit_after, cycle_counts, is_read_among, is_write_among}
 use Rattle.core_window.specs.Views.{CoreView}
@@ -316,18 +316,22 @@ step-fits s core trace rows mail a row why memory h turn l n =
     (past-fits s core trace (rows ++ row ∷ []) mail (past-push s core trace rows mail row why memory h.past turn) (omega arith) (omega (arith, length-push_suc rows row, h.now)))
 
 -- a cycle of a core, and what it sends in it
-pub step-advances : (a b : CoreView) (row : CoreRow) (why : Stop) (memory : Option MemoryEntry) (before after : List Message)
+step-sends : (a b : CoreView) (row : CoreRow) (why : Stop) (memory : Option MemoryEntry)
     → ((s : Config) (core : ℕ) (trace : List Entry) (rows : List CoreRow) (mail : List Message) → StandsAt s core trace rows mail a → IsTurn s core trace rows mail row why memory)
-    → IsStep a b row why memory → after ≡ before ++ requests_issued a.config a.core a.now memory → Advances 1 a before b after
+    → IsStep a b row why memory → Sends 1 a b (requests_issued a.config a.core a.now memory)
 unfolding core_run
-step-advances a b row why memory before after turn i e s core trace rows mail h =
+step-sends a b row why memory turn i s core trace rows mail h =
     let t : IsTurn s core trace rows mail row why memory = turn s core trace rows mail h in
     let one : rows ++ (step s core trace rows mail).0 ∷ [] ≡ rows ++ row ∷ [] = ap (λ (x : CoreRow × Stop). rows ++ x.0 ∷ []) t.does in
     let request : Config → ℕ → ℕ → List Message = λ x c n. requests_issued x c n memory in (
       subst (λ r. StandsAt s core trace r mail b) (sym one) (step-stands s core trace rows mail a b row why memory h t i),
-      λ base sent. ap (core_messages s core trace) one
+      ap (core_messages s core trace) one
           ∙ messages-push s core trace rows row memory t.issues
-          ∙ ap₂ (λ x y. x ++ y) sent (sym (ap (λ x. request x a.core a.now) h.config ∙ ap (λ c. request s c a.now) h.number ∙ ap (request s core) h.now))
-          ∙ append_assoc base before (requests_issued a.config a.core a.now memory)
-          ∙ ap (λ x. base ++ x) (sym e),
+          ∙ ap (λ x. core_messages s core trace rows ++ x) (sym (ap (λ x. request x a.core a.now) h.config ∙ ap (λ c. request s c a.now) h.number ∙ ap (request s core) h.now)),
     )
+
+-- the same, where these are put behind what a list held
+pub step-advances : (a b : CoreView) (row : CoreRow) (why : Stop) (memory : Option MemoryEntry) (before after : List Message)
+    → ((s : Config) (core : ℕ) (trace : List Entry) (rows : List CoreRow) (mail : List Message) → StandsAt s core trace rows mail a → IsTurn s core trace rows mail row why memory)
+    → IsStep a b row why memory → after ≡ before ++ requests_issued a.config a.core a.now memory → Advances 1 a before b after
+step-advances a b row why memory before after turn i e = record { sent = requests_issued a.config a.core a.now memory; behind = e; sends = step-sends a b row why memory turn i }

@@ -22,7 +22,7 @@ use Rattle.core_window.specs.Rests.{idle_row}
 use Rattle.core_window.specs.Steady.{steady_counts, steady_view, IsSteady}
 use Rattle.core_window.specs.Turns.{IsTurn, IsIssued, cycle_counts}
 use Rattle.core_window.specs.Views.{CoreView}
-use Rattle.core_window.proofs.Running.{advances-add}
+use Rattle.core_window.proofs.Running.{advances-none, advances-add}
 use Rattle.core_window.proofs.Stepping.{IsStep, step-advances, step-fits}
 
 times_more : (a n x : ℕ) → a + n * x + x ≡ a + suc n * x
@@ -114,8 +114,7 @@ steady-step a n row why h =
     }
 
 pub steady-advances : (a : CoreView) (n : ℕ) (row : CoreRow) (why : Stop) (sent : List Message) → IsSteady a n row why → Advances n a sent (steady_view a row why n) sent
-unfolding core_run
-steady-advances a zero row why sent h = subst (λ (v : CoreView). Advances 0 a sent v sent) (steady-none a row why) (λ s core trace rows mail k. (k, λ base e. e))
+steady-advances a zero row why sent h = subst (λ (v : CoreView). Advances 0 a sent v sent) (steady-none a row why) (advances-none a sent)
 steady-advances a (suc n) row why sent h =
     let v = steady_view a row why n in
     let one : Advances 1 v sent (steady_view a row why (suc n)) sent =
@@ -131,7 +130,7 @@ steady-fits a zero row why i h l len early = absurd (omega arith)
 steady-fits a (suc n) row why i h l len early =
     let v = steady_view a row why n in
     let rows = core_run i.s i.core i.trace i.rows i.mail n in
-    let st : StandsAt i.s i.core i.trace rows i.mail v = (steady-advances a n row why [] (steady-fewer a n row why h) i.s i.core i.trace i.rows i.mail i.stands).0 in
+    let st : StandsAt i.s i.core i.trace rows i.mail v = ((steady-advances a n row why [] (steady-fewer a n row why h)).sends i.s i.core i.trace i.rows i.mail i.stands).0 in
     subst CoreFits (steady-more a.stats row why n (a.stats.retired + n * row.retired) (length a.trace) (a.now + n) (last-unfinished a n row why h))
     (step-fits i.s i.core i.trace rows i.mail v row why None st (h.turns n (omega arith) i.s i.core i.trace rows i.mail st) len (omega arith))
 
@@ -206,13 +205,12 @@ ok-both (Err e) P Q R f p q = p
 
 -- no cycle
 pub quiet-none : (a : CoreView) (until : ℕ) → a.now ≤ until → GoesQuietly until a a
-unfolding core_run
 quiet-none a until l =
     let z : a.now - a.now ≡ 0 = omega arith in
     record {
       since = omega arith;
       until_then = l;
-      advances = λ sent. subst (λ n. Advances n a sent a sent) (sym z) (λ s core trace rows mail h. (h, λ base e. e));
+      advances = λ sent. subst (λ n. Advances n a sent a sent) (sym z) (advances-none a sent);
     }
 
 -- a stretch
@@ -228,7 +226,7 @@ quiet-steady a b n until row why h e u =
 
 pub quiet-standing : (a b : CoreView) (until : ℕ) → GoesQuietly until a b → IsStanding a → IsStanding b
 quiet-standing a b until h i =
-    record { s = i.s; core = i.core; trace = i.trace; rows = core_run i.s i.core i.trace i.rows i.mail (b.now - a.now); mail = i.mail; stands = (h.advances [] i.s i.core i.trace i.rows i.mail i.stands).0 }
+    record { s = i.s; core = i.core; trace = i.trace; rows = core_run i.s i.core i.trace i.rows i.mail (b.now - a.now); mail = i.mail; stands = ((h.advances []).sends i.s i.core i.trace i.rows i.mail i.stands).0 }
 
 -- and then the rest of the way
 pub quiet-then : (a b d : CoreView) (until : ℕ) (x z : List Message) → GoesQuietly until a b → GoesOn until b x d z → GoesOn until a x d z
@@ -249,4 +247,4 @@ ok-map (Err e) P Q f p = p
 
 pub goes-standing : (a b : CoreView) (until : ℕ) (x y : List Message) → GoesOn until a x b y → IsStanding a → IsStanding b
 goes-standing a b until x y h i =
-    record { s = i.s; core = i.core; trace = i.trace; rows = core_run i.s i.core i.trace i.rows i.mail (b.now - a.now); mail = i.mail; stands = (h.advances i.s i.core i.trace i.rows i.mail i.stands).0 }
+    record { s = i.s; core = i.core; trace = i.trace; rows = core_run i.s i.core i.trace i.rows i.mail (b.now - a.now); mail = i.mail; stands = (h.advances.sends i.s i.core i.trace i.rows i.mail i.stands).0 }

@@ -175,16 +175,16 @@ two_least trace number one two h = ⊎_elim (λ inside. (h.second inside).is_wit
 
 -- a credit counts only where the first memory entry is near enough to issue
 pub lazy-count : (trace : List Entry) (width window number gone one two : ℕ) (lacks full : Bool) → IsAhead trace number one two
-    → (one < min (number + width) (length trace) → lacks ≡ full) → (min (number + width) (length trace) ≤ one → lacks ≡ false)
+    → (one < min (number + min width (window - (number - gone))) (length trace) → lacks ≡ full) → (min (number + min width (window - (number - gone))) (length trace) ≤ one → lacks ≡ false)
     → issue_count width window number gone one two lacks ≡ issue_count width window number gone one two full
 lazy-count trace width window number gone one two lacks full ahead near far =
     let end : two ≤ length trace = two_least trace number one two ahead in
     ⊎_elim
     (λ l. ap (issue_count width window number gone one two) (near l))
     (λ g. ap (issue_count width window number gone one two) (far g) ∙ same full g end)
-    (cases_lt one (min (number + width) (length trace)))
+    (cases_lt one (min (number + min width (window - (number - gone))) (length trace)))
   where
-    same : (b : Bool) → min (number + width) (length trace) ≤ one → two ≤ length trace → issue_count width window number gone one two false ≡ issue_count width window number gone one two b
+    same : (b : Bool) → min (number + min width (window - (number - gone))) (length trace) ≤ one → two ≤ length trace → issue_count width window number gone one two false ≡ issue_count width window number gone one two b
     same true g end = omega arith
     same false g end = refl
 

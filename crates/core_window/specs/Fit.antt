@@ -1,6 +1,9 @@
 -- Messages that may arrive at a core.
 --     IsDue s core trace rows mail m      a message may come in the cycle after these rows, and after this mail
 --     Fit s core trace rows mail from until inbox      these messages may come in a span of cycles
+--     MayRun view from until inbox      they may come to a core as it stands
+--     Runs before from until inbox after sent      what it then does and sends
+--     RunsOnto before from until inbox after held holds      the same, with a list behind which it puts what it sends
 use Rattle.std.specs.Prelude.{◌≡◌, ℕ, ◌+◌, ◌-◌, ◌<◌, ◌≤◌, Bool, true, false, List, [], ◌∷◌, ◌++◌}
 use Rattle.std.specs.List.{AllByRecursion as Each}
 use Rattle.sim_base.specs.declared.config.Config.{Config}
@@ -75,3 +78,9 @@ Runs before from until inbox after sent =
     → StandsFor s core trace rows mail before → Fit s core trace rows mail from until inbox
     → StandsFor s core trace (core_run s core trace rows (mail ++ inbox) (until - from)) (mail ++ inbox) after
     × (core_messages s core trace (core_run s core trace rows (mail ++ inbox) (until - from)) ≡ core_messages s core trace rows ++ sent)
+
+-- the same, and what it sends is put behind what a list held before
+pub record RunsOnto (before : CoreView) (from until : ℕ) (inbox : List Message) (after : CoreView) (held holds : List Message) : Type 0 where
+  pub sent : List Message
+  pub behind : holds ≡ held ++ sent
+  pub runs : Runs before from until inbox after sent

@@ -1,6 +1,7 @@
 -- What a core stands for within a span, where messages of the cycle at which it stands may have come already.
 --     StandsAt s core trace rows mail view      what the core stands for
---     Advances n a b sent      a core goes n cycles, in which no message comes, and sends these
+--     Sends n a b sent      a core goes n cycles, in which no message comes, and sends these
+--     Advances n a before b after      the same, with a list behind which it puts them
 --     GoesOn until a b sent      a core goes some cycles, at most up to a cycle
 --     GoesQuietly until a b      a core goes no cycles or some, and sends nothing
 --     Does view row why memory      what a core does in the next cycle
@@ -70,14 +71,19 @@ pub record IsStanding (view : CoreView) : Type 0 where
   pub mail : List Message
   pub stands : StandsAt s core trace rows mail view
 
--- In n cycles in which no further message comes, a core comes from one state to another, and what it sent grows as its
--- messages do.
-abbrev pub Advances : ℕ → CoreView → List Message → CoreView → List Message → Type 0
-Advances n a before b after =
+-- in n cycles in which no further message comes, a core comes from one state to another, and sends these messages
+abbrev pub Sends : ℕ → CoreView → CoreView → List Message → Type 0
+Sends n a b sent =
     (s : Config) (core : ℕ) (trace : List Entry) (rows : List CoreRow) (mail : List Message)
     → StandsAt s core trace rows mail a
     → StandsAt s core trace (core_run s core trace rows mail n) mail b
-    × ((base : List Message) → core_messages s core trace rows ≡ base ++ before → core_messages s core trace (core_run s core trace rows mail n) ≡ base ++ after)
+    × (core_messages s core trace (core_run s core trace rows mail n) ≡ core_messages s core trace rows ++ sent)
+
+-- the same, and what it sends is put behind what a list held before
+pub record Advances (n : ℕ) (a : CoreView) (before : List Message) (b : CoreView) (after : List Message) : Type 0 where
+  pub sent : List Message
+  pub behind : after ≡ before ++ sent
+  pub sends : Sends n a b sent
 
 -- a core goes on by some cycles, at most up to a cycle, while no further message comes
 pub record GoesOn (until : ℕ) (a : CoreView) (before : List Message) (b : CoreView) (after : List Message) : Type 0 where

@@ -9,3 +9,4 @@ pub mod CoreViews
 pub mod Replies
 pub mod Rests
 pub mod Steady
+pub mod Silence

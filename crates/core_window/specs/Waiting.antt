@@ -3,8 +3,9 @@
 --     is_answered mail entry      a reply to it is among these messages
 --     reads_waiting trace rows mail      the Reads that were issued and have no reply, in order, each with its cycle
 --     is_waiting waiting entry      the Read with this number is among those that wait
-use Rattle.std.specs.Prelude.{ℕ, Bool, false, not, ◌&&◌, List, ◌==◌, slice_get, Option, Some, None, if◌then◌else◌}
-use Rattle.std.specs.List.{filter_map, list_any}
+--     IsByNumber waiting      these Reads are in the order of their numbers, each of which is there once
+use Rattle.std.specs.Prelude.{ℕ, ◌<◌, Bool, false, not, ◌&&◌, List, [], ◌∷◌, ◌==◌, slice_get, Option, Some, None, if◌then◌else◌}
+use Rattle.std.specs.List.{AllByRecursion as Each, filter_map, list_any}
 use Rattle.sim_base.specs.Counts.{is_read, issue_cycle}
 use Rattle.sim_base.specs.History.{below, issued_before}
 use Rattle.sim_base.specs.Windows.{is_reply_to}
@@ -38,3 +39,8 @@ reads_waiting trace rows mail = filter_map (waiting_read trace rows mail) (below
 -- the Read with this number is among those that wait
 abbrev pub is_waiting : List WaitingRead → ℕ → Bool
 is_waiting waiting entry = list_any (λ read. read.entry == entry) waiting
+
+-- these Reads are in the order of their numbers, each of which is there once
+abbrev pub IsByNumber : List WaitingRead → Type 0
+IsByNumber [] = Unit {0}
+IsByNumber (read ∷ others) = Each (λ other. read.entry < other.entry) others × IsByNumber others

@@ -1,30 +1,31 @@
 //! A core.
 
-ghost use Rattle.std.specs.Prelude.{[], ◌∷◌, ◌++◌, ◌/◌, ◌%◌, find, if◌then◌else◌, ◌≡◌, ◌==◌, ◌^◌, ◌+◌, ◌-◌, ◌*◌, ◌≤◌, ◌<◌, ℕ, Some, List, length, replicate, slice_get, OnOk, OnErr, IfOk};
+ghost use Rattle.std.specs.Prelude.{[], IsTrue, ◌↔◌, ◌∷◌, ◌++◌, ◌/◌, ◌%◌, find, if◌then◌else◌, ◌≡◌, ◌==◌, ◌^◌, ◌+◌, ◌-◌, ◌*◌, ◌≤◌, ◌<◌, ℕ, Some, List, length, replicate, slice_get, OnOk, OnErr, IfOk};
 ghost use Rattle.sim_base.specs.declared.history.CoreRow.{CoreRow};
 ghost use Rattle.sim_base.specs.declared.message.Message.{Message};
 ghost use Rattle.sim_base.specs.declared.config.Config.{Config};
 ghost use Rattle.sim_base.specs.declared.trace.Entry.{Entry};
 ghost use Rattle.statistics.specs.declared.final_state.Credits.{Credits};
+ghost use Rattle.core_window.specs.Causes.{first_undone};
 ghost use Rattle.core_window.specs.Turns.{lacks_by, IsSeen, credits_of_kind, more_credit};
-ghost use Rattle.core_window.specs.CoreViews.{view_of};
-ghost use Rattle.core_window.specs.Fit.{IsDue, MayRun, Runs};
+ghost use Rattle.core_window.specs.Fit.{IsDue, MayRun, RunsOnto};
 ghost use Rattle.core_window.specs.Stands.{StandsFor};
 ghost use Rattle.core_window.specs.Inside.{IsStanding, IsReceiving, StandsAt, Advances, GoesOn, GoesQuietly, Does};
 ghost use Rattle.core_window.specs.Views.{CoreView};
 ghost use Rattle.core_window.specs.Rests.{Rests, IsNextAct, MayRest, MaySkip, idle_row};
+ghost use Rattle.core_window.specs.Silence.{IsSilentUntil};
 ghost use Rattle.core_window.specs.Steady.{steady_view, IsSteady};
 ghost use Rattle.core_window.specs.Replies.{MayTakeReply, after_reply};
-ghost use Rattle.core_window.specs.Waiting.{is_waiting};
+ghost use Rattle.core_window.specs.Waiting.{is_waiting, IsByNumber};
 ghost use Rattle.core_window.specs.declared.waiting.WaitingRead.{WaitingRead};
 
 use crate::channel::channel_of;
 use crate::counts::{count_cycle, count_cycles, cycle_counts};
-use crate::flow::{Flow, WindowNumbers, flow_of};
-use crate::issue::{Ahead, entry_issued, issue_of, next_two};
+use crate::flow::{Flow, WindowNumbers, cycles_within, flow_of};
+use crate::issue::{Ahead, cause_at, entry_issued, issue_of, most_issued, next_two};
 use crate::issue_effects::{send, spend, wait_for};
-use crate::receive::{add_credit_at, count_reply, is_waiting, issue_cycle_of, remove_read};
-use crate::retire::retire_count;
+use crate::receive::{add_credit_at, count_reply, is_waiting, take_read};
+use crate::retire::{is_next_done, is_stuck, retire_count};
 use crate::waiting::WaitingRead;
 use cpu_trace::entries::MemoryEntry;
 use cpu_trace::trace::Trace;
@@ -46,6 +47,10 @@ pub struct Core {
     waiting: Vec<WaitingRead>,
     credits: Vec<Credits>,
     stats: CoreStats,
+    /// The next two memory entries from a number on, as they were found last.
+    found: Ahead,
+    found_from: u64,
+    ghost seen: { IsSeen trace found_from found.one found.two found.entry },
 }
 
 /// What a core does in a cycle, and why it stops; with the memory entry that it issues, if it issues one.
@@ -68,24 +73,62 @@ fn is_without_credit(credits: &[Credits], config: &Config, entry: Entry) -> bool
     }
 }
 
-/// A core after a span of cycles, and the messages that it sent in them.
-#[derive(Drop)]
-pub struct CoreDone {
-    pub core: Core,
-    pub messages: Vec<Message>,
-}
-
 impl Core {
+    ghost use Rattle.core_window.specs.CoreViews.{view_of};
+
     /// The next two memory entries of its trace.
     fn ahead(&self) -> Ahead
         requires { IsStanding (view_of self.now) }
         ensures { IsSeen self.now.trace self.now.stats.issued result.one result.two result.entry }
     {
+        let number = self.stats.issued;
+        if self.found_from <= number && number <= self.found.one {
+            return self.found;
+        }
         let before = self.stats.reads.saturating_add(self.stats.writes);
-        next_two(&self.trace, self.stats.issued, before)
+        next_two(&self.trace, number, before)
+    }
+
+    /// Keeps the next two memory entries of its trace for the next span.
+    fn keep(&mut self, ahead: Ahead)
+        requires { IsSeen self.old.trace self.old.stats.issued ahead.one ahead.two ahead.entry }
+        ensures { view_of self.new ≡ view_of self.old }
+    {
+        let issued = self.stats.issued;
+        self.found = ahead;
+        self.found_from = issued;
+    }
+
+    /// What the core does in the next cycle, where the first entry of its full window waits: nothing.
+    fn idle_turn(&self, ahead: &Ahead) -> Turn
+        requires stands { IsStanding (view_of self.now) }
+        requires seen { IsSeen self.now.trace self.now.stats.issued ahead.now.one ahead.now.two ahead.now.entry }
+        requires undone { first_undone self.now.stats.issued self.now.waiting.items ≤ self.now.stats.retired }
+        requires full { self.now.config.window ≤ self.now.stats.issued - self.now.stats.retired }
+        ensures does { Does (view_of self.now) result.row result.why result.memory }
+        ensures idle { result.row ≡ idle_row }
+    {
+        let why = cause_at(
+            self.config.width,
+            self.config.window,
+            self.trace.len(),
+            self.stats.issued,
+            self.stats.retired,
+            ahead.two,
+            0,
+        );
+        Turn {
+            row: CoreRow {
+                retired: 0,
+                issued: 0,
+            },
+            why,
+            memory: None,
+        }
     }
 
     /// What the core does in the next cycle, where these memory entries are the next two.
+    #[inline(always)]
     fn turn_with(&self, ahead: &Ahead) -> Turn
         requires stands { IsStanding (view_of self.now) }
         requires seen { IsSeen self.now.trace self.now.stats.issued ahead.now.one ahead.now.two ahead.now.entry }
@@ -93,9 +136,17 @@ impl Core {
     {
         let len = self.trace.len();
         let number = self.stats.issued;
+        if is_stuck(
+            self.config.window,
+            &self.waiting,
+            number,
+            self.stats.retired,
+        ) {
+            return self.idle_turn(ahead);
+        }
         let retired = retire_count(self.config.width, &self.waiting, number, self.stats.retired);
         let gone = self.stats.retired + u64::from(retired);
-        let near = (number + u64::from(self.config.width)).min(len);
+        let near = most_issued(&self.config, len, number, gone);
         let lacks = ahead.one < near && is_without_credit(&self.credits, &self.config, ahead.entry);
         let issue = issue_of(&self.config, len, number, gone, ahead, lacks);
         let memory = entry_issued(number, ahead, issue.count);
@@ -158,13 +209,13 @@ impl Core {
 
     /// A reply comes: its Read waits no more.
     fn take_reply(&mut self, entry: u64)
-        requires { MayTakeReply (view_of self.old) entry }
+        requires room { MayTakeReply (view_of self.old) entry }
+        requires order { IsByNumber self.old.waiting.items }
         ensures { (read : WaitingRead) → find (λ r. r.entry == entry) self.old.waiting.items ≡ Some read
             → view_of self.new ≡ after_reply (view_of self.old) read }
     {
-        if let Some(read) = issue_cycle_of(&self.waiting, entry) {
+        if let Some(read) = take_read(&mut self.waiting, entry) {
             count_reply(&mut self.stats, self.cycle.saturating_sub(read.issued));
-            remove_read(&mut self.waiting, read.entry);
         }
     }
 
@@ -206,6 +257,12 @@ impl Core {
         ensures most { result.cycles ≤ most }
     {
         let issued = self.stats.issued;
+        if ahead.one.saturating_sub(issued) < u64::from(self.config.width) {
+            return Flow {
+                retired: 0,
+                cycles: 0,
+            };
+        }
         let last = self.trace.len().saturating_sub(1);
         let numbers = WindowNumbers {
             width: self.config.width,
@@ -252,6 +309,43 @@ impl Core {
         }
     }
 
+    /// Whether its window is full.
+    fn is_full(&self) -> bool
+        requires { self.now.stats.retired ≤ self.now.stats.issued }
+        ensures { IsTrue result ↔ self.now.config.window ≤ self.now.stats.issued - self.now.stats.retired }
+    {
+        u64::from(self.config.window) <= self.stats.issued - self.stats.retired
+    }
+
+    /// Whether the first entry of its full window waits, so that the core does nothing until a message comes.
+    fn is_stuck(&self) -> bool
+        ensures undone { IsTrue result → first_undone self.now.stats.issued self.now.waiting.items ≤ self.now.stats.retired }
+        ensures full { IsTrue result → self.now.config.window ≤ self.now.stats.issued - self.now.stats.retired }
+    {
+        is_stuck(
+            self.config.window,
+            &self.waiting,
+            self.stats.issued,
+            self.stats.retired,
+        )
+    }
+
+    /// Goes on up to a cycle, where the first entry of its full window waits.
+    fn rest(&mut self, ahead: &Ahead, until: Cycle)
+        requires stands { IsStanding (view_of self.old) }
+        requires seen { IsSeen self.old.trace self.old.stats.issued ahead.now.one ahead.now.two ahead.now.entry }
+        requires undone { first_undone self.old.stats.issued self.old.waiting.items ≤ self.old.stats.retired }
+        requires full { self.old.config.window ≤ self.old.stats.issued - self.old.stats.retired }
+        requires order { self.old.cycle < until }
+        requires early { until < 2 ^ 62 }
+        ensures goes { GoesQuietly until (view_of self.old) (view_of self.new) }
+        ensures cycle { self.new.cycle ≡ until }
+        ensures seen { IsSeen self.new.trace self.new.stats.issued ahead.now.one ahead.now.two ahead.now.entry }
+    {
+        let turn = self.idle_turn(ahead);
+        self.pass(turn.row, turn.why, until - self.cycle);
+    }
+
     /// Goes on by the cycles, at most up to a cycle, in which the core issues its width of Plain entries and does the same in
     /// each, if there are any.
     fn flow_on(&mut self, ahead: &Ahead, until: Cycle)
@@ -287,6 +381,10 @@ impl Core {
         ensures goes { OnOk result (GoesOn until (view_of self.old) sent.old.items (view_of self.new) sent.new.items) }
         ensures seen { OnOk result (IsSeen self.new.trace self.new.stats.issued ahead.new.one ahead.new.two ahead.new.entry) }
     {
+        if self.is_stuck() {
+            self.rest(ahead, until);
+            return Ok(());
+        }
         self.flow_on(ahead, until);
         if self.cycle == until {
             return Ok(());
@@ -296,8 +394,8 @@ impl Core {
         Ok(())
     }
 
-    /// Goes on up to a cycle, while no further message comes.
-    fn advance(
+    /// Goes on up to a cycle, while no further message comes, stretch by stretch.
+    fn work_on(
         &mut self,
         ahead: &mut Ahead,
         until: Cycle,
@@ -317,6 +415,29 @@ impl Core {
         Ok(())
     }
 
+    /// Goes on up to a cycle, while no further message comes.
+    #[inline(always)]
+    fn advance(
+        &mut self,
+        ahead: &mut Ahead,
+        until: Cycle,
+        sent: &mut Vec<Message>,
+    ) -> Result<(), AllocError>
+        requires stands { IsStanding (view_of self.old) }
+        requires seen { IsSeen self.old.trace self.old.stats.issued ahead.old.one ahead.old.two ahead.old.entry }
+        requires order { self.old.cycle ≤ until }
+        requires early { until < 2 ^ 62 }
+        ensures cycle { OnOk result (self.new.cycle ≡ until) }
+        ensures advances { OnOk result (Advances (until - self.old.cycle) (view_of self.old) sent.old.items (view_of self.new) sent.new.items) }
+        ensures seen { OnOk result (IsSeen self.new.trace self.new.stats.issued ahead.new.one ahead.new.two ahead.new.entry) }
+    {
+        if self.cycle < until && self.is_stuck() {
+            self.rest(ahead, until);
+            return Ok(());
+        }
+        self.work_on(ahead, until, sent)
+    }
+
     /// A core that has done nothing yet, with its trace. Only memory can be refused.
     pub fn start(
         alloc: Global,
@@ -331,6 +452,7 @@ impl Core {
             read: u64::from(config.read_credits),
             write: u64::from(config.write_credits),
         };
+        let found = next_two(&trace, 0, 0);
         Ok(Core {
             config: config.copy(alloc)?,
             id,
@@ -339,41 +461,39 @@ impl Core {
             waiting: Vec::with_capacity(alloc, config.window as usize)?,
             credits: vec![in alloc; credits; usize::from(config.channels)]?,
             stats: CoreStats::new(),
+            found,
+            found_from: 0,
         })
     }
 
     /// Runs the cycles from `from`, where the core stands, up to and without `until`, below 2^62. The messages that arrive in
-    /// them are given, and those that the core sends in them come back. Only memory can be refused; the core is then gone.
+    /// them are given; those that the core sends in them are put behind what `sent` holds. Only memory can be refused; what the
+    /// core and the list hold is then not known.
     pub fn run(
-        self,
-        alloc: Global,
+        &mut self,
         inbox: &[Message],
         from: Cycle,
         until: Cycle,
-    ) -> Result<CoreDone, AllocError>
-        requires at { self.cycle ≡ from }
+        sent: &mut Vec<Message>,
+    ) -> Result<(), AllocError>
+        requires at { self.old.cycle ≡ from }
         requires order { from ≤ until }
         requires early { until < 2 ^ 62 }
-        requires fit { MayRun (view_of self) from until inbox.now }
-        ensures { IfOk result (λ done. Runs (view_of self) from until inbox.now (view_of done.core) done.messages.items) }
+        requires fit { MayRun (view_of self.old) from until inbox.now }
+        ensures { OnOk result (RunsOnto (view_of self.old) from until inbox.now (view_of self.new) sent.old.items sent.new.items) }
     {
-        let mut core = self;
-        let mut ahead = core.ahead();
-        let mut sent = Vec::new(alloc);
+        let mut ahead = self.ahead();
         for message in inbox {
-            core.advance(&mut ahead, message.arrival, &mut sent)?;
-            core.receive(*message);
+            self.advance(&mut ahead, message.arrival, sent)?;
+            self.receive(*message);
         }
-        core.advance(&mut ahead, until, &mut sent)?;
-        Ok(CoreDone {
-            core,
-            messages: sent,
-        })
+        self.advance(&mut ahead, until, sent)?;
+        self.keep(ahead);
+        Ok(())
     }
 
-    /// The first cycle from `from`, where the core stands, in which it retires or issues an entry, while no message comes; none,
-    /// where it never does.
-    pub fn next_act(&self, from: Cycle) -> Option<Cycle>
+    /// The cycle where the core stands, if it retires or issues an entry in it: else it never does.
+    fn next_turn(&self, from: Cycle) -> Option<Cycle>
         requires at { self.now.cycle ≡ from }
         requires stands { MayRest (view_of self.now) }
         ensures { (s : Config) (core : ℕ) (trace : List Entry) (rows : List CoreRow) (mail : List Message)
@@ -384,6 +504,50 @@ impl Core {
             None
         } else {
             Some(from)
+        }
+    }
+
+    /// The first cycle from `from`, where the core stands, in which it retires or issues an entry, while no message comes; none,
+    /// where it never does.
+    pub fn next_act(&self, from: Cycle) -> Option<Cycle>
+        requires at { self.now.cycle ≡ from }
+        requires stands { MayRest (view_of self.now) }
+        ensures { (s : Config) (core : ℕ) (trace : List Entry) (rows : List CoreRow) (mail : List Message)
+            → StandsFor s core trace rows mail (view_of self.now) → IsNextAct s core trace rows mail result }
+    {
+        if is_next_done(&self.waiting, self.stats.issued, self.stats.retired) {
+            return Some(from);
+        }
+        if self.is_full() {
+            return None;
+        }
+        self.next_turn(from)
+    }
+
+    /// The cycles that go by at least before the core issues its next Read or Write: in each it issues its width of entries at most.
+    fn plain_cycles(&self, ahead: &Ahead) -> u64
+        requires stands { IsStanding (view_of self.now) }
+        requires seen { IsSeen self.now.trace self.now.stats.issued ahead.now.one ahead.now.two ahead.now.entry }
+        ensures { ahead.now.one < length self.now.trace → self.now.stats.issued + result * self.now.config.width ≤ ahead.now.one }
+    {
+        if ahead.one >= self.trace.len() {
+            return u64::MAX;
+        }
+        cycles_within(ahead.one - self.stats.issued, self.config.width, u64::MAX)
+    }
+
+    /// A cycle, not before `from`, where the core stands, before which it sends nothing, while no message comes. It is the last of all
+    /// cycles where the core does nothing until a message comes, or has no Read or Write left.
+    pub fn silent_until(&self, from: Cycle) -> Cycle
+        requires at { self.now.cycle ≡ from }
+        requires stands { MayRest (view_of self.now) }
+        ensures since { from ≤ result }
+        ensures silent { (s : Config) (core : ℕ) (trace : List Entry) (rows : List CoreRow) (mail : List Message)
+            → StandsFor s core trace rows mail (view_of self.now) → IsSilentUntil s core trace rows mail result }
+    {
+        match self.next_act(from) {
+            Some(_) => from.saturating_add(self.plain_cycles(&self.ahead())),
+            None => Cycle::MAX,
         }
     }
 

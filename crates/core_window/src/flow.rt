@@ -24,12 +24,16 @@ pub struct WindowNumbers {
 }
 
 /// As many cycles as take no more than so many entries, each its width of them, and no more cycles than so many.
-fn cycles_within(entries: u64, width: u16, most: u64) -> u64
+pub(crate) fn cycles_within(entries: u64, width: u16, most: u64) -> u64
     requires { 0 < width }
     ensures entries { result * width ≤ entries }
     ensures most { result ≤ most }
 {
-    (entries / u64::from(width)).min(most)
+    if entries < u64::from(width) {
+        0
+    } else {
+        (entries / u64::from(width)).min(most)
+    }
 }
 
 /// The cycles, at most so many, in which the core issues its width of Plain entries and does the same in each. Where it can't

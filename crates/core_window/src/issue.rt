@@ -1,6 +1,6 @@
 //! How many entries issue in a cycle, and why no more.
 
-ghost use Rattle.std.specs.Prelude.{◌≡◌, ℕ, ◌+◌, ◌-◌, ◌^◌, ◌≤◌, ◌<◌, List, length};
+ghost use Rattle.std.specs.Prelude.{◌≡◌, ℕ, ◌+◌, ◌-◌, ◌^◌, ◌≤◌, ◌<◌, List, length, min};
 ghost use Rattle.std.specs.Option.{IfSome};
 ghost use Rattle.sim_base.specs.declared.trace.Entry.{Entry};
 ghost use Rattle.core_window.specs.Turns.{IsNextOrEnd, IsSeen, IsIssued};
@@ -60,7 +60,15 @@ pub struct Issue {
 }
 
 /// Why no more entries issue than so many.
-fn cause_at(width: u16, window: u32, len: u64, number: u64, gone: u64, two: u64, count: u16) -> Stop
+pub fn cause_at(
+    width: u16,
+    window: u32,
+    len: u64,
+    number: u64,
+    gone: u64,
+    two: u64,
+    count: u16,
+) -> Stop
     requires { number ≤ 2 ^ 62 }
     ensures { result ≡ cause_at width window len number gone two count }
 {
@@ -92,6 +100,15 @@ fn count_of(width: u16, window: u32, number: u64, gone: u64, ahead: &Ahead, lack
         most
     };
     count as u16
+}
+
+/// The number up to which entries may issue by the width, the window and the end of the trace, where so many were retired.
+pub fn most_issued(config: &Config, len: u64, number: u64, gone: u64) -> u64
+    requires { number ≤ 2 ^ 62 }
+    ensures { result ≡ min (number + min config.now.width (config.now.window - (number - gone))) len }
+{
+    let room = u64::from(config.window).saturating_sub(number.saturating_sub(gone));
+    (number + u64::from(config.width).min(room)).min(len)
 }
 
 /// How many entries issue from a number on, where so many were retired, and why no more: the memory entries ahead are known,

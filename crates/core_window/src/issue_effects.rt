@@ -5,10 +5,9 @@ ghost use Rattle.sim_base.specs.History.{request, request_of};
 ghost use Rattle.core_window.specs.Turns.{reads_issued, requests_issued, credit_after, credit_after_entry, less_credit};
 ghost use Rattle.statistics.specs.declared.final_state.Credits.{Credits};
 
-use crate::channel::channel_of;
+use crate::channel::{channel_of, place_at};
 use crate::receive::take_credit;
 use crate::waiting::WaitingRead;
-use address_map::place_of;
 use cpu_trace::entries::MemoryEntry;
 use sim_base::config::Config;
 use sim_base::message::{CoreId, Cycle, Load, Message, Request};
@@ -71,7 +70,7 @@ fn request_of_address(
     requires { now < 2 ^ 62 }
     ensures { result ≡ request config.now core now entry write address }
 {
-    let place = place_of(config, address);
+    let place = place_at(config, address);
     let link = config.request_link(core, place.channel);
     let arrival = now + u64::from(config.latency(link));
     Message {
@@ -101,15 +100,12 @@ pub fn send(
     ensures { OnOk result (sent.new.items ≡ sent.old.items ++ requests_issued config.now core now memory) }
 {
     if let Some(next) = memory {
-        match next.entry {
-            Entry::Read(address) => {
-                sent.push(request_of_address(config, core, now, next.number, false, address))?
-            }
-            Entry::Write(address) => {
-                sent.push(request_of_address(config, core, now, next.number, true, address))?
-            }
-            Entry::Plain => (),
-        }
+        let (write, address) = match next.entry {
+            Entry::Read(address) => (false, address),
+            Entry::Write(address) => (true, address),
+            Entry::Plain => return Ok(()),
+        };
+        sent.push(request_of_address(config, core, now, next.number, write, address))?;
     }
     Ok(())
 }

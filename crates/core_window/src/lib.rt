@@ -9,6 +9,4 @@ mod issue;
 mod issue_effects;
 mod receive;
 mod retire;
-#[cfg(test)]
-mod tests;
 pub mod waiting;

@@ -1,8 +1,8 @@
 //! What a message changes.
 
-ghost use Rattle.std.specs.Prelude.{◌≡◌, ◌+◌, ◌-◌, ◌<◌, ◌^◌, ◌==◌, not, filter, find, length, slice_get, ℕ, Some, if◌then◌else◌};
+ghost use Rattle.std.specs.Prelude.{◌≡◌, ◌+◌, ◌-◌, ◌<◌, ◌^◌, ◌==◌, not, filter, find, position, length, slice_get, ℕ, Some, if◌then◌else◌};
 ghost use Rattle.core_window.specs.Turns.{more_credit, less_credit, credits_of_kind};
-ghost use Rattle.core_window.specs.Waiting.{is_waiting};
+ghost use Rattle.core_window.specs.Waiting.{is_waiting, IsByNumber};
 ghost use Rattle.core_window.specs.declared.waiting.WaitingRead.{WaitingRead};
 ghost use Rattle.statistics.specs.declared.final_state.Credits.{Credits};
 
@@ -10,11 +10,11 @@ use crate::waiting::WaitingRead;
 use statistics::cores::CoreStats;
 use statistics::final_state::Credits;
 
-/// The cycle in which a Read that waits was issued.
-pub fn issue_cycle_of(waiting: &[WaitingRead], entry: u64) -> Option<WaitingRead>
-    ensures { result ≡ find (λ read. read.entry == entry) waiting.now }
+/// The place of the first Read that waits with this number.
+fn place_of_read(waiting: &[WaitingRead], entry: u64) -> Option<usize>
+    ensures { result ≡ position (λ read. read.entry == entry) waiting.now }
 {
-    waiting.iter().copied().find(|read| read.entry == entry)
+    waiting.iter().position(|read| read.entry == entry)
 }
 
 /// Whether the Read with this number waits.
@@ -24,11 +24,14 @@ pub fn is_waiting(waiting: &[WaitingRead], entry: u64) -> bool
     waiting.iter().any(|read| read.entry == entry)
 }
 
-/// Takes out a Read that waits.
-pub fn remove_read(waiting: &mut Vec<WaitingRead>, entry: u64)
-    ensures { waiting.new.items ≡ filter (λ read. not (read.entry == entry)) waiting.old.items }
+/// Takes out the Read with this number, if it waits.
+pub fn take_read(waiting: &mut Vec<WaitingRead>, entry: u64) -> Option<WaitingRead>
+    requires { IsByNumber waiting.old.items }
+    ensures found { result ≡ find (λ read. read.entry == entry) waiting.old.items }
+    ensures others { waiting.new.items ≡ filter (λ read. not (read.entry == entry)) waiting.old.items }
 {
-    waiting.retain(|read| read.entry != entry);
+    let place = place_of_read(waiting, entry)?;
+    Some(waiting.remove(place))
 }
 
 /// One credit more.

@@ -1,6 +1,6 @@
 //! How many entries retire in a cycle.
 
-ghost use Rattle.std.specs.Prelude.{◌≡◌, ◌-◌, min};
+ghost use Rattle.std.specs.Prelude.{◌≡◌, ◌-◌, ◌<◌, ◌≤◌, ◌↔◌, min, IsTrue};
 ghost use Rattle.core_window.specs.Causes.{first_undone};
 
 use crate::waiting::WaitingRead;
@@ -21,4 +21,24 @@ pub fn retire_count(width: u16, waiting: &[WaitingRead], issued: u64, retired: u
 {
     let done = first_undone(waiting, issued).saturating_sub(retired);
     u64::from(width).min(done) as u16
+}
+
+/// Whether an entry retires, where so many are retired: the first of them is done.
+pub fn is_next_done(waiting: &[WaitingRead], issued: u64, retired: u64) -> bool
+    ensures { IsTrue result ↔ retired < first_undone issued waiting.now }
+{
+    retired < first_undone(waiting, issued)
+}
+
+/// Whether the first entry of a full window waits, so that no entry retires and none issues.
+pub fn is_stuck(window: u32, waiting: &[WaitingRead], issued: u64, retired: u64) -> bool
+    ensures undone { IsTrue result → first_undone issued waiting.now ≤ retired }
+    ensures full { IsTrue result → window ≤ issued - retired }
+{
+    match waiting {
+        [read, ..] => {
+            read.entry <= retired && u64::from(window) <= issued.saturating_sub(retired)
+        }
+        [] => false,
+    }
 }

@@ -11,6 +11,4 @@ mod pieces;
 pub mod reader;
 mod reading;
 mod stored;
-#[cfg(test)]
-mod tests;
 pub mod trace;

@@ -1,16 +1,8 @@
 //! Simulates the main memory of a computer: cores that read traces, and DDR4 channels that serve them.
 #![tactic(auto)]
 
-mod command_line;
-mod files;
-mod perform;
-mod runs;
-#[cfg(test)]
-mod tests;
-mod words;
-
-use crate::files::HostFiles;
-use crate::perform::{REFUSED, perform};
+use program::files::HostFiles;
+use program::perform::{REFUSED, perform};
 use sim_base::fault::Fault;
 use std::io::ErrorKind;
 use std::process::ExitCode;

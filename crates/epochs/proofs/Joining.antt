@@ -45,7 +45,7 @@ fresh-grows s traces from until place l k t =
     let a = late-added s traces from until (unit_at s place) (exists-at s place l) k t in
     a.are ∙ ap (λ z. sent_of s traces from (unit_at s place) ++ z) (sym (fresh-is s traces from until place a.more a.are))
 
-fresh-late : (s : Config) (traces : List (List Entry)) (from until place : ℕ) → place < unit_count s → from ≤ until → TravelsFor s (until - from)
+pub fresh-late : (s : Config) (traces : List (List Entry)) (from until place : ℕ) → place < unit_count s → from ≤ until → TravelsFor s (until - from)
     → Each (λ m. until ≤ m.arrival) (fresh s traces from until place)
 fresh-late s traces from until place l k t =
     let a = late-added s traces from until (unit_at s place) (exists-at s place l) k t in

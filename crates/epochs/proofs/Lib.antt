@@ -15,3 +15,7 @@ pub mod Lasting
 pub mod Resting
 pub mod Arriving
 pub mod Quieting
+pub mod Waiting
+pub mod Lowering
+pub mod Jumping
+pub mod Going

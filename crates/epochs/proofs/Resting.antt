@@ -37,7 +37,7 @@ use Rattle.epochs.specs.Quiet.{IsNextActOf, RestsUpTo}
 use Rattle.epochs.specs.declared.part.Part.TheVariants as part
 use Rattle.span_laws.proofs.QuietSpans.{quiet-is_known, rest-is_shortened, quiet-changes_nothing}
 
-core-rows_length : (s : Config) (traces : List (List Entry)) (now core : ℕ) → length (core_rows_of s traces now core) ≡ now
+pub core-rows_length : (s : Config) (traces : List (List Entry)) (now core : ℕ) → length (core_rows_of s traces now core) ≡ now
 core-rows_length s traces now core = length-core_rows core (run s traces now) ∙ length-run s traces now
 
 replicate-more : {X : Type 0} (n : ℕ) (x : X) (rows : List X) → (rows ++ replicate n x) ++ x ∷ [] ≡ rows ++ replicate (suc n) x

@@ -13,14 +13,13 @@ use Rattle.std.specs.declared.alloc.Global.{Global}
 use Rattle.statistics.proofs.Replies.{length-core_rows}
 use Rattle.channel_step.specs.Runs.{CanRun}
 use Rattle.channel_step.specs.declared.channel.Channel.{Channel}
-use Rattle.channel_step.specs.declared.done.ChannelDone.{ChannelDone}
 use Rattle.core_window.specs.CoreViews.{view_of}
-use Rattle.core_window.specs.Fit.{MayRun, Runs}
+use Rattle.core_window.specs.Fit.{MayRun, Runs, RunsOnto}
 use Rattle.core_window.specs.declared.core_unit.Core.{Core}
 use Rattle.span_laws.specs.Channels.{Gives}
 use Rattle.span_laws.proofs.ChannelsOn.{channels-may_run, channels-go_on}
 use Rattle.span_laws.proofs.CoresOn.{cores-may_run, cores-go_on}
-use Rattle.epochs.specs.Parts.{IsReadyFor, HasRun}
+use Rattle.epochs.specs.Parts.{IsReadyFor, HasRunOnto}
 use Rattle.epochs.specs.declared.part.Part.TheVariants as part
 
 pub core-at : (s : Config) (traces : List (List Entry)) (unit : MachineUnit) (c : Core) (inbox : List Message) (from until : ℕ)
@@ -34,14 +33,14 @@ core-may_run s traces (unit.Core core) c inbox from until h =
     subst (MayRun (view_of c) from until) (sym h.mail) (cores-may_run s traces from until core (view_of c) h.exists h.order h.stands)
 core-may_run s traces (unit.Channel channel) c inbox from until h = absurd h.stands
 
-pub core-has_run : (s : Config) (traces : List (List Entry)) (unit : MachineUnit) (c d : Core) (inbox sent : List Message) (from until : ℕ)
-    → IsReadyFor s traces unit (part.Core c) inbox from until → Runs (view_of c) from until inbox (view_of d) sent
-    → HasRun s traces unit from until (part.Core d) sent
-core-has_run s traces (unit.Core core) c d inbox sent from until h runs =
-    let goes = cores-go_on s traces from until core (view_of c) (view_of d) sent h.exists h.order h.stands
-    (subst (λ mail. Runs (view_of c) from until mail (view_of d) sent) h.mail runs) in
-    record { exists = h.exists; stands = goes.0; sent = goes.1 }
-core-has_run s traces (unit.Channel channel) c d inbox sent from until h runs = absurd h.stands
+pub core-has_run : (s : Config) (traces : List (List Entry)) (unit : MachineUnit) (c d : Core) (inbox held holds : List Message) (from until : ℕ)
+    → IsReadyFor s traces unit (part.Core c) inbox from until → RunsOnto (view_of c) from until inbox (view_of d) held holds
+    → HasRunOnto s traces unit from until (part.Core d) held holds
+core-has_run s traces (unit.Core core) c d inbox held holds from until h runs =
+    let goes = cores-go_on s traces from until core (view_of c) (view_of d) runs.sent h.exists h.order h.stands
+    (subst (λ mail. Runs (view_of c) from until mail (view_of d) runs.sent) h.mail runs.runs) in
+    record { messages = runs.sent; behind = runs.behind; ran = record { exists = h.exists; stands = goes.0; sent = goes.1 } }
+core-has_run s traces (unit.Channel channel) c d inbox held holds from until h runs = absurd h.stands
 
 pub channel-can_run : (s : Config) (traces : List (List Entry)) (unit : MachineUnit) (c : Channel) (rows : Vec CommandRow Global) (inbox : List Message) (from until : ℕ)
     → IsReadyFor s traces unit (part.Channel c rows) inbox from until → CanRun c inbox from until
@@ -49,14 +48,19 @@ channel-can_run s traces (unit.Channel channel) c rows inbox from until h =
     subst (λ mail. CanRun c mail from until) (sym h.mail) (channels-may_run s traces from until channel c h.exists h.order h.stands.0)
 channel-can_run s traces (unit.Core core) c rows inbox from until h = absurd h.stands
 
-pub channel-has_run : (s : Config) (traces : List (List Entry)) (unit : MachineUnit) (c : Channel) (rows more : Vec CommandRow Global) (done : ChannelDone) (inbox : List Message) (from until : ℕ)
-    → IsReadyFor s traces unit (part.Channel c rows) inbox from until → Gives c inbox from until done → more.items ≡ rows.items ++ done.commands.items
-    → HasRun s traces unit from until (part.Channel done.channel more) done.messages.items
-channel-has_run s traces (unit.Channel channel) c rows more done inbox from until h gives e =
-    let goes = channels-go_on s traces from until channel c done h.exists h.order h.stands.0 (subst (λ mail. Gives c mail from until done) h.mail gives) in
+pub channel-has_run : (s : Config) (traces : List (List Entry)) (unit : MachineUnit) (c d : Channel) (rows more : Vec CommandRow Global) (inbox held holds : List Message) (from until : ℕ)
+    → IsReadyFor s traces unit (part.Channel c rows) inbox from until → Gives c inbox from until d rows.items more.items held holds
+    → HasRunOnto s traces unit from until (part.Channel d more) held holds
+channel-has_run s traces (unit.Channel channel) c d rows more inbox held holds from until h gives =
+    let goes = channels-go_on s traces from until channel c d rows.items more.items held holds h.exists h.order h.stands.0
+    (subst (λ mail. Gives c mail from until d rows.items more.items held holds) h.mail gives) in
     record {
-      exists = h.exists;
-      stands = (goes.stands, e ∙ ap (λ x. x ++ done.commands.items) h.stands.1 ∙ sym goes.commands_are);
-      sent = goes.messages_are;
+      messages = goes.sent;
+      behind = goes.messages_behind;
+      ran = record {
+        exists = h.exists;
+        stands = (goes.stands, goes.commands_behind ∙ ap (λ x. x ++ goes.issued) h.stands.1 ∙ sym goes.commands_are);
+        sent = goes.messages_are;
+      };
     }
-channel-has_run s traces (unit.Core core) c rows more done inbox from until h gives e = absurd h.stands
+channel-has_run s traces (unit.Core core) c d rows more inbox held holds from until h gives = absurd h.stands

@@ -13,9 +13,9 @@ use Rattle.epochs.specs.Merging.{same_name, is_among, names_of, fault_at, first_
 use Rattle.epochs.specs.Seats.{seat_at, seats_of}
 use Rattle.epochs.specs.Units.{unit_at, unit_count, Exists}
 use Rattle.epochs.specs.Views.{PhaseView, JobView, name_at, job_at, jobs_of}
-use Rattle.epochs.specs.declared.job.JobName.{JobName}
-use Rattle.epochs.specs.declared.merging.MergeFault.{MergeFault}
-use Rattle.epochs.specs.declared.merging.MergeFault.TheVariants.{Missing, Double, Stranger}
+use Rattle.sim_base.specs.declared.job.JobName.{JobName}
+use Rattle.sim_base.specs.declared.fault.MergeFault.{MergeFault}
+use Rattle.sim_base.specs.declared.fault.MergeFault.TheVariants.{Missing, Double, Stranger}
 use Rattle.epochs.proofs.Due.{place-at, place_of_unit, exists-at, same_unit, unit_is}
 use Rattle.epochs.proofs.Standing.{length-places}
 

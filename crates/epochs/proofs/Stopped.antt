@@ -5,8 +5,8 @@ use Rattle.epochs.specs.Merging.{merge_fault}
 use Rattle.epochs.specs.Ordered.{IsOnTheWay, run_fault, IsWhyStopped, OnlyPermutes}
 use Rattle.epochs.specs.Planning.{IsNext}
 use Rattle.epochs.specs.Views.{SimView, PhaseView, JobView, jobs_of}
-use Rattle.epochs.specs.declared.merging.MergeFault.{MergeFault}
-use Rattle.epochs.specs.declared.merging.MergeFault.TheVariants as merging
+use Rattle.sim_base.specs.declared.fault.MergeFault.{MergeFault}
+use Rattle.sim_base.specs.declared.fault.MergeFault.TheVariants as merging
 use Rattle.epochs.specs.declared.ordered.RunFault.{RunFault}
 use Rattle.epochs.specs.declared.ordered.RunFault.TheVariants.{Memory, Merge}
 use Rattle.epochs.proofs.Whole.{whole-fits}

@@ -11,9 +11,9 @@ use Rattle.sim_base.specs.History.{below}
 use Rattle.epochs.specs.Merging.{same_name, is_among, names_of, first_of, first_fault, missing, merge_fault, IsOf}
 use Rattle.epochs.specs.Units.{unit_at, unit_count}
 use Rattle.epochs.specs.Views.{PhaseView, JobView, name_at, job_at, jobs_of}
-use Rattle.epochs.specs.declared.job.JobName.{JobName}
-use Rattle.epochs.specs.declared.merging.MergeFault.{MergeFault}
-use Rattle.epochs.specs.declared.merging.MergeFault.TheVariants.{Missing, Memory}
+use Rattle.sim_base.specs.declared.job.JobName.{JobName}
+use Rattle.sim_base.specs.declared.fault.MergeFault.{MergeFault}
+use Rattle.sim_base.specs.declared.fault.MergeFault.TheVariants.{Missing, Memory}
 use Rattle.epochs.proofs.Seating.{same_name-self, same_name-is, name-place, or-true, place-among, fault-none, first-none_yet, first-end}
 
 -- 1 for a name that is this one

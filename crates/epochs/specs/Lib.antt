@@ -9,3 +9,4 @@ pub mod Ordered
 pub mod Tables
 pub mod Drained
 pub mod Quiet
+pub mod Wakes

@@ -12,9 +12,9 @@ use Rattle.std.specs.List.{list_any}
 use Rattle.sim_base.specs.History.{below, is_unit}
 use Rattle.epochs.specs.Units.{unit_at, unit_count}
 use Rattle.epochs.specs.Views.{SimView, PhaseView, JobView, name_at}
-use Rattle.epochs.specs.declared.job.JobName.{JobName}
-use Rattle.epochs.specs.declared.merging.MergeFault.{MergeFault}
-use Rattle.epochs.specs.declared.merging.MergeFault.TheVariants.{Missing, Double, Stranger}
+use Rattle.sim_base.specs.declared.job.JobName.{JobName}
+use Rattle.sim_base.specs.declared.fault.MergeFault.{MergeFault}
+use Rattle.sim_base.specs.declared.fault.MergeFault.TheVariants.{Missing, Double, Stranger}
 
 -- two names are the same
 abbrev pub same_name : JobName → JobName → Bool

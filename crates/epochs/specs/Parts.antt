@@ -4,6 +4,7 @@
 --     IsReadyFor s traces unit part inbox from until      a unit stands for its part of a run, and these messages arrive at it in a span
 --     IsReady part inbox from until      the same for some run and some unit of it
 --     HasRun s traces unit from until part messages      a unit stands at the end of a span, and these are its messages in it
+--     HasRunOnto s traces unit from until part held holds      the same, with a list behind which they are put
 --     IsJob s traces name part inbox, IsDone s traces name part messages      the same, as the name of a job says
 --     StandAt s traces now parts      units in their order stand for their parts
 --     late cycle mail      the messages that arrive no sooner than in a cycle
@@ -26,7 +27,7 @@ use Rattle.span_laws.specs.Cores.{IsCoreAt}
 use Rattle.span_laws.specs.Mail.{mail_in}
 use Rattle.links.specs.InFlight.{InFlight}
 use Rattle.epochs.specs.Units.{unit_count, unit_at, Exists}
-use Rattle.epochs.specs.declared.job.JobName.{JobName}
+use Rattle.sim_base.specs.declared.job.JobName.{JobName}
 use Rattle.epochs.specs.declared.part.Part.{Part}
 use Rattle.epochs.specs.declared.part.Part.TheVariants as part
 
@@ -63,6 +64,12 @@ pub record HasRun (s : Config) (traces : List (List Entry)) (unit : MachineUnit)
   pub exists : Exists s unit
   pub stands : IsPart s traces unit until part
   pub sent : sent_of s traces until unit ≡ sent_of s traces from unit ++ messages
+
+-- the same, and what it sends is put behind what a list held before
+pub record HasRunOnto (s : Config) (traces : List (List Entry)) (unit : MachineUnit) (from until : ℕ) (part : Part) (held holds : List Message) : Type 0 where
+  pub messages : List Message
+  pub behind : holds ≡ held ++ messages
+  pub ran : HasRun s traces unit from until part messages
 
 -- what holds of a job
 abbrev pub IsJob : Config → List (List Entry) → JobName → Part → List Message → Type 0

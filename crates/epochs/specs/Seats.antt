@@ -6,7 +6,7 @@ use Rattle.sim_base.specs.History.{below}
 use Rattle.epochs.specs.Units.{unit_count}
 use Rattle.epochs.specs.Views.{PhaseView, JobView, name_at, job_at}
 use Rattle.epochs.specs.Merging.{is_among}
-use Rattle.epochs.specs.declared.job.JobName.{JobName}
+use Rattle.sim_base.specs.declared.job.JobName.{JobName}
 
 -- the result of the unit at a place, where its name is among these
 abbrev pub seat_at : PhaseView → List JobName → ℕ → Option JobView

@@ -10,7 +10,7 @@ use Rattle.sim_base.specs.History.{below}
 use Rattle.sim_base.specs.declared.message.Unit.{Unit as MachineUnit}
 use Rattle.sim_base.specs.declared.trace.Entry.{Entry}
 use Rattle.epochs.specs.Units.{unit_at, unit_count}
-use Rattle.epochs.specs.declared.job.JobName.{JobName}
+use Rattle.sim_base.specs.declared.job.JobName.{JobName}
 
 -- the run of a machine over these traces, of which so many cycles are over; they were gone over in so many phases
 pub record SimView : Type 0 where

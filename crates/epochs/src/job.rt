@@ -8,19 +8,11 @@ ghost use Rattle.epochs.specs.Parts.{IsPart, IsJob, IsDone};
 
 use crate::machine::Machine;
 use crate::part::Part;
-use sim_base::message::{Cycle, Inbox, Message, Unit};
+use sim_base::job::JobName;
+use sim_base::message::{Inbox, Message};
 use std::alloc::{AllocError, Global};
 use std::marker::Model;
 use std::sync::Arc;
-
-/// Which unit runs, in which phase, and over which cycles: from `from` on and before `until`. Phases are numbered from 0.
-#[derive(Clone, Copy, PartialEq, Eq, Debug)]
-pub struct JobName {
-    pub phase: u64,
-    pub unit: Unit,
-    pub from: Cycle,
-    pub until: Cycle,
-}
 
 /// A unit of a machine at the beginning of a span of cycles, with the messages that arrive at it in them.
 #[derive(Drop)]
@@ -111,10 +103,11 @@ impl Job {
         let Job {
             machine,
             name,
-            part,
+            mut part,
             inbox,
         } = self;
-        let Sent { part, messages } = part.run(alloc, &inbox, name.from, name.until)?;
+        let mut messages = Vec::new(alloc);
+        part.run(&inbox, name.from, name.until, &mut messages)?;
         Ok(Done {
             machine,
             name,

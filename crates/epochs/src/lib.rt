@@ -2,6 +2,7 @@
 //! one-clock machine does, in whatever order their results come back.
 #![tactic(auto)]
 
+mod alone;
 mod counts;
 mod drained;
 mod ending;
@@ -14,6 +15,5 @@ pub mod phase;
 pub mod planning;
 mod quiet;
 pub mod sim;
+mod slot;
 mod tables;
-#[cfg(test)]
-mod tests;

@@ -9,47 +9,20 @@ ghost use Rattle.epochs.specs.Parts.{StandAt};
 ghost use Rattle.epochs.specs.Flight.{fresh};
 ghost use Rattle.epochs.specs.Merging.{names_of, is_among, fault_at, first_fault, missing, merge_fault, after, IsOf};
 ghost use Rattle.epochs.specs.Seats.{seats_of};
-ghost use Rattle.epochs.specs.declared.job.JobName.{JobName};
+ghost use Rattle.sim_base.specs.declared.job.JobName.{JobName};
 
-use crate::job::{Done, JobName, Sent};
+use crate::job::{Done, Sent};
 use crate::machine::{Machine, unit_at};
 use crate::part::Part;
 use crate::phase::Phase;
 use crate::sim::Sim;
 use links::flight::Links;
 use sim_base::config::Config;
+use sim_base::fault::MergeFault;
+use sim_base::job::JobName;
 use sim_base::message::{Cycle, Unit};
 use std::alloc::{AllocError, Global};
-use std::fmt;
 use std::sync::Arc;
-
-/// Why results were not put together.
-#[derive(Clone, Copy, PartialEq, Eq, Debug)]
-pub enum MergeFault {
-    /// A unit has no result.
-    Missing(Unit),
-    /// The result at this place of the list, from 0 on, has the name of an earlier one.
-    Double(usize),
-    /// The result at this place of the list is of no job of the phase.
-    Stranger(usize),
-    /// There is no memory.
-    Memory,
-}
-
-impl fmt::Display for MergeFault {
-    fn fmt<W: fmt::Write>(&self, f: &mut fmt::Formatter<W>) -> fmt::Result {
-        match self {
-            MergeFault::Missing(unit) => write!(f, "{unit} has no result"),
-            MergeFault::Double(place) => {
-                write!(f, "the result at place {place} is the second of its unit")
-            }
-            MergeFault::Stranger(place) => {
-                write!(f, "the result at place {place} is of no job of the phase")
-            }
-            MergeFault::Memory => write!(f, "there is no memory"),
-        }
-    }
-}
 
 /// The units of the results of a phase, which stand by their places. Their messages go into the links.
 fn parts_of(

@@ -4,9 +4,10 @@ ghost use Rattle.std.specs.Prelude.{◌≡◌, ◌≢◌, ◌<◌, ◌≤◌, �
 ghost use Rattle.epochs.specs.Ordered.{IsFurther, HasReached, IsWhyStopped, OnlyPermutes};
 
 use crate::job::{Done, Job};
-use crate::merging::{MergeFault, merge};
+use crate::merging::merge;
 use crate::planning::{Planned, plan};
 use crate::sim::Sim;
+use sim_base::fault::MergeFault;
 use sim_base::message::Cycle;
 use std::alloc::{AllocError, Global};
 use std::fmt;

@@ -13,7 +13,7 @@ ghost use Rattle.epochs.specs.Views.{job_at, jobs_of};
 ghost use Rattle.epochs.specs.Parts.{IsPart, IsSim, late};
 ghost use Rattle.epochs.specs.Planning.{EndsAt, IsNext, IsPlanned};
 
-use crate::job::{Job, JobName};
+use crate::job::Job;
 use crate::machine::{Machine, unit_at};
 use crate::part::Part;
 use crate::phase::Phase;
@@ -21,6 +21,7 @@ use crate::sim::Sim;
 use links::flight::Links;
 use links::latency::shortest;
 use sim_base::config::Config;
+use sim_base::job::JobName;
 use sim_base::message::Cycle;
 use std::alloc::{AllocError, Global};
 use std::sync::Arc;
@@ -35,7 +36,7 @@ pub enum Planned {
 }
 
 /// Before which cycle a phase ends that begins in this one.
-fn end_of_phase(config: &Config, now: Cycle, limit: Cycle) -> Cycle
+pub(crate) fn end_of_phase(config: &Config, now: Cycle, limit: Cycle) -> Cycle
     requires { now < limit }
     ensures ends { EndsAt config.now now limit result }
     ensures some { now < result }

@@ -19,7 +19,7 @@ use sim_base::message::Cycle;
 impl Part {
     /// The first cycle from `from` on, where the unit stands, in which it acts, if nothing arrives at it; none, where it never
     /// does.
-    fn next_act(&mut self, from: Cycle) -> Option<Cycle>
+    pub(crate) fn next_act(&mut self, from: Cycle) -> Option<Cycle>
         requires stands { IsInSomeRun self.old from }
         ensures same { self.new ≡ self.old }
         ensures first { (s : Config) (traces : List (List Entry)) (unit : MachineUnit) → IsPart s traces unit from self.old → IsNextActOf s traces unit from result }

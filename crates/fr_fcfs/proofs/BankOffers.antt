@@ -12,14 +12,15 @@ use Rattle.sim_base.specs.declared.message.Request.{Request}
 use Rattle.sim_base.specs.Places.{bank_in, is_bank}
 use Rattle.sim_base.specs.Rules.{is_legal, open_row, is_row, kind_of}
 use Rattle.sim_base.specs.Scheduling.{needed, needed_at, column_command, source_of, is_column_command, has_hit, is_withheld, is_row_hit, ready_hit, ready_row}
-use Rattle.queue.specs.Columns.{bank_number}
+use Rattle.queue_columns.specs.Columns.{bank_number}
 use Rattle.heads.specs.declared.entry.BankHeads.{BankHeads}
 use Rattle.heads.specs.Heads.{bank_at, asks, hits, first_place, AreHeads}
 use Rattle.heads.specs.Moves.{earlier}
 use Rattle.heads.proofs.Stood.{bank_named}
 use Rattle.heads.proofs.Searches.{none_everywhere, none_narrower_all}
 use Rattle.fr_fcfs.specs.Requests.{IsInBanks, is_hit}
-use Rattle.fr_fcfs.specs.Offers.{Kinds, is_of, if_allowed, hit_head, oldest_head, going, hits_now, rows_now, hits_in, rows_in, IsReadyFrom, row_kind}
+use Rattle.fr_fcfs.specs.declared.kinds.Kinds.{Kinds}
+use Rattle.fr_fcfs.specs.Offers.{is_of, if_allowed, hit_head, oldest_head, going, hits_now, rows_now, hits_in, rows_in, IsReadyFrom, row_kind}
 use Rattle.fr_fcfs.proofs.Booleans.{and_false, and_true, or_false, eqb_swap}
 use Rattle.fr_fcfs.proofs.Legal.{needed_bank, hit_is, column_needed, finds_needed, legal_at, withheld_is}
 use Rattle.fr_fcfs.proofs.Firsts.{same_among, either_among, place_if, same_unless, any_going}
@@ -75,52 +76,6 @@ unfolding needed
 legal_then s history ranks r bank k ready places from here kind_is =
     legal_at s history (needed history r) ready
     (from (needed history r) kind_is (needed_bank (open_row (bank_in r.place) history) r ∙ ap Some (bank_is ranks r bank places here)) (finds_needed s history r))
-
-hit_test : (b w kr kw lr lw hit row_hit legal : Bool) → (b ≡ true → hit ≡ row_hit) → (b ≡ true → hit ≡ true → legal ≡ cond w lw lr)
-    → (b && (cond w kw kr && (hit && legal)))
-    ≡ (((kr && lr) && ((b && cond false w (not w)) && row_hit)) || ((kw && lw) && ((b && cond true w (not w)) && row_hit)))
-hit_test false w kr kw lr lw hit row_hit legal same when = sym (ap (λ t. t || ((kw && lw) && false)) (and_false (kr && lr)) ∙ and_false (kw && lw))
-hit_test true true kr kw lr lw hit row_hit legal same when =
-    one hit row_hit legal lw kw (same refl) (when refl) ∙ sym (ap (λ t. t || ((kw && lw) && row_hit)) (and_false (kr && lr)))
-  where
-    one : (h rh l ready k : Bool) → h ≡ rh → (h ≡ true → l ≡ ready) → (k && (h && l)) ≡ ((k && ready) && rh)
-    one true rh l ready k is then = ap (λ t. k && t) (then refl) ∙ sym (ap (λ t. (k && ready) && t) (sym is) ∙ and_true (k && ready))
-    one false rh l ready k is then = and_false k ∙ sym (ap (λ t. (k && ready) && t) (sym is) ∙ and_false (k && ready))
-hit_test true false kr kw lr lw hit row_hit legal same when =
-    one hit row_hit legal lr kr (same refl) (when refl) ∙ sym (ap (λ t. ((kr && lr) && row_hit) || t) (and_false (kw && lw)) ∙ or_false ((kr && lr) && row_hit))
-  where
-    one : (h rh l ready k : Bool) → h ≡ rh → (h ≡ true → l ≡ ready) → (k && (h && l)) ≡ ((k && ready) && rh)
-    one true rh l ready k is then = ap (λ t. k && t) (then refl) ∙ sym (ap (λ t. (k && ready) && t) (sym is) ∙ and_true (k && ready))
-    one false rh l ready k is then = and_false k ∙ sym (ap (λ t. (k && ready) && t) (sym is) ∙ and_false (k && ready))
-
-allowed_then : (k ready : Bool) (head : Option ℕ) → cond (k && ready) head None ≡ cond ready (if_allowed head k) None
-allowed_then true true head = refl
-allowed_then true false head = refl
-allowed_then false true head = refl
-allowed_then false false head = refl
-
--- the first row hit of a bank that is ready
-pub hits_are : (s : Config) (history : List CommandRow) (ranks : ℕ) (requests : List Request) (kinds : Kinds) (bank : ℕ) (h : BankHeads) (read write : ℕ)
-    → All (IsInBanks ranks) requests → AreHeads requests bank h → h.row ≡ open_row (bank_at bank) history → IsReadyFrom s history (bank_at bank) kind.Rd read
-    → IsReadyFrom s history (bank_at bank) kind.Wr write → (cycle : ℕ)
-    → hits_in s history requests kinds bank cycle
-    ≡ earlier (cond (leb read cycle) (if_allowed h.reads.hit kinds.reads) None) (cond (leb write cycle) (if_allowed h.writes.hit kinds.writes) None)
-unfolding ready_hit
-hits_are s history ranks requests kinds bank h read write places first row_is reads writes cycle =
-    either_among (λ r. eqb (bank_number r.place) bank && hits_now s history kinds cycle r) (λ r. (kinds.reads && leb read cycle) && hits bank false h.row r)
-    (λ r. (kinds.writes && leb write cycle) && hits bank true h.row r) (IsInBanks ranks) requests places
-    (λ r in_banks.
-    hit_test (eqb (bank_number r.place) bank) r.write kinds.reads kinds.writes (leb read cycle) (leb write cycle) (is_hit history r) (is_row r.place.row h.row)
-    (is_legal s history cycle (needed history r)) (row_hit_is history ranks r bank h.row in_banks row_is)
-    (λ here hit. legal_hit r.write r in_banks here (hit_kind history r hit)))
-    ∙ (λ i. earlier (place_if (kinds.reads && leb read cycle) (hits bank false h.row) requests i) (place_if (kinds.writes && leb write cycle) (hits bank true h.row) requests i))
-    ∙ (λ i. earlier (cond (kinds.reads && leb read cycle) ((sym first.reads_are.hit_is) i) None) (cond (kinds.writes && leb write cycle) ((sym first.writes_are.hit_is) i) None))
-    ∙ (λ i. earlier (allowed_then kinds.reads (leb read cycle) h.reads.hit i) (allowed_then kinds.writes (leb write cycle) h.writes.hit i))
-  where
-    legal_hit : (w : Bool) (r : Request) → IsInBanks ranks r → eqb (bank_number r.place) bank ≡ true → kind_of (needed history r) ≡ cond w kind.Wr kind.Rd
-        → is_legal s history cycle (needed history r) ≡ cond w (leb write cycle) (leb read cycle)
-    legal_hit true r in_banks here is = legal_then s history ranks r bank kind.Wr write in_banks writes here is cycle
-    legal_hit false r in_banks here is = legal_then s history ranks r bank kind.Rd read in_banks reads here is cycle
 
 -- some request that goes asks for the open row of the bank
 row_hit_test : (b w kr kw row_hit : Bool) → (cond w kw kr && (b && row_hit)) ≡ ((kr && ((b && cond false w (not w)) && row_hit)) || (kw && ((b && cond true w (not w)) && row_hit)))
@@ -235,21 +190,26 @@ rows_withheld s history ranks requests kinds bank h places first row_is some cyc
     ∙ ap (λ b. b && not (is_hit history r)) (has_hit_is history ranks requests kinds bank h places first row_is ∙ some)))
     ∙ sym (none_everywhere (λ r. false) requests (λ r. refl))
 
-either_kind : (b w : Bool) → ((b && cond false w (not w)) || (b && cond true w (not w))) ≡ b
-either_kind true true = refl
-either_kind true false = refl
-either_kind false w = refl
+none_test : (b w kr kw test : Bool) → ((kr && (b && cond false w (not w))) || (kw && (b && cond true w (not w)))) ≡ false → (b && (cond w kw kr && test)) ≡ false
+none_test false w kr kw test off = refl
+none_test true true true true test off = cc
+none_test true true false true test off = cc
+none_test true true kr false test off = refl
+none_test true false true kw test off = cc
+none_test true false false kw test off = refl
 
--- no request of a bank may be served that has no heads
-pub none_offered : (requests : List Request) (bank : ℕ) (h : BankHeads) (test : Request → Bool) → AreHeads requests bank h → h.reads.oldest ≡ None → h.writes.oldest ≡ None
-    → first_place (λ r. eqb (bank_number r.place) bank && test r) requests ≡ None
-none_offered requests bank h test first no_read no_write =
-    let none : first_place (λ r. asks bank false r || asks bank true r) requests ≡ None =
-    either_among (λ r. asks bank false r || asks bank true r) (asks bank false) (asks bank true) (λ r. Unit {0}) requests (λ k d exists. tt) (λ r in_all. refl)
-    ∙ (λ i. earlier ((sym first.reads_are.oldest_is ∙ no_read) i) ((sym first.writes_are.oldest_is ∙ no_write) i)) in
+-- no request of a bank goes that has no head
+pub none_offered : (requests : List Request) (kinds : Kinds) (bank : ℕ) (h : BankHeads) (test : Request → Bool) → AreHeads requests bank h → oldest_head kinds h ≡ None
+    → first_place (λ r. eqb (bank_number r.place) bank && (is_of kinds r && test r)) requests ≡ None
+none_offered requests kinds bank h test first none =
+    let asked = λ (r : Request). (kinds.reads && asks bank false r) || (kinds.writes && asks bank true r) in
+    let head_is : first_place asked requests ≡ oldest_head kinds h =
+    either_among asked (λ r. kinds.reads && asks bank false r) (λ r. kinds.writes && asks bank true r) (λ r. Unit {0}) requests (λ k d exists. tt) (λ r in_all. refl)
+    ∙ (λ i. earlier (place_if kinds.reads (asks bank false) requests i) (place_if kinds.writes (asks bank true) requests i))
+    ∙ (λ i. earlier (cond kinds.reads ((sym first.reads_are.oldest_is) i) None) (cond kinds.writes ((sym first.writes_are.oldest_is) i) None)) in
     sym
-    (none_narrower_all (λ r. eqb (bank_number r.place) bank && test r) (λ r. asks bank false r || asks bank true r) requests
-    (λ r off. ap (λ b. b && test r) (sym (either_kind (eqb (bank_number r.place) bank) r.write) ∙ off)) (sym none))
+    (none_narrower_all (λ r. eqb (bank_number r.place) bank && (is_of kinds r && test r)) asked requests
+    (λ r off. none_test (eqb (bank_number r.place) bank) r.write kinds.reads kinds.writes (test r) off) (sym (head_is ∙ none)))
 
 no_hit_test : (b w kr kw hit row_hit legal : Bool) → (b ≡ true → hit ≡ row_hit)
     → ((kr && ((b && cond false w (not w)) && row_hit)) || (kw && ((b && cond true w (not w)) && row_hit))) ≡ false → (b && (cond w kw kr && (hit && legal))) ≡ false

@@ -7,14 +7,15 @@ use Rattle.sim_base.specs.declared.config.Config.{Config}
 use Rattle.sim_base.specs.declared.command.CommandRow.{CommandRow}
 use Rattle.sim_base.specs.declared.message.Request.{Request}
 use Rattle.sim_base.specs.Scheduling.{needed, or_else, first_ready, ready_hit, ready_row}
-use Rattle.queue.specs.Columns.{bank_number}
+use Rattle.queue_columns.specs.Columns.{bank_number}
 use Rattle.queue.specs.View.{QueueView}
 use Rattle.heads.specs.Heads.{first_place}
 use Rattle.heads.specs.Moves.{earlier}
 use Rattle.heads.proofs.Searches.{none_everywhere}
 use Rattle.fr_fcfs.specs.declared.offers.Offer.{Offer}
 use Rattle.fr_fcfs.specs.Requests.{candidates_of}
-use Rattle.fr_fcfs.specs.Offers.{Kinds, going, hits_now, rows_now, IsAt, IsBest, IsFirstReady}
+use Rattle.fr_fcfs.specs.declared.kinds.Kinds.{Kinds}
+use Rattle.fr_fcfs.specs.Offers.{going, hits_now, rows_now, IsAt, IsBest, IsFirstReady}
 use Rattle.fr_fcfs.proofs.Firsts.{same_among, either_among, find_going}
 
 -- the first request of the banks below a number that passes a test

@@ -6,13 +6,14 @@ use Rattle.std.specs.Option.{is_some, option_map, option_and_then}
 use Rattle.sim_base.specs.declared.message.Request.{Request}
 use Rattle.sim_base.specs.Scheduling.{first_of_lines}
 use Rattle.lane_scan.specs.Marks.{is_marked}
-use Rattle.queue.specs.Columns.{eligible_column, marked_items}
-use Rattle.queue.proofs.Eligible.{marked_eligible}
+use Rattle.queue_columns.specs.Columns.{eligible_column, marked_items}
+use Rattle.queue_columns.proofs.Eligible.{marked_eligible}
 use Rattle.heads.specs.Heads.{passes, entries, first_place}
 use Rattle.heads.specs.Moves.{earlier}
 use Rattle.heads.proofs.Positions.{position-cons, position-either}
 use Rattle.heads.proofs.Searches.{none_everywhere}
-use Rattle.fr_fcfs.specs.Offers.{Kinds, going, is_of}
+use Rattle.fr_fcfs.specs.declared.kinds.Kinds.{Kinds}
+use Rattle.fr_fcfs.specs.Offers.{going, is_of}
 
 zipped : (p q : Request → Bool) (P : Request → Type 0) (rs : List Request) (ms : List ℕ) → All P rs → ((r : Request) → P r → p r ≡ q r)
     → position (passes p) (zip rs ms) ≡ position (passes q) (zip rs ms)

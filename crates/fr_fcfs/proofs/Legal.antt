@@ -1,7 +1,7 @@
 -- What requests and ranks need, and when it is legal.
 use Rattle.std.proofs.Common.{◌≡◌, ℕ, ◌+◌, ◌*◌, ◌<◌, ◌≤◌, Bool, true, false, not, cond, ◌&&◌, eqb, leb, eq-eqb, List, Option, Some, None, refl, sym, ap, ◌∙◌, inl, inr, arith}
 use Rattle.std.proofs.lemmas.Bool.{cases_Bool, eqb-true, eqb-false, and_parts, and_from, leb-true, leb-false, false_from_ne_true, false≢true, cond-true}
-use Rattle.std.specs.List.{list_any}
+use Rattle.std.specs.List.{list_any, All}
 use Rattle.std.specs.Option.{is_some}
 use Rattle.sim_base.specs.declared.config.Config.{Config}
 use Rattle.sim_base.specs.declared.command.Command.{Command}
@@ -13,7 +13,9 @@ use Rattle.sim_base.specs.Places.{bank_in, is_bank}
 use Rattle.sim_base.specs.Rules.{is_legal, is_allowed, finds_its_banks, open_row, is_row, bank_of}
 use Rattle.sim_base.specs.Scheduling.{source_of, column_command, needed_at, needed, is_column_command, is_withheld, has_hit, is_row_hit}
 use Rattle.bank_ready.specs.Stands.{IsAllowedFrom}
-use Rattle.queue.specs.Columns.{bank_number}
+use Rattle.queue_columns.specs.Columns.{bank_number}
+use Rattle.heads.specs.declared.heads.Heads.{Heads}
+use Rattle.heads.specs.Stands.{bank_count, IsAmong}
 use Rattle.fr_fcfs.specs.Requests.{IsInBanks, IsLegalFrom, is_hit}
 use Rattle.fr_fcfs.proofs.Booleans.{and_false, and_true, eqb_swap, any_never}
 
@@ -178,3 +180,10 @@ hit_in history ranks x r in_x in_r = elim (cases_Bool (eqb (bank_number x.place)
       ∙ and_false (is_hit history x)
       ∙ ap (λ b. b && is_row x.place.row (open_row (bank_in r.place) history)) (sym other)
 ]
+
+-- requests for the banks of so many ranks ask for banks that have heads
+pub all_among : (heads : Heads) (ranks : ℕ) (requests : List Request) → bank_count heads ≡ 16 * ranks → All (IsInBanks ranks) requests
+    → All (λ r. IsAmong heads (bank_in r.place)) requests
+all_among heads ranks requests count places = λ k d exists.
+    let there = places k d exists in
+    record { number = omega (arith, count, there.rank, there.group, there.bank); group = there.group; bank = there.bank }

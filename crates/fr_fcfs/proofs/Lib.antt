@@ -7,5 +7,5 @@ pub mod Below
 pub mod SoFar
 pub mod Beside
 pub mod Favoured
-pub mod OneKind
+pub mod BankMore
 pub mod Waking

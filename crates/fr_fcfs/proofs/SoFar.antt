@@ -1,5 +1,5 @@
 -- The best offer so far.
-use Rattle.std.proofs.Common.{◌≡◌, ℕ, ◌<◌, ◌≤◌, Bool, true, false, cond, ltb, eqb, max, Option, Some, None, refl, sym, ap, subst, ◌∙◌, inl, inr, arith}
+use Rattle.std.proofs.Common.{◌≡◌, ℕ, ◌<◌, ◌≤◌, Bool, true, false, cond, ltb, eqb, max, min, Option, Some, None, refl, sym, ap, subst, ◌∙◌, inl, inr, arith}
 use Rattle.std.proofs.lemmas.Bool.{cases_lt, cases_eq, eq-eqb, ne_eqb, lt-ltb, le-ltb, cond-true, cond-false}
 use Rattle.heads.specs.Moves.{earlier}
 use Rattle.fr_fcfs.specs.declared.offers.Offer.{Offer}
@@ -90,21 +90,27 @@ pub none_found : (room now : ℕ) (h r : ℕ → Option ℕ) (o : Offer) → roo
 none_found room now h r o outside so_far = subst (IsBest now h r) (offer_without room o outside) so_far.best
 
 -- hits that are ready only after the best offer change nothing
-pub hits_late : (room now floor : ℕ) (hits rows : ℕ → Option ℕ) (o : Offer) → o.cycle < floor → floor ≤ 18446744073709551615 → ((c : ℕ) → c < floor → hits c ≡ None)
-    → IsBestSoFar room now (λ c. None) rows o → IsBestSoFar room now hits rows o
-hits_late room now floor hits rows o late fits none so_far = elim (cases_lt o.slot room) [
+pub hits_late : (room now floor : ℕ) (hits rows late_hits : ℕ → Option ℕ) (o : Offer) → o.cycle < floor → floor ≤ 18446744073709551615 → ((c : ℕ) → c < floor → late_hits c ≡ None)
+    → IsBestSoFar room now hits rows o → IsBestSoFar room now (λ c. earlier (hits c) (late_hits c)) rows o
+hits_late room now floor hits rows late_hits o late fits none so_far = elim (cases_lt o.slot room) [
   | inl within ↦
-      let best = subst (IsBest now (λ c. None) rows) (offer_within room o within) so_far.best in
-      told room now hits rows o within
+      let best = subst (IsBest now hits rows) (offer_within room o within) so_far.best in
+      told room now (λ c. earlier (hits c) (late_hits c)) rows o within
       (record {
         from_now = best.from_now;
-        none_before = λ c from before. (none c (omega arith), (best.none_before c from before).1);
-        then_is = subst (λ x. IsAt o.hit x (rows o.cycle) o.slot) (sym (none o.cycle late)) best.then_is;
+        none_before = λ c from before. let before_it = best.none_before c from before in (ap (earlier (hits c)) (none c (omega arith)) ∙ first_alone (hits c) ∙ before_it.0, before_it.1);
+        then_is = subst (λ x. IsAt o.hit x (rows o.cycle) o.slot) (sym (ap (earlier (hits o.cycle)) (none o.cycle late) ∙ first_alone (hits o.cycle))) best.then_is;
       })
   | inr outside ↦
       let last : o.cycle ≡ 18446744073709551615 = ap (λ x. x.cycle) (so_far.none outside) in
       absurd (omega arith)
 ]
+
+pub earlier_assoc : (a b c : Option ℕ) → earlier (earlier a b) c ≡ earlier a (earlier b c)
+earlier_assoc None b c = refl
+earlier_assoc (Some i) None c = refl
+earlier_assoc (Some i) (Some j) None = refl
+earlier_assoc (Some i) (Some j) (Some k) = let same : min (min i j) k ≡ min i (min j k) = omega arith in ap Some same
 
 -- a head whose need may be issued from a cycle on is taken where that goes before the best offer so far
 pub record IsTaken (head : Option ℕ) (now ready : ℕ) (hit : Bool) (best after : Offer) : Type 0 where

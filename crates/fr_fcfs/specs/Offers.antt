@@ -1,5 +1,4 @@
 -- What banks offer for the heads of their queues.
---     Kinds      the kinds that go
 --     is_of kinds r      a request is of the kinds that go
 --     only write      requests to write go alone, or requests to read
 --     hits_in s history requests kinds bank cycle      the place of the first ready row hit of a bank in a cycle
@@ -17,20 +16,14 @@ use Rattle.sim_base.specs.declared.message.Request.{Request}
 use Rattle.sim_base.specs.declared.place.BankId.{BankId}
 use Rattle.sim_base.specs.Rules.{kind_of, bank_of, finds_its_banks}
 use Rattle.sim_base.specs.Scheduling.{needed, ready_hit, ready_row, first_of_lines, first_ready}
-use Rattle.queue.specs.Columns.{bank_number}
+use Rattle.queue_columns.specs.Columns.{bank_number}
 use Rattle.queue.specs.View.{QueueView}
 use Rattle.heads.specs.declared.entry.BankHeads.{BankHeads}
-use Rattle.heads.specs.declared.heads.Heads.{Heads}
 use Rattle.heads.specs.Heads.{first_place}
 use Rattle.heads.specs.Moves.{earlier}
-use Rattle.heads.specs.Stands.{StandsFor as HeadsStandFor}
+use Rattle.fr_fcfs.specs.declared.kinds.Kinds.{Kinds}
 use Rattle.fr_fcfs.specs.declared.offers.Offer.{Offer}
 use Rattle.fr_fcfs.specs.Requests.{IsLegalFrom, candidates_of}
-
--- whether requests to read go, and requests to write
-pub record Kinds : Type 0 where
-  pub reads : Bool
-  pub writes : Bool
 
 -- a request is of the kinds that go
 abbrev pub is_of : Kinds → Request → Bool
@@ -117,10 +110,6 @@ pub record IsBestSoFar (room now : ℕ) (hits rows : ℕ → Option ℕ) (o : Of
 -- the offer of a request whose need may be issued from a cycle on
 abbrev pub offer_from : ℕ → ℕ → Bool → ℕ → Offer
 offer_from now ready hit slot = record { cycle = max now ready; hit = hit; slot = slot }
-
--- heads are those of a queue of requests, whichever rows are open
-abbrev pub AreOf : Heads → List Request → Type 0
-AreOf heads requests = (open_rows : ℕ → Option ℕ) × HeadsStandFor heads requests open_rows
 
 -- from which cycle on commands of a kind may be issued to a bank, where they find it as they should
 abbrev pub IsReadyFrom : Config → List CommandRow → BankId → Kind → ℕ → Type 0

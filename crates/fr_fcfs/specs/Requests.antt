@@ -1,5 +1,6 @@
 -- What a request needs, and which requests may be served next.
 --     IsInBanks ranks r      a request asks for a bank that there is
+--     KnowsRows heads history      heads that know which rows are open
 --     IsLegalFrom s history command cycle      from which cycle on a command may be issued
 --     is_hit history r      the request waits for its data alone
 --     candidates_of s queue      the requests that may be served next
@@ -8,8 +9,11 @@ use Rattle.sim_base.specs.declared.config.Config.{Config}
 use Rattle.sim_base.specs.declared.command.Command.{Command}
 use Rattle.sim_base.specs.declared.command.CommandRow.{CommandRow}
 use Rattle.sim_base.specs.declared.message.Request.{Request}
-use Rattle.sim_base.specs.Rules.{is_legal}
+use Rattle.sim_base.specs.Rules.{is_legal, open_row}
 use Rattle.sim_base.specs.Scheduling.{needed, is_column_command, candidates}
+use Rattle.heads.specs.declared.heads.Heads.{Heads}
+use Rattle.heads.specs.Heads.{bank_at}
+use Rattle.heads.specs.Stands.{StandsFor as HeadsStandFor}
 use Rattle.queue.specs.View.{QueueView, is_draining}
 
 -- a request asks for a bank of so many ranks, each with four groups of four banks at most
@@ -17,6 +21,11 @@ pub record IsInBanks (ranks : ℕ) (r : Request) : Type 0 where
   pub rank : r.place.rank < ranks
   pub group : r.place.group < 4
   pub bank : r.place.bank < 4
+
+-- heads that stand for some queue, and for the rows that are open after a history
+pub record KnowsRows (heads : Heads) (history : List CommandRow) : Type 0 where
+  pub requests : List Request
+  pub stands : HeadsStandFor heads requests (λ bank. open_row (bank_at bank) history)
 
 -- from this cycle on, and not before, a command may be issued after a history
 abbrev pub IsLegalFrom : Config → List CommandRow → Command → ℕ → Type 0

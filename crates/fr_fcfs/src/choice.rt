@@ -1,6 +1,7 @@
 //! The command of the next cycle, and the first cycle with one.
 
 ghost use Rattle.std.specs.Prelude.{◌≡◌, ◌<◌, ◌≤◌, ◌*◌, ℕ, List, Option, Some, length, All, if◌then◌else◌, option_map, slice_get, is_some, IfSome};
+ghost use Rattle.sim_base.specs.Places.{bank_in};
 ghost use Rattle.sim_base.specs.Rules.{open_row};
 ghost use Rattle.sim_base.specs.Scheduling.{needed, first_ready, if_legal, refresh_command};
 ghost use Rattle.sim_base.specs.declared.config.Config.{Config};
@@ -10,10 +11,9 @@ ghost use Rattle.sim_base.specs.declared.message.Request.{Request};
 ghost use Rattle.bank_ready.specs.Stands.{rank_count, StandsFor as BanksStandFor};
 ghost use Rattle.refresh.specs.Refreshes.{is_due_at};
 ghost use Rattle.heads.specs.Heads.{bank_at};
-ghost use Rattle.heads.specs.Stands.{bank_count, StandsFor as HeadsStandFor};
-ghost use Rattle.fr_fcfs.specs.Requests.{IsInBanks, candidates_of};
-ghost use Rattle.fr_fcfs.specs.Offers.{AreOf};
-ghost use Rattle.fr_fcfs.specs.Cycles.{IsFirstCycle, IsNext};
+ghost use Rattle.heads.specs.Stands.{bank_count, IsAmong, StandsFor as HeadsStandFor};
+ghost use Rattle.fr_fcfs.specs.Requests.{IsInBanks, KnowsRows, candidates_of};
+ghost use Rattle.fr_fcfs.specs.Cycles.{IsNext};
 ghost use Rattle.fr_fcfs.specs.Choices.{StandFor, choice_in, IsFor};
 
 use crate::needs::{is_column, needed, refresh_need};
@@ -34,14 +34,14 @@ pub struct Choice {
 
 /// What a request at a place of the queue needs, as a choice.
 #[inline]
-fn choice_at(banks: &Banks, requests: &[Request], slot: usize) -> Choice
-    requires places { All (IsInBanks (rank_count banks.now)) requests.now }
+fn choice_at(heads: &Heads, requests: &[Request], slot: usize) -> Choice
+    requires places { All (λ r. IsAmong heads.now (bank_in r.place)) requests.now }
     requires within { slot < length requests.now }
-    ensures command { (s : Config) (history : List CommandRow) → BanksStandFor banks.now s history
+    ensures command { (history : List CommandRow) → KnowsRows heads.now history
         → option_map (needed history) (slice_get requests.now slot) ≡ Some result.command }
     ensures place { IsFor requests.now result }
 {
-    let command = needed(banks, requests[slot]);
+    let command = needed(heads, requests[slot]);
     let place = is_column(command).then_some(slot);
     Choice {
         command,
@@ -59,14 +59,13 @@ fn next_of_requests(
 ) -> Option<(Cycle, Choice)>
     requires places { All (IsInBanks (rank_count banks.now)) queue.now.requests }
     requires banks { bank_count heads.now ≡ 16 * rank_count banks.now }
-    requires heads { AreOf heads.now queue.now.requests }
     ensures next { (s : Config) (history : List CommandRow) → BanksStandFor banks.now s history
         → HeadsStandFor heads.now queue.now.requests (λ bank. open_row (bank_at bank) history) → s.write_high ≡ queue.now.high
         → IsNext (λ cycle. first_ready s history cycle (candidates_of s queue.now)) now result }
     ensures place { IfSome result (λ next. IsFor queue.now.requests next.1) }
 {
     match first_offer(queue, heads, banks, now) {
-        Some(offer) => Some((offer.cycle, choice_at(banks, queue.requests(), offer.slot))),
+        Some(offer) => Some((offer.cycle, choice_at(heads, queue.requests(), offer.slot))),
         None => None,
     }
 }
@@ -77,13 +76,16 @@ fn next_of_requests(
 fn with_refresh(
     next: &mut Option<(Cycle, Choice)>,
     due: Option<Cycle>,
+    heads: &Heads,
     banks: &Banks,
     rank: u32,
     groups: u32,
 )
     requires rank { rank < rank_count banks.now }
+    requires banks { bank_count heads.now ≡ 16 * rank_count banks.now }
     requires groups { groups ≤ 4 }
-    ensures next { (s : Config) (history : List CommandRow) (commands rest : ℕ → Option Command) (now : ℕ) → BanksStandFor banks.now s history → s.groups ≡ groups
+    ensures next { (s : Config) (history : List CommandRow) (commands rest : ℕ → Option Command) (now : ℕ) → BanksStandFor banks.now s history
+        → KnowsRows heads.now history → s.groups ≡ groups
         → IfSome due (λ cycle. now ≤ cycle)
         → ((c : ℕ) → now ≤ c → commands c ≡ (if is_due_at due c then if_legal s history c (refresh_command s history rank) else rest c))
         → IsNext rest now next.old → IsNext commands now next.new }
@@ -95,7 +97,7 @@ fn with_refresh(
     match *next {
         Some((cycle, _)) if cycle < due => {}
         _ => {
-            let need = refresh_need(banks, rank, groups);
+            let need = refresh_need(heads, banks, rank, groups);
             let choice = Choice {
                 command: need.command,
                 slot: None,
@@ -118,7 +120,6 @@ pub fn next(
 ) -> Option<(Cycle, Choice)>
     requires places { All (IsInBanks (rank_count banks.now)) queue.now.requests }
     requires banks { bank_count heads.now ≡ 16 * rank_count banks.now }
-    requires heads { AreOf heads.now queue.now.requests }
     requires ranks { refresh.now.ranks ≤ rank_count banks.now }
     requires groups { groups ≤ 4 }
     ensures next { (s : Config) (history : List CommandRow) → StandFor heads.now banks.now refresh.now queue.now groups s history
@@ -134,55 +135,8 @@ pub fn next(
     let mut rank = refresh.ranks();
     while 0 < rank {
         rank -= 1;
-        with_refresh(&mut next, refresh.first_due(now, rank), banks, rank, groups);
+        let due = refresh.first_due(now, rank);
+        with_refresh(&mut next, due, heads, banks, rank, groups);
     }
     next
-}
-
-/// The command that the channel issues in a cycle, if it issues one. `groups` is the number of groups of each rank.
-pub fn choose(
-    queue: &Queue,
-    heads: &Heads,
-    banks: &Banks,
-    refresh: &Refresh,
-    groups: u32,
-    now: Cycle,
-) -> Option<Choice>
-    requires places { All (IsInBanks (rank_count banks.now)) queue.now.requests }
-    requires banks { bank_count heads.now ≡ 16 * rank_count banks.now }
-    requires heads { AreOf heads.now queue.now.requests }
-    requires ranks { refresh.now.ranks ≤ rank_count banks.now }
-    requires groups { groups ≤ 4 }
-    ensures command { (s : Config) (history : List CommandRow) → StandFor heads.now banks.now refresh.now queue.now groups s history
-        → option_map (λ c. c.command) result ≡ choice_in s history queue.now now }
-    ensures place { IfSome result (IsFor queue.now.requests) }
-{
-    match next(queue, heads, banks, refresh, groups, now) {
-        Some((cycle, choice)) if cycle <= now => Some(choice),
-        _ => None,
-    }
-}
-
-/// The first cycle from `now` on in which the channel issues a command, as long as its queue stays as it is; None where there
-/// is none. `groups` is the number of groups of each rank.
-pub fn wake(
-    queue: &Queue,
-    heads: &Heads,
-    banks: &Banks,
-    refresh: &Refresh,
-    groups: u32,
-    now: Cycle,
-) -> Option<Cycle>
-    requires places { All (IsInBanks (rank_count banks.now)) queue.now.requests }
-    requires banks { bank_count heads.now ≡ 16 * rank_count banks.now }
-    requires heads { AreOf heads.now queue.now.requests }
-    requires ranks { refresh.now.ranks ≤ rank_count banks.now }
-    requires groups { groups ≤ 4 }
-    ensures { (s : Config) (history : List CommandRow) → StandFor heads.now banks.now refresh.now queue.now groups s history
-        → IsFirstCycle (λ cycle. is_some (choice_in s history queue.now cycle)) now result }
-{
-    match next(queue, heads, banks, refresh, groups, now) {
-        Some((cycle, _)) => Some(cycle),
-        None => None,
-    }
 }

@@ -1,4 +1,4 @@
-//! Which kind of requests may be served next, where the channel ever drains its writes.
+//! Which requests may be served next.
 
 ghost use Rattle.std.specs.Prelude.{◌≡◌, ◌<◌, ℕ, Option};
 ghost use Rattle.sim_base.specs.declared.config.Config.{Config};
@@ -9,9 +9,16 @@ ghost use Rattle.fr_fcfs.specs.Offers.{only, going};
 use heads::Heads;
 use queue::Queue;
 
+/// Whether requests to read go, and requests to write.
+#[derive(Clone, Copy)]
+pub(crate) struct Kinds {
+    pub(crate) reads: bool,
+    pub(crate) writes: bool,
+}
+
 /// The kind that goes, where the channel ever drains: true for requests to write, false for requests to read. It is the favoured
 /// one, where there is a request of it.
-pub(crate) fn kind_that_goes(queue: &Queue, heads: &Heads) -> bool
+fn kind_that_goes(queue: &Queue, heads: &Heads) -> bool
     requires { 0 < queue.now.high }
     ensures { (s : Config) (open_rows : ℕ → Option ℕ) → s.write_high ≡ queue.now.high → HeadsStandFor heads.now queue.now.requests open_rows
         → candidates_of s queue.now ≡ going (only result) queue.now.requests }
@@ -21,5 +28,23 @@ pub(crate) fn kind_that_goes(queue: &Queue, heads: &Heads) -> bool
         writes
     } else {
         !writes
+    }
+}
+
+/// The kinds that go: both, where the channel never drains.
+pub(crate) fn kinds_that_go(queue: &Queue, heads: &Heads) -> Kinds
+    ensures { (s : Config) (open_rows : ℕ → Option ℕ) → s.write_high ≡ queue.now.high → HeadsStandFor heads.now queue.now.requests open_rows
+        → candidates_of s queue.now ≡ going result queue.now.requests }
+{
+    if queue.high() == 0 {
+        return Kinds {
+            reads: true,
+            writes: true,
+        };
+    }
+    let writes = kind_that_goes(queue, heads);
+    Kinds {
+        reads: !writes,
+        writes,
     }
 }

@@ -1,14 +1,8 @@
 //! First ready, first come, first served: the command of the next cycle, and when there is one.
 #![tactic(auto)]
 
-mod all_kinds;
 pub mod choice;
+mod first;
 mod kinds;
 mod needs;
 mod offers;
-mod one_kind;
-
-pub use heads::Heads as Scratch;
-
-#[cfg(test)]
-mod tests;

@@ -1,6 +1,6 @@
 //! What a request and a rank need next, and from which cycle on that may be issued.
 
-ghost use Rattle.std.specs.Prelude.{◌≡◌, ◌<◌, ◌≤◌, List, false, true};
+ghost use Rattle.std.specs.Prelude.{◌≡◌, ◌+◌, ◌*◌, ◌<◌, ◌≤◌, List, false, true};
 ghost use Rattle.sim_base.specs.Places.{bank_in};
 ghost use Rattle.sim_base.specs.Rules.{kind_of, bank_of, is_open, has_open_bank_in_group, has_open_bank};
 ghost use Rattle.sim_base.specs.Scheduling.{source_of, column_command, needed_at, needed, is_column_command, refresh_command};
@@ -8,9 +8,11 @@ ghost use Rattle.sim_base.specs.declared.config.Config.{Config};
 ghost use Rattle.sim_base.specs.declared.command.CommandRow.{CommandRow};
 ghost use Rattle.bank_ready.specs.Words.{names_bank, names_rank};
 ghost use Rattle.bank_ready.specs.Stands.{rank_count, StandsFor};
-ghost use Rattle.fr_fcfs.specs.Requests.{IsInBanks, IsLegalFrom};
+ghost use Rattle.heads.specs.Stands.{bank_count, IsAmong};
+ghost use Rattle.fr_fcfs.specs.Requests.{KnowsRows, IsLegalFrom};
 
 use bank_ready::banks::Banks;
+use heads::Heads;
 use sim_base::command::{Command, Kind, Source};
 use sim_base::message::{Cycle, Request};
 use sim_base::place::{BankId, Place};
@@ -101,42 +103,45 @@ pub(crate) fn is_column(command: Command) -> bool
 
 /// What a request needs next.
 #[inline]
-pub(crate) fn needed(banks: &Banks, request: Request) -> Command
-    requires { IsInBanks (rank_count banks.now) request }
-    ensures command { (s : Config) (history : List CommandRow) → StandsFor banks.now s history → result ≡ needed history request }
+pub(crate) fn needed(heads: &Heads, request: Request) -> Command
+    requires { IsAmong heads.now (bank_in request.place) }
+    ensures command { (history : List CommandRow) → KnowsRows heads.now history → result ≡ needed history request }
     ensures column { is_column_command result ≡ true → result ≡ column_command request }
 {
     let bank = bank_of_place(request.place);
-    needed_with(banks.open_row(bank), request)
+    needed_with(heads.open_row(bank), request)
 }
 
-fn is_open(banks: &Banks, rank: u32, group: u32, bank: u32) -> bool
-    requires rank { rank < rank_count banks.now }
+fn is_open(heads: &Heads, rank: u32, group: u32, bank: u32) -> bool
+    requires rank { 16 * rank + 16 ≤ bank_count heads.now }
     requires group { group < 4 }
     requires bank { bank < 4 }
-    ensures { (s : Config) (history : List CommandRow) → StandsFor banks.now s history → result ≡ is_open history (record { rank = rank; group = group; bank = bank }) }
+    ensures { (history : List CommandRow) → KnowsRows heads.now history
+        → result ≡ is_open history (record { rank = rank; group = group; bank = bank }) }
 {
-    banks.open_row(BankId { rank, group, bank }).is_some()
+    heads.open_row(BankId { rank, group, bank }).is_some()
 }
 
-fn has_open_bank_in_group(banks: &Banks, rank: u32, group: u32) -> bool
-    requires rank { rank < rank_count banks.now }
+fn has_open_bank_in_group(heads: &Heads, rank: u32, group: u32) -> bool
+    requires rank { 16 * rank + 16 ≤ bank_count heads.now }
     requires group { group < 4 }
-    ensures { (s : Config) (history : List CommandRow) → StandsFor banks.now s history → result ≡ has_open_bank_in_group history rank group }
+    ensures { (history : List CommandRow) → KnowsRows heads.now history
+        → result ≡ has_open_bank_in_group history rank group }
 {
-    is_open(banks, rank, group, 0)
-        || is_open(banks, rank, group, 1)
-        || is_open(banks, rank, group, 2)
-        || is_open(banks, rank, group, 3)
+    is_open(heads, rank, group, 0)
+        || is_open(heads, rank, group, 1)
+        || is_open(heads, rank, group, 2)
+        || is_open(heads, rank, group, 3)
 }
 
-fn has_open_bank(banks: &Banks, rank: u32, groups: u32) -> bool
-    requires rank { rank < rank_count banks.now }
+fn has_open_bank(heads: &Heads, rank: u32, groups: u32) -> bool
+    requires rank { 16 * rank + 16 ≤ bank_count heads.now }
     requires groups { groups ≤ 4 }
-    ensures { (s : Config) (history : List CommandRow) → StandsFor banks.now s history → s.groups ≡ groups → result ≡ has_open_bank s history rank }
+    ensures { (s : Config) (history : List CommandRow) → KnowsRows heads.now history
+        → s.groups ≡ groups → result ≡ has_open_bank s history rank }
 {
     for group in 0..groups {
-        if has_open_bank_in_group(banks, rank, group) {
+        if has_open_bank_in_group(heads, rank, group) {
             return true;
         }
     }
@@ -145,14 +150,18 @@ fn has_open_bank(banks: &Banks, rank: u32, groups: u32) -> bool
 
 /// What a rank needs that is to be refreshed.
 #[inline(never)]
-pub(crate) fn refresh_need(banks: &Banks, rank: u32, groups: u32) -> Need
+pub(crate) fn refresh_need(heads: &Heads, banks: &Banks, rank: u32, groups: u32) -> Need
     requires rank { rank < rank_count banks.now }
+    requires banks { bank_count heads.now ≡ 16 * rank_count banks.now }
     requires groups { groups ≤ 4 }
-    ensures command { (s : Config) (history : List CommandRow) → StandsFor banks.now s history → s.groups ≡ groups → result.command ≡ refresh_command s history rank }
-    ensures ready { (s : Config) (history : List CommandRow) → StandsFor banks.now s history → s.groups ≡ groups → IsLegalFrom s history (refresh_command s history rank) result.ready }
+    ensures command { (s : Config) (history : List CommandRow) → KnowsRows heads.now history
+        → s.groups ≡ groups → result.command ≡ refresh_command s history rank }
+    ensures ready { (s : Config) (history : List CommandRow) → StandsFor banks.now s history
+        → KnowsRows heads.now history → s.groups ≡ groups
+        → IsLegalFrom s history (refresh_command s history rank) result.ready }
     ensures other { is_column_command result.command ≡ false }
 {
-    if has_open_bank(banks, rank, groups) {
+    if has_open_bank(heads, rank, groups) {
         Need {
             command: Command::Prea { rank },
             ready: banks.earliest_all(Kind::Prea, rank),

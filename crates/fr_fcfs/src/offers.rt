@@ -9,11 +9,10 @@ ghost use Rattle.bank_ready.specs.Stands.{rank_count, StandsFor as BanksStandFor
 ghost use Rattle.heads.specs.Heads.{bank_at};
 ghost use Rattle.heads.specs.Stands.{bank_count, StandsFor as HeadsStandFor};
 ghost use Rattle.fr_fcfs.specs.Requests.{IsInBanks};
-ghost use Rattle.fr_fcfs.specs.Offers.{goes_before, offer_from, AreOf, IsReadyFrom, IsFirstReady, row_kind};
+ghost use Rattle.fr_fcfs.specs.Offers.{goes_before, offer_from, IsReadyFrom, IsFirstReady, row_kind};
 
-use crate::all_kinds::first_of_all;
-use crate::kinds::kind_that_goes;
-use crate::one_kind::first_of_kind;
+use crate::first::first_of;
+use crate::kinds::kinds_that_go;
 use bank_ready::banks::Banks;
 use heads::Heads;
 use queue::Queue;
@@ -88,17 +87,10 @@ pub(crate) fn row_kind(row: Option<u32>) -> Kind
 pub(crate) fn first_offer(queue: &Queue, heads: &Heads, banks: &Banks, now: Cycle) -> Option<Offer>
     requires places { All (IsInBanks (rank_count banks.now)) queue.now.requests }
     requires banks { bank_count heads.now ≡ 16 * rank_count banks.now }
-    requires heads { AreOf heads.now queue.now.requests }
     ensures within { IfSome result (λ o. o.slot < length queue.now.requests) }
     ensures first { (s : Config) (history : List CommandRow) → BanksStandFor banks.now s history
         → HeadsStandFor heads.now queue.now.requests (λ bank. open_row (bank_at bank) history) → s.write_high ≡ queue.now.high
         → IsFirstReady s history queue.now now result }
 {
-    if queue.high() == 0 {
-        first_of_all(queue, heads, banks, now)
-    } else if kind_that_goes(queue, heads) {
-        first_of_kind(queue, heads, true, banks, now)
-    } else {
-        first_of_kind(queue, heads, false, banks, now)
-    }
+    first_of(queue, heads, kinds_that_go(queue, heads), banks, now)
 }

@@ -1,7 +1,7 @@
 -- One bit of a word of 64 bits.
-use Rattle.std.proofs.Common.{◌≡◌, ℕ, zero, suc, ◌-◌, ◌^◌, ◌<◌, ◌≤◌, ◌≢◌, min, ◌*◌, ◌%◌, w64, true, false, not, ◌&&◌, eqb, bit_and, refl, sym, ap, ◌∙◌, inl, inr, arith}
+use Rattle.std.proofs.Common.{◌≡◌, ℕ, zero, suc, ◌-◌, ◌^◌, ◌<◌, ◌≤◌, ◌≢◌, min, max, ◌*◌, ◌%◌, w64, true, false, not, ◌&&◌, ◌||◌, eqb, bit_and, bit_or, refl, sym, ap, ◌∙◌, inl, inr, arith}
 use Rattle.std.proofs.lemmas.Bool.{cases_lt, eq-eqb, true≢false}
-use Rattle.std.proofs.lemmas.Nat.Bits.{bit_at_and, bit_at_not, bit_at_above, bit_at-lt, bit_at_clear_other, bit_at-trailing_zeros}
+use Rattle.std.proofs.lemmas.Nat.Bits.{bit_at_and, bit_at_or, bit_at_not, bit_at_above, bit_at-lt, bit_at_clear_other, bit_at-trailing_zeros}
 use Rattle.std.specs.Int.{bit_at, bit_not, trailing_zeros}
 
 bit_cases : (a b : ℕ) → a < 2 → b < 2 → eqb (min a (1 - b)) 1 ≡ (eqb a 1 && not (eqb b 1))
@@ -29,6 +29,18 @@ minus_bit a b k short other = elim (cases_lt k 64) [
   where
     none : (n : ℕ) → min 0 n ≡ 0
     none n = omega arith
+
+either_cases : (a b : ℕ) → a < 2 → b < 2 → eqb (max a b) 1 ≡ (eqb a 1 || eqb b 1)
+either_cases zero zero low high = refl
+either_cases zero (suc zero) low high = refl
+either_cases (suc zero) zero low high = refl
+either_cases (suc zero) (suc zero) low high = refl
+either_cases (suc (suc a)) b low high = absurd (omega arith)
+either_cases zero (suc (suc b)) low high = absurd (omega arith)
+either_cases (suc zero) (suc (suc b)) low high = absurd (omega arith)
+
+pub union_bit : (a b k : ℕ) → eqb (bit_at (bit_or a b) k) 1 ≡ (eqb (bit_at a k) 1 || eqb (bit_at b k) 1)
+union_bit a b k = ap (λ n. eqb n 1) (bit_at_or a b k) ∙ either_cases (bit_at a k) (bit_at b k) (bit_at-lt a k) (bit_at-lt b k)
 
 pub without_other : (a bank k : ℕ) → a < 2 ^ 64 → bank < 64 → k ≢ bank → bit_at (bit_and a (bit_not w64 (1 * 2 ^ bank % 2 ^ 64))) k ≡ bit_at a k
 without_other a bank k short within apart = elim (cases_lt k 64) [

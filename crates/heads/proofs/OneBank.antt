@@ -6,8 +6,8 @@ use Rattle.sim_base.specs.Places.{is_line}
 use Rattle.sim_base.specs.Rules.{is_row}
 use Rattle.sim_base.specs.Scheduling.{asks_for_line, or_else}
 use Rattle.sim_base.specs.declared.message.Request.{Request}
-use Rattle.queue.specs.Columns.{bank_number}
-use Rattle.queue.proofs.SameLine.{line_same}
+use Rattle.queue_columns.specs.Columns.{bank_number}
+use Rattle.queue_columns.proofs.SameLine.{line_same}
 use Rattle.heads.specs.declared.entry.KindHeads.{KindHeads}
 use Rattle.heads.specs.Heads.{asks, hits, first_place, AreFirst}
 use Rattle.heads.specs.Moves.{past, kind_past}

@@ -5,8 +5,8 @@ use Rattle.std.proofs.lemmas.List.{get_or_default}
 use Rattle.std.proofs.lemmas.Slice.Zip.{get_or-zip}
 use Rattle.sim_base.specs.declared.message.Request.{Request}
 use Rattle.lane_scan.specs.Marks.{is_marked}
-use Rattle.queue.specs.Columns.{eligible_column}
-use Rattle.queue.proofs.Eligible.{length-eligible}
+use Rattle.queue_columns.specs.Columns.{eligible_column}
+use Rattle.queue_columns.proofs.Eligible.{length-eligible}
 use Rattle.heads.specs.Heads.{passes, entries, first_place}
 use Rattle.heads.specs.Moves.{before, NoneBefore}
 use Rattle.heads.proofs.Positions.{position_here, position_none, before_past}

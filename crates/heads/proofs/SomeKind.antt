@@ -7,8 +7,8 @@ use Rattle.std.specs.Option.{is_some}
 use Rattle.sim_base.specs.Scheduling.{is_favoured}
 use Rattle.sim_base.specs.declared.message.Request.{Request}
 use Rattle.lane_scan.specs.Marks.{is_marked}
-use Rattle.queue.specs.Columns.{bank_number, eligible_column}
-use Rattle.queue.proofs.Eligible.{length-eligible}
+use Rattle.queue_columns.specs.Columns.{bank_number, eligible_column}
+use Rattle.queue_columns.proofs.Eligible.{length-eligible}
 use Rattle.heads.specs.declared.entry.BankHeads.{BankHeads}
 use Rattle.heads.specs.Heads.{asks, passes, first_place, AreHeads}
 use Rattle.heads.specs.Moves.{before}

@@ -10,8 +10,8 @@ use Rattle.sim_base.specs.Rules.{is_row}
 use Rattle.sim_base.specs.Scheduling.{asks_for_line, or_else}
 use Rattle.sim_base.specs.declared.message.Request.{Request}
 use Rattle.lane_scan.specs.Marks.{mark, is_marked}
-use Rattle.queue.specs.Columns.{bank_number, eligible_column}
-use Rattle.queue.proofs.Eligible.{marks_after, length-marks, split_marks, around}
+use Rattle.queue_columns.specs.Columns.{bank_number, eligible_column}
+use Rattle.queue_columns.proofs.Eligible.{marks_after, length-marks, split_marks, around}
 use Rattle.heads.specs.declared.entry.BankHeads.{BankHeads}
 use Rattle.heads.specs.declared.heads.Heads.{Heads}
 use Rattle.heads.specs.Heads.{asks, AreFirst, AreHeads, RowsFit, NoneWaits, kind_number, kind_of, bank_at, number_of}
@@ -340,3 +340,11 @@ first_stand heads banks closed counts none = from_parts heads [] (λ bank. None)
   first = λ bank write exists. record { oldest_is = none (kind_number bank write) false; hit_is = none (kind_number bank write) true };
   calm = λ kind is. refl;
 }) (λ kind exists. ap (λ xs. get_or xs kind 0) counts ∙ get_or-replicate (2 * banks) kind 0 0 (omega (arith, ap length counts, length-replicate {A = ℕ} (2 * banks) 0)))
+
+-- the bank with the number of a bank
+pub bank_at_number : (b : BankId) → b.group < 4 → b.bank < 4 → bank_at (number_of b) ≡ b
+bank_at_number b group_in bank_in =
+    let rank : ((b.rank * 4 + b.group) * 4 + b.bank) / 16 ≡ b.rank = omega arith in
+    let group : ((b.rank * 4 + b.group) * 4 + b.bank) / 4 % 4 ≡ b.group = omega arith in
+    let own : ((b.rank * 4 + b.group) * 4 + b.bank) % 4 ≡ b.bank = omega arith in
+    λ i. record { rank = rank i; group = group i; bank = own i }

@@ -3,13 +3,13 @@
 ghost use Rattle.std.specs.Prelude.{◌≡◌, ◌≢◌, ℕ, ◌-◌, ◌<◌, ◌^◌, true, List, length, remove, Some};
 ghost use Rattle.sim_base.specs.Rules.{is_row};
 ghost use Rattle.sim_base.specs.declared.message.Request.{Request};
-ghost use Rattle.queue.specs.Columns.{bank_number};
-ghost use Rattle.heads.specs.Heads.{bank_at, number_of, kind_number, kind_count, NoneWaits, AreFirst};
+ghost use Rattle.queue_columns.specs.Columns.{bank_number};
+ghost use Rattle.heads.specs.Heads.{number_of, kind_number, kind_count, NoneWaits, AreFirst};
 ghost use Rattle.heads.specs.Moves.{past};
 ghost use Rattle.heads.specs.Places.{IsShort};
 
 use crate::search::{Gap, next_place};
-use queue::Queue;
+use queue_columns::Columns;
 use sim_base::place::{BankId, Place};
 
 /// The first requests of a bank that may be served, to read or to write: their places in the queue.
@@ -27,19 +27,6 @@ pub struct BankHeads {
     pub row: Option<u32>,
     pub reads: KindHeads,
     pub writes: KindHeads,
-}
-
-/// The bank with a number: 16 times its rank, 4 times its group and its bank, together.
-pub fn bank_at(number: usize) -> BankId
-    requires { number < 64 }
-    ensures { result ≡ bank_at number }
-{
-    let number = number as u32;
-    BankId {
-        rank: number / 16,
-        group: number / 4 % 4,
-        bank: number % 4,
-    }
 }
 
 /// The number of the bank of a place, whose row has 32 bits.
@@ -108,12 +95,18 @@ impl KindHeads {
 
     /// Once a request of the same bank has left its place in the queue.
     #[inline(always)]
-    pub(crate) fn after(self, queue: &Queue, gap: Gap, write: bool, row: Option<u32>) -> KindHeads
+    pub(crate) fn after(
+        self,
+        queue: &Columns<'_>,
+        gap: Gap,
+        write: bool,
+        row: Option<u32>,
+    ) -> KindHeads
         requires oldest { IsShort self.oldest }
         requires hit { IsShort self.hit }
-        requires queue { length queue.now.requests < 2 ^ 16 - 1 }
-        ensures first { (earlier : List Request) → gap.slot < length earlier → queue.now.requests ≡ remove earlier gap.slot
-            → (gap.calm ≡ true → NoneWaits (kind_number gap.bank write) earlier) → (gap.empty ≡ true → kind_count (kind_number gap.bank write) queue.now.requests ≡ 0) → AreFirst earlier gap.bank write row self → AreFirst queue.now.requests gap.bank write row result }
+        requires queue { length queue.now.requests.now < 2 ^ 16 - 1 }
+        ensures first { (earlier : List Request) → gap.slot < length earlier → queue.now.requests.now ≡ remove earlier gap.slot
+            → (gap.calm ≡ true → NoneWaits (kind_number gap.bank write) earlier) → (gap.empty ≡ true → kind_count (kind_number gap.bank write) queue.now.requests.now ≡ 0) → AreFirst earlier gap.bank write row self → AreFirst queue.now.requests.now gap.bank write row result }
         ensures oldest { IsShort result.oldest }
         ensures hit { IsShort result.hit }
     {

@@ -6,7 +6,7 @@ use crate::entry::{BankHeads, KindHeads, bank_number, is_open, kind_number, numb
 use crate::places::Places;
 use crate::search::Gap;
 use crate::sets::BankSet;
-use queue::Queue;
+use queue_columns::Columns;
 use sim_base::command::Command;
 use sim_base::message::Request;
 use sim_base::place::BankId;
@@ -31,10 +31,11 @@ pub struct Heads {
 impl Heads {
     ghost use Rattle.std.specs.Prelude.{ℕ, ◌≡◌, ◌<◌, ◌≤◌, ◌-◌, ◌^◌, ◌++◌, ◌∷◌, not, true, [], List, length, take, remove, slice_index_or, slice_set, All, Option, None, Some, is_some, IfOk, if◌then◌else◌};
     ghost use Rattle.std.specs.Option.{ForSome};
-    ghost use Rattle.sim_base.specs.Rules.{bank_of, row_after};
+    ghost use Rattle.sim_base.specs.Rules.{bank_of, row_after, open_row};
     ghost use Rattle.sim_base.specs.Scheduling.{asks_for_line, is_favoured};
+    ghost use Rattle.sim_base.specs.declared.command.CommandRow.{CommandRow};
     ghost use Rattle.sim_base.specs.declared.message.Request.{Request};
-    ghost use Rattle.queue.specs.Columns.{bank_number};
+    ghost use Rattle.queue_columns.specs.Columns.{bank_number};
     ghost use Rattle.heads.specs.declared.entry.BankHeads.{BankHeads};
     ghost use Rattle.heads.specs.Heads.{bank_at, number_of, kind_number, kind_count, first_place};
     ghost use Rattle.heads.specs.Sets.{is_in};
@@ -90,6 +91,15 @@ impl Heads {
         ensures { (d : BankHeads) → result ≡ (heads_of self.now bank d).row }
     {
         self.rows[bank]
+    }
+
+    /// The row that is open in a bank, if one is.
+    #[inline(always)]
+    pub fn open_row(&self, bank: BankId) -> Option<u32>
+        requires { IsAmong self.now bank }
+        ensures { (requests : List Request) (history : List CommandRow) → StandsFor self.now requests (λ number. open_row (bank_at number) history) → result ≡ open_row bank history }
+    {
+        self.row_of(number_of(bank))
     }
 
     /// The banks for which a request to write, or to read, may be served.
@@ -162,10 +172,10 @@ impl Heads {
 
     /// Takes note of the requests of a queue from a place on, which have just arrived.
     #[inline(never)]
-    pub fn arrived(&mut self, from: usize, queue: &Queue)
-        requires { All (λ r. bank_number r.place < bank_count self.old) queue.now.requests }
+    pub fn arrived(&mut self, from: usize, queue: &Columns<'_>)
+        requires { All (λ r. bank_number r.place < bank_count self.old) queue.now.requests.now }
         ensures banks { bank_count self.new ≡ bank_count self.old }
-        ensures stands { (open_rows : ℕ → Option ℕ) → StandsFor self.old (take from queue.now.requests) open_rows → StandsFor self.new queue.now.requests open_rows }
+        ensures stands { (open_rows : ℕ → Option ℕ) → StandsFor self.old (take from queue.now.requests.now) open_rows → StandsFor self.new queue.now.requests.now open_rows }
     {
         let requests = queue.requests();
         let marks = queue.eligible();
@@ -175,11 +185,11 @@ impl Heads {
     }
 
     /// Takes note of a request that has left its place in the queue.
-    pub fn served(&mut self, request: Request, slot: usize, queue: &Queue)
+    pub fn served(&mut self, request: Request, slot: usize, queue: &Columns<'_>)
         requires { bank_number request.place < bank_count self.old }
         ensures banks { bank_count self.new ≡ bank_count self.old }
         ensures stands { (earlier : List Request) (open_rows : ℕ → Option ℕ) → slot < length earlier → ((d : Request) → request ≡ slice_index_or earlier slot d)
-            → queue.now.requests ≡ remove earlier slot → StandsFor self.old earlier open_rows → StandsFor self.new queue.now.requests open_rows }
+            → queue.now.requests.now ≡ remove earlier slot → StandsFor self.old earlier open_rows → StandsFor self.new queue.now.requests.now open_rows }
     {
         let _short = queue.len();
         let bank = bank_number(request.place);
@@ -213,11 +223,11 @@ impl Heads {
     }
 
     /// Takes note of a row that has been opened in a bank.
-    fn opened(&mut self, bank: BankId, row: u32, queue: &Queue)
+    fn opened(&mut self, bank: BankId, row: u32, queue: &Columns<'_>)
         requires { number_of bank < bank_count self.old }
         ensures banks { bank_count self.new ≡ bank_count self.old }
-        ensures stands { (open_rows : ℕ → Option ℕ) → StandsFor self.old queue.now.requests open_rows
-            → StandsFor self.new queue.now.requests (with_row (number_of bank) (Some row) open_rows) }
+        ensures stands { (open_rows : ℕ → Option ℕ) → StandsFor self.old queue.now.requests.now open_rows
+            → StandsFor self.new queue.now.requests.now (with_row (number_of bank) (Some row) open_rows) }
     {
         let _short = queue.len();
         let number = number_of(bank);
@@ -252,11 +262,11 @@ impl Heads {
     }
 
     /// Takes note of a command, once the request that it serves has left the queue.
-    pub fn noted(&mut self, command: Command, queue: &Queue)
+    pub fn noted(&mut self, command: Command, queue: &Columns<'_>)
         requires { ForSome (bank_of command) (IsAmong self.old) }
         ensures banks { bank_count self.new ≡ bank_count self.old }
-        ensures stands { (open_rows : ℕ → Option ℕ) → StandsFor self.old queue.now.requests open_rows
-            → StandsFor self.new queue.now.requests (λ bank. row_after (bank_at bank) (open_rows bank) command) }
+        ensures stands { (open_rows : ℕ → Option ℕ) → StandsFor self.old queue.now.requests.now open_rows
+            → StandsFor self.new queue.now.requests.now (λ bank. row_after (bank_at bank) (open_rows bank) command) }
     {
         match command {
             Command::Act { bank, row, .. } => self.opened(bank, row, queue),

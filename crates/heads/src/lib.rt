@@ -8,6 +8,6 @@ mod places;
 mod search;
 mod sets;
 
-pub use entry::{BankHeads, KindHeads, bank_at};
+pub use entry::{BankHeads, KindHeads};
 pub use heads::Heads;
 pub use sets::BankSet;

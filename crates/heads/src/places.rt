@@ -8,7 +8,7 @@ ghost use Rattle.heads.specs.Places.{head_of, word_of, IsShort, column, head_in,
 use crate::entry::KindHeads;
 use crate::search::{Gap, first_hit};
 use crate::sets::BankSet;
-use queue::Queue;
+use queue_columns::Columns;
 use std::alloc::{AllocError, Global};
 
 /// The places of the heads of all banks: of each bank and kind the first request that may be served, and the first of these that
@@ -197,12 +197,12 @@ impl Places {
 
     /// Takes note of a row that is open in a bank, for its requests to write, or to read.
     #[inline(always)]
-    pub(crate) fn open(&mut self, bank: usize, write: bool, row: u32, queue: &Queue)
+    pub(crate) fn open(&mut self, bank: usize, write: bool, row: u32, queue: &Columns<'_>)
         requires bank { 4 * bank + 3 < length self.old.words.items }
-        requires queue { length queue.now.requests < 2 ^ 16 - 1 }
+        requires queue { length queue.now.requests.now < 2 ^ 16 - 1 }
         ensures room { length self.new.words.items ≡ length self.old.words.items }
-        ensures own { (old : Option ℕ) → AreFirst queue.now.requests bank write old (kind_in self.old.words.items (kind_number bank write))
-            → AreFirst queue.now.requests bank write (Some row) (kind_in self.new.words.items (kind_number bank write)) }
+        ensures own { (old : Option ℕ) → AreFirst queue.now.requests.now bank write old (kind_in self.old.words.items (kind_number bank write))
+            → AreFirst queue.now.requests.now bank write (Some row) (kind_in self.new.words.items (kind_number bank write)) }
         ensures others { (kind : ℕ) → kind ≢ kind_number bank write → kind_in self.new.words.items kind ≡ kind_in self.old.words.items kind }
     {
         if let Some(oldest) = self.head(bank, write, false) {
@@ -217,7 +217,7 @@ impl Places {
     pub(crate) fn leave(
         &mut self,
         before: KindHeads,
-        queue: &Queue,
+        queue: &Columns<'_>,
         gap: Gap,
         write: bool,
         row: Option<u32>,
@@ -225,12 +225,12 @@ impl Places {
         requires bank { 4 * gap.bank + 3 < length self.old.words.items }
         requires oldest { IsShort before.oldest }
         requires hit { IsShort before.hit }
-        requires queue { length queue.now.requests < 2 ^ 16 - 1 }
+        requires queue { length queue.now.requests.now < 2 ^ 16 - 1 }
         ensures room { length self.new.words.items ≡ length self.old.words.items }
-        ensures own { (earlier : List Request) → gap.slot < length earlier → queue.now.requests ≡ remove earlier gap.slot
-            → (gap.calm ≡ true → NoneWaits (kind_number gap.bank write) earlier) → (gap.empty ≡ true → kind_count (kind_number gap.bank write) queue.now.requests ≡ 0) → AreFirst earlier gap.bank write row before
+        ensures own { (earlier : List Request) → gap.slot < length earlier → queue.now.requests.now ≡ remove earlier gap.slot
+            → (gap.calm ≡ true → NoneWaits (kind_number gap.bank write) earlier) → (gap.empty ≡ true → kind_count (kind_number gap.bank write) queue.now.requests.now ≡ 0) → AreFirst earlier gap.bank write row before
             → kind_in self.old.words.items (kind_number gap.bank write) ≡ kind_past gap.slot before
-            → AreFirst queue.now.requests gap.bank write row (kind_in self.new.words.items (kind_number gap.bank write)) }
+            → AreFirst queue.now.requests.now gap.bank write row (kind_in self.new.words.items (kind_number gap.bank write)) }
         ensures others { (kind : ℕ) → kind ≢ kind_number gap.bank write → kind_in self.new.words.items kind ≡ kind_in self.old.words.items kind }
     {
         if before.stay(gap) {

@@ -8,7 +8,8 @@ ghost use Rattle.heads.specs.Places.{IsShort};
 
 use crate::entry::{bank_number, past};
 use memchr::memchr;
-use queue::{Queue, tag_word};
+use queue_columns::Columns;
+use queue_columns::words::tag_word;
 use sim_base::message::Request;
 
 /// The place that a request of a bank has left.
@@ -45,14 +46,14 @@ fn asks_for_row(request: Request, row: u32) -> bool
 /// The first request from a place on that may be served, is of a bank and a kind, and asks for a row if one is given. The tag of
 /// each such request is the one searched for, and the tags of others mostly are not.
 pub(crate) fn first_from(
-    queue: &Queue,
+    queue: &Columns<'_>,
     from: usize,
     bank: usize,
     write: bool,
     row: Option<u32>,
 ) -> Option<usize>
-    ensures first { NoneBefore (wants bank write row) queue.now.requests from → result ≡ first_place (wants bank write row) queue.now.requests }
-    ensures within { IfSome result (λ k. k < length queue.now.requests) }
+    ensures first { NoneBefore (wants bank write row) queue.now.requests.now from → result ≡ first_place (wants bank write row) queue.now.requests.now }
+    ensures within { IfSome result (λ k. k < length queue.now.requests.now) }
 {
     let requests = queue.requests();
     let tags = queue.tags();
@@ -73,15 +74,15 @@ pub(crate) fn first_from(
 
 /// The first such request that asks for a row, where the first of them all is known: that one, or one behind it.
 pub(crate) fn first_hit(
-    queue: &Queue,
+    queue: &Columns<'_>,
     oldest: usize,
     bank: usize,
     write: bool,
     row: u32,
 ) -> Option<usize>
     requires short { oldest < 2 ^ 16 - 1 }
-    requires queue { length queue.now.requests < 2 ^ 16 - 1 }
-    ensures first { Some oldest ≡ first_place (asks bank write) queue.now.requests → result ≡ first_place (wants bank write (Some row)) queue.now.requests }
+    requires queue { length queue.now.requests.now < 2 ^ 16 - 1 }
+    ensures first { Some oldest ≡ first_place (asks bank write) queue.now.requests.now → result ≡ first_place (wants bank write (Some row)) queue.now.requests.now }
     ensures short { IsShort result }
 {
     let requests = queue.requests();
@@ -96,17 +97,17 @@ pub(crate) fn first_hit(
 /// its turn.
 pub(crate) fn next_place(
     head: Option<usize>,
-    queue: &Queue,
+    queue: &Columns<'_>,
     gap: Gap,
     least: usize,
     write: bool,
     row: Option<u32>,
 ) -> Option<usize>
     requires short { IsShort head }
-    requires queue { length queue.now.requests < 2 ^ 16 - 1 }
-    ensures first { (earlier : List Request) → gap.slot < length earlier → queue.now.requests ≡ remove earlier gap.slot
-        → (gap.calm ≡ true → NoneWaits (kind_number gap.bank write) earlier) → NoneBefore (wants gap.bank write row) queue.now.requests least
-        → head ≡ first_place (wants gap.bank write row) earlier → result ≡ first_place (wants gap.bank write row) queue.now.requests }
+    requires queue { length queue.now.requests.now < 2 ^ 16 - 1 }
+    ensures first { (earlier : List Request) → gap.slot < length earlier → queue.now.requests.now ≡ remove earlier gap.slot
+        → (gap.calm ≡ true → NoneWaits (kind_number gap.bank write) earlier) → NoneBefore (wants gap.bank write row) queue.now.requests.now least
+        → head ≡ first_place (wants gap.bank write row) earlier → result ≡ first_place (wants gap.bank write row) queue.now.requests.now }
     ensures short { IsShort result }
 {
     if gap.calm && head != Some(gap.slot) {

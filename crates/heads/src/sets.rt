@@ -7,7 +7,7 @@ pub struct BankSet {
 }
 
 impl BankSet {
-    ghost use Rattle.std.specs.Prelude.{◌≡◌, ◌≢◌, ◌<◌, ℕ, true, false, not, ◌&&◌, IfSome, IfNone};
+    ghost use Rattle.std.specs.Prelude.{◌≡◌, ◌≢◌, ◌<◌, ℕ, true, false, not, ◌&&◌, ◌||◌, IfSome, IfNone};
     ghost use Rattle.heads.specs.Sets.{is_in};
 
     /// No bank.
@@ -39,6 +39,16 @@ impl BankSet {
     {
         BankSet {
             bits: self.bits & !(1 << bank),
+        }
+    }
+
+    /// These banks and those.
+    #[inline(always)]
+    pub fn union(self, others: BankSet) -> Self
+        ensures { (k : ℕ) → is_in result k ≡ (is_in self k || is_in others k) }
+    {
+        BankSet {
+            bits: self.bits | others.bits,
         }
     }
 

@@ -9,6 +9,3 @@ mod searches;
 
 pub use masks::{and_mask, and_not_mask, equal_mask, ready_mask};
 pub use searches::{first_marked, first_matching, least_marked};
-
-#[cfg(test)]
-mod tests;

@@ -1,6 +1,7 @@
 pub mod Ages
-pub mod Filed
-pub mod Taken
-pub mod Due
+pub mod Steps
+pub mod Held
+pub mod Room
 pub mod Next
+pub mod Merging
 pub mod Shortest

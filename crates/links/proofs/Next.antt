@@ -1,89 +1,20 @@
--- The least arrival, unit by unit.
-use Rattle.std.proofs.Common.{ℕ, ◌+◌, ◌^◌, ◌<◌, ◌≤◌, ◌≡◌, Bool, true, false, ◌&&◌, ◌||◌, eqb, leb, min, List, [], ◌∷◌, length, Option, Some, None, refl, sym, ap, ◌∙◌, subst, inl, inr, ◌⊎◌, arith}
-use Rattle.std.specs.Prelude.{All, Any}
+-- The least arrival, ring by ring.
+use Rattle.std.proofs.Common.{ℕ, ◌+◌, ◌<◌, ◌≤◌, ◌≡◌, Bool, true, false, ◌&&◌, ◌||◌, eqb, min, List, [], ◌∷◌, ◌++◌, length, append_assoc, Option, Some, None, refl, sym, ap, ◌∙◌, subst, inl, inr, ◌⊎◌, arith}
+use Rattle.std.specs.Prelude.{All, Any, fold}
 use Rattle.std.specs.Option.{option_map_or, IfSome, IsSomeAnd, IsNone}
-use Rattle.std.specs.List.{AllByRecursion as Each, list_any}
-use Rattle.std.specs.List.Sorted.{IsStrictlySortedBy}
-use Rattle.std.specs.Map.{keys_of, values_of}
-use Rattle.std.specs.Ordering.{is_le, is_gt}
-use Rattle.std.specs.declared.cmp.Ordering.TheVariants.{Less}
-use Rattle.std.proofs.lemmas.Cmp.{tied_itself}
-use Rattle.std.proofs.lemmas.Bool.{cond_both, leb-true, leb-false, eqb-true, eq-eqb, cases_lt, or_left, or_right, both_ways, true≢false}
+use Rattle.std.specs.List.{AllByRecursion as Each, list_any, list_all}
+use Rattle.std.proofs.lemmas.Bool.{cond_both, eqb-true, eq-eqb, cases_lt, both_ways, true≢false, and_parts, or_right}
 use Rattle.std.proofs.lemmas.Bool.Decides.{nat_tests}
 use Rattle.std.proofs.lemmas.List.Elements.{All-nil, All-cons}
 use Rattle.std.proofs.lemmas.List.Folds.{Any-from_list_any}
-use Rattle.std.proofs.lemmas.Map.Keys.{sorted_head, sorted_tail}
+use Rattle.circular_buffer.specs.Buffer.{Buffer}
 use Rattle.sim_base.specs.History.{is_before, by_age}
 use Rattle.sim_base.specs.declared.message.Message.{Message}
 use Rattle.sim_base.proofs.Arrived.{put, puts, by_age-puts, Each-by_age}
-use Rattle.sim_base.proofs.Ordered.{Each-weaker}
-use Rattle.links.specs.declared.flight.Key.{Key}
-use Rattle.links.specs.Filing.{key_cmp, first_key, IsFiled, AreFiled, from_key}
-use Rattle.links.proofs.Filed.{key_cmp_total}
-use Rattle.links.proofs.Taken.{first_of}
-use Rattle.links.proofs.Due.{is_le-first}
-
--- the keys of units from a number on
-from_unit : (unit : ℕ) (k : Key) → (is_le (key_cmp (first_key unit 0) k) && true) ≡ leb unit k.unit
-from_unit unit k =
-    let e = is_le-first unit 0 k in
-    grind (arith, nat_tests)
-
-not_above_equal : (k q : Key) → q ≡ k → is_gt (key_cmp k q) ≡ false
-not_above_equal k q h = ap is_gt (ap (key_cmp k) h ∙ tied_itself key_cmp_total k)
-
--- a key is below all that stand after it
-none_above : (k : Key) (es : List (Key × Message)) → Each (λ (q : Key). key_cmp k q ≡ Less) (keys_of es) → Each (λ (e : Key × Message). is_gt (key_cmp k e.0) ≡ false) es
-none_above k [] h = tt
-none_above k (e ∷ es) h = (ap is_gt h.0, none_above k es h.1)
-
--- the first key of a unit with some number or a higher one is not above another such key
-abbrev pub IsLeast : ℕ → Key → List (Key × Message) → Type 0
-IsLeast unit k es = Each (λ (e : Key × Message). unit ≤ e.0.unit → is_gt (key_cmp k e.0) ≡ false) es
-
-pub first_is_least : (unit : ℕ) (k : Key) (es : List (Key × Message)) → IsStrictlySortedBy key_cmp (keys_of es) → first_of (from_key (first_key unit 0) es) ≡ Some k → IsLeast unit k es
-first_is_least unit k [] sorted h = tt
-first_is_least unit k (e ∷ es) sorted h =
-    cond_both (is_le (key_cmp (first_key unit 0) e.0) && true) (e ∷ from_key (first_key unit 0) es) (from_key (first_key unit 0) es)
-    (λ x. first_of x ≡ Some k → IsLeast unit k (e ∷ es))
-    (λ b f. let same : e.0 ≡ k = cc in (
-      λ l. not_above_equal k e.0 same,
-      Each-weaker (λ (q : Key × Message). is_gt (key_cmp k q.0) ≡ false) (λ (q : Key × Message). unit ≤ q.0.unit → is_gt (key_cmp k q.0) ≡ false) (λ q g l. g) es
-          (none_above k es (subst (λ x. Each (λ (q : Key). key_cmp x q ≡ Less) (keys_of es)) same (sorted_head key_cmp e.0 (keys_of es) sorted))),
-    ))
-    (λ b f. let above : e.0.unit < unit = leb-false unit e.0.unit (sym (from_unit unit e.0) ∙ b) in
-    (λ l. absurd (omega arith), first_is_least unit k es (sorted_tail key_cmp e.0 (keys_of es) sorted) f)) h
-
--- it is the key of a message
-pub record IsHead (unit : ℕ) (k : Key) (es : List (Key × Message)) : Type 0 where
-  pub from : unit ≤ k.unit
-  pub small : k.unit + 1 < 2 ^ 64
-  pub arrives : list_any (λ (m : Message). eqb m.arrival k.arrival) (values_of es) ≡ true
-
-head_here : (ch n unit : ℕ) (k : Key) (e : Key × Message) (es : List (Key × Message)) → IsFiled ch n e → unit ≤ e.0.unit → e.0 ≡ k → IsHead unit k (e ∷ es)
-head_here ch n unit k e es filed l same =
-    subst (λ x. IsHead unit x (e ∷ es)) same
-    (record {
-      from = l;
-      small = filed.unit_below;
-      arrives = or_left (eqb e.1.arrival e.0.arrival) _ (eq-eqb e.1.arrival e.0.arrival (sym (ap (λ (x : Key). x.arrival) filed.key)));
-    })
-
-head_later : (unit : ℕ) (k : Key) (e : Key × Message) (es : List (Key × Message)) → IsHead unit k es → IsHead unit k (e ∷ es)
-head_later unit k e es h = record { from = h.from; small = h.small; arrives = or_right (eqb e.1.arrival k.arrival) _ h.arrives }
-
-pub first_is_head : (ch n unit : ℕ) (k : Key) (es : List (Key × Message)) → AreFiled ch n es → first_of (from_key (first_key unit 0) es) ≡ Some k → IsHead unit k es
-first_is_head ch n unit k [] filed h = cc
-first_is_head ch n unit k (e ∷ es) filed h =
-    cond_both (is_le (key_cmp (first_key unit 0) e.0) && true) (e ∷ from_key (first_key unit 0) es) (from_key (first_key unit 0) es)
-    (λ x. first_of x ≡ Some k → IsHead unit k (e ∷ es))
-    (λ b f. let same : e.0 ≡ k = cc in
-    head_here ch n unit k e es filed.0 (leb-true unit e.0.unit (sym (from_unit unit e.0) ∙ b)) same)
-    (λ b f. head_later unit k e es (first_is_head ch n unit k es filed.1 f)) h
-
--- no message to a unit with a lower number arrives before this cycle
-abbrev pub Reached : ℕ → Option ℕ → List (Key × Message) → Type 0
-Reached unit least es = Each (λ (e : Key × Message). e.0.unit < unit → IsSomeAnd least (λ a. a ≤ e.1.arrival)) es
+use Rattle.sim_base.proofs.Each.{Each-append}
+use Rattle.sim_base.proofs.Ordered.{Each-weaker, Sorted}
+use Rattle.links.specs.Rings.{contents, joined, sooner_of, AreRings}
+use Rattle.links.proofs.Ages.{in_order-Sorted, by_age-nil}
 
 -- some message arrives in this cycle
 abbrev pub IsArrival : Option ℕ → List Message → Type 0
@@ -97,21 +28,6 @@ lesser_last : (least : Option ℕ) (arrival bound : ℕ) → arrival ≤ bound �
 lesser_last None arrival bound h = h
 lesser_last (Some a) arrival bound h = omega arith
 
-arrival_order : (k q : Key) → is_gt (key_cmp k q) ≡ false → q.unit ≤ k.unit → k.arrival ≤ q.arrival
-arrival_order k q h l = grind (arith, nat_tests)
-
-pub reached_more : (ch n unit : ℕ) (least : Option ℕ) (k : Key) (es : List (Key × Message)) → AreFiled ch n es → IsLeast unit k es → Reached unit least es
-    → Reached (k.unit + 1) (Some (option_map_or (λ cycle. min cycle k.arrival) least k.arrival)) es
-reached_more ch n unit least k [] filed first h = tt
-reached_more ch n unit least k (e ∷ es) filed first h = (by (cases_lt e.0.unit unit), reached_more ch n unit least k es filed.1 first.1 h.1)
-  where
-    by : (e.0.unit < unit) ⊎ (unit ≤ e.0.unit) → e.0.unit < k.unit + 1 → option_map_or (λ cycle. min cycle k.arrival) least k.arrival ≤ e.1.arrival
-    by (inl b) l = lesser least k.arrival e.1.arrival (h.0 b)
-    by (inr b) l =
-        let same : e.0.arrival ≡ e.1.arrival = ap (λ (x : Key). x.arrival) filed.0.key in
-        let order : k.arrival ≤ e.0.arrival = arrival_order k e.0 (first.0 b) (omega arith) in
-        lesser_last least k.arrival e.1.arrival (omega arith)
-
 pub arrival_more : (least : Option ℕ) (arrival : ℕ) (ms : List Message) → IsArrival least ms → list_any (λ (m : Message). eqb m.arrival arrival) ms ≡ true
     → list_any (λ (m : Message). eqb m.arrival (option_map_or (λ cycle. min cycle arrival) least arrival)) ms ≡ true
 arrival_more None arrival ms h k = k
@@ -120,16 +36,6 @@ arrival_more (Some a) arrival ms h k = by (cases_lt a arrival)
     by : (a < arrival) ⊎ (arrival ≤ a) → list_any (λ (m : Message). eqb m.arrival (min a arrival)) ms ≡ true
     by (inl l) = let e : a ≡ min a arrival = omega arith in subst (λ x. list_any (λ (m : Message). eqb m.arrival x) ms ≡ true) e h
     by (inr l) = let e : arrival ≡ min a arrival = omega arith in subst (λ x. list_any (λ (m : Message). eqb m.arrival x) ms ≡ true) e k
-
--- where no unit is left
-pub reached_all : (unit : ℕ) (least : Option ℕ) (es : List (Key × Message)) → first_of (from_key (first_key unit 0) es) ≡ None → Reached unit least es
-    → Each (λ (m : Message). IsSomeAnd least (λ a. a ≤ m.arrival)) (values_of es)
-reached_all unit least [] h r = tt
-reached_all unit least (e ∷ es) h r =
-    cond_both (is_le (key_cmp (first_key unit 0) e.0) && true) (e ∷ from_key (first_key unit 0) es) (from_key (first_key unit 0) es)
-    (λ x. first_of x ≡ None → Each (λ (m : Message). IsSomeAnd least (λ a. a ≤ m.arrival)) (values_of (e ∷ es)))
-    (λ b f. cc)
-    (λ b f. (r.0 (leb-false unit e.0.unit (sym (from_unit unit e.0) ∙ b)), reached_all unit least es f r.1)) h
 
 or_swap : (a b c : Bool) → (a || (b || c)) ≡ (b || (a || c))
 or_swap true true c = refl
@@ -189,13 +95,100 @@ empty_where_none None [] h e = by_age-puts []
 empty_where_none None (m ∷ ms) h e = absurd h.0
 empty_where_none (Some a) ms h e = absurd (true≢false e)
 
--- nothing is filed where nothing is in flight, and only there
-pub empty_from_none : (es : List (Key × Message)) → length es ≡ 0 → by_age (values_of es) ≡ []
-empty_from_none [] h = by_age-puts []
-empty_from_none (e ∷ es) h = absurd (omega arith)
+-- ---- ring by ring
+abbrev soonest_of : Option ℕ → List (List Message) → Option ℕ
+soonest_of least rings = fold sooner_of least rings
 
-pub none_from_empty : (es : List (Key × Message)) → by_age (values_of es) ≡ [] → length es ≡ 0
-none_from_empty [] h = refl
-none_from_empty (e ∷ es) h =
-    let p = λ (m : Message). true in
-    absurd (true≢false (sym (list_any-by_age p (values_of (e ∷ es))) ∙ ap (list_any p) h))
+bound_kept : (least : Option ℕ) (bound : ℕ) (ms : List Message) → IsSomeAnd least (λ a. a ≤ bound) → IsSomeAnd (sooner_of least ms) (λ a. a ≤ bound)
+bound_kept least bound [] h = h
+bound_kept least bound (m ∷ ms) h = lesser least m.arrival bound h
+
+bound_stays : (least : Option ℕ) (bound : ℕ) (rings : List (List Message)) → IsSomeAnd least (λ a. a ≤ bound) → IsSomeAnd (soonest_of least rings) (λ a. a ≤ bound)
+bound_stays least bound [] h = h
+bound_stays least bound (ms ∷ rest) h = bound_stays (sooner_of least ms) bound rest (bound_kept least bound ms h)
+
+not_sooner : (m y : Message) → is_before y m ≡ false → m.arrival ≤ y.arrival
+not_sooner m y h = grind (arith, nat_tests)
+
+first_bounds : (least : Option ℕ) (ms : List Message) → Sorted ms → Each (λ (m : Message). IsSomeAnd (sooner_of least ms) (λ a. a ≤ m.arrival)) ms
+first_bounds least [] s = tt
+first_bounds least (m ∷ ms) s = (
+  lesser_last least m.arrival m.arrival (omega arith),
+  Each-weaker _ (λ (y : Message). option_map_or (λ cycle. min cycle m.arrival) least m.arrival ≤ y.arrival)
+      (λ y h. lesser_last least m.arrival y.arrival (not_sooner m y h)) ms s.0,
+)
+
+reached : (ch first : ℕ) (least : Option ℕ) (rings : List (List Message)) → AreRings ch first rings → Each (λ (m : Message). IsSomeAnd (soonest_of least rings) (λ a. a ≤ m.arrival)) (joined rings)
+reached ch first least [] h = tt
+reached ch first least (ms ∷ rest) h =
+    Each-append (λ (m : Message). IsSomeAnd (soonest_of (sooner_of least ms) rest) (λ a. a ≤ m.arrival)) ms (joined rest)
+    (Each-weaker _ (λ (m : Message). IsSomeAnd (soonest_of (sooner_of least ms) rest) (λ a. a ≤ m.arrival)) (λ m b. bound_stays (sooner_of least ms) m.arrival rest b) ms
+    (first_bounds least ms (in_order-Sorted ms h.0.in_order)))
+    (reached ch (first + 1) (sooner_of least ms) rest h.1)
+
+list_any-more : (p : Message → Bool) (xs ys : List Message) → list_any p xs ≡ true → list_any p (xs ++ ys) ≡ true
+list_any-more p [] ys h = cc
+list_any-more p (x ∷ xs) ys h = by (p x) (list_any-more p xs ys) h
+  where
+    by : (b : Bool) → (list_any p xs ≡ true → list_any p (xs ++ ys) ≡ true) → (b || list_any p xs) ≡ true → (b || list_any p (xs ++ ys)) ≡ true
+    by true rest e = refl
+    by false rest e = rest e
+
+list_any-here : (p : Message → Bool) (xs : List Message) (m : Message) (ys : List Message) → p m ≡ true → list_any p (xs ++ m ∷ ys) ≡ true
+list_any-here p [] m ys h = ap (λ b. b || list_any p ys) h
+list_any-here p (x ∷ xs) m ys h = or_right (p x) (list_any p (xs ++ m ∷ ys)) (list_any-here p xs m ys h)
+
+IsArrival-more : (least : Option ℕ) (xs ys : List Message) → IsArrival least xs → IsArrival least (xs ++ ys)
+IsArrival-more None xs ys h = tt
+IsArrival-more (Some a) xs ys h = list_any-more (λ (m : Message). eqb m.arrival a) xs ys h
+
+sooner_arrives : (least : Option ℕ) (xs ms : List Message) → IsArrival least xs → IsArrival (sooner_of least ms) (xs ++ ms)
+sooner_arrives least xs [] h = IsArrival-more least xs [] h
+sooner_arrives least xs (m ∷ ms) h =
+    arrival_more least m.arrival (xs ++ m ∷ ms) (IsArrival-more least xs (m ∷ ms) h) (list_any-here (λ (y : Message). eqb y.arrival m.arrival) xs m ms (eq-eqb m.arrival m.arrival refl))
+
+soonest_arrives : (least : Option ℕ) (xs : List Message) (rings : List (List Message)) → IsArrival least xs → IsArrival (soonest_of least rings) (xs ++ joined rings)
+soonest_arrives least xs [] h = IsArrival-more least xs [] h
+soonest_arrives least xs (ms ∷ rest) h =
+    subst (IsArrival (soonest_of least (ms ∷ rest))) (append_assoc xs ms (joined rest)) (soonest_arrives (sooner_of least ms) (xs ++ ms) rest (sooner_arrives least xs ms h))
+
+-- the rings in the words of the code
+pub fold-contents : (least : Option ℕ) (rings : List (Buffer Message)) → fold (λ least ring. sooner_of least ring.items) least rings ≡ fold sooner_of least (contents rings)
+fold-contents least [] = refl
+fold-contents least (r ∷ rings) = fold-contents (sooner_of least r.items) rings
+
+pub soonest_bounds : (ch : ℕ) (rings : List (List Message)) → AreRings ch 0 rings → Each (λ (m : Message). IsSomeAnd (fold sooner_of None rings) (λ a. a ≤ m.arrival)) (joined rings)
+soonest_bounds ch rings h = reached ch 0 None rings h
+
+pub soonest_is : (rings : List (List Message)) → IsArrival (fold sooner_of None rings) (joined rings)
+soonest_is rings = soonest_arrives None [] rings tt
+
+-- nothing stands in any ring where nothing is in flight, and only there
+pub by_age-empty : (ms : List Message) → by_age ms ≡ [] → ms ≡ []
+by_age-empty [] h = refl
+by_age-empty (m ∷ ms) h =
+    let p = λ (y : Message). true in
+    absurd (true≢false (sym (list_any-by_age p (m ∷ ms)) ∙ ap (list_any p) h))
+
+empty_rings : (rings : List (Buffer Message)) → list_all (λ (ring : Buffer Message). eqb (length ring.items) 0) rings ≡ true → joined (contents rings) ≡ []
+empty_rings [] h = refl
+empty_rings (r ∷ rings) h = by r.items (and_parts (eqb (length r.items) 0) _ h).0 (empty_rings rings (and_parts (eqb (length r.items) 0) _ h).1)
+  where
+    by : (ms : List Message) → eqb (length ms) 0 ≡ true → joined (contents rings) ≡ [] → ms ++ joined (contents rings) ≡ []
+    by [] e rest = rest
+    by (m ∷ ms) e rest = absurd (omega (arith, eqb-true (length (m ∷ ms)) 0 e))
+
+rings_empty : (rings : List (Buffer Message)) → joined (contents rings) ≡ [] → list_all (λ (ring : Buffer Message). eqb (length ring.items) 0) rings ≡ true
+rings_empty [] h = refl
+rings_empty (r ∷ rings) h = by r.items h (rings_empty rings)
+  where
+    by : (ms : List Message) → ms ++ joined (contents rings) ≡ [] → (joined (contents rings) ≡ [] → list_all (λ (ring : Buffer Message). eqb (length ring.items) 0) rings ≡ true)
+        → (eqb (length ms) 0 && list_all (λ (ring : Buffer Message). eqb (length ring.items) 0) rings) ≡ true
+    by [] e rest = rest e
+    by (m ∷ ms) e rest = cc
+
+pub empty_from_none : (rings : List (Buffer Message)) → list_all (λ (ring : Buffer Message). eqb (length ring.items) 0) rings ≡ true → by_age (joined (contents rings)) ≡ []
+empty_from_none rings h = ap by_age (empty_rings rings h) ∙ by_age-nil
+
+pub none_from_empty : (rings : List (Buffer Message)) → by_age (joined (contents rings)) ≡ [] → list_all (λ (ring : Buffer Message). eqb (length ring.items) 0) rings ≡ true
+none_from_empty rings h = rings_empty rings (by_age-empty (joined (contents rings)) h)

@@ -1,3 +1,3 @@
 pub mod InFlight
-pub mod Filing
+pub mod Rings
 pub mod Latencies

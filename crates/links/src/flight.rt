@@ -1,43 +1,19 @@
 //! The messages in flight.
 
-ghost use Rattle.std.specs.Prelude.{◌≡◌, ◌+◌, ◌<◌, ◌^◌, ◌*◌, [], length, filter, fold, not, min, slice_get, All, Any, ◌↔◌, ◌≤◌, IsTrue, IsNone, IfSome, IfOk, OnOk, OnErr, IsOkAnd};
+ghost use Rattle.std.specs.Prelude.{◌≡◌, ◌+◌, ◌<◌, ◌^◌, ◌≤◌, [], length, filter, fold, not, ◌==◌, slice_get, slice_set, All, Any, ◌↔◌, IsTrue, IsNone, IfSome, IfOk, OnOk, OnErr, IsOkAnd};
+ghost use Rattle.std.specs.List.{list_all};
 ghost use Rattle.std.specs.Option.{option_map, option_map_or};
-ghost use Rattle.std.specs.Map.{values_of};
-ghost use Rattle.std.specs.BTreeMap.{values, IsOrdered};
-ghost use Rattle.std.specs.BTreeMap.Range.{IsLeBy};
-ghost use Rattle.sim_base.specs.History.{is_before, place_by_age, insert_by_age, by_age};
-ghost use Rattle.links.specs.InFlight.{receiver_of, unit_number, is_due};
-ghost use Rattle.links.specs.Filing.{key_of, key_cmp, first_key, AreFiled, between, outside, from_key};
+ghost use Rattle.sim_base.specs.History.{is_unit, insert_by_age, by_age};
+ghost use Rattle.links.specs.InFlight.{receiver_of, arrives_within, is_due};
+ghost use Rattle.links.specs.Rings.{ring_of, ring_if_any, contents, joined, ring_at, sooner_of, arrives_outside, AreRings, HasRoom, HaveRoom, Grows};
 
+use crate::merge::messages_of;
+use crate::rings::{Ring, first_arrival, make_room, put_by_age, take_due};
+use circular_buffer::HeapCircularBuffer;
 use sim_base::config::Config;
 use sim_base::message::{Cycle, Inbox, LinkId, Message, Unit};
 use std::alloc::{AllocError, Global};
-use std::collections::BTreeMap;
 use std::marker::Model;
-
-/// Where a message stands among those in flight: with the others to its unit, by arrival, then by link, and then in the
-/// order in which they were accepted.
-#[derive(Clone, Copy, PartialEq, Eq, PartialOrd, Ord)]
-struct Key {
-    unit: u64,
-    arrival: Cycle,
-    link: LinkId,
-    number: u64,
-}
-
-impl Key {
-    /// The first key of a unit from an arrival on.
-    fn first(unit: u64, arrival: Cycle) -> Key
-        ensures { result ≡ first_key unit arrival }
-    {
-        Key {
-            unit,
-            arrival,
-            link: 0,
-            number: 0,
-        }
-    }
-}
 
 /// The messages in flight on the links of a machine.
 ///
@@ -45,173 +21,214 @@ impl Key {
 /// leads.
 #[derive(Drop)]
 pub struct Links {
+    alloc: Global,
     channels: u16,
-    /// How many messages have been accepted.
-    accepted: u64,
-    flight: BTreeMap<Key, Message>,
+    /// A ring for each unit, channels first and then cores, as far as messages have been sent to them.
+    rings: Vec<Ring>,
 }
 
 impl Model for Links {
     ghost use Rattle.std.specs.Prelude.{◌<◌};
-    ghost use Rattle.std.specs.BTreeMap.{values};
     ghost use Rattle.sim_base.specs.History.{by_age};
     ghost use Rattle.links.specs.InFlight.{InFlight};
-    ghost use Rattle.links.specs.Filing.{AreFiled};
+    ghost use Rattle.links.specs.Rings.{contents, joined, AreRings};
 
     ghost Value = { InFlight };
 
-    ghost view = { λ l. record { channels = l.channels; messages = by_age (values l.flight) } };
+    ghost view = { λ l. record { channels = l.channels; messages = by_age (joined (contents l.rings.items)) } };
 
-    ghost invariant = { λ l. (0 < l.channels) × AreFiled l.channels l.accepted l.flight.entries };
+    ghost invariant = { λ l. (0 < l.channels) × AreRings l.channels 0 (contents l.rings.items) };
 }
 
-/// The number of the unit that a link leads to, where channel k has the number 2k and core c the number 2c + 1.
-fn unit_of_link(channels: u16, link: LinkId) -> u64
+/// The number of the ring of the unit that a link leads to.
+fn ring_of_link(channels: u16, link: LinkId) -> usize
     requires { 0 < channels }
-    ensures number { result ≡ unit_number (receiver_of channels link) }
+    ensures number { result ≡ ring_of channels (receiver_of channels link) }
     ensures small { result + 1 < 2 ^ 64 }
 {
     let pair = link / 3;
     if link % 3 == 0 {
-        2 * (pair % u64::from(channels))
+        (pair % u64::from(channels)) as usize
     } else {
-        2 * (pair / u64::from(channels)) + 1
+        usize::from(channels) + (pair / u64::from(channels)) as usize
     }
 }
 
-/// The number of a unit.
-fn number_of(unit: Unit) -> u64
-    ensures { result ≡ unit_number unit }
+/// The number of a unit's ring; none, where the machine has no such channel.
+fn ring_of_unit(channels: u16, unit: Unit) -> Option<usize>
+    ensures { result ≡ ring_if_any channels unit }
 {
     match unit {
-        Unit::Channel(channel) => 2 * u64::from(channel),
-        Unit::Core(core) => 2 * u64::from(core) + 1,
+        Unit::Channel(channel) if channel < u32::from(channels) => Some(channel as usize),
+        Unit::Channel(_) => None,
+        Unit::Core(core) => Some(usize::from(channels) + usize::from(core)),
     }
 }
 
-fn key_of_message(channels: u16, message: &Message, number: u64) -> Key
-    requires { 0 < channels }
-    ensures key { result ≡ key_of channels message.now number }
-    ensures small { result.unit + 1 < 2 ^ 64 }
+/// Makes as many rings.
+fn make_rings(alloc: Global, rings: &mut Vec<Ring>, count: usize) -> Result<(), AllocError>
+    ensures grows { Grows rings.old.items rings.new.items }
+    ensures count { OnOk result (count ≤ length rings.new.items) }
 {
-    Key {
-        unit: unit_of_link(channels, message.link),
-        arrival: message.arrival,
-        link: message.link,
-        number,
+    while rings.len() < count {
+        rings.push(HeapCircularBuffer::with_capacity(alloc, 0)?)?;
+    }
+    Ok(())
+}
+
+/// Whether a ring is there and has room for so many messages more.
+fn has_room(rings: &[Ring], number: usize, more: usize) -> bool
+    ensures { IsTrue result → HasRoom rings.now number more }
+{
+    match rings.get(number) {
+        Some(ring) => more <= ring.capacity() - ring.len(),
+        None => false,
     }
 }
 
-/// Files messages under the numbers from `first` on, or none of them.
-fn file(
-    flight: &mut BTreeMap<Key, Message>,
+/// Makes a ring, where it is not there, and room in it for so many messages more.
+#[cold]
+#[inline(never)]
+fn make_ring_with_room(
+    alloc: Global,
+    rings: &mut Vec<Ring>,
+    number: usize,
+    more: usize,
+) -> Result<(), AllocError>
+    requires { number + 1 < 2 ^ 64 }
+    ensures grows { Grows rings.old.items rings.new.items }
+    ensures room { OnOk result (HasRoom rings.new.items number more) }
+{
+    make_rings(alloc, rings, number + 1)?;
+    make_room(&mut rings[number], more)?;
+    Ok(())
+}
+
+/// Makes room in a ring for so many messages more, where there is too little.
+fn make_room_at(
+    alloc: Global,
+    rings: &mut Vec<Ring>,
+    number: usize,
+    more: usize,
+) -> Result<(), AllocError>
+    requires { number + 1 < 2 ^ 64 }
+    ensures grows { Grows rings.old.items rings.new.items }
+    ensures room { OnOk result (HasRoom rings.new.items number more) }
+{
+    if !has_room(rings, number, more) {
+        make_ring_with_room(alloc, rings, number, more)?;
+    }
+    Ok(())
+}
+
+/// Makes room for messages in the rings that they go to.
+fn make_room_for(
+    alloc: Global,
+    rings: &mut Vec<Ring>,
     channels: u16,
-    first: u64,
     messages: &[Message],
 ) -> Result<(), AllocError>
+    requires { 0 < channels }
+    ensures grows { Grows rings.old.items rings.new.items }
+    ensures room { OnOk result (HaveRoom channels rings.new.items (length messages.now) messages.now) }
+{
+    for message in messages {
+        let number = ring_of_link(channels, message.link);
+        make_room_at(alloc, rings, number, messages.len())?;
+    }
+    Ok(())
+}
+
+/// Puts a message into the ring that it goes to, for which room is made. Where memory is refused, the same messages stand in the
+/// rings as before.
+fn put_one(
+    alloc: Global,
+    rings: &mut Vec<Ring>,
+    channels: u16,
+    message: &Message,
+) -> Result<(), AllocError>
     requires channels { 0 < channels }
-    requires room { first + length messages.now < 2 ^ 64 }
-    requires filed { AreFiled channels first flight.old.entries }
-    ensures filed { OnOk result (AreFiled channels (first + length messages.now) flight.new.entries) }
-    ensures ok { OnOk result (by_age (values flight.new) ≡ fold insert_by_age (by_age (values flight.old)) messages.now) }
-    ensures err { OnErr result (flight.new.entries ≡ flight.old.entries) }
+    requires rings { AreRings channels 0 (contents rings.old.items) }
+    ensures rings { AreRings channels 0 (contents rings.new.items) }
+    ensures ok { OnOk result (by_age (joined (contents rings.new.items)) ≡ insert_by_age (by_age (joined (contents rings.old.items))) message.now) }
+    ensures err { OnErr result (joined (contents rings.new.items) ≡ joined (contents rings.old.items)) }
 {
-    for (i, message) in messages.iter().enumerate() {
-        let key = key_of_message(channels, message, first + i as u64);
-        let Ok(_) = flight.insert(key, *message) else {
-            flight.retain(|key, _| key.number < first);
-            return Err(AllocError);
-        };
-    }
+    let number = ring_of_link(channels, message.link);
+    make_room_at(alloc, rings, number, 1)?;
+    put_by_age(&mut rings[number], message);
     Ok(())
 }
 
-/// The first key from `start` on and below `end`.
-fn first_between(flight: &BTreeMap<Key, Message>, start: Key, end: Key) -> Option<Key>
-    requires { IsLeBy key_cmp start end }
-    ensures { result ≡ option_map (λ e. e.0) (slice_get (between start end flight.now.entries) 0) }
+/// Puts messages into the rings that they go to, which have room for them.
+fn put_all(rings: &mut Vec<Ring>, channels: u16, messages: &[Message])
+    requires channels { 0 < channels }
+    requires rings { AreRings channels 0 (contents rings.old.items) }
+    requires room { HaveRoom channels rings.old.items (length messages.now) messages.now }
+    ensures rings { AreRings channels 0 (contents rings.new.items) }
+    ensures messages { by_age (joined (contents rings.new.items)) ≡ fold insert_by_age (by_age (joined (contents rings.old.items))) messages.now }
 {
-    flight.range(start..end).next().map(|(key, _)| *key)
-}
-
-/// The first key of a unit with this number or a higher one.
-fn first_from(flight: &BTreeMap<Key, Message>, unit: u64) -> Option<Key>
-    ensures key { result ≡ option_map (λ e. e.0) (slice_get (from_key (first_key unit 0) flight.now.entries) 0) }
-    ensures ordered { IsOrdered key_cmp flight.now }
-{
-    flight
-        .range(Key::first(unit, 0)..)
-        .next()
-        .map(|(key, _)| *key)
-}
-
-/// Takes out what is filed from `start` on and below `end`.
-fn remove_between(flight: &mut BTreeMap<Key, Message>, start: Key, end: Key)
-    requires { IsLeBy key_cmp start end }
-    ensures { flight.new.entries ≡ outside start end flight.old.entries }
-{
-    while let Some(key) = first_between(flight, start, end) {
-        flight.remove(&key);
+    for message in messages {
+        let number = ring_of_link(channels, message.link);
+        put_by_age(&mut rings[number], message);
     }
 }
 
-/// Copies of what is filed from `start` on and below `end`.
-fn messages_between(
-    alloc: Global,
-    flight: &BTreeMap<Key, Message>,
-    start: Key,
-    end: Key,
-) -> Result<Inbox, AllocError>
-    requires { IsLeBy key_cmp start end }
-    ensures messages { IfOk result (λ inbox. inbox.items ≡ values_of (between start end flight.now.entries)) }
-    ensures ordered { IsOrdered key_cmp flight.now }
+/// Takes what arrives within a span out of a ring, into an empty list. Where memory is refused, the rings stay as they were.
+fn take_from(
+    rings: &mut Vec<Ring>,
+    number: usize,
+    from: Cycle,
+    until: Cycle,
+    inbox: &mut Vec<Message>,
+) -> Result<(), AllocError>
+    requires empty { inbox.old.items ≡ [] }
+    requires in_order { by_age (ring_at (contents rings.old.items) number) ≡ ring_at (contents rings.old.items) number }
+    ensures taken { OnOk result (inbox.new.items ≡ filter (arrives_within from until) (ring_at (contents rings.old.items) number)) }
+    ensures rest { OnOk result (contents rings.new.items ≡ slice_set (contents rings.old.items) number (filter (arrives_outside from until) (ring_at (contents rings.old.items) number))) }
+    ensures err { OnErr result (contents rings.new.items ≡ contents rings.old.items) }
 {
-    flight
-        .range(start..end)
-        .map(|(_, message)| *message)
-        .collect(alloc)
-}
-
-fn is_older(a: &Message, b: &Message) -> bool
-    ensures { result ≡ is_before a.now b.now }
-{
-    a.arrival < b.arrival || (a.arrival == b.arrival && a.link < b.link)
-}
-
-#[tactic(auto, unfolding(sim_base::specs::History::place_by_age))]
-fn place_in_order(message: &Message, sorted: &[Message]) -> usize
-    ensures value { result ≡ place_by_age message.now sorted.now }
-    ensures small { result ≤ length sorted.now }
-{
-    sorted.iter().take_while(|m| !is_older(message, m)).count()
-}
-
-/// Puts messages into their places by age, one after the other.
-fn insert_all(mail: &mut Vec<Message>, more: &[Message]) -> Result<(), AllocError>
-    ensures { OnOk result (mail.new.items ≡ fold insert_by_age mail.old.items more.now) }
-{
-    for message in more {
-        let place = place_in_order(message, mail);
-        mail.insert(place, *message)?;
+    if number >= rings.len() {
+        return Ok(());
     }
+    take_due(&mut rings[number], from, until, inbox)?;
     Ok(())
 }
 
-/// Copies of all that is filed, by key.
-fn filed_messages(
-    alloc: Global,
-    flight: &BTreeMap<Key, Message>,
-) -> Result<Vec<Message>, AllocError>
-    ensures { IfOk result (λ v. v.items ≡ values flight.now) }
+/// The ring of a unit, if there is one.
+fn ring_for(rings: &[Ring], channels: u16, unit: Unit) -> Option<&Ring>
+    ensures { option_map_or (λ ring. ring.now.items) result [] ≡ option_map_or (ring_at (contents rings.now)) (ring_if_any channels unit) [] }
 {
-    flight.values().copied().collect(alloc)
+    rings.get(ring_of_unit(channels, unit)?)
 }
 
-/// The lesser of two cycles; the second, where there is no first.
-fn earlier(least: Option<Cycle>, arrival: Cycle) -> Cycle
-    ensures { result ≡ option_map_or (λ cycle. min cycle arrival) least arrival }
+/// When the first message in a ring arrives; none, where there is no ring.
+fn first_arrival_in(ring: Option<&Ring>) -> Option<Cycle>
+    ensures { result ≡ option_map (λ m. m.arrival) (slice_get (option_map_or (λ ring. ring.now.items) ring.entry []) 0) }
 {
-    least.map_or(arrival, |cycle: Cycle| cycle.min(arrival))
+    first_arrival(ring?)
+}
+
+fn all_empty(rings: &[Ring]) -> bool
+    ensures { result ≡ list_all (λ ring. length ring.items == 0) rings.now }
+{
+    rings.iter().all(|ring| ring.is_empty())
+}
+
+/// The lesser of a cycle and of the arrival of a ring's first message; the one of them that there is.
+fn sooner(least: Option<Cycle>, ring: &Ring) -> Option<Cycle>
+    ensures { result ≡ sooner_of least ring.now.items }
+{
+    match first_arrival(ring) {
+        Some(arrival) => Some(least.map_or(arrival, |cycle: Cycle| cycle.min(arrival))),
+        None => least,
+    }
+}
+
+/// The least arrival of a ring's first message.
+fn soonest(rings: &[Ring]) -> Option<Cycle>
+    ensures { result ≡ fold (λ least ring. sooner_of least ring.items) None rings.now }
+{
+    rings.iter().fold(None, |least, ring| sooner(least, ring))
 }
 
 impl Links {
@@ -221,9 +238,9 @@ impl Links {
         ensures { IsOkAnd result (λ links. links ≡ record { channels = config.now.channels; messages = [] }) }
     {
         Ok(Links {
+            alloc,
             channels: config.channels,
-            accepted: 0,
-            flight: BTreeMap::new(alloc),
+            rings: Vec::new(alloc),
         })
     }
 
@@ -232,10 +249,34 @@ impl Links {
         ensures ok { OnOk result (self.new ≡ record self.old { messages = fold insert_by_age self.old.messages messages.now }) }
         ensures err { OnErr result (self.new ≡ self.old) }
     {
-        let first = self.accepted;
-        let end = first.checked_add(messages.len() as u64).ok_or(AllocError)?;
-        file(&mut self.flight, self.channels, first, messages)?;
-        self.accepted = end;
+        if let [message] = messages {
+            put_one(self.alloc, &mut self.rings, self.channels, message)?;
+            return Ok(());
+        }
+        make_room_for(self.alloc, &mut self.rings, self.channels, messages)?;
+        put_all(&mut self.rings, self.channels, messages);
+        Ok(())
+    }
+
+    /// Takes out the messages to a unit that arrive from `from` on and before `until`, by age, into an empty list. Where
+    /// memory is refused, the links stay as they were.
+    pub fn take_due_into(
+        &mut self,
+        unit: Unit,
+        from: Cycle,
+        until: Cycle,
+        inbox: &mut Vec<Message>,
+    ) -> Result<(), AllocError>
+        requires { inbox.old.items ≡ [] }
+        ensures ok { OnOk result (inbox.new.items ≡ filter (is_due self.old.channels unit from until) self.old.messages) }
+        ensures by_age { OnOk result (by_age inbox.new.items ≡ inbox.new.items) }
+        ensures rest { OnOk result (self.new ≡ record self.old { messages = filter (λ m. not (is_due self.old.channels unit from until m)) self.old.messages }) }
+        ensures err { OnErr result (self.new ≡ self.old) }
+    {
+        let Some(number) = ring_of_unit(self.channels, unit) else {
+            return Ok(());
+        };
+        take_from(&mut self.rings, number, from, until, inbox)?;
         Ok(())
     }
 
@@ -253,30 +294,31 @@ impl Links {
         ensures rest { OnOk result (self.new ≡ record self.old { messages = filter (λ m. not (is_due self.old.channels unit from until m)) self.old.messages }) }
         ensures err { OnErr result (self.new ≡ self.old) }
     {
-        let unit = number_of(unit);
-        let start = Key::first(unit, from);
-        let end = Key::first(unit, until.max(from));
-        let inbox = messages_between(alloc, &self.flight, start, end)?;
-        remove_between(&mut self.flight, start, end);
+        let mut inbox = Vec::new(alloc);
+        self.take_due_into(unit, from, until, &mut inbox)?;
         Ok(inbox)
     }
 
     /// Copies of all messages in flight, by age.
-    #[tactic(auto, unfolding(sim_base::specs::History::by_age))]
     pub fn messages(&self, alloc: Global) -> Result<Vec<Message>, AllocError>
         ensures { IfOk result (λ v. v.items ≡ self.now.messages) }
     {
-        let filed = filed_messages(alloc, &self.flight)?;
-        let mut all = Vec::new(alloc);
-        insert_all(&mut all, &filed)?;
-        Ok(all)
+        messages_of(alloc, &self.rings)
     }
 
     /// Whether nothing is in flight.
     pub fn is_empty(&self) -> bool
         ensures { IsTrue result ↔ (self.now.messages ≡ []) }
     {
-        self.flight.is_empty()
+        all_empty(&self.rings)
+    }
+
+    /// When the first message in flight to a unit arrives; none, where none is in flight to it.
+    pub fn next_arrival_at(&self, unit: Unit) -> Option<Cycle>
+        ensures first { result ≡ option_map (λ m. m.arrival) (slice_get (filter (λ m. is_unit (receiver_of self.now.channels m.link) unit) self.now.messages) 0) }
+        ensures least { IfSome result (λ cycle. All (λ m. cycle ≤ m.arrival) (filter (λ m. is_unit (receiver_of self.now.channels m.link) unit) self.now.messages)) }
+    {
+        first_arrival_in(ring_for(&self.rings, self.channels, unit))
     }
 
     /// The least arrival of a message in flight; none, where none is in flight.
@@ -285,12 +327,6 @@ impl Links {
         ensures least { IfSome result (λ cycle. All (λ m. cycle ≤ m.arrival) self.now.messages) }
         ensures attained { IfSome result (λ cycle. Any (λ m. m.arrival ≡ cycle) self.now.messages) }
     {
-        let mut least: Option<Cycle> = None;
-        let mut unit = 0;
-        while let Some(key) = first_from(&self.flight, unit) {
-            least = Some(earlier(least, key.arrival));
-            unit = key.unit + 1;
-        }
-        least
+        soonest(&self.rings)
     }
 }

@@ -3,5 +3,5 @@
 
 pub mod flight;
 pub mod latency;
-#[cfg(test)]
-mod tests;
+mod merge;
+mod rings;

@@ -8,5 +8,3 @@ pub mod machine;
 mod sending;
 mod state;
 mod tally;
-#[cfg(test)]
-mod tests;

@@ -8,8 +8,8 @@ use Rattle.sim_base.specs.Places.{is_line}
 use Rattle.sim_base.specs.Scheduling.{asks_for_line}
 use Rattle.sim_base.specs.declared.message.Request.{Request}
 use Rattle.sim_base.specs.declared.place.Place.{Place}
-use Rattle.queue.specs.Columns.{line_slot, slot_count, AreCounted}
-use Rattle.queue.proofs.SameLine.{line_same}
+use Rattle.queue_columns.specs.Columns.{line_slot, slot_count, AreCounted}
+use Rattle.queue_columns.proofs.SameLine.{line_same}
 
 -- whether a counter counts a request
 abbrev counts_it : ℕ → ℕ → Request → ℕ

@@ -8,8 +8,8 @@ use Rattle.std.specs.Prelude.{is_some}
 use Rattle.sim_base.specs.Places.{is_line}
 use Rattle.sim_base.specs.declared.message.Request.{Request}
 use Rattle.sim_base.specs.declared.place.Place.{Place}
-use Rattle.queue.specs.Columns.{line_print, print_column}
-use Rattle.queue.proofs.SameLine.{line_same}
+use Rattle.queue_columns.specs.Columns.{line_print, print_column}
+use Rattle.queue_columns.proofs.SameLine.{line_same}
 
 -- no request before a place asks for a line
 abbrev pub NoneAsks : Place → List Request → ℕ → Type 0

@@ -9,8 +9,8 @@ use Rattle.sim_base.specs.Scheduling.{asks_for_line}
 use Rattle.sim_base.specs.declared.message.Request.{Request}
 use Rattle.std.specs.Simd.Lanes.{zip2}
 use Rattle.lane_scan.specs.Marks.{mark, is_marked}
-use Rattle.queue.specs.Columns.{eligible_column, tag_column, tag_of, tags_of, waiting_count, write_count}
-use Rattle.queue.proofs.Eligible.{eligible_push}
+use Rattle.queue_columns.specs.Columns.{eligible_column, tag_column, tag_of, tags_of, waiting_count, write_count}
+use Rattle.queue_columns.proofs.Eligible.{eligible_push}
 
 pub map_pushed : (f : Request → ℕ) (column longer : List ℕ) (rs more : List Request) (r : Request) (word : ℕ) → column ≡ map f rs → longer ≡ column ++ word ∷ [] → word ≡ f r
     → more ≡ rs ++ r ∷ [] → longer ≡ map f more

@@ -5,10 +5,10 @@ use Rattle.std.specs.List.{remove, position_or_len}
 use Rattle.sim_base.specs.Places.{is_line}
 use Rattle.sim_base.specs.declared.message.Request.{Request}
 use Rattle.queue.specs.declared.Queue.TheInside.{Inside}
-use Rattle.queue.specs.Columns.{eligible_column, waiting_count, slot_count, AreCounted}
+use Rattle.queue_columns.specs.Columns.{eligible_column, waiting_count, slot_count, AreCounted}
 use Rattle.queue.specs.Kept.{AreKept}
 use Rattle.queue.specs.View.{drains_by}
-use Rattle.queue.proofs.Eligible.{served}
+use Rattle.queue_columns.proofs.Eligible.{served}
 use Rattle.queue.proofs.Kept.{writes_removed}
 
 -- s is q without its n-th request r, whose mark was a word, where so many are still counted as waiting that wait no more

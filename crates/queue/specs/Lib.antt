@@ -1,4 +1,3 @@
 pub mod Aged
-pub mod Columns
 pub mod View
 pub mod Kept

@@ -4,7 +4,7 @@
 --     is_draining view      whether it drains with the requests that it has
 use Rattle.std.specs.Prelude.{ℕ, nat_lt, nat_le, Bool, ◌&&◌, ◌||◌, List}
 use Rattle.sim_base.specs.declared.message.Request.{Request}
-use Rattle.queue.specs.Columns.{write_count}
+use Rattle.queue_columns.specs.Columns.{write_count}
 
 -- the requests that there is room for, the numbers of writes with which a drain begins and ends, the requests by age, and
 -- whether it drained when that was settled last

@@ -3,9 +3,9 @@
 ghost use Rattle.std.specs.Prelude.{◌≡◌, ◌+◌, ◌-◌, ◌<◌, ◌≤◌, ◌++◌, [], ◌∷◌, IfOk, drop, take, length, remove, slice_index_or, slice_set, vec_len, vec_capacity};
 ghost use Rattle.lane_scan.specs.Marks.{mark};
 ghost use Rattle.queue.specs.Aged.{AgedRequests, IsMovedUp, IsMovedDown};
-ghost use Rattle.queue.specs.Columns.{bank_column, row_column, kind_column, tags_of, print_column};
+ghost use Rattle.queue_columns.specs.Columns.{tags_of, print_column};
 
-use crate::columns::{bank_number, line_print, mark, tag};
+use queue_columns::words::{line_print, mark, tag};
 use sim_base::message::Request;
 use std::alloc::{AllocError, Global};
 use std::marker::Model;
@@ -68,35 +68,18 @@ fn move_requests_down(requests: &mut [Request])
 
 /// Moves all items of each list but the last one up by a place, over it.
 #[inline(always)]
-fn move_each_up(
-    requests: &mut [Request],
-    banks: &mut [u64],
-    rows: &mut [u64],
-    kinds: &mut [u64],
-    eligible: &mut [u64],
-    tags: &mut [u8],
-    prints: &mut [u8],
-)
+fn move_each_up(requests: &mut [Request], eligible: &mut [u64], tags: &mut [u8], prints: &mut [u8])
     requires some { 0 < length requests.old }
-    requires banks_long { length banks.old ≡ length requests.old }
-    requires rows_long { length rows.old ≡ length requests.old }
-    requires kinds_long { length kinds.old ≡ length requests.old }
     requires eligible_long { length eligible.old ≡ length requests.old }
     requires tags_long { length tags.old ≡ length requests.old }
     requires prints_long { length prints.old ≡ length requests.old }
     ensures requests { IsMovedUp requests.old requests.new }
-    ensures banks { IsMovedUp banks.old banks.new }
-    ensures rows { IsMovedUp rows.old rows.new }
-    ensures kinds { IsMovedUp kinds.old kinds.new }
     ensures eligible { IsMovedUp eligible.old eligible.new }
     ensures tags { IsMovedUp tags.old tags.new }
     ensures prints { IsMovedUp prints.old prints.new }
 {
     if LONG_MOVE < requests.len() {
         move_requests_up(requests);
-        move_up(banks);
-        move_up(rows);
-        move_up(kinds);
         move_up(eligible);
         move_up(tags);
         move_up(prints);
@@ -106,9 +89,6 @@ fn move_each_up(
     while 0 < at {
         let below = at - 1;
         requests[at] = requests[below];
-        banks[at] = banks[below];
-        rows[at] = rows[below];
-        kinds[at] = kinds[below];
         eligible[at] = eligible[below];
         tags[at] = tags[below];
         prints[at] = prints[below];
@@ -120,33 +100,21 @@ fn move_each_up(
 #[inline(always)]
 fn move_each_down(
     requests: &mut [Request],
-    banks: &mut [u64],
-    rows: &mut [u64],
-    kinds: &mut [u64],
     eligible: &mut [u64],
     tags: &mut [u8],
     prints: &mut [u8],
 )
     requires some { 0 < length requests.old }
-    requires banks_long { length banks.old ≡ length requests.old }
-    requires rows_long { length rows.old ≡ length requests.old }
-    requires kinds_long { length kinds.old ≡ length requests.old }
     requires eligible_long { length eligible.old ≡ length requests.old }
     requires tags_long { length tags.old ≡ length requests.old }
     requires prints_long { length prints.old ≡ length requests.old }
     ensures requests { IsMovedDown requests.old requests.new }
-    ensures banks { IsMovedDown banks.old banks.new }
-    ensures rows { IsMovedDown rows.old rows.new }
-    ensures kinds { IsMovedDown kinds.old kinds.new }
     ensures eligible { IsMovedDown eligible.old eligible.new }
     ensures tags { IsMovedDown tags.old tags.new }
     ensures prints { IsMovedDown prints.old prints.new }
 {
     if LONG_MOVE < requests.len() {
         move_requests_down(requests);
-        move_down(banks);
-        move_down(rows);
-        move_down(kinds);
         move_down(eligible);
         move_down(tags);
         move_down(prints);
@@ -157,9 +125,6 @@ fn move_each_down(
     while at < last {
         let above = at + 1;
         requests[at] = requests[above];
-        banks[at] = banks[above];
-        rows[at] = rows[above];
-        kinds[at] = kinds[above];
         eligible[at] = eligible[above];
         tags[at] = tags[above];
         prints[at] = prints[above];
@@ -187,9 +152,6 @@ pub(crate) struct Aged {
     /// The place of the oldest request.
     start: usize,
     requests: Vec<Request>,
-    banks: Vec<u64>,
-    rows: Vec<u64>,
-    kinds: Vec<u64>,
     /// The marks.
     eligible: Vec<u64>,
     tags: Vec<u8>,
@@ -220,9 +182,6 @@ impl Aged {
             places,
             start: 0,
             requests: Vec::with_capacity(alloc, places)?,
-            banks: Vec::with_capacity(alloc, places)?,
-            rows: Vec::with_capacity(alloc, places)?,
-            kinds: Vec::with_capacity(alloc, places)?,
             eligible: Vec::with_capacity(alloc, places)?,
             tags: Vec::with_capacity(alloc, places)?,
             prints: Vec::with_capacity(alloc, places)?,
@@ -243,27 +202,6 @@ impl Aged {
         ensures { result.now ≡ self.now.requests }
     {
         &self.requests[self.start..]
-    }
-
-    #[inline(always)]
-    pub(crate) fn banks(&self) -> &[u64]
-        ensures { result.now ≡ bank_column self.now.requests }
-    {
-        &self.banks[self.start..]
-    }
-
-    #[inline(always)]
-    pub(crate) fn rows(&self) -> &[u64]
-        ensures { result.now ≡ row_column self.now.requests }
-    {
-        &self.rows[self.start..]
-    }
-
-    #[inline(always)]
-    pub(crate) fn kinds(&self) -> &[u64]
-        ensures { result.now ≡ kind_column self.now.requests }
-    {
-        &self.kinds[self.start..]
     }
 
     /// The mark of each request.
@@ -297,9 +235,6 @@ impl Aged {
         ensures free { length self.old.requests < self.old.room → 0 < self.new.free }
     {
         remove_front(&mut self.requests, self.start);
-        remove_front(&mut self.banks, self.start);
-        remove_front(&mut self.rows, self.start);
-        remove_front(&mut self.kinds, self.start);
         remove_front(&mut self.eligible, self.start);
         remove_front(&mut self.tags, self.start);
         remove_front(&mut self.prints, self.start);
@@ -314,9 +249,6 @@ impl Aged {
         ensures marks { self.new.marks ≡ self.old.marks ++ mark marked ∷ [] }
         ensures room { self.new.room ≡ self.old.room }
     {
-        self.banks.push_reserved(bank_number(request.place));
-        self.rows.push_reserved(u64::from(request.place.row));
-        self.kinds.push_reserved(mark(request.write));
         self.eligible.push_reserved(mark(marked));
         self.tags.push_reserved(tag(marked, request));
         self.prints.push_reserved(line_print(request.place));
@@ -357,9 +289,6 @@ impl Aged {
         let place = start + at;
         move_each_up(
             &mut self.requests[start..=place],
-            &mut self.banks[start..=place],
-            &mut self.rows[start..=place],
-            &mut self.kinds[start..=place],
             &mut self.eligible[start..=place],
             &mut self.tags[start..=place],
             &mut self.prints[start..=place],
@@ -379,17 +308,11 @@ impl Aged {
         let end = self.requests.len();
         move_each_down(
             &mut self.requests[place..end],
-            &mut self.banks[place..end],
-            &mut self.rows[place..end],
-            &mut self.kinds[place..end],
             &mut self.eligible[place..end],
             &mut self.tags[place..end],
             &mut self.prints[place..end],
         );
         drop_last(&mut self.requests);
-        drop_last(&mut self.banks);
-        drop_last(&mut self.rows);
-        drop_last(&mut self.kinds);
         drop_last(&mut self.eligible);
         drop_last(&mut self.tags);
         drop_last(&mut self.prints);

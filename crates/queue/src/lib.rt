@@ -2,20 +2,19 @@
 #![tactic(auto)]
 
 mod aged;
-mod columns;
 mod lines;
 
 ghost use Rattle.std.specs.Prelude.{◌≡◌, ◌+◌, ◌-◌, ◌^◌, ◌<◌, ◌≤◌, ◌++◌, ℕ, List, [], ◌∷◌, Bool, false, IfOk, length, nat_le, remove, slice_index_or};
 ghost use Rattle.sim_base.specs.Scheduling.{drains_with, first_of_lines};
 ghost use Rattle.sim_base.specs.declared.config.Config.{Config};
 ghost use Rattle.sim_base.specs.declared.message.Request.{Request};
-ghost use Rattle.queue.specs.Columns.{bank_column, row_column, kind_column, eligible_column, tag_column, marked_items, write_count};
+ghost use Rattle.queue_columns.specs.Columns.{eligible_column, tag_column, marked_items, write_count};
 ghost use Rattle.queue.specs.View.{QueueView, drains_by, is_draining};
 
 use crate::aged::Aged;
-use crate::columns::line_slot;
-pub use crate::columns::tag_word;
 use crate::lines::{counters, give_turn, is_line_asked};
+use queue_columns::Columns;
+use queue_columns::words::line_slot;
 use sim_base::message::Request;
 use std::alloc::{AllocError, Global};
 use std::marker::Model;
@@ -68,7 +67,7 @@ impl Model for Queue {
 impl Queue {
     /// An empty queue with places for `room` requests, which drains its writes from `high` of them on down to `low`, and never
     /// where `high` is 0. Nothing else takes memory.
-    #[tactic(auto, unfolding(crate::specs::Columns::eligible_column, crate::specs::Columns::tag_column))]
+    #[tactic(auto, unfolding(queue_columns::specs::Columns::eligible_column, queue_columns::specs::Columns::tag_column))]
     pub fn with_room(alloc: Global, room: usize, high: u32, low: u32) -> Result<Self, AllocError>
         requires room { room < 2 ^ 16 - 1 }
         ensures { IfOk result (λ queue. queue ≡ record { room = room; high = high; low = low; requests = []; settled = false }) }
@@ -94,14 +93,6 @@ impl Queue {
         ensures short { result < 2 ^ 16 - 1 }
     {
         self.aged.len()
-    }
-
-    /// Whether no place is free.
-    pub fn is_full(&self) -> bool
-        ensures value { result ≡ nat_le self.now.room (length self.now.requests) }
-        ensures within { length self.now.requests ≤ self.now.room }
-    {
-        self.room <= self.len()
     }
 
     /// Takes in a request that is younger than all that wait.
@@ -178,53 +169,11 @@ impl Queue {
         self.aged.requests()
     }
 
-    /// The number of the bank of each request, by age: 16 times its rank, 4 times its group and its bank, together.
-    pub fn banks(&self) -> &[u64]
-        ensures { result.now ≡ bank_column self.now.requests }
+    /// The requests by age, with their marks and tags.
+    #[inline(always)]
+    pub fn columns(&self) -> Columns<'_>
+        ensures { result.requests.now ≡ self.now.requests }
     {
-        self.aged.banks()
-    }
-
-    /// The row of each request, by age.
-    pub fn rows(&self) -> &[u64]
-        ensures { result.now ≡ row_column self.now.requests }
-    {
-        self.aged.rows()
-    }
-
-    /// The kind of each request, by age: 1 for a write, 0 for a read.
-    pub fn kinds(&self) -> &[u64]
-        ensures { result.now ≡ kind_column self.now.requests }
-    {
-        self.aged.kinds()
-    }
-
-    /// Which requests may be served, by age: 1 where no older request of the same line waits, 0 elsewhere.
-    pub fn eligible(&self) -> &[u64]
-        ensures { result.now ≡ eligible_column self.now.requests }
-    {
-        self.aged.eligible()
-    }
-
-    /// The tag of each request, by age, which says in one byte what a search for a bank asks for: bit 7 is 1 where the request may
-    /// be served, bit 6 where it is a write, and bits 0 to 5 have the number of its bank modulo 64.
-    pub fn tags(&self) -> &[u8]
-        ensures { result.now ≡ tag_column self.now.requests }
-    {
-        self.aged.tags()
+        Columns::new(self.aged.requests(), self.aged.eligible(), self.aged.tags())
     }
 }
-
-/// A law about the definitions: the requests that are marked eligible are those with no older one for the same line.
-#[tactic(auto, using(crate::proofs::Eligible::marked_eligible))]
-pub fn eligible_are_first_of_lines()
-    ensures { (requests : List Request) → marked_items requests (eligible_column requests) ≡ first_of_lines requests }
-{}
-
-/// A law about the definitions: a queue with the marks of a configuration drains as that says.
-pub fn drains_as_configured()
-    ensures { (s : Config) (drained : Bool) (writes : ℕ) → drains_by s.write_high s.write_low drained writes ≡ drains_with s drained writes }
-{}
-
-#[cfg(test)]
-mod tests;

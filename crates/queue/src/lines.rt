@@ -4,12 +4,12 @@ ghost use Rattle.std.specs.Prelude.{◌≡◌, ◌+◌, ◌<◌, ◌≤◌, [], 
 ghost use Rattle.std.specs.List.{position_or_len};
 ghost use Rattle.sim_base.specs.Places.{is_line};
 ghost use Rattle.sim_base.specs.Scheduling.{asks_for_line};
-ghost use Rattle.queue.specs.Columns.{print_column, waiting_count, AreCounted};
+ghost use Rattle.queue_columns.specs.Columns.{print_column, waiting_count, AreCounted};
 ghost use Rattle.lane_scan.specs.Marks.{mark};
 
 use crate::aged::Aged;
-use crate::columns::line_print;
 use memchr::memchr;
+use queue_columns::words::line_print;
 use sim_base::message::Request;
 use sim_base::place::Place;
 use std::alloc::{AllocError, Global};

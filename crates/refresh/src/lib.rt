@@ -182,6 +182,3 @@ impl Refresh {
 pub fn other_commands_change_nothing()
     ensures { (counts : RefreshCounts) (s : Config) (history : List CommandRow) (i : CommandRow) → IsNoRefresh s i.command → StandsFor counts s history → StandsFor counts s (history ++ i ∷ []) }
 {}
-
-#[cfg(test)]
-mod tests;

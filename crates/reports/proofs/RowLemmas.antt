@@ -1,25 +1,36 @@
--- The text of a row, as `csv` writes it without quotes.
-use Rattle.std.proofs.Common.{◌≡◌, ℕ, ◌≤◌, List, [], ◌∷◌, ◌++◌, length, ap, arith}
+-- What `csv` makes of a line, and what a writer and the rows that wait for it hold then.
+use Rattle.std.proofs.Common.{◌≡◌, ℕ, ◌<◌, List, [], ◌∷◌, ◌++◌, length, codes, Option, None, Some, Result, Ok, Err, OnOk, refl, ap, ◌∙◌, arith}
+use Rattle.std.proofs.KnownBytes.{Appends-kept, Keeps-refl, append_known-grown}
+use Rattle.std.proofs.lemmas.Bool.{ne_eqb}
 use Rattle.std.proofs.lemmas.List.{append-nil}
+use Rattle.std.specs.Io.KnownBytes.{Appends, Keeps, append_known}
 use Rattle.std.specs.List.{join_with_byte}
-use Rattle.csv.specs.Writing.{default_writer, with_style, fields_text, is_blank}
+use Rattle.csv.specs.Writing.{fields_text, is_blank}
 use Rattle.csv.specs.Writing as csv
-use Rattle.csv.specs.declared.writer.QuoteStyle.TheVariants as style
-use Rattle.csv.specs.declared.writer.WriterBuilder.{WriterBuilder}
-use Rattle.reports.specs.Rows.{comma, row_text}
+use Rattle.reports.specs.Rows.{comma, plain_writer, row_text}
 
--- a writer that never quotes
-abbrev pub plain_writer : WriterBuilder
-plain_writer = with_style default_writer style.Never
+-- a record of one field that is not empty
+pub row_text-plain : (text : List ℕ) → 0 < length text → csv.row_text plain_writer (text ∷ []) ≡ text ++ codes "\n"
+unfolding fields_text is_blank
+row_text-plain [] some = absurd (omega arith)
+row_text-plain (byte ∷ rest) some = rw (ne_eqb (length (byte ∷ rest)) 0 (λ none. omega arith)) (ap (λ t. t ++ 10 ∷ []) (append-nil (byte ∷ rest)))
 
-fields_joined : (field : List ℕ) (fields : List (List ℕ)) → field ++ fields_text plain_writer fields ≡ join_with_byte comma (field ∷ fields)
-unfolding fields_text
-fields_joined field [] = append-nil field
-fields_joined field (next ∷ fields) = ap (λ t. field ++ comma ∷ t) (fields_joined next fields)
+-- more rows wait
+pub held-more : (known : Option (List ℕ)) (old new text : List ℕ) → new ≡ old ++ text → Appends (append_known known old) (append_known known new) text
+held-more known old new text more = append_known-grown _ known old new text (Keeps-refl _) more
 
--- a row of two fields or more is those fields with commas between them
-pub row_text-plain : (fields : List (List ℕ)) → 2 ≤ length fields → csv.row_text plain_writer fields ≡ row_text fields
-unfolding row_text is_blank
-row_text-plain [] several = absurd (omega arith)
-row_text-plain (field ∷ []) several = absurd (omega arith)
-row_text-plain (field ∷ next ∷ fields) several = ap (λ t. t ++ 10 ∷ []) (fields_joined field (next ∷ fields))
+-- and go out, if they do
+pub held-sent : {T E : Type 0} (r : Result T E) (old mid new : Option (List ℕ)) (text : List ℕ) → Appends old mid text → OnOk r (Keeps mid new) → OnOk r (Appends old new text)
+held-sent (Ok x) old mid new text more kept = Appends-kept old mid new text more kept
+held-sent (Err e) old mid new text more kept = tt
+
+-- a line that has all fields of a row, and its end
+pub line-row : (fields : List (List ℕ)) → join_with_byte comma fields ++ codes "\n" ≡ row_text fields
+unfolding row_text
+line-row fields = refl
+
+-- no row waits when a table begins
+pub held-first : (known new : Option (List ℕ)) (waits text : List ℕ) → waits ≡ [] → Appends (append_known known waits) new text → Appends known new text
+held-first None new waits text none more = tt
+held-first (Some x) None waits text none more = absurd more
+held-first (Some x) (Some y) waits text none more = more ∙ ap (λ t. t ++ text) (ap (λ t. x ++ t) none ∙ append-nil x)

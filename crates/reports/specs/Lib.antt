@@ -1,4 +1,5 @@
 pub mod Rows
+pub mod Tables
 pub mod Commands
 pub mod Stats
 pub mod Final

@@ -4,9 +4,13 @@
 --     rows_text rows      rows, one after the other
 --     table_text header rows      a table
 --     numbered f xs      what the items of a list give with their numbers
+--     plain_writer      how csv writes: never with quotes
 --     IsReportFault fault      why a table may be refused
 use Rattle.std.specs.Prelude.{ℕ, List, [], ◌∷◌, ◌++◌, ⊤, codes, decimal, Option, Some, None}
 use Rattle.std.specs.List.{enumerate_from, flat_map, join_with_byte}
+use Rattle.csv.specs.Writing.{default_writer, with_style}
+use Rattle.csv.specs.declared.writer.QuoteStyle.TheVariants as style
+use Rattle.csv.specs.declared.writer.WriterBuilder.{WriterBuilder}
 use Rattle.sim_base.specs.declared.fault.Fault.{Fault}
 use Rattle.sim_base.specs.declared.fault.Fault.TheVariants.{Memory, Write}
 
@@ -38,6 +42,10 @@ table_text header rows = rows_text (header ∷ rows)
 -- what each item of a list gives with its number, one after the other; numbers count from 0
 unfoldable pub numbered : {A B : Type 0} → (ℕ → A → List B) → List A → List B
 numbered f xs = flat_map (λ p. f p.0 p.1) (enumerate_from 0 xs)
+
+-- a writer of csv that never quotes
+abbrev pub plain_writer : WriterBuilder
+plain_writer = with_style default_writer style.Never
 
 -- memory was refused, or the writer failed
 abbrev pub IsReportFault : Fault → Type 0

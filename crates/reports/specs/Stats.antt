@@ -5,7 +5,7 @@
 --     stats_text stats      the whole table
 use Rattle.std.specs.Prelude.{ℕ, List, [], ◌∷◌, ◌++◌, map, codes, decimal, Option, Some, None}
 use Rattle.reports.specs.Rows.{optional, numbered, table_text}
-use Rattle.reports.specs.declared.stats.NamedCount.{NamedCount}
+use Rattle.reports.specs.declared.stats.named.NamedCount.{NamedCount}
 use Rattle.statistics.specs.Values.{RunStats}
 use Rattle.statistics.specs.declared.channels.ChannelStats.{ChannelStats}
 use Rattle.statistics.specs.declared.cores.CoreStats.{CoreStats}

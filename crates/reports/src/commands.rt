@@ -1,12 +1,14 @@
 //! The table of commands, `commands.csv`.
 
-ghost use Rattle.std.specs.Prelude.{◌≡◌, [], ◌∷◌, Some, IfErr, OnOk};
+ghost use Rattle.std.specs.Prelude.{◌≡◌, ◌<◌, ◌≤◌, [], ◌∷◌, length, Some, IfErr, OnOk};
 ghost use Rattle.std.specs.Io.KnownBytes.{Appends};
-ghost use Rattle.reports.specs.Rows.{row_text, optional, IsReportFault};
+ghost use Rattle.std.specs.List.{join_with_byte};
+ghost use Rattle.reports.specs.Rows.{comma, row_text, optional, IsReportFault};
+ghost use Rattle.reports.specs.Tables.{held};
 ghost use Rattle.reports.specs.Commands.{header, kind_word, operand_fields, command_fields, commands_text};
 
-use crate::rows::{digits, write_row};
-use itoa::Buffer;
+use crate::line::Line;
+use crate::table::Table;
 use sim_base::command::{Command, CommandRow, Kind, Source};
 use sim_base::fault::Fault;
 use sim_base::place::BankId;
@@ -14,7 +16,8 @@ use std::alloc::Global;
 use std::io::Write;
 
 fn word_of(kind: Kind) -> &'static [u8]
-    ensures { result.now ≡ kind_word kind }
+    ensures word { result.now ≡ kind_word kind }
+    ensures short { length result.now ≤ 4 }
 {
     match kind {
         Kind::Act => b"ACT",
@@ -86,68 +89,61 @@ fn operands_of(command: Command) -> Operands
     }
 }
 
-fn write_header<W: Write>(line: Vec<u8>, ranks: u32, writer: &mut W) -> Result<Vec<u8>, Fault>
-    ensures written { OnOk result (Appends (W.contents writer.old) (W.contents writer.new) (row_text (header ranks))) }
-    ensures refused { IfErr result (λ e. IsReportFault e) }
+fn columns(ranks: u32) -> &'static [u8]
+    ensures names { result.now ≡ join_with_byte comma (header ranks) }
+    ensures some { 0 < length result.now }
+    ensures short { length result.now ≤ 64 }
 {
     if ranks > 1 {
-        return write_row(
-            line,
-            &[
-                b"cycle", b"channel", b"command", b"rank", b"group", b"bank", b"row", b"column",
-                b"core", b"entry",
-            ],
-            writer,
-        );
+        b"cycle,channel,command,rank,group,bank,row,column,core,entry"
+    } else {
+        b"cycle,channel,command,group,bank,row,column,core,entry"
     }
-    write_row(
-        line,
-        &[
-            b"cycle", b"channel", b"command", b"group", b"bank", b"row", b"column", b"core",
-            b"entry",
-        ],
-        writer,
-    )
+}
+
+fn write_header<W: Write>(table: &mut Table, ranks: u32, writer: &mut W) -> Result<(), Fault>
+    ensures written { OnOk result (Appends (held W.contents writer.old table.old) (held W.contents writer.new table.new) (row_text (header ranks))) }
+    ensures refused { IfErr result (λ e. IsReportFault e) }
+{
+    table.line.end_with_word(columns(ranks));
+    table.write_row(writer)
+}
+
+// The fields of a row, from the last to the first.
+fn put_command(line: &mut Line, ranks: u32, row: &CommandRow)
+    ensures text { line.new ≡ join_with_byte comma (command_fields ranks row.now) }
+    ensures some { 0 < length line.new }
+{
+    let operands = operands_of(row.command);
+    line.end_with(operands.entry);
+    line.put(operands.core);
+    line.put(operands.column);
+    line.put(operands.row);
+    line.put(operands.bank);
+    line.put(operands.group);
+    line.put_rank(ranks, Some(u64::from(row.command.rank())));
+    line.put_word(word_of(row.command.kind()));
+    line.put(Some(u64::from(row.channel)));
+    line.put(Some(row.cycle));
 }
 
 fn write_command<W: Write>(
-    line: Vec<u8>,
+    table: &mut Table,
     ranks: u32,
     row: &CommandRow,
     writer: &mut W,
-) -> Result<Vec<u8>, Fault>
-    ensures written { OnOk result (Appends (W.contents writer.old) (W.contents writer.new) (row_text (command_fields ranks row.now))) }
+) -> Result<(), Fault>
+    ensures written { OnOk result (Appends (held W.contents writer.old table.old) (held W.contents writer.new table.new) (row_text (command_fields ranks row.now))) }
     ensures refused { IfErr result (λ e. IsReportFault e) }
 {
-    let operands = operands_of(row.command);
-    let (mut cycle, mut channel, mut rank) = (Buffer::new(), Buffer::new(), Buffer::new());
-    let (mut group, mut bank, mut opened) = (Buffer::new(), Buffer::new(), Buffer::new());
-    let (mut column, mut core, mut entry) = (Buffer::new(), Buffer::new(), Buffer::new());
-    let cycle = digits(&mut cycle, Some(row.cycle));
-    let channel = digits(&mut channel, Some(u64::from(row.channel)));
-    let command = word_of(row.command.kind());
-    let rank = digits(&mut rank, Some(u64::from(row.command.rank())));
-    let group = digits(&mut group, operands.group);
-    let bank = digits(&mut bank, operands.bank);
-    let opened = digits(&mut opened, operands.row);
-    let column = digits(&mut column, operands.column);
-    let core = digits(&mut core, operands.core);
-    let entry = digits(&mut entry, operands.entry);
-    if ranks > 1 {
-        let fields = [
-            cycle, channel, command, rank, group, bank, opened, column, core, entry,
-        ];
-        return write_row(line, &fields, writer);
-    }
-    let fields = [
-        cycle, channel, command, group, bank, opened, column, core, entry,
-    ];
-    write_row(line, &fields, writer)
+    put_command(&mut table.line, ranks, row);
+    table.write_row(writer)
 }
 
 /// Writes the table of commands: a header, and then a row for each command, in the order in which they are handed in.
 ///
-/// Where `ranks` is above 1 the table has a column for the rank. The memory that the call takes is that of one row.
+/// Where `ranks` is above 1 the table has a column for the rank. The memory that the call takes is that of a batch
+/// of rows, below 64 KB, and some 10 KB for the writer of `csv`.
 ///
 /// # Errors
 ///
@@ -162,12 +158,10 @@ pub fn write_commands<W: Write>(
     ensures written { OnOk result (Appends (W.contents writer.old) (W.contents writer.new) (commands_text ranks commands.now)) }
     ensures refused { IfErr result (λ e. IsReportFault e) }
 {
-    let mut line = write_header(Vec::new(alloc), ranks, writer)?;
+    let mut table = Table::new(alloc);
+    write_header(&mut table, ranks, writer)?;
     for row in commands {
-        line = write_command(line, ranks, row, writer)?;
+        write_command(&mut table, ranks, row, writer)?;
     }
-    Ok(())
+    table.finish(writer)
 }
-
-#[cfg(test)]
-mod tests;

@@ -1,12 +1,14 @@
 //! The table of the state in which a run ends, `final.csv`.
 
-ghost use Rattle.std.specs.Prelude.{◌≡◌, length, map, Some, IfErr, OnOk};
+ghost use Rattle.std.specs.Prelude.{◌≡◌, ◌<◌, ◌≤◌, length, map, Some, IfErr, OnOk};
 ghost use Rattle.std.specs.Io.KnownBytes.{Appends};
-ghost use Rattle.reports.specs.Rows.{row_text, rows_text, numbered, IsReportFault};
+ghost use Rattle.std.specs.List.{join_with_byte};
+ghost use Rattle.reports.specs.Rows.{comma, row_text, rows_text, numbered, IsReportFault};
 ghost use Rattle.reports.specs.Final.{final_header, final_fields, progress_rows, credit_rows, credits_of_core, due_rows, open_numbers, open_fields, queued_item, queued_numbers, queued_fields, channel_rows, flight_item, flight_entry, core_of_link, channel_of_link, flight_numbers, flight_fields, final_text};
+ghost use Rattle.reports.specs.Tables.{held};
 
-use crate::rows::{digits, write_row};
-use itoa::Buffer;
+use crate::line::Line;
+use crate::table::Table;
 use sim_base::fault::Fault;
 use sim_base::message::{LinkId, Load, Message, Request};
 use statistics::final_state::{ChannelState, CoreState, Credits, FinalState, OpenRow};
@@ -37,66 +39,66 @@ const BLANK: Numbers = Numbers {
     value: None,
 };
 
-fn write_header<W: Write>(line: Vec<u8>, ranks: u32, writer: &mut W) -> Result<Vec<u8>, Fault>
-    ensures written { OnOk result (Appends (W.contents writer.old) (W.contents writer.new) (row_text (final_header ranks))) }
-    ensures refused { IfErr result (λ e. IsReportFault e) }
+fn columns(ranks: u32) -> &'static [u8]
+    ensures names { result.now ≡ join_with_byte comma (final_header ranks) }
+    ensures some { 0 < length result.now }
+    ensures short { length result.now ≤ 64 }
 {
     if ranks > 1 {
-        return write_row(
-            line,
-            &[
-                b"item", b"core", b"channel", b"rank", b"group", b"bank", b"entry", b"cycle",
-                b"value",
-            ],
-            writer,
-        );
+        b"item,core,channel,rank,group,bank,entry,cycle,value"
+    } else {
+        b"item,core,channel,group,bank,entry,cycle,value"
     }
-    write_row(
-        line,
-        &[
-            b"item", b"core", b"channel", b"group", b"bank", b"entry", b"cycle", b"value",
-        ],
-        writer,
-    )
+}
+
+fn write_header<W: Write>(table: &mut Table, ranks: u32, writer: &mut W) -> Result<(), Fault>
+    ensures written { OnOk result (Appends (held W.contents writer.old table.old) (held W.contents writer.new table.new) (row_text (final_header ranks))) }
+    ensures refused { IfErr result (λ e. IsReportFault e) }
+{
+    table.line.end_with_word(columns(ranks));
+    table.write_row(writer)
+}
+
+// The fields of a row, from the last to the first.
+fn put_numbers(line: &mut Line, ranks: u32, item: &[u8], numbers: &Numbers)
+    requires { length item.now ≤ 32 }
+    ensures text { line.new ≡ join_with_byte comma (final_fields ranks item.now numbers.now) }
+    ensures some { 0 < length line.new }
+{
+    line.end_with(numbers.value);
+    line.put(numbers.cycle);
+    line.put(numbers.entry);
+    line.put(numbers.bank);
+    line.put(numbers.group);
+    line.put_rank(ranks, numbers.rank);
+    line.put(numbers.channel);
+    line.put(numbers.core);
+    line.put_word(item);
 }
 
 fn write_numbers<W: Write>(
-    line: Vec<u8>,
+    table: &mut Table,
     ranks: u32,
     item: &[u8],
     numbers: &Numbers,
     writer: &mut W,
-) -> Result<Vec<u8>, Fault>
-    ensures written { OnOk result (Appends (W.contents writer.old) (W.contents writer.new) (row_text (final_fields ranks item.now numbers.now))) }
+) -> Result<(), Fault>
+    requires { length item.now ≤ 32 }
+    ensures written { OnOk result (Appends (held W.contents writer.old table.old) (held W.contents writer.new table.new) (row_text (final_fields ranks item.now numbers.now))) }
     ensures refused { IfErr result (λ e. IsReportFault e) }
 {
-    let (mut core, mut channel, mut rank) = (Buffer::new(), Buffer::new(), Buffer::new());
-    let (mut group, mut bank, mut entry) = (Buffer::new(), Buffer::new(), Buffer::new());
-    let (mut cycle, mut value) = (Buffer::new(), Buffer::new());
-    let core = digits(&mut core, numbers.core);
-    let channel = digits(&mut channel, numbers.channel);
-    let rank = digits(&mut rank, numbers.rank);
-    let group = digits(&mut group, numbers.group);
-    let bank = digits(&mut bank, numbers.bank);
-    let entry = digits(&mut entry, numbers.entry);
-    let cycle = digits(&mut cycle, numbers.cycle);
-    let value = digits(&mut value, numbers.value);
-    if ranks > 1 {
-        let fields = [item, core, channel, rank, group, bank, entry, cycle, value];
-        return write_row(line, &fields, writer);
-    }
-    let fields = [item, core, channel, group, bank, entry, cycle, value];
-    write_row(line, &fields, writer)
+    put_numbers(&mut table.line, ranks, item, numbers);
+    table.write_row(writer)
 }
 
 fn write_progress<W: Write>(
-    line: Vec<u8>,
+    table: &mut Table,
     ranks: u32,
     core: u64,
     state: &CoreState,
     writer: &mut W,
-) -> Result<Vec<u8>, Fault>
-    ensures written { OnOk result (Appends (W.contents writer.old) (W.contents writer.new) (rows_text (progress_rows ranks core state.now))) }
+) -> Result<(), Fault>
+    ensures written { OnOk result (Appends (held W.contents writer.old table.old) (held W.contents writer.new table.new) (rows_text (progress_rows ranks core state.now))) }
     ensures refused { IfErr result (λ e. IsReportFault e) }
 {
     let issued = Numbers {
@@ -109,34 +111,34 @@ fn write_progress<W: Write>(
         value: Some(state.retired),
         ..BLANK
     };
-    let line = write_numbers(line, ranks, b"issued", &issued, writer)?;
-    write_numbers(line, ranks, b"retired", &retired, writer)
+    write_numbers(table, ranks, b"issued", &issued, writer)?;
+    write_numbers(table, ranks, b"retired", &retired, writer)
 }
 
 fn write_progress_of_all<W: Write>(
-    mut line: Vec<u8>,
+    table: &mut Table,
     ranks: u32,
     cores: &[CoreState],
     writer: &mut W,
-) -> Result<Vec<u8>, Fault>
-    ensures written { OnOk result (Appends (W.contents writer.old) (W.contents writer.new) (rows_text (numbered (progress_rows ranks) cores.now))) }
+) -> Result<(), Fault>
+    ensures written { OnOk result (Appends (held W.contents writer.old table.old) (held W.contents writer.new table.new) (rows_text (numbered (progress_rows ranks) cores.now))) }
     ensures refused { IfErr result (λ e. IsReportFault e) }
 {
     for (core, state) in cores.iter().enumerate() {
-        line = write_progress(line, ranks, core as u64, state, writer)?;
+        write_progress(table, ranks, core as u64, state, writer)?;
     }
-    Ok(line)
+    Ok(())
 }
 
 fn write_credits<W: Write>(
-    line: Vec<u8>,
+    table: &mut Table,
     ranks: u32,
     core: u64,
     channel: u64,
     credits: Credits,
     writer: &mut W,
-) -> Result<Vec<u8>, Fault>
-    ensures written { OnOk result (Appends (W.contents writer.old) (W.contents writer.new) (rows_text (credit_rows ranks core channel credits))) }
+) -> Result<(), Fault>
+    ensures written { OnOk result (Appends (held W.contents writer.old table.old) (held W.contents writer.new table.new) (rows_text (credit_rows ranks core channel credits))) }
     ensures refused { IfErr result (λ e. IsReportFault e) }
 {
     let of_reads = Numbers {
@@ -151,49 +153,49 @@ fn write_credits<W: Write>(
         value: Some(credits.write),
         ..BLANK
     };
-    let line = write_numbers(line, ranks, b"credit_read", &of_reads, writer)?;
-    write_numbers(line, ranks, b"credit_write", &of_writes, writer)
+    write_numbers(table, ranks, b"credit_read", &of_reads, writer)?;
+    write_numbers(table, ranks, b"credit_write", &of_writes, writer)
 }
 
 fn write_credits_of_core<W: Write>(
-    mut line: Vec<u8>,
+    table: &mut Table,
     ranks: u32,
     core: u64,
     credits: &[Credits],
     writer: &mut W,
-) -> Result<Vec<u8>, Fault>
-    ensures written { OnOk result (Appends (W.contents writer.old) (W.contents writer.new) (rows_text (numbered (credit_rows ranks core) credits.now))) }
+) -> Result<(), Fault>
+    ensures written { OnOk result (Appends (held W.contents writer.old table.old) (held W.contents writer.new table.new) (rows_text (numbered (credit_rows ranks core) credits.now))) }
     ensures refused { IfErr result (λ e. IsReportFault e) }
 {
     for (channel, held) in credits.iter().enumerate() {
-        line = write_credits(line, ranks, core, channel as u64, *held, writer)?;
+        write_credits(table, ranks, core, channel as u64, *held, writer)?;
     }
-    Ok(line)
+    Ok(())
 }
 
 fn write_credits_of_all<W: Write>(
-    mut line: Vec<u8>,
+    table: &mut Table,
     ranks: u32,
     cores: &[CoreState],
     writer: &mut W,
-) -> Result<Vec<u8>, Fault>
-    ensures written { OnOk result (Appends (W.contents writer.old) (W.contents writer.new) (rows_text (numbered (credits_of_core ranks) cores.now))) }
+) -> Result<(), Fault>
+    ensures written { OnOk result (Appends (held W.contents writer.old table.old) (held W.contents writer.new table.new) (rows_text (numbered (credits_of_core ranks) cores.now))) }
     ensures refused { IfErr result (λ e. IsReportFault e) }
 {
     for (core, state) in cores.iter().enumerate() {
-        line = write_credits_of_core(line, ranks, core as u64, &state.credits, writer)?;
+        write_credits_of_core(table, ranks, core as u64, &state.credits, writer)?;
     }
-    Ok(line)
+    Ok(())
 }
 
 fn write_due<W: Write>(
-    mut line: Vec<u8>,
+    table: &mut Table,
     ranks: u32,
     channel: u64,
     due: &[u64],
     writer: &mut W,
-) -> Result<Vec<u8>, Fault>
-    ensures written { OnOk result (Appends (W.contents writer.old) (W.contents writer.new) (rows_text (numbered (due_rows ranks channel) due.now))) }
+) -> Result<(), Fault>
+    ensures written { OnOk result (Appends (held W.contents writer.old table.old) (held W.contents writer.new table.new) (rows_text (numbered (due_rows ranks channel) due.now))) }
     ensures refused { IfErr result (λ e. IsReportFault e) }
 {
     for (rank, count) in due.iter().enumerate() {
@@ -203,9 +205,9 @@ fn write_due<W: Write>(
             value: Some(*count),
             ..BLANK
         };
-        line = write_numbers(line, ranks, b"due", &numbers, writer)?;
+        write_numbers(table, ranks, b"due", &numbers, writer)?;
     }
-    Ok(line)
+    Ok(())
 }
 
 fn numbers_of_open(channel: u64, opened: OpenRow) -> Numbers
@@ -222,29 +224,30 @@ fn numbers_of_open(channel: u64, opened: OpenRow) -> Numbers
 }
 
 fn write_open_rows<W: Write>(
-    mut line: Vec<u8>,
+    table: &mut Table,
     ranks: u32,
     channel: u64,
     open_rows: &[OpenRow],
     writer: &mut W,
-) -> Result<Vec<u8>, Fault>
-    ensures written { OnOk result (Appends (W.contents writer.old) (W.contents writer.new) (rows_text (map (open_fields ranks channel) open_rows.now))) }
+) -> Result<(), Fault>
+    ensures written { OnOk result (Appends (held W.contents writer.old table.old) (held W.contents writer.new table.new) (rows_text (map (open_fields ranks channel) open_rows.now))) }
     ensures refused { IfErr result (λ e. IsReportFault e) }
 {
     for opened in open_rows {
-        line = write_numbers(
-            line,
+        write_numbers(
+            table,
             ranks,
             b"open",
             &numbers_of_open(channel, *opened),
             writer,
         )?;
     }
-    Ok(line)
+    Ok(())
 }
 
 fn queued_word(write: bool) -> &'static [u8]
-    ensures { result.now ≡ queued_item write }
+    ensures word { result.now ≡ queued_item write }
+    ensures short { length result.now ≤ 32 }
 {
     if write {
         b"queued_write"
@@ -269,60 +272,61 @@ fn numbers_of_queued(channel: u64, request: Request) -> Numbers
 }
 
 fn write_queue<W: Write>(
-    mut line: Vec<u8>,
+    table: &mut Table,
     ranks: u32,
     channel: u64,
     queue: &[Request],
     writer: &mut W,
-) -> Result<Vec<u8>, Fault>
-    ensures written { OnOk result (Appends (W.contents writer.old) (W.contents writer.new) (rows_text (map (queued_fields ranks channel) queue.now))) }
+) -> Result<(), Fault>
+    ensures written { OnOk result (Appends (held W.contents writer.old table.old) (held W.contents writer.new table.new) (rows_text (map (queued_fields ranks channel) queue.now))) }
     ensures refused { IfErr result (λ e. IsReportFault e) }
 {
     for request in queue {
         let item = queued_word(request.write);
-        line = write_numbers(
-            line,
+        write_numbers(
+            table,
             ranks,
             item,
             &numbers_of_queued(channel, *request),
             writer,
         )?;
     }
-    Ok(line)
+    Ok(())
 }
 
 fn write_channel<W: Write>(
-    line: Vec<u8>,
+    table: &mut Table,
     ranks: u32,
     channel: u64,
     state: &ChannelState,
     writer: &mut W,
-) -> Result<Vec<u8>, Fault>
-    ensures written { OnOk result (Appends (W.contents writer.old) (W.contents writer.new) (rows_text (channel_rows ranks channel state.now))) }
+) -> Result<(), Fault>
+    ensures written { OnOk result (Appends (held W.contents writer.old table.old) (held W.contents writer.new table.new) (rows_text (channel_rows ranks channel state.now))) }
     ensures refused { IfErr result (λ e. IsReportFault e) }
 {
-    let line = write_due(line, ranks, channel, &state.due, writer)?;
-    let line = write_open_rows(line, ranks, channel, &state.open_rows, writer)?;
-    write_queue(line, ranks, channel, &state.queue, writer)
+    write_due(table, ranks, channel, &state.due, writer)?;
+    write_open_rows(table, ranks, channel, &state.open_rows, writer)?;
+    write_queue(table, ranks, channel, &state.queue, writer)
 }
 
 fn write_channels<W: Write>(
-    mut line: Vec<u8>,
+    table: &mut Table,
     ranks: u32,
     channels: &[ChannelState],
     writer: &mut W,
-) -> Result<Vec<u8>, Fault>
-    ensures written { OnOk result (Appends (W.contents writer.old) (W.contents writer.new) (rows_text (numbered (channel_rows ranks) channels.now))) }
+) -> Result<(), Fault>
+    ensures written { OnOk result (Appends (held W.contents writer.old table.old) (held W.contents writer.new table.new) (rows_text (numbered (channel_rows ranks) channels.now))) }
     ensures refused { IfErr result (λ e. IsReportFault e) }
 {
     for (channel, state) in channels.iter().enumerate() {
-        line = write_channel(line, ranks, channel as u64, state, writer)?;
+        write_channel(table, ranks, channel as u64, state, writer)?;
     }
-    Ok(line)
+    Ok(())
 }
 
 fn flight_word(load: Load) -> &'static [u8]
-    ensures { result.now ≡ flight_item load }
+    ensures word { result.now ≡ flight_item load }
+    ensures short { length result.now ≤ 32 }
 {
     match load {
         Load::Request(_) => b"flight_request",
@@ -375,19 +379,19 @@ fn numbers_of_flight(channels: u64, message: Message) -> Numbers
 }
 
 fn write_in_flight<W: Write>(
-    mut line: Vec<u8>,
+    table: &mut Table,
     ranks: u32,
     channels: u64,
     in_flight: &[Message],
     writer: &mut W,
 ) -> Result<(), Fault>
-    ensures written { OnOk result (Appends (W.contents writer.old) (W.contents writer.new) (rows_text (map (flight_fields ranks channels) in_flight.now))) }
+    ensures written { OnOk result (Appends (held W.contents writer.old table.old) (held W.contents writer.new table.new) (rows_text (map (flight_fields ranks channels) in_flight.now))) }
     ensures refused { IfErr result (λ e. IsReportFault e) }
 {
     for message in in_flight {
         let item = flight_word(message.load);
-        line = write_numbers(
-            line,
+        write_numbers(
+            table,
             ranks,
             item,
             &numbers_of_flight(channels, *message),
@@ -401,7 +405,8 @@ fn write_in_flight<W: Write>(
 /// that each core holds for each channel; for each channel the refreshes that are due by rank, the open rows and the queue;
 /// and the messages in flight. Fields that a row does not have are empty.
 ///
-/// Where `ranks` is above 1 the table has a column for the rank. The memory that the call takes is that of one row.
+/// Where `ranks` is above 1 the table has a column for the rank. The memory that the call takes is that of a batch
+/// of rows, below 64 KB, and some 10 KB for the writer of `csv`.
 ///
 /// # Errors
 ///
@@ -416,13 +421,12 @@ pub fn write_final<W: Write>(
     ensures written { OnOk result (Appends (W.contents writer.old) (W.contents writer.new) (final_text ranks state.now)) }
     ensures refused { IfErr result (λ e. IsReportFault e) }
 {
-    let line = write_header(Vec::new(alloc), ranks, writer)?;
-    let line = write_progress_of_all(line, ranks, &state.cores, writer)?;
-    let line = write_credits_of_all(line, ranks, &state.cores, writer)?;
-    let line = write_channels(line, ranks, &state.channels, writer)?;
+    let mut table = Table::new(alloc);
+    write_header(&mut table, ranks, writer)?;
+    write_progress_of_all(&mut table, ranks, &state.cores, writer)?;
+    write_credits_of_all(&mut table, ranks, &state.cores, writer)?;
+    write_channels(&mut table, ranks, &state.channels, writer)?;
     let channels = state.channels.len() as u64;
-    write_in_flight(line, ranks, channels, &state.in_flight, writer)
+    write_in_flight(&mut table, ranks, channels, &state.in_flight, writer)?;
+    table.finish(writer)
 }
-
-#[cfg(test)]
-mod tests;

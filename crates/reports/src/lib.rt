@@ -3,10 +3,9 @@
 
 mod commands;
 mod final_state;
-mod rows;
-#[cfg(test)]
-mod slow;
+mod line;
 mod stats;
+mod table;
 
 pub use commands::write_commands;
 pub use final_state::write_final;

@@ -1,35 +1,23 @@
 //! The table of statistics, `stats.csv`.
 
-ghost use Rattle.std.specs.Prelude.{◌≡◌, map, Some, IfErr, OnOk};
+ghost use Rattle.std.specs.Prelude.{◌≡◌, ◌<◌, ◌≤◌, length, map, IfErr, OnOk};
 ghost use Rattle.std.specs.Io.KnownBytes.{Appends};
-ghost use Rattle.reports.specs.Rows.{row_text, rows_text, numbered, IsReportFault};
+ghost use Rattle.std.specs.List.{join_with_byte};
+ghost use Rattle.reports.specs.Rows.{comma, row_text, rows_text, numbered, IsReportFault};
 ghost use Rattle.reports.specs.Stats.{count_named, value_fields, core_values, usual_values, core_rows, channel_rows, stats_text};
+ghost use Rattle.reports.specs.Tables.{held};
 
-use crate::rows::{digits, write_row};
-use itoa::Buffer;
+mod named;
+
+use self::named::{NamedCount, named};
+use crate::line::Line;
+use crate::table::Table;
 use sim_base::fault::Fault;
 use statistics::channels::ChannelStats;
 use statistics::cores::CoreStats;
 use statistics::stats::Stats;
 use std::alloc::Global;
 use std::io::Write;
-
-// A count with its name.
-#[derive(Clone, Copy)]
-struct NamedCount {
-    name: &'static [u8],
-    value: Option<u128>,
-}
-
-fn named(name: &'static [u8], count: u64) -> NamedCount
-    ensures name { result.name.now ≡ name.now }
-    ensures value { result.value ≡ Some count }
-{
-    NamedCount {
-        name,
-        value: Some(u128::from(count)),
-    }
-}
 
 fn widened(count: Option<u64>) -> Option<u128>
     ensures { result ≡ count }
@@ -86,90 +74,102 @@ fn channel_counts(channel: &ChannelStats) -> [NamedCount; 11]
     ]
 }
 
+// The fields of a row, from the last to the first.
+fn put_count(line: &mut Line, scope: &[u8], id: u64, name: &[u8], value: Option<u128>)
+    requires { (length scope.now ≤ 32) × (length name.now ≤ 32) }
+    ensures text { line.new ≡ join_with_byte comma (value_fields scope.now id (name.now, value)) }
+    ensures some { 0 < length line.new }
+{
+    line.end_with_wide(value);
+    line.put_word(name);
+    line.put(Some(id));
+    line.put_word(scope);
+}
+
 fn write_count<W: Write>(
-    line: Vec<u8>,
+    table: &mut Table,
     scope: &[u8],
     id: u64,
     name: &[u8],
     value: Option<u128>,
     writer: &mut W,
-) -> Result<Vec<u8>, Fault>
-    ensures written { OnOk result (Appends (W.contents writer.old) (W.contents writer.new) (row_text (value_fields scope.now id (name.now, value)))) }
+) -> Result<(), Fault>
+    requires { (length scope.now ≤ 32) × (length name.now ≤ 32) }
+    ensures written { OnOk result (Appends (held W.contents writer.old table.old) (held W.contents writer.new table.new) (row_text (value_fields scope.now id (name.now, value)))) }
     ensures refused { IfErr result (λ e. IsReportFault e) }
 {
-    let (mut number, mut digits_of_value) = (Buffer::new(), Buffer::new());
-    let number = digits(&mut number, Some(id));
-    let value = digits(&mut digits_of_value, value);
-    write_row(line, &[scope, number, name, value], writer)
+    put_count(&mut table.line, scope, id, name, value);
+    table.write_row(writer)
 }
 
 fn write_counts<W: Write>(
-    mut line: Vec<u8>,
+    table: &mut Table,
     scope: &[u8],
     id: u64,
     counts: &[NamedCount],
     writer: &mut W,
-) -> Result<Vec<u8>, Fault>
-    ensures written { OnOk result (Appends (W.contents writer.old) (W.contents writer.new) (rows_text (map (value_fields scope.now id) (map count_named counts.now)))) }
+) -> Result<(), Fault>
+    requires { length scope.now ≤ 32 }
+    ensures written { OnOk result (Appends (held W.contents writer.old table.old) (held W.contents writer.new table.new) (rows_text (map (value_fields scope.now id) (map count_named counts.now)))) }
     ensures refused { IfErr result (λ e. IsReportFault e) }
 {
     for count in counts {
-        line = write_count(line, scope, id, count.name, count.value, writer)?;
+        write_count(table, scope, id, count.name, count.value, writer)?;
     }
-    Ok(line)
+    Ok(())
 }
 
 fn write_cores<W: Write>(
-    mut line: Vec<u8>,
+    table: &mut Table,
     cores: &[CoreStats],
     writer: &mut W,
-) -> Result<Vec<u8>, Fault>
-    ensures written { OnOk result (Appends (W.contents writer.old) (W.contents writer.new) (rows_text (numbered core_rows cores.now))) }
+) -> Result<(), Fault>
+    ensures written { OnOk result (Appends (held W.contents writer.old table.old) (held W.contents writer.new table.new) (rows_text (numbered core_rows cores.now))) }
     ensures refused { IfErr result (λ e. IsReportFault e) }
 {
     for (id, core) in cores.iter().enumerate() {
-        line = write_counts(line, b"core", id as u64, &core_counts(core), writer)?;
+        write_counts(table, b"core", id as u64, &core_counts(core), writer)?;
     }
-    Ok(line)
+    Ok(())
 }
 
 fn write_channel<W: Write>(
-    line: Vec<u8>,
+    table: &mut Table,
     id: u64,
     channel: &ChannelStats,
     writer: &mut W,
-) -> Result<Vec<u8>, Fault>
-    ensures written { OnOk result (Appends (W.contents writer.old) (W.contents writer.new) (rows_text (channel_rows id channel.now))) }
+) -> Result<(), Fault>
+    ensures written { OnOk result (Appends (held W.contents writer.old table.old) (held W.contents writer.new table.new) (rows_text (channel_rows id channel.now))) }
     ensures refused { IfErr result (λ e. IsReportFault e) }
 {
-    let line = write_counts(line, b"channel", id, &channel_counts(channel), writer)?;
+    write_counts(table, b"channel", id, &channel_counts(channel), writer)?;
     match channel.draining {
         Some(cycles) => {
             let cycles = Some(u128::from(cycles));
-            write_count(line, b"channel", id, b"draining", cycles, writer)
+            write_count(table, b"channel", id, b"draining", cycles, writer)
         }
-        None => Ok(line),
+        None => Ok(()),
     }
 }
 
 fn write_channels<W: Write>(
-    mut line: Vec<u8>,
+    table: &mut Table,
     channels: &[ChannelStats],
     writer: &mut W,
-) -> Result<Vec<u8>, Fault>
-    ensures written { OnOk result (Appends (W.contents writer.old) (W.contents writer.new) (rows_text (numbered channel_rows channels.now))) }
+) -> Result<(), Fault>
+    ensures written { OnOk result (Appends (held W.contents writer.old table.old) (held W.contents writer.new table.new) (rows_text (numbered channel_rows channels.now))) }
     ensures refused { IfErr result (λ e. IsReportFault e) }
 {
     for (id, channel) in channels.iter().enumerate() {
-        line = write_channel(line, id as u64, channel, writer)?;
+        write_channel(table, id as u64, channel, writer)?;
     }
-    Ok(line)
+    Ok(())
 }
 
 /// Writes the table of statistics: a header, how many cycles there were, and then a row for each count of each core and of
 /// each channel, by number. A channel that may drain its writes has a row `draining` after all others.
 ///
-/// The memory that the call takes is that of one row.
+/// The memory that the call takes is that of a batch of rows, below 64 KB, and some 10 KB for the writer of `csv`.
 ///
 /// # Errors
 ///
@@ -179,17 +179,12 @@ pub fn write_stats<W: Write>(alloc: Global, stats: &Stats, writer: &mut W) -> Re
     ensures written { OnOk result (Appends (W.contents writer.old) (W.contents writer.new) (stats_text stats.now)) }
     ensures refused { IfErr result (λ e. IsReportFault e) }
 {
-    let line = write_row(
-        Vec::new(alloc),
-        &[b"scope", b"id", b"name", b"value"],
-        writer,
-    )?;
+    let mut table = Table::new(alloc);
+    table.line.end_with_word(b"scope,id,name,value");
+    table.write_row(writer)?;
     let cycles = Some(u128::from(stats.cycles));
-    let line = write_count(line, b"run", 0, b"cycles", cycles, writer)?;
-    let line = write_cores(line, &stats.cores, writer)?;
-    write_channels(line, &stats.channels, writer)?;
-    Ok(())
+    write_count(&mut table, b"run", 0, b"cycles", cycles, writer)?;
+    write_cores(&mut table, &stats.cores, writer)?;
+    write_channels(&mut table, &stats.channels, writer)?;
+    table.finish(writer)
 }
-
-#[cfg(test)]
-mod tests;

@@ -16,6 +16,3 @@ mod window;
 
 pub use table::check;
 pub use verdict::Verdict;
-
-#[cfg(test)]
-mod tests;

@@ -13,8 +13,6 @@ mod keys;
 mod links;
 mod numbers;
 mod relations;
-#[cfg(test)]
-mod tests;
 mod timing;
 
 use crate::config::Config;

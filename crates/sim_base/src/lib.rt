@@ -13,7 +13,5 @@ pub mod message;
 pub mod overrides;
 pub mod place;
 pub mod rule;
-#[cfg(test)]
-mod tests;
 pub mod timing;
 pub mod trace;

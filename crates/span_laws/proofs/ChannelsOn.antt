@@ -57,19 +57,23 @@ channels-may_run s traces from until channel c k l h =
 
 pub channels-go_on : (s : Config) (traces : List (List Entry)) (from until : ℕ) → ChannelsGoOn s traces from until
 unfolding messages_of_channel
-channels-go_on s traces from until channel c done k l h gives =
+channels-go_on s traces from until channel c d commands commands_then messages messages_then k l h gives =
     let old = rows_of s traces from channel in
     let mail = mail_before s traces from (unit.Channel channel) from in
     let new = mail_in s traces until (unit.Channel channel) from until in
-    let was : IsDone done s channel old mail new from until = gives s channel old mail h (length-rows_of s traces from channel) (fit-then s traces from until channel k l) in
+    let was : IsDone d s channel old mail new from until commands commands_then messages messages_then = gives s channel old mail h (length-rows_of s traces from channel) (fit-then s traces from until channel k l) in
     let settled : mail_before s traces until (unit.Channel channel) from ≡ mail = mail-settled s traces from until (unit.Channel channel) l in
     let all : mail ++ new ≡ mail_before s traces until (unit.Channel channel) until = ap (λ ms. ms ++ new) (sym settled) ∙ spans-join s traces from until (unit.Channel channel) l in
     let rows : channel_run s channel old (mail ++ new) (until - from) ≡ rows_of s traces until channel =
     ap (λ ms. channel_run s channel old (ms ++ new) (until - from)) (sym settled) ∙ channels-run_alone s traces from until channel k l in
     record {
-      stands = subst (λ ms. StandsFor done.channel s channel (rows_of s traces until channel) ms) all (subst (λ r. StandsFor done.channel s channel r (mail ++ new)) rows was.stands);
+      issued = was.issued;
+      sent = was.sent;
+      stands = subst (λ ms. StandsFor d s channel (rows_of s traces until channel) ms) all (subst (λ r. StandsFor d s channel r (mail ++ new)) rows was.stands);
       commands_are = ap (issued_commands channel) (sym rows) ∙ was.commands_are;
       messages_are = ap (channel_messages s channel) (sym rows) ∙ was.messages_are;
+      commands_behind = was.commands_behind;
+      messages_behind = was.messages_behind;
     }
 
 waiting_in : (p : Request → Bool) (until at : ℕ) → ltb at until ≡ false → (o : Option Request) → IfSome o (λ r. r.arrival ≡ at) → (rs : List Request)

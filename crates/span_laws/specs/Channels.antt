@@ -2,7 +2,7 @@
 --     RequestsFitSpans s traces from until      the requests that come to a channel in a span are fit for it
 --     ChannelsRunAlone s traces from until      from them the channel alone does what it does in the run
 --     IsChannelAt s traces channel now c      a channel stands for what it did in the first cycles of a run
---     HasGone s traces channel from until done      what comes back from it is its part of the run
+--     HasGone s traces channel from until c commands commands_then messages messages_then      what it leaves is its part of the run
 --     ChannelsStart, ChannelsMayRun, ChannelsGoOn      a channel stands for that before the first cycle, and from span to span
 --     ChannelsEndAlike s traces now      its statistics and its state are those of the run
 use Rattle.std.specs.Prelude.{◌≡◌, ℕ, ◌-◌, ◌<◌, ◌≤◌, List, [], ◌++◌, length, Option}
@@ -10,6 +10,7 @@ use Rattle.sim_base.specs.declared.config.Config.{Config}
 use Rattle.sim_base.specs.History.{messages_of_channel}
 use Rattle.sim_base.specs.Machine.{run, channel_run}
 use Rattle.sim_base.specs.declared.command.Command.{Command}
+use Rattle.sim_base.specs.declared.command.CommandRow.{CommandRow}
 use Rattle.sim_base.specs.declared.message.Message.{Message}
 use Rattle.sim_base.specs.declared.message.Unit.TheVariants as unit
 use Rattle.sim_base.specs.declared.trace.Entry.{Entry}
@@ -20,7 +21,6 @@ use Rattle.channel_step.specs.Channels.{StandsFor}
 use Rattle.channel_step.specs.Fit.{IsFit}
 use Rattle.channel_step.specs.Runs.{IsDone, CanRun}
 use Rattle.channel_step.specs.declared.channel.Channel.{Channel}
-use Rattle.channel_step.specs.declared.done.ChannelDone.{ChannelDone}
 use Rattle.span_laws.specs.Mail.{mail_before, mail_in}
 
 -- the requests of a run that come to a channel in a span are fit for it, after what the channel did and what arrived before
@@ -40,18 +40,24 @@ ChannelsRunAlone s traces from until =
 abbrev pub IsChannelAt : Config → List (List Entry) → ℕ → ℕ → Channel → Type 0
 IsChannelAt s traces channel now c = StandsFor c s channel (rows_of s traces now channel) (mail_before s traces now (unit.Channel channel) now)
 
--- what a channel gives for a span: whatever past it stands for, if these messages are fit for the span after it
-abbrev pub Gives : Channel → List Message → ℕ → ℕ → ChannelDone → Type 0
-Gives c inbox from until done =
+-- what a channel gives for a span, and which lists it leaves of which: whatever past it stands for, if these messages are fit for
+-- the span after it
+abbrev pub Gives : Channel → List Message → ℕ → ℕ → Channel → List CommandRow → List CommandRow → List Message → List Message → Type 0
+Gives c inbox from until d commands commands_then messages messages_then =
     (s : Config) (channel : ℕ) (rows : List (Option Command)) (mail : List Message)
-    → StandsFor c s channel rows mail → length rows ≡ from → IsFit s channel rows mail inbox from until → IsDone done s channel rows mail inbox from until
+    → StandsFor c s channel rows mail → length rows ≡ from → IsFit s channel rows mail inbox from until
+    → IsDone d s channel rows mail inbox from until commands commands_then messages messages_then
 
--- What comes back from a channel is what the one with this number did in a span of a run: it stands at the end of the span, and
--- its commands and messages are those of the run beyond those before the span.
-pub record HasGone (s : Config) (traces : List (List Entry)) (channel from until : ℕ) (done : ChannelDone) : Type 0 where
-  pub stands : IsChannelAt s traces channel until done.channel
-  pub commands_are : history_of s traces until channel ≡ history_of s traces from channel ++ done.commands.items
-  pub messages_are : messages_of_channel s (run s traces until) channel ≡ messages_of_channel s (run s traces from) channel ++ done.messages.items
+-- A channel did what the one with this number did in a span of a run: it stands at the end of the span, and the commands and
+-- messages of the run beyond those before the span were put behind what two lists held.
+pub record HasGone (s : Config) (traces : List (List Entry)) (channel from until : ℕ) (c : Channel) (commands commands_then : List CommandRow) (messages messages_then : List Message) : Type 0 where
+  pub issued : List CommandRow
+  pub sent : List Message
+  pub stands : IsChannelAt s traces channel until c
+  pub commands_are : history_of s traces until channel ≡ history_of s traces from channel ++ issued
+  pub messages_are : messages_of_channel s (run s traces until) channel ≡ messages_of_channel s (run s traces from) channel ++ sent
+  pub commands_behind : commands_then ≡ commands ++ issued
+  pub messages_behind : messages_then ≡ messages ++ sent
 
 -- before the first cycle a channel that has done nothing stands for its part of the run
 abbrev pub ChannelsStart : Config → List (List Entry) → Type 0
@@ -63,12 +69,13 @@ ChannelsMayRun s traces from until =
     (channel : ℕ) (c : Channel) → channel < s.channels → from ≤ until → IsChannelAt s traces channel from c
     → CanRun c (mail_in s traces until (unit.Channel channel) from until) from until
 
--- what comes back then is its part of the longer run
+-- what it leaves then is its part of the longer run
 abbrev pub ChannelsGoOn : Config → List (List Entry) → ℕ → ℕ → Type 0
 ChannelsGoOn s traces from until =
-    (channel : ℕ) (c : Channel) (done : ChannelDone) → channel < s.channels → from ≤ until → IsChannelAt s traces channel from c
-    → Gives c (mail_in s traces until (unit.Channel channel) from until) from until done
-    → HasGone s traces channel from until done
+    (channel : ℕ) (c d : Channel) (commands commands_then : List CommandRow) (messages messages_then : List Message)
+    → channel < s.channels → from ≤ until → IsChannelAt s traces channel from c
+    → Gives c (mail_in s traces until (unit.Channel channel) from until) from until d commands commands_then messages messages_then
+    → HasGone s traces channel from until d commands commands_then messages messages_then
 
 -- the statistics and the state of what it stands for are those of the run
 abbrev pub ChannelsEndAlike : Config → List (List Entry) → ℕ → Type 0

@@ -13,7 +13,7 @@ pub fn requests_of_a_run_fit()
 {}
 
 /// A channel that stands for its part of a run, from the first cycle on, may be run over a span with what arrives at it there, and
-/// what comes back is its part of the longer run.
+/// what it leaves is its part of the longer run.
 pub fn channels_go_on()
     ensures start { (s : Config) (traces : List (List Entry)) → ChannelsStart s traces }
     ensures may_run { (s : Config) (traces : List (List Entry)) (from until : ℕ) → ChannelsMayRun s traces from until }

@@ -2,10 +2,6 @@
 #![tactic(auto)]
 
 #[cfg(test)]
-mod machines;
-#[cfg(test)]
-mod random;
-#[cfg(test)]
 mod tests;
 #[cfg(test)]
 mod units;

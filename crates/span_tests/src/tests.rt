@@ -3,12 +3,14 @@
 mod alone;
 mod rows;
 
-use crate::machines::{machine, traces};
-use crate::random::Random;
 use crate::units::Units;
 use cpu_trace::trace::Trace;
+use fixtures::generated::made_up;
+use fixtures::random::Random;
+use fixtures::texts::traces_of;
 use one_clock::machine::run_plain;
 use sim_base::config::Config;
+use sim_base::document::read_config;
 use sim_base::message::{Message, Unit};
 use statistics::outcome::Outcome;
 use std::alloc::Global;
@@ -128,11 +130,10 @@ fn assert_seeds(
 ) -> Result<(), Fail> {
     for step in 0..count {
         let seed = seeds.wrapping_add(step);
-        let mut random = Random::new(seed);
-        let config = machine(alloc, &mut random)?;
-        let traces = traces(rt, alloc, &mut random, &config)?;
-        let limit = random.between(50, 400);
-        assert_same(rt, alloc, &config, &traces, limit, seed, jumps)?;
+        let made = made_up(alloc, seed)?;
+        let config = read_config(alloc, made.config.as_bytes())?;
+        let traces = traces_of(rt, alloc, &made.traces)?;
+        assert_same(rt, alloc, &config, &traces, made.limit, seed, jumps)?;
     }
     Ok(())
 }

@@ -7,5 +7,3 @@ pub mod final_state;
 pub mod laws;
 pub mod outcome;
 pub mod stats;
-#[cfg(test)]
-mod tests;

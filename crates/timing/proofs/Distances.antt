@@ -1,14 +1,14 @@
 -- How large a distance may be, and that two commands which no rule binds have none.
-use Rattle.std.proofs.Common.{◌≡◌, ℕ, ◌≤◌, Bool, false, max, List, [], ◌∷◌, map, refl, arith}
+use Rattle.std.proofs.Common.{ℕ, ◌≤◌, Bool, max, List, [], ◌∷◌, map, arith}
 use Rattle.std.specs.Prelude.{filter, fold}
-use Rattle.std.specs.List.{AllByRecursion as Each, list_any}
-use Rattle.std.proofs.lemmas.Bool.{cond_both, or_parts}
+use Rattle.std.specs.List.{AllByRecursion as Each}
+use Rattle.std.proofs.lemmas.Bool.{cond_both}
 use Rattle.sim_base.specs.declared.command.Kind.{Kind}
 use Rattle.sim_base.specs.declared.command.Relation.{Relation}
 use Rattle.sim_base.specs.declared.rule.Rule.{Rule}
 use Rattle.sim_base.specs.declared.timing.Timing.{Timing}
 use Rattle.sim_base.specs.Ranges.{TimingInRange}
-use Rattle.sim_base.specs.Rules.{rules, binds, is_bound, gap}
+use Rattle.sim_base.specs.Rules.{rules, binds, gap}
 
 -- the greatest of some numbers of a list is no more than each of the list may be
 greatest-le : {X : Type 0} (f : X → ℕ) (p : X → Bool) (m a : ℕ) (xs : List X) → a ≤ m → Each (λ x. f x ≤ m) xs → fold max a (map f (filter p xs)) ≤ m
@@ -17,12 +17,6 @@ greatest-le f p m a (x ∷ xs) h k =
     cond_both (p x) (x ∷ filter p xs) (filter p xs) (λ ys. fold max a (map f ys) ≤ m)
     (λ e. greatest-le f p m (max a (f x)) xs (omega (arith, k.0)) k.1)
     (λ e. greatest-le f p m a xs h k.1)
-
-filter-none : {X : Type 0} (p : X → Bool) (xs : List X) → list_any p xs ≡ false → filter p xs ≡ []
-filter-none p [] h = refl
-filter-none p (x ∷ xs) h =
-    let parts = or_parts (p x) (list_any p xs) h in
-    rw (parts.0) (filter-none p xs parts.1)
 
 -- each rule's distance, where the distances of the timing are in range
 rules-le : (t : Timing) → TimingInRange t → Each (λ (r : Rule). r.cycles ≤ 200004) (rules t)
@@ -121,7 +115,3 @@ rules-le t h = (
 pub gap-le : (t : Timing) (earlier later : Kind) (relation : Relation) → TimingInRange t → gap t earlier later relation ≤ 200004
 unfolding gap
 gap-le t earlier later relation h = greatest-le (λ (r : Rule). r.cycles) (λ r. binds r earlier later relation) 200004 0 (rules t) (omega arith) (rules-le t h)
-
-pub gap-unbound : (t : Timing) (earlier later : Kind) (relation : Relation) → is_bound t earlier later relation ≡ false → gap t earlier later relation ≡ 0
-unfolding gap is_bound
-gap-unbound t earlier later relation h = rw (filter-none (λ r. binds r earlier later relation) (rules t) h) refl

@@ -1,6 +1,6 @@
 -- How long a command holds a later one back, for each pair of kinds and each relation of their banks.
 --     hold t earlier later relation      the distance, where a rule binds two such commands
---     holds_between t earlier later, holds_after t earlier, hold_table t      the same, as a table by relation, by later and by earlier kind
+--     holds_between t earlier later, holds_after t earlier, hold_table t      distances and what is bound, as a table by relation, by later and by earlier kind
 --     place_of_kind, place_of_relation      where a kind and a relation stand in it
 use Rattle.std.specs.Prelude.{ℕ, List, [], ◌∷◌, Option, Some, None, if◌then◌else◌}
 use Rattle.sim_base.specs.declared.timing.Timing.{Timing}
@@ -16,10 +16,13 @@ use Rattle.timing.specs.declared.gap_table.HoldsAfter.{HoldsAfter}
 unfoldable pub hold : Timing → Kind → Kind → Relation → Option ℕ
 hold t earlier later relation = if is_bound t earlier later relation then Some (gap t earlier later relation) else None
 
--- the same for each relation
+-- the distance for each relation, and whether a rule binds two such commands
 abbrev pub holds_between : Timing → Kind → Kind → HoldsBetween
 holds_between t earlier later =
-    record { by_relation = hold t earlier later SameBank ∷ hold t earlier later SameGroup ∷ hold t earlier later OtherGroup ∷ hold t earlier later OtherRank ∷ [] }
+    record {
+      cycles = gap t earlier later SameBank ∷ gap t earlier later SameGroup ∷ gap t earlier later OtherGroup ∷ gap t earlier later OtherRank ∷ [];
+      bound = is_bound t earlier later SameBank ∷ is_bound t earlier later SameGroup ∷ is_bound t earlier later OtherGroup ∷ is_bound t earlier later OtherRank ∷ [];
+    }
 
 -- the same for each later kind
 abbrev pub holds_after : Timing → Kind → HoldsAfter

@@ -1,19 +1,21 @@
-//! All distances between commands, each found by one look-up.
+//! All distances between commands, each found by one look-up without a test.
 
-ghost use Rattle.std.specs.Prelude.{◌≡◌, ◌≤◌, IfSome};
+ghost use Rattle.std.specs.Prelude.{◌≡◌, ◌≤◌};
 ghost use Rattle.sim_base.specs.Rules.{gap, is_bound};
-ghost use Rattle.timing.specs.Holds.{hold, holds_between, holds_after, hold_table, place_of_kind, place_of_relation};
+ghost use Rattle.timing.specs.Holds.{holds_between, holds_after, hold_table, place_of_kind, place_of_relation};
 
-use crate::rules::hold_by_rules;
+use crate::rules::{greatest_distance, is_pair_bound};
 use sim_base::command::{Kind, Relation};
 use sim_base::config::Config;
 use sim_base::timing::Timing;
 use std::marker::Model;
 
-/// How far a kind of command holds another back, by the relation of their banks.
+/// How far a kind of command holds another back, by the relation of their banks: the distances, 0 where no rule binds the two, and
+/// which of them a rule does bind.
 #[derive(Clone, Copy)]
 struct HoldsBetween {
-    by_relation: [Option<u64>; 4],
+    cycles: [u64; 4],
+    bound: [bool; 4],
 }
 
 /// How far a kind of command holds each other kind back.
@@ -48,11 +50,17 @@ fn holds_of_kinds(timing: &Timing, earlier: Kind, later: Kind) -> HoldsBetween
     ensures { result ≡ holds_between timing.now earlier later }
 {
     HoldsBetween {
-        by_relation: [
-            hold_by_rules(timing, earlier, later, Relation::SameBank),
-            hold_by_rules(timing, earlier, later, Relation::SameGroup),
-            hold_by_rules(timing, earlier, later, Relation::OtherGroup),
-            hold_by_rules(timing, earlier, later, Relation::OtherRank),
+        cycles: [
+            greatest_distance(timing, earlier, later, Relation::SameBank),
+            greatest_distance(timing, earlier, later, Relation::SameGroup),
+            greatest_distance(timing, earlier, later, Relation::OtherGroup),
+            greatest_distance(timing, earlier, later, Relation::OtherRank),
+        ],
+        bound: [
+            is_pair_bound(timing, earlier, later, Relation::SameBank),
+            is_pair_bound(timing, earlier, later, Relation::SameGroup),
+            is_pair_bound(timing, earlier, later, Relation::OtherGroup),
+            is_pair_bound(timing, earlier, later, Relation::OtherRank),
         ],
     }
 }
@@ -86,6 +94,7 @@ fn all_holds(timing: &Timing) -> [HoldsAfter; 6]
     ]
 }
 
+#[inline(always)]
 fn index_of_kind(kind: Kind) -> usize
     ensures value { result ≡ place_of_kind kind }
     ensures inside { result ≤ 5 }
@@ -93,6 +102,7 @@ fn index_of_kind(kind: Kind) -> usize
     kind as usize
 }
 
+#[inline(always)]
 fn index_of_relation(relation: Relation) -> usize
     ensures value { result ≡ place_of_relation relation }
     ensures inside { result ≤ 3 }
@@ -101,6 +111,8 @@ fn index_of_relation(relation: Relation) -> usize
 }
 
 impl GapTable {
+    ghost use Rattle.sim_base.specs.Ranges.{TimingInRange};
+
     /// The table of the distances of a configuration.
     pub fn of(config: &Config) -> Self
         ensures { result ≡ config.now.timing }
@@ -111,32 +123,34 @@ impl GapTable {
         }
     }
 
-    /// How many cycles a command holds a later one back, from 0 to 200,004; `None` where no rule binds two such commands, so
-    /// that the earlier one does not hold the later one back at all.
-    pub fn hold(&self, earlier: Kind, later: Kind, relation: Relation) -> Option<u64>
-        ensures value { result ≡ hold self.now earlier later relation }
-        ensures range { IfSome result (λ cycles. cycles ≤ 200004) }
+    /// How far a kind of command holds another back.
+    #[inline(always)]
+    fn between(&self, earlier: Kind, later: Kind) -> &HoldsBetween
+        ensures holds { result.now ≡ holds_between self.now earlier later }
+        ensures in_range { TimingInRange self.now }
     {
         let after = &self.after[index_of_kind(earlier)];
-        let between = &after.by_kind[index_of_kind(later)];
-        between.by_relation[index_of_relation(relation)]
+        &after.by_kind[index_of_kind(later)]
     }
 
     /// The least distance of two such commands in cycles, from 0 to 200,004; 0 where no rule binds them.
+    #[inline(always)]
     pub fn gap(&self, earlier: Kind, later: Kind, relation: Relation) -> u64
         ensures value { result ≡ gap self.now earlier later relation }
         ensures range { result ≤ 200004 }
     {
-        self.hold(earlier, later, relation).unwrap_or(0)
+        self.between(earlier, later).cycles[index_of_relation(relation)]
     }
 
-    /// Whether a rule binds two such commands.
+    /// Whether a rule binds two such commands, so that the earlier one holds the later one back.
     pub fn binds(&self, earlier: Kind, later: Kind, relation: Relation) -> bool
         ensures { result ≡ is_bound self.now earlier later relation }
     {
-        self.hold(earlier, later, relation).is_some()
+        self.between(earlier, later).bound[index_of_relation(relation)]
     }
+
     /// The cycles in which a rank takes four ACTs at most, from 1 to 100,000.
+    #[inline(always)]
     pub fn four_act_window(&self) -> u32
         ensures value { result ≡ self.now.n_faw }
         ensures range { (1 ≤ result) × (result ≤ 100000) }

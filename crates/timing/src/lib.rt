@@ -3,5 +3,3 @@
 
 pub mod gap_table;
 pub mod rules;
-#[cfg(test)]
-mod tests;

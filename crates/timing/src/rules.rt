@@ -4,7 +4,6 @@ ghost use Rattle.std.specs.Prelude.{◌≡◌, ◌+◌, ◌==◌, ◌&&◌, ◌�
 ghost use Rattle.sim_base.specs.Rules.{rules, is_kind, covers, binds, is_bound, gap};
 ghost use Rattle.sim_base.specs.Rules.{relation_in_rank, relation_of};
 ghost use Rattle.timing.specs.Relation.{relation_to};
-ghost use Rattle.timing.specs.Holds.{hold};
 
 use sim_base::command::{Command, Kind, Relation};
 use sim_base::place::BankId;
@@ -147,8 +146,9 @@ fn does_bind(rule: &Rule, earlier: Kind, later: Kind, relation: Relation) -> boo
         && is_covered(rule.scope, relation)
 }
 
+/// Whether a rule binds two such commands.
 #[tactic(auto, unfolding(sim_base::specs::Rules::is_bound))]
-fn is_pair_bound(timing: &Timing, earlier: Kind, later: Kind, relation: Relation) -> bool
+pub(crate) fn is_pair_bound(timing: &Timing, earlier: Kind, later: Kind, relation: Relation) -> bool
     ensures { result ≡ is_bound timing.now earlier later relation }
 {
     rules(timing)
@@ -156,8 +156,14 @@ fn is_pair_bound(timing: &Timing, earlier: Kind, later: Kind, relation: Relation
         .any(|r| does_bind(r, earlier, later, relation))
 }
 
+/// The greatest distance of the rules that bind two such commands in cycles; 0 where none does.
 #[tactic(auto, unfolding(sim_base::specs::Rules::gap))]
-fn greatest_distance(timing: &Timing, earlier: Kind, later: Kind, relation: Relation) -> u64
+pub(crate) fn greatest_distance(
+    timing: &Timing,
+    earlier: Kind,
+    later: Kind,
+    relation: Relation,
+) -> u64
     ensures { result ≡ gap timing.now earlier later relation }
 {
     rules(timing)
@@ -165,16 +171,4 @@ fn greatest_distance(timing: &Timing, earlier: Kind, later: Kind, relation: Rela
         .filter(|r| does_bind(r, earlier, later, relation))
         .map(|r| r.cycles)
         .fold(0, |most, cycles| most.max(cycles))
-}
-
-/// How far a command holds a later one back by the rules, in cycles; `None` where no rule binds two such commands.
-#[tactic(auto, unfolding(crate::specs::Holds::hold))]
-pub fn hold_by_rules(timing: &Timing, earlier: Kind, later: Kind, relation: Relation) -> Option<u64>
-    ensures { result ≡ hold timing.now earlier later relation }
-{
-    if is_pair_bound(timing, earlier, later, relation) {
-        Some(greatest_distance(timing, earlier, later, relation))
-    } else {
-        None
-    }
 }

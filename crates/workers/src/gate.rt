@@ -2,12 +2,16 @@
 
 ghost use Rattle.std.specs.Prelude.{◌≡◌, IfOk};
 
-use epochs::job::{Done, Job, JobName};
+use epochs::job::{Done, Job};
+use sim_base::job::JobName;
 use std::alloc::{AllocError, Global};
 
 /// What a worker passes before it runs a job, and after it. Several threads use one gate. Workers are numbered from 0 in each
 /// phase.
 pub trait Gate {
+    /// Whether jobs pass the gate. Where they do not, a single worker may run a machine in place, with no jobs.
+    fn watches(&self) -> bool;
+
     /// The worker is about to run the job.
     fn enter(&self, worker: usize, job: JobName);
 
@@ -20,6 +24,10 @@ pub trait Gate {
 pub struct Open;
 
 impl Gate for Open {
+    fn watches(&self) -> bool {
+        false
+    }
+
     fn enter(&self, _worker: usize, _job: JobName) {}
 
     fn leave(&self, _worker: usize, _job: JobName) {}

@@ -12,5 +12,3 @@ pub mod runner;
 pub mod running;
 pub mod seats;
 pub mod shares;
-#[cfg(test)]
-mod tests;

@@ -22,11 +22,12 @@ use std::alloc::Global;
 use std::sync::Wait;
 use std::thread::Threads;
 
-/// A simulator one phase further, by workers.
-fn one_phase<R: Threads + Wait + Sync, G: Gate + Sync>(
+/// A simulator further on by workers, by a phase; or up to the limit, run in place by the caller alone.
+fn further<R: Threads + Wait + Sync, G: Gate + Sync>(
     sim: Sim,
     alloc: Global,
     limit: Cycle,
+    is_alone: bool,
     claims: &Claims<R, G>,
 ) -> Result<Sim, Fault>
     requires before { sim.now < limit }
@@ -34,6 +35,9 @@ fn one_phase<R: Threads + Wait + Sync, G: Gate + Sync>(
     ensures ok { IfOk result (IsFurther sim limit) }
     ensures refused { IfErr result IsOfHost }
 {
+    if is_alone {
+        return Ok(sim.run_alone(alloc, limit)?);
+    }
     match plan(sim, alloc, limit)? {
         Planned::Quiet(after) => Ok(after),
         Planned::Work(phase, jobs) => {
@@ -66,7 +70,7 @@ fn next_stop(config: &Config, sim: &Sim, limit: Cycle) -> Option<Cycle>
 
 /// Runs a machine over one trace a core, up to a limit of at most 10^12 cycles or, where the configuration ends it drained, until
 /// all is done, and gives its commands, its statistics and the state in which it ends. Each phase is run by so many workers at
-/// most, 1 to 64, each in a thread of its own; with one worker, in the thread of the caller. What comes out depends on neither
+/// most, 1 to 64, each in a thread of its own; with one worker, in the thread of the caller, and in place where the gate does not watch. What comes out depends on neither
 /// them nor the order in which they end: it is what the one-clock machine does. Only the host can refuse: memory (fault 10), or
 /// a worker's start (fault 11). All workers have ended when this returns.
 pub fn run_machine<R: Threads + Wait + Sync, G: Gate + Sync>(
@@ -85,10 +89,11 @@ pub fn run_machine<R: Threads + Wait + Sync, G: Gate + Sync>(
     ensures outcome { IfOk result (λ o. o ≡ outcome_of config.now traces.items (cycles_run config.now traces.items cycles)) }
     ensures refused { IfErr result IsOfHost }
 {
+    let is_alone = workers == 1 && !gate.watches();
     let claims = Claims::new(rt, alloc, gate, workers);
     let mut sim = Sim::start(alloc, config, traces)?;
     while let Some(stop) = next_stop(config, &sim, cycles) {
-        sim = one_phase(sim, alloc, stop, &claims)?;
+        sim = further(sim, alloc, stop, is_alone, &claims)?;
     }
     let outcome = sim.outcome(alloc)?;
     Ok(outcome)

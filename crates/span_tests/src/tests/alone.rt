@@ -1,11 +1,14 @@
 //! A channel and a core of the small machine alone, with messages, commands and counts that were worked out by hand.
 
-use super::rows::{profile_s, summary, traces_of};
+use super::rows::summary;
 use channel_feed::fed::FedChannel;
 use core_feed::fed::FedCore;
+use cpu_trace::trace::Trace;
+use fixtures::small::small;
 use sim_base::command::CommandRow;
 use sim_base::message::{Cycle, LinkId, Load, Message, Request};
 use sim_base::place::Place;
+use sim_base::trace::Entry;
 use statistics::cores::CoreStats;
 use std::alloc::{AllocError, Global};
 use std::test::Fail;
@@ -45,7 +48,7 @@ fn arrivals(alloc: Global, messages: &[Message]) -> Result<Vec<(LinkId, Cycle)>,
 
 /// What a channel does in spans with these ends, where a Read of line 0 arrives in cycle 2 and one of line 1 in cycle 3.
 fn two_reads(alloc: Global, ends: &[Cycle]) -> Result<(Vec<CommandRow>, Vec<Message>), Fail> {
-    let config = profile_s(alloc, &[], "")?;
+    let config = small(alloc, &[], "")?;
     let reads = [read(0, 0, 2), read(1, 1, 3)];
     let mut fed = FedChannel::start(alloc, &config, 0)?;
     let mut commands = Vec::new(alloc);
@@ -76,9 +79,8 @@ fn a_channel_alone_whole_and_cut(rt: HostRuntime) -> Result<(), Fail> {
 #[test]
 fn a_core_alone_with_one_credit(rt: HostRuntime) -> Result<(), Fail> {
     let alloc = rt.alloc();
-    let config = profile_s(alloc, &["read_credits = 1"], "")?;
-    let mut traces = traces_of(&rt, alloc, &["0 0\n0 64\n"])?;
-    let trace = traces.pop().ok_or("no trace")?;
+    let config = small(alloc, &["read_credits = 1"], "")?;
+    let trace = Trace::from_entries(alloc, &[Entry::Read(0), Entry::Read(64)])?;
     let credit = Message {
         link: 2,
         arrival: 7,

@@ -1,66 +1,16 @@
 //! Worked rows of a small machine: what its channels issue, counted by hand.
 
 use super::{assert_same, run_units};
-use crate::random::Random;
 use crate::units::Units;
-use cpu_trace::reader::read_trace;
-use cpu_trace::trace::Trace;
+use fixtures::random::Random;
+use fixtures::small::{TWO_RANKS, small};
+use fixtures::texts::{texts_of, traces_of};
 use sim_base::command::{CommandRow, Kind};
 use sim_base::config::Config;
-use sim_base::document::read_config;
-use sim_base::message::CoreId;
-use std::alloc::{AllocError, Global};
+use std::alloc::Global;
 use std::process::Abort;
 use std::test::Fail;
 use std::thread::Threads;
-
-/// One core, one channel of two groups of four banks, 128 lines a row, window 8, width 2, all latencies 2, no refresh.
-const PROFILE_S: &str =
-    "cores = 1\nchannels = 1\ngroups = 2\ncolumns = 128\nrows = 65536\nfields = [\"channel\", \"column\", \"group\", \"bank\", \"row\"]\nwindow = 8\nwidth = 2\nread_credits = 4\nwrite_credits = 4\nrequest_latency = 2\nreply_latency = 2\ncredit_latency = 2\nnRCD = 3\nnRP = 3\nnRAS = 8\nnRC = 11\nnCL = 4\nnCWL = 3\nnCCD_S = 4\nnCCD_L = 5\nnRRD_S = 2\nnRRD_L = 3\nnFAW = 12\nnRTP = 2\nnWR = 4\nnWTR_S = 1\nnWTR_L = 2\nnRTW = 7\nnRFC = 20\nnREFI = 0\n";
-
-const TWO_RANKS: &str =
-    "fields = [\"channel\", \"column\", \"rank\", \"group\", \"bank\", \"row\"]\nranks = 2\nnRTRS = 2";
-
-/// Whether two lines are of one key.
-fn has_same_key<'x>(a: &'x str, b: &'x str) -> bool {
-    a.split('=').next() == b.split('=').next()
-}
-
-/// A line of a configuration, or the one that is to stand in its place.
-fn push_line(text: &mut String, line: &str, changes: &[&str]) -> Result<(), AllocError> {
-    for change in changes {
-        if has_same_key(change, line) {
-            text.push_str(change)?;
-            return text.push_str("\n");
-        }
-    }
-    text.push_str(line)?;
-    text.push_str("\n")
-}
-
-/// Profile S with other lines for some keys, and more lines at its end.
-pub(super) fn profile_s(alloc: Global, changes: &[&str], more: &str) -> Result<Config, Fail> {
-    let mut text = String::new(alloc);
-    for line in PROFILE_S.lines() {
-        push_line(&mut text, line, changes)?;
-    }
-    text.push_str(more)?;
-    Ok(read_config(alloc, text.as_bytes())?)
-}
-
-pub(super) fn traces_of(
-    rt: &(impl Threads + Sync),
-    alloc: Global,
-    texts: &[&str],
-) -> Result<Vec<Trace>, Fail> {
-    let mut traces = Vec::new(alloc);
-    let mut core: CoreId = 0;
-    for text in texts {
-        traces.push(read_trace(rt, alloc, core, text.as_bytes())?)?;
-        core = core.wrapping_add(1);
-    }
-    Ok(traces)
-}
 
 fn word(kind: Kind) -> &'static str {
     match kind {
@@ -93,7 +43,7 @@ fn assert_row(
     limit: u64,
     want: &str,
 ) -> Result<(), Fail> {
-    let traces = traces_of(rt, alloc, texts)?;
+    let traces = traces_of(rt, alloc, &texts_of(alloc, texts)?)?;
     let start = Units::start(alloc, config, &traces)?;
     let mut units = run_units(alloc, start, &mut Random::new(7), limit, true)?;
     units.commands.sort_by_key(|row| (row.cycle, row.channel))?;
@@ -104,7 +54,7 @@ fn assert_row(
     assert_same(rt, alloc, config, &traces, limit, 3, true)
 }
 
-/// The same under profile S, with other lines for some keys, and more lines at its end.
+/// The same of the small machine, with other lines for some keys, and more lines at its end.
 fn assert_row_of_s(
     rt: &(impl Abort + Threads + Sync),
     alloc: Global,
@@ -114,7 +64,7 @@ fn assert_row_of_s(
     limit: u64,
     want: &str,
 ) -> Result<(), Fail> {
-    let config = profile_s(alloc, changes, more)?;
+    let config = small(alloc, changes, more)?;
     assert_row(rt, alloc, &config, texts, limit, want)
 }
 

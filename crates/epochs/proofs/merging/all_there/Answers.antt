@@ -3,7 +3,7 @@ use Rattle.std.specs.Vec.Iter.{into_iter_items}
 use Rattle.epochs.specs.Units.{unit_at}
 use Rattle.epochs.specs.Views.{PhaseView}
 use Rattle.epochs.specs.declared.machine.Machine.{Machine}
-use Rattle.epochs.specs.declared.merging.MergeFault.TheVariants.{Missing}
+use Rattle.sim_base.specs.declared.fault.MergeFault.TheVariants.{Missing}
 use Rattle.epochs.proofs.Seating.{seats-missing, seats-all}
 use Rattle.epochs.proofs.Standing.{all-yielded}
 use Rattle.epochs.proofs.merging.all_there.Goals as goal

@@ -1,7 +1,7 @@
 use Rattle.std.proofs.Common.{◌≡◌, ℕ, ◌⊎◌, inl, inr, sym, ◌∙◌}
 use Rattle.sim_base.specs.declared.message.Unit.{Unit as MachineUnit}
-use Rattle.epochs.specs.declared.merging.MergeFault.{MergeFault}
-use Rattle.epochs.specs.declared.merging.MergeFault.TheVariants.{Missing, Double, Stranger, Memory}
+use Rattle.sim_base.specs.declared.fault.MergeFault.{MergeFault}
+use Rattle.sim_base.specs.declared.fault.MergeFault.TheVariants.{Missing, Double, Stranger, Memory}
 use Rattle.epochs.proofs.Whole.{whole-of, only-refused}
 use Rattle.epochs.proofs.merging.merge_whole.Goals as goal
 

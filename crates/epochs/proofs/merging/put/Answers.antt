@@ -3,7 +3,7 @@ use Rattle.std.specs.Prelude.{is_some}
 use Rattle.std.proofs.Math.ListN.{set}
 use Rattle.epochs.specs.Merging.{is_among, names_of}
 use Rattle.epochs.specs.Seats.{seats_of}
-use Rattle.epochs.specs.declared.merging.MergeFault.TheVariants.{Stranger, Double}
+use Rattle.sim_base.specs.declared.fault.MergeFault.TheVariants.{Stranger, Double}
 use Rattle.epochs.proofs.Seating.{fault-stranger, fault-double, fault-none, seat-taken, seat-is, seats-put, place-among, job-is}
 use Rattle.epochs.proofs.merging.put.Goals as goal
 

@@ -25,11 +25,11 @@ loop-rank-preserved c =
       rank = omega arith;
       next = λ s history stand n all.
           let after : c.loop-rank.rank ≡ rank + 1 = omega arith in
-          let is_due = c.first_due.ensures.stands s history stand.refreshes_stand in
-          refreshes_more s history (candidates_of s c.args.queue.now) rank c.args.refresh.now.ranks c.args.now c.first_due.result c.loop-rank.next c.with_refresh.new.next is_due (omega arith)
+          let is_due = c.first_due-due.ensures.stands s history stand.refreshes_stand in
+          refreshes_more s history (candidates_of s c.args.queue.now) rank c.args.refresh.now.ranks c.args.now c.first_due-due.result c.loop-rank.next c.with_refresh.new.next is_due (omega arith)
           (λ m whole.
           subst (λ k. IsNext (chosen_from s history (candidates_of s c.args.queue.now) k m) c.args.now c.loop-rank.next) after (c.loop-rank.invariant.next s history stand m (omega arith)))
-          (λ commands rest same before. c.with_refresh.ensures.next s history commands rest c.args.now stand.banks_stand stand.groups_are is_due.from_now same before) n all;
+          (λ commands rest same before. c.with_refresh.ensures.next s history commands rest c.args.now stand.banks_stand (record { requests = requests; stands = stand.heads_stand }) stand.groups_are is_due.from_now same before) n all;
       place = c.with_refresh.ensures.place requests c.loop-rank.invariant.place;
     }
 

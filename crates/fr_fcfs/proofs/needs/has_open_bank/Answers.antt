@@ -9,16 +9,16 @@ use Rattle.fr_fcfs.proofs.needs.has_open_bank.Goals as goal
 pub returns-then-has_open_bank_in_group : goal.returns-then-has_open_bank_in_group
 unfolding has_open_bank
 returns-then-has_open_bank_in_group c s history stands groups =
-    let here = sym (c.has_open_bank_in_group.ensures s history stands) ∙ c.if-has_open_bank_in_group.true in
+    let here = sym (c.has_open_bank_in_group.ensures history stands) ∙ c.if-has_open_bank_in_group.true in
     sym (any_below_at (has_open_bank_in_group history c.args.rank) s.groups c.loop-group.group (omega arith) here)
 
 pub loop-group-preserved : goal.loop-group-preserved
-loop-group-preserved c s history stands =
-    let none = sym (c.has_open_bank_in_group.ensures s history stands) ∙ c.if-has_open_bank_in_group.false in
-    any_below_more (has_open_bank_in_group history c.args.rank) c.loop-group.group ∙ (λ i. c.loop-group.invariant s history stands i || none i)
+loop-group-preserved c history stands =
+    let none = sym (c.has_open_bank_in_group.ensures history stands) ∙ c.if-has_open_bank_in_group.false in
+    any_below_more (has_open_bank_in_group history c.args.rank) c.loop-group.group ∙ (λ i. c.loop-group.invariant history stands i || none i)
 
 pub returns : goal.returns
 unfolding has_open_bank
 returns c s history stands groups =
     let all : s.groups ≡ c.loop-group.group = omega arith in
-    sym (ap (λ n. list_any (has_open_bank_in_group history c.args.rank) (below n)) all ∙ c.loop-group.invariant s history stands)
+    sym (ap (λ n. list_any (has_open_bank_in_group history c.args.rank) (below n)) all ∙ c.loop-group.invariant history stands)

@@ -1,13 +1,12 @@
 use Rattle.std.proofs.Common.{◌≡◌, List, false}
 use Rattle.std.specs.List.{list_any}
-use Rattle.sim_base.specs.declared.config.Config.{Config}
 use Rattle.sim_base.specs.declared.command.CommandRow.{CommandRow}
 use Rattle.sim_base.specs.History.{below}
 use Rattle.sim_base.specs.Rules.{has_open_bank_in_group}
-use Rattle.bank_ready.specs.Stands.{StandsFor}
+use Rattle.fr_fcfs.specs.Requests.{KnowsRows}
 use Rattle.fr_fcfs.proofs.needs.has_open_bank.Given as goal
 
 -- no bank is open in the groups so far
 abbrev pub invariant-loop-group : goal.invariant-loop-group
 invariant-loop-group l =
-    (s : Config) (history : List CommandRow) → StandsFor l.banks s history → list_any (has_open_bank_in_group history l.rank) (below l.group) ≡ false
+    (history : List CommandRow) → KnowsRows l.heads history → list_any (has_open_bank_in_group history l.rank) (below l.group) ≡ false

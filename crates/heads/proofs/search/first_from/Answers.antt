@@ -1,7 +1,7 @@
 -- The place is the first at which a request passes.
 use Rattle.std.proofs.Common.{◌≡◌, ◌<◌, ◌+◌, ◌-◌, ◌&&◌, Bool, true, false, length, take, drop, get_or, refl, ap, ◌∙◌, arith}
 use Rattle.std.proofs.lemmas.List.{length-drop}
-use Rattle.queue.specs.Columns.{eligible_column}
+use Rattle.queue_columns.specs.Columns.{eligible_column}
 use Rattle.lane_scan.specs.Marks.{is_marked}
 use Rattle.heads.specs.Heads.{wants}
 use Rattle.heads.proofs.Searches.{tested, none_more, found_here, found_none}
@@ -17,25 +17,25 @@ offset_bounds-requests-at c =
     let tags = c.tags-tags.result.now in
     let at = c.loop-at.at in
     let m = c.in-Some.ensures {u = tt} in
-    omega (arith, m.0.high, ap length (left_is tags at), length-drop at tags, same_length tags c.args.queue.now.requests c.tags-tags.ensures, ap length c.requests-requests.ensures, c.requests-requests.type_inv)
+    omega (arith, m.0.high, ap length (left_is tags at), length-drop at tags, same_length tags c.args.queue.now.requests.now c.tags-tags.ensures, ap length c.requests-requests.ensures, c.requests-requests.type_inv)
 
 pub bounds-requests-at : goal.bounds-requests-at
 bounds-requests-at c =
     let tags = c.tags-tags.result.now in
     let at = c.loop-at.at in
     let m = c.in-Some.ensures {u = tt} in
-    omega (arith, m.0.high, ap length (left_is tags at), length-drop at tags, same_length tags c.args.queue.now.requests c.tags-tags.ensures, ap length c.requests-requests.ensures)
+    omega (arith, m.0.high, ap length (left_is tags at), length-drop at tags, same_length tags c.args.queue.now.requests.now c.tags-tags.ensures, ap length c.requests-requests.ensures)
 
 pub returns-then-is_wanted-clause-within : goal.returns-then-is_wanted-clause-within
 returns-then-is_wanted-clause-within c =
     let tags = c.tags-tags.result.now in
     let at = c.loop-at.at in
     let m = c.in-Some.ensures {u = tt} in
-    omega (arith, m.0.high, ap length (left_is tags at), length-drop at tags, same_length tags c.args.queue.now.requests c.tags-tags.ensures)
+    omega (arith, m.0.high, ap length (left_is tags at), length-drop at tags, same_length tags c.args.queue.now.requests.now c.tags-tags.ensures)
 
 pub returns-then-is_wanted-clause-first : goal.returns-then-is_wanted-clause-first
 returns-then-is_wanted-clause-first c before =
-    let rs = c.args.queue.now.requests in
+    let rs = c.args.queue.now.requests.now in
     let tags = c.tags-tags.result.now in
     let at = c.loop-at.at in
     let next = c.in-Some.next in
@@ -52,7 +52,7 @@ returns-then-is_wanted-clause-first c before =
 
 pub loop-at-preserved : goal.loop-at-preserved
 loop-at-preserved c before =
-    let rs = c.args.queue.now.requests in
+    let rs = c.args.queue.now.requests.now in
     let tags = c.tags-tags.result.now in
     let at = c.loop-at.at in
     let next = c.in-Some.next in
@@ -68,7 +68,7 @@ loop-at-preserved c before =
 
 pub returns-in_default-clause-first : goal.returns-in_default-clause-first
 returns-in_default-clause-first c before =
-    let rs = c.args.queue.now.requests in
+    let rs = c.args.queue.now.requests.now in
     let tags = c.tags-tags.result.now in
     let at = c.loop-at.at in
     let left = take (length tags - at) (drop at tags) in
@@ -80,5 +80,5 @@ returns-in_default-clause-first c before =
 
 pub returns-clause-first : goal.returns-clause-first
 returns-clause-first c before =
-    let rs = c.args.queue.now.requests in
+    let rs = c.args.queue.now.requests.now in
     found_none (wants c.args.bank c.args.write c.args.row) rs c.loop-at.at (omega (arith, same_length c.tags-tags.result.now rs c.tags-tags.ensures)) (c.loop-at.invariant before)

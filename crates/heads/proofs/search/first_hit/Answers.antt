@@ -3,7 +3,7 @@ use Rattle.std.proofs.Common.{◌≡◌, ℕ, ◌<◌, Bool, true, false, ◌&&�
 use Rattle.std.proofs.lemmas.List.Quantifiers.{position-Some}
 use Rattle.sim_base.specs.declared.message.Request.{Request}
 use Rattle.lane_scan.specs.Marks.{is_marked}
-use Rattle.queue.specs.Columns.{eligible_column}
+use Rattle.queue_columns.specs.Columns.{eligible_column}
 use Rattle.std.proofs.lemmas.List.{get_or_default}
 use Rattle.heads.specs.Heads.{asks, wants, passes, entries}
 use Rattle.heads.proofs.Searches.{here_is, none_more, none_narrower, none_before_first, found_here}
@@ -27,7 +27,7 @@ none false a b is = refl
 
 pub returns-then-asks_for_row-clause-first : goal.returns-then-asks_for_row-clause-first
 returns-then-asks_for_row-clause-first c is =
-    let rs = c.args.queue.now.requests in
+    let rs = c.args.queue.now.requests.now in
     let slot = c.args.oldest in
     let any = asks c.args.bank c.args.write in
     let test = wants c.args.bank c.args.write (Some c.args.row) in
@@ -43,7 +43,7 @@ returns-then-asks_for_row-clause-first c is =
 
 pub returns-clause-first : goal.returns-clause-first
 returns-clause-first c is =
-    let rs = c.args.queue.now.requests in
+    let rs = c.args.queue.now.requests.now in
     let slot = c.args.oldest in
     let any = asks c.args.bank c.args.write in
     let test = wants c.args.bank c.args.write (Some c.args.row) in

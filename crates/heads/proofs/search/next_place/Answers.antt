@@ -17,15 +17,15 @@ returns-in-Some-clause-first c earlier within left calm none is =
     let test = wants c.args.gap.bank c.args.write c.args.row in
     let slot = c.args.gap.slot in
     let item = item_at earlier slot within in
-    let here : before slot (first_place test c.args.queue.now.requests) ≡ Some c.in-Some.place =
+    let here : before slot (first_place test c.args.queue.now.requests.now) ≡ Some c.in-Some.place =
     ap (λ xs. before slot (first_place test xs)) left ∙ left_front test earlier slot item.0 within item.1 ∙ ap (before slot) (sym is ∙ c.in-Some.is)
     ∙ before_here slot c.in-Some.place (omega arith) in
-    sym (before_some slot c.in-Some.place (first_place test c.args.queue.now.requests) here).0
+    sym (before_some slot c.in-Some.place (first_place test c.args.queue.now.requests.now) here).0
 
 pub returns-in_default-clause-first : goal.returns-in_default-clause-first
 returns-in_default-clause-first c earlier within left calm none is =
     let test = wants c.args.gap.bank c.args.write c.args.row in
-    let rs = c.args.queue.now.requests in
+    let rs = c.args.queue.now.requests.now in
     let slot = c.args.gap.slot in
     let item = item_at earlier slot within in
     let same : before slot (first_place test rs) ≡ before slot c.args.head =

@@ -5,9 +5,9 @@ use Rattle.queue.proofs.Counted.{none_asks, few_counted, counted_push}
 use Rattle.std.proofs.lemmas.List.Sums.{count_by-le-length}
 use Rattle.sim_base.specs.Scheduling.{asks_for_line}
 use Rattle.lane_scan.specs.Marks.{mark, is_marked}
-use Rattle.queue.proofs.Eligible.{length-eligible}
+use Rattle.queue_columns.proofs.Eligible.{length-eligible}
 use Rattle.queue.proofs.Kept.{eligible_pushed, waiting_pushed, writes_pushed, byte_is, mark_le}
-use Rattle.queue.specs.Columns.{AreCounted}
+use Rattle.queue_columns.specs.Columns.{AreCounted}
 use Rattle.queue.specs.Kept.{AreKept}
 use Rattle.queue.specs.View.{drains_by}
 use Rattle.queue.proofs.Queue.arrive.Goals as goal

@@ -7,9 +7,9 @@ use Rattle.std.specs.List.{remove, position_or_len}
 use mir.Val.{bool_byte}
 use Rattle.sim_base.specs.Places.{is_line}
 use Rattle.sim_base.specs.declared.message.Request.{Request}
-use Rattle.queue.specs.Columns.{waiting_count, AreCounted}
+use Rattle.queue_columns.specs.Columns.{waiting_count, AreCounted}
 use Rattle.queue.proofs.Counted.{none_asks, some_counted, counted_removed}
-use Rattle.queue.proofs.Eligible.{length-eligible}
+use Rattle.queue_columns.proofs.Eligible.{length-eligible}
 use Rattle.queue.proofs.Kept.{writes_removed, waiting_removed, byte_is}
 use Rattle.queue.proofs.Served.{IsServed, served_kept, drains_still}
 use Rattle.queue.proofs.Queue.serve.Goals as goal

@@ -10,10 +10,7 @@ loop-at-preserved c =
       within,
       down.1,
       come_next c.args.requests.now l.requests l.at _ within down.2,
-      come_next c.args.banks.now l.banks l.at 0 (omega (arith, within, c.requires.banks_long)) down.3,
-      come_next c.args.rows.now l.rows l.at 0 (omega (arith, within, c.requires.rows_long)) down.4,
-      come_next c.args.kinds.now l.kinds l.at 0 (omega (arith, within, c.requires.kinds_long)) down.5,
-      come_next c.args.eligible.now l.eligible l.at 0 (omega (arith, within, c.requires.eligible_long)) down.6,
-      come_next c.args.tags.now l.tags l.at 0 (omega (arith, within, c.requires.tags_long)) down.7,
-      come_next c.args.prints.now l.prints l.at 0 (omega (arith, within, c.requires.prints_long)) down.8,
+      come_next c.args.eligible.now l.eligible l.at 0 (omega (arith, within, c.requires.eligible_long)) down.3,
+      come_next c.args.tags.now l.tags l.at 0 (omega (arith, within, c.requires.tags_long)) down.4,
+      come_next c.args.prints.now l.prints l.at 0 (omega (arith, within, c.requires.prints_long)) down.5,
     )

@@ -8,9 +8,6 @@ invariant-loop-at l =
     (l.at < length l.initial.requests)
     × (l.last ≡ length l.initial.requests - 1)
     × HaveComeDown l.initial.requests l.requests l.at
-    × HaveComeDown l.initial.banks l.banks l.at
-    × HaveComeDown l.initial.rows l.rows l.at
-    × HaveComeDown l.initial.kinds l.kinds l.at
     × HaveComeDown l.initial.eligible l.eligible l.at
     × HaveComeDown l.initial.tags l.tags l.at
     × HaveComeDown l.initial.prints l.prints l.at

@@ -10,10 +10,7 @@ loop-at-preserved c =
     let within : l.at < length c.args.requests.now = moved.0 in (
       omega (arith, within),
       moved_next c.args.requests.now l.requests l.at _ some within l.auto.requests moved.1,
-      moved_next c.args.banks.now l.banks l.at 0 some (omega (arith, within, c.requires.banks_long)) l.auto.banks moved.2,
-      moved_next c.args.rows.now l.rows l.at 0 some (omega (arith, within, c.requires.rows_long)) l.auto.rows moved.3,
-      moved_next c.args.kinds.now l.kinds l.at 0 some (omega (arith, within, c.requires.kinds_long)) l.auto.kinds moved.4,
-      moved_next c.args.eligible.now l.eligible l.at 0 some (omega (arith, within, c.requires.eligible_long)) l.auto.eligible moved.5,
-      moved_next c.args.tags.now l.tags l.at 0 some (omega (arith, within, c.requires.tags_long)) l.auto.tags moved.6,
-      moved_next c.args.prints.now l.prints l.at 0 some (omega (arith, within, c.requires.prints_long)) l.auto.prints moved.7,
+      moved_next c.args.eligible.now l.eligible l.at 0 some (omega (arith, within, c.requires.eligible_long)) l.auto.eligible moved.2,
+      moved_next c.args.tags.now l.tags l.at 0 some (omega (arith, within, c.requires.tags_long)) l.auto.tags moved.3,
+      moved_next c.args.prints.now l.prints l.at 0 some (omega (arith, within, c.requires.prints_long)) l.auto.prints moved.4,
     )

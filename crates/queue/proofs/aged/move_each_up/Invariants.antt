@@ -7,9 +7,6 @@ abbrev pub invariant-loop-at : goal.invariant-loop-at
 invariant-loop-at l =
     (l.at < length l.initial.requests)
     × HaveMoved l.initial.requests l.requests l.at
-    × HaveMoved l.initial.banks l.banks l.at
-    × HaveMoved l.initial.rows l.rows l.at
-    × HaveMoved l.initial.kinds l.kinds l.at
     × HaveMoved l.initial.eligible l.eligible l.at
     × HaveMoved l.initial.tags l.tags l.at
     × HaveMoved l.initial.prints l.prints l.at

@@ -1,6 +1,6 @@
 use Rattle.std.proofs.Common.{◌≡◌, ℕ, ◌+◌, ◌-◌, ◌<◌, List, length, take, drop, sym, ap, ◌∙◌, arith}
 use Rattle.std.proofs.lemmas.List.{take_all, length-drop, length-map}
-use Rattle.queue.specs.Columns.{line_print, print_column}
+use Rattle.queue_columns.specs.Columns.{line_print, print_column}
 use Rattle.sim_base.specs.declared.message.Request.{Request}
 use Rattle.queue.proofs.Found.{none_more, none_next, found_at, found_none}
 use Rattle.queue.proofs.lines.first_for_line.Goals as goal

@@ -4,7 +4,7 @@ use Rattle.std.specs.List.{position_or_len}
 use Rattle.sim_base.specs.Places.{is_line}
 use Rattle.sim_base.specs.declared.message.Request.{Request}
 use Rattle.queue.proofs.Counted.{none_from}
-use Rattle.queue.specs.Columns.{line_print, print_column}
+use Rattle.queue_columns.specs.Columns.{line_print, print_column}
 use Rattle.queue.proofs.Kept.{set_marked}
 use Rattle.queue.proofs.lines.give_turn.Goals as goal
 

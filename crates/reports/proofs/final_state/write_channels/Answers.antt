@@ -5,11 +5,11 @@ use Rattle.reports.proofs.TableLemmas.{numbered_none, numbered_more, nothing_wri
 use Rattle.reports.proofs.final_state.write_channels.Goals as goal
 
 pub loop-channel-init : goal.loop-channel-init
-loop-channel-init g c = nothing_written (g.W.Write.contents c.args.writer.now) _ (numbered_none (channel_rows c.args.ranks))
+loop-channel-init g c = nothing_written _ _ (numbered_none (channel_rows c.args.ranks))
 
 pub loop-channel-preserved : goal.loop-channel-preserved
 loop-channel-preserved g c =
     let here : c.loop-channel.channel < length c.args.channels.now = omega arith in
-    let written = rw c.index-channels-channel.is at c.in_ok-line.ensures.written in
+    let written = rw c.index-channels-channel.is at c.in_ok-write_channel.ensures.written in
     let joined = Appends-trans _ _ _ _ _ c.loop-channel.invariant written in
     rw (← numbered_more (channel_rows c.args.ranks) c.args.channels.now c.loop-channel.channel c.index-channels-channel.result here) at joined

@@ -5,12 +5,12 @@ use Rattle.reports.proofs.TableLemmas.{numbered_none, numbered_more, nothing_wri
 use Rattle.reports.proofs.final_state.write_credits_of_all.Goals as goal
 
 pub loop-core-init : goal.loop-core-init
-loop-core-init g c = nothing_written (g.W.Write.contents c.args.writer.now) _ (numbered_none (credits_of_core c.args.ranks))
+loop-core-init g c = nothing_written _ _ (numbered_none (credits_of_core c.args.ranks))
 
 pub loop-core-preserved : goal.loop-core-preserved
 loop-core-preserved g c =
     let here : c.loop-core.core < length c.args.cores.now = omega arith in
     let seen = rw c.index-cores-core.is at c.state.view_is in
-    let written = rw c.deref.ensures.value at c.in_ok-line.ensures.written in
+    let written = rw c.deref.ensures.value at c.in_ok-write_credits_of_core.ensures.written in
     let joined = Appends-trans _ _ _ _ _ c.loop-core.invariant written in
     rw (numbered_more (credits_of_core c.args.ranks) c.args.cores.now c.loop-core.core c.index-cores-core.result here, ← seen) joined

@@ -5,10 +5,10 @@ use Rattle.reports.proofs.TableLemmas.{numbered_none, numbered_more, nothing_wri
 use Rattle.reports.proofs.final_state.write_credits_of_core.Goals as goal
 
 pub loop-channel-init : goal.loop-channel-init
-loop-channel-init g c = nothing_written (g.W.Write.contents c.args.writer.now) _ (numbered_none (credit_rows c.args.ranks c.args.core))
+loop-channel-init g c = nothing_written _ _ (numbered_none (credit_rows c.args.ranks c.args.core))
 
 pub loop-channel-preserved : goal.loop-channel-preserved
 loop-channel-preserved g c =
     let here : c.loop-channel.channel < length c.args.credits.now = omega arith in
-    let joined = Appends-trans _ _ _ _ _ c.loop-channel.invariant c.in_ok-line.ensures.written in
+    let joined = Appends-trans _ _ _ _ _ c.loop-channel.invariant c.in_ok-write_credits.ensures.written in
     rw (← numbered_more (credit_rows c.args.ranks c.args.core) c.args.credits.now c.loop-channel.channel _ here) at joined

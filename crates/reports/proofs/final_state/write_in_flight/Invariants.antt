@@ -1,10 +1,11 @@
--- What was written are the rows so far.
+-- What was written or waits are the rows so far.
 use Rattle.std.proofs.Common.{take, map}
 use Rattle.std.specs.Io.KnownBytes.{Appends}
 use Rattle.reports.specs.Rows.{rows_text}
 use Rattle.reports.specs.Final.{flight_fields}
+use Rattle.reports.specs.Tables.{held}
 use Rattle.reports.proofs.final_state.write_in_flight.Given as goal
 
 abbrev pub invariant-loop-message : goal.invariant-loop-message
 invariant-loop-message g l =
-    Appends (g.W.Write.contents l.fn.writer) (g.W.Write.contents l.writer) (rows_text (map (flight_fields l.ranks l.channels) (take l.message-index l.in_flight)))
+    Appends (held g.W.Write.contents l.fn.writer l.fn.table) (held g.W.Write.contents l.writer l.table) (rows_text (map (flight_fields l.ranks l.channels) (take l.message-index l.in_flight)))

@@ -5,11 +5,11 @@ use Rattle.reports.proofs.TableLemmas.{numbered_none, numbered_more, nothing_wri
 use Rattle.reports.proofs.stats.write_channels.Goals as goal
 
 pub loop-id-init : goal.loop-id-init
-loop-id-init g c = nothing_written (g.W.Write.contents c.args.writer.now) _ (numbered_none channel_rows)
+loop-id-init g c = nothing_written _ _ (numbered_none channel_rows)
 
 pub loop-id-preserved : goal.loop-id-preserved
 loop-id-preserved g c =
     let here : c.loop-id.id < length c.args.channels.now = omega arith in
-    let written = c.in_ok-line.ensures.written in
+    let written = c.in_ok-write_channel.ensures.written in
     let joined = Appends-trans _ _ _ _ _ c.loop-id.invariant written in
     rw (← numbered_more channel_rows c.args.channels.now c.loop-id.id _ here) at joined

@@ -6,10 +6,10 @@ use Rattle.bank_ready.proofs.banks.Banks.note.Goals as goal
 
 pub returns-in-Act-clause-stands : goal.returns-in-Act-clause-stands
 returns-in-Act-clause-stands c s history channel h later =
-    noted_is c.args.self.now c.note_act.new.self s history c.args.cycle channel c.args.command _ h later c.in-Act.is (c.note_act.ensures c.in-Act.source)
+    noted_is c.args.self.now c.note_act.new.self s history c.args.cycle channel c.args.command _ h later c.in-Act.is (c.note_act.ensures c.in-Act.row c.in-Act.source)
 
 pub returns-in-Act-clause-ranks : goal.returns-in-Act-clause-ranks
-returns-in-Act-clause-ranks c = (c.note_act.ensures c.in-Act.source).rank_count
+returns-in-Act-clause-ranks c = (c.note_act.ensures c.in-Act.row c.in-Act.source).rank_count
 
 pub returns-in-Rd-clause-stands : goal.returns-in-Rd-clause-stands
 returns-in-Rd-clause-stands c s history channel h later =

@@ -7,7 +7,7 @@ use Rattle.sim_base.specs.Places.{is_bank}
 use Rattle.bank_ready.specs.Ready.{held_until}
 use Rattle.bank_ready.specs.Words.{bank_at, relation_from, group_relation_from, rank_state_after, act_pushed, rank_raised}
 use Rattle.bank_ready.proofs.Bounds.{act_grows, act_other_rank, act_to_rd, act_to_wr, act_to_pre}
-use Rattle.bank_ready.proofs.Noting.{own_inside, at_distances, lifted, lifted-own, own-word, alone, joint, joint-own, put, put-row, window-of-act, act-tests}
+use Rattle.bank_ready.proofs.Noting.{own_inside, at_distances, lifted, lifted-own, own-word, alone, joint, joint-own, put, window-of-act, act-tests}
 use Rattle.bank_ready.proofs.Places.{act_joint}
 use Rattle.bank_ready.proofs.banks.Banks.note_act.Goals as goal
 
@@ -23,27 +23,23 @@ raise_own-requires-3 c = own_inside _ _ _ c.own_number-own.ensures.inside (omega
 pub raise_own-requires-4 : goal.raise_own-requires-4
 raise_own-requires-4 c = own_inside _ _ _ c.own_number-own.ensures.inside (omega (arith, ap length c.deref_mut-5.ensures.value))
 
-pub note_row-requires : goal.note_row-requires
-note_row-requires c = own_inside _ _ _ c.own_number-own.ensures.inside (omega (arith, ap length c.deref_mut-6.ensures.value))
-
 pub returns : goal.returns
-returns c source =
+returns c row source =
     let banks = c.args.self.now in
     let t = c.deref-delays.result.now in
     let cycle = c.args.cycle in
     let bank = c.args.bank in
-    let command = Act bank c.args.row source in
+    let command = Act bank row source in
     let number = c.own_number-own.ensures.number in
     let own = c.own_number-own.result in
     let held = λ (r : Relation). held_until t cycle kind.Act kind.Act r in
     let end = c.index.result.now.window.second in
     let to_act = c.bound_until-to_act.result in
-    let rows = put-row banks.rows c.deref_mut-6.result.now c.note_row.new.rows bank own (Some c.args.row) c.deref_mut-6.ensures.value c.note_row.auto.rows c.note_row.ensures number in
     let ranks = length banks.ranks.items in
     let states =
-    put banks.ranks c.deref_mut-7.result.now c.note_act_in_rank.new.ranks (rank_state_after t cycle command) c.deref_mut-7.ensures.value c.note_act_in_rank.auto.ranks
+    put banks.ranks c.deref_mut-6.result.now c.note_act_in_rank.new.ranks (rank_state_after t cycle command) c.deref_mut-6.ensures.value c.note_act_in_rank.auto.ranks
     (λ k d l.
-    let state = get_or c.deref_mut-7.result.now k d in
+    let state = get_or c.deref_mut-6.result.now k d in
     c.note_act_in_rank.ensures k d
     ∙ ap (λ n. cond (eqb bank.rank k) (act_pushed (rank_raised t cycle kind.Act state) (cycle + n)) state) (c.from.ensures ∙ c.four_act_window.ensures.value)
     ∙ act-tests t cycle (cycle + t.n_faw) (eqb bank.rank k) state) in
@@ -58,7 +54,7 @@ returns c source =
           (λ k.
           ap (λ n. max (cond (is_bank (bank_at k) bank) n 0) (max (held (group_relation_from bank (k / 4))) (cond (eqb bank.rank (k / 4 / 4)) end 0))) c.bound_until-to_act.ensures
           ∙ act_joint held bank k end (act_grows t cycle) (act_other_rank t cycle)
-          ∙ ap (max (held (relation_from bank k))) (window-of-act banks bank c.args.row source k end c.index.result.now c.requires.rank c.index.ensures refl));
+          ∙ ap (max (held (relation_from bank k))) (window-of-act banks bank row source k end c.index.result.now c.requires.rank c.index.ensures refl));
       rd =
           joint-own ranks banks.rd.items _ banks.rd_groups.items _ _
           (lifted-own banks.rd c.deref_mut-3.result.now c.raise_own-2.new.words bank own c.bound_until-to_rd.result c.deref_mut-3.ensures.value c.raise_own-2.auto.words c.raise_own-2.ensures number)
@@ -73,8 +69,6 @@ returns c source =
           banks.all_pres (λ k. own-word t cycle command kind.Pre bank _ k refl c.bound_until-to_pre.ensures (act_to_pre t cycle));
       rd_floor = λ rank other. omega arith;
       wr_floor = λ rank other. omega arith;
-      row_count = rows.count;
-      rows = rows.each;
       rank_count = states.count;
       ranks = states.each;
     })

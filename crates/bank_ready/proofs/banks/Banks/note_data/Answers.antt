@@ -7,7 +7,7 @@ use Rattle.bank_ready.specs.Words.{act_word, group_relation_from}
 use Rattle.timing.specs.Relation.{relation_to}
 use Rattle.bank_ready.proofs.Allowed.{rank_of-bank}
 use Rattle.bank_ready.proofs.Bounds.{data_to_pre}
-use Rattle.bank_ready.proofs.Noting.{floor-raised, own_inside, at_distances, lifted, lifted-own, own-word, data-word, alone, joint-groups, data-acts, kept-row, no-act, left, put-rank}
+use Rattle.bank_ready.proofs.Noting.{floor-raised, own_inside, at_distances, lifted, lifted-own, own-word, data-word, alone, joint-groups, data-acts, no-act, left, put-rank}
 use Rattle.bank_ready.proofs.banks.Banks.note_data.Goals as goal
 
 pub raise_own-requires : goal.raise_own-requires
@@ -45,8 +45,6 @@ returns c command of names =
           banks.all_pres (λ k. own-word t cycle command kind.Pre bank _ k names (rw of c.bound_until-to_pre.ensures) (rw of (data_to_pre t cycle later c.requires.kind)));
       rd_floor = λ rank other. floor-raised _ _ _ _ c.max-self.ensures (rw of (c.raise_data-to_rd.ensures.least (relation_to command rank other)));
       wr_floor = λ rank other. floor-raised _ _ _ _ c.max-self-2.ensures (rw of (c.raise_data-to_wr.ensures.least (relation_to command rank other)));
-      row_count = refl;
-      rows = λ k d l. kept-row command k _ (rw of c.requires.kind);
       rank_count = states.count;
       ranks = states.each;
     })

@@ -4,14 +4,11 @@ use Rattle.sim_base.specs.declared.command.Command.TheVariants.{Pre}
 use Rattle.sim_base.specs.declared.command.Kind.TheVariants as kind
 use Rattle.bank_ready.specs.Words.{relation_from, rd_word, wr_word, pre_word}
 use Rattle.bank_ready.proofs.Bounds.{pre_to_act, pre_nothing}
-use Rattle.bank_ready.proofs.Noting.{own_inside, at_distances, lifted-own, own-word, joint-own, left, put-row, put-rank}
+use Rattle.bank_ready.proofs.Noting.{own_inside, at_distances, lifted-own, own-word, joint-own, left, put-rank}
 use Rattle.bank_ready.proofs.banks.Banks.note_pre.Goals as goal
 
 pub raise_own-requires : goal.raise_own-requires
 raise_own-requires c = own_inside _ _ _ c.own_number-own.ensures.inside (omega (arith, ap length c.deref_mut.ensures.value))
-
-pub note_row-requires : goal.note_row-requires
-note_row-requires c = own_inside _ _ _ c.own_number-own.ensures.inside (omega (arith, ap length c.deref_mut-2.ensures.value))
 
 pub returns : goal.returns
 returns c source =
@@ -23,8 +20,7 @@ returns c source =
     let command = Pre bank source in
     let number = c.own_number-own.ensures.number in
     let own = c.own_number-own.result in
-    let rows = put-row banks.rows c.deref_mut-2.result.now c.note_row.new.rows bank own None c.deref_mut-2.ensures.value c.note_row.auto.rows c.note_row.ensures number in
-    let states = put-rank banks.ranks c.deref_mut-3.result.now c.raise_rank_words.new.ranks t cycle bank.rank command c.deref_mut-3.ensures.value c.raise_rank_words.auto.ranks c.raise_rank_words.ensures refl refl in
+    let states = put-rank banks.ranks c.deref_mut-2.result.now c.raise_rank_words.new.ranks t cycle bank.rank command c.deref_mut-2.ensures.value c.raise_rank_words.auto.ranks c.raise_rank_words.ensures refl refl in
     at_distances banks _ t banks.delays.value cycle command c.deref-delays.ensures
     (record {
       delays = refl;
@@ -37,8 +33,6 @@ returns c source =
       pre = left (16 * ranks) (pre_word banks) _ (λ k. (pre_nothing t cycle (relation_from bank k)).2);
       rd_floor = λ rank other. omega arith;
       wr_floor = λ rank other. omega arith;
-      row_count = rows.count;
-      rows = rows.each;
       rank_count = states.count;
       ranks = states.each;
     })

@@ -1,4 +1,4 @@
--- The ACTs of the groups of the rank wait, its rows are closed, and the words of the rank are raised.
+-- The ACTs of the groups of the rank wait, and the words of the rank are raised.
 use Rattle.std.proofs.Common.{◌*◌, ◌/◌, length, eqb, ℕ, Option, None, cond, refl, arith}
 use Rattle.sim_base.specs.declared.command.Command.TheVariants.{Prea}
 use Rattle.sim_base.specs.declared.command.Kind.TheVariants as kind
@@ -19,8 +19,7 @@ returns c =
     let rank = c.args.rank in
     let command = Prea rank in
     let at = λ (k : ℕ). cond (eqb rank (k / 16)) SameBank OtherRank in
-    let rows = put banks.rows c.deref_mut-2.result.now c.close_rank.new.rows (λ (k : ℕ) (row : Option ℕ). cond (eqb (k / 16) rank) None row) c.deref_mut-2.ensures.value c.close_rank.auto.rows (λ k d l. c.close_rank.ensures k d) in
-    let states = put-rank banks.ranks c.deref_mut-3.result.now c.raise_rank_words.new.ranks t cycle rank command c.deref_mut-3.ensures.value c.raise_rank_words.auto.ranks c.raise_rank_words.ensures refl refl in
+    let states = put-rank banks.ranks c.deref_mut-2.result.now c.raise_rank_words.new.ranks t cycle rank command c.deref_mut-2.ensures.value c.raise_rank_words.auto.ranks c.raise_rank_words.ensures refl refl in
     at_distances banks _ t banks.delays.value cycle command c.deref-delays.ensures
     (record {
       delays = refl;
@@ -34,8 +33,6 @@ returns c =
       pre = left (16 * ranks) (pre_word banks) _ (λ k. (prea_nothing t cycle (at k)).2);
       rd_floor = λ rank other. omega arith;
       wr_floor = λ rank other. omega arith;
-      row_count = rows.count;
-      rows = rows.each;
       rank_count = states.count;
       ranks = states.each;
     })

@@ -37,8 +37,6 @@ returns c =
           (λ k. rank-word (λ (r : Relation). held_until t cycle kind.Ref kind.Pre r) (eqb rank (k / 16)) c.bound_until-to_pre.result c.bound_until-to_pre.ensures (refresh_rank t cycle).1);
       rd_floor = λ rank other. omega arith;
       wr_floor = λ rank other. omega arith;
-      row_count = refl;
-      rows = λ k d l. refl;
       rank_count = states.count;
       ranks = states.each;
     })

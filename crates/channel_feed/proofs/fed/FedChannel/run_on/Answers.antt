@@ -6,8 +6,8 @@ use Rattle.channel_feed.proofs.Keeping.{kept-can_run, kept-done, rows-done}
 use Rattle.channel_feed.proofs.Rows.{length-rows_of}
 use Rattle.channel_feed.proofs.fed.FedChannel.run_on.Goals as goal
 
-pub run-requires-clause-can_run : goal.run-requires-clause-can_run
-run-requires-clause-can_run c =
+pub run_alone-requires-clause-can_run : goal.run_alone-requires-clause-can_run
+run_alone-requires-clause-can_run c =
     let f = c.args.self in
     kept-can_run f.channel f.config f.number f.cycle f.firsts.items f.commands.items f.mail.items c.args.inbox.now c.args.until f.kept c.requires.fit
 

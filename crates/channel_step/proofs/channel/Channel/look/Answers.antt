@@ -1,40 +1,51 @@
-use Rattle.std.proofs.Common.{sym, subst, arith}
+use Rattle.std.proofs.Common.{◌≡◌, ◌≤◌, refl, subst, arith}
 use Rattle.sim_base.specs.History.{issued_commands}
-use Rattle.queue.specs.View.{QueueView}
 use Rattle.fr_fcfs.specs.Choices.{choice_in}
 use Rattle.fr_fcfs.specs.Cycles.{IsNext}
-use Rattle.channel_step.specs.Channels.{HeadsStand}
 use Rattle.channel_step.proofs.Deciding.{cycle-in_banks, cycle-stands, found-before, none-before}
+use Rattle.channel_step.proofs.Foreseen.{ahead-from, kept-in_cycle}
 use Rattle.channel_step.proofs.channel.Channel.look.Goals as goal
+use Rattle.channel_step.proofs.channel.Channel.look.Goals.{in_default-via-in-Some+else-cycle-end, in_default-via-in_default}
 
-pub next-found-requires-clause-places : goal.next-found-requires-clause-places
-next-found-requires-clause-places c = cycle-in_banks c.args.self.now c.args.now c.queue.result.now c.requires c.queue.ensures
+pub find-found-requires-clause-places : goal.find-found-requires-clause-places
+find-found-requires-clause-places c = cycle-in_banks c.args.self.now c.args.now c.args.self.now.waiting.queue c.requires refl
 
-pub next-found-requires-clause-banks : goal.next-found-requires-clause-banks
-next-found-requires-clause-banks c = let i = c.requires.is_in in omega (arith, i.made_for.banks_are, i.banks_stand.ranks)
-
-pub next-found-requires-clause-heads : goal.next-found-requires-clause-heads
-next-found-requires-clause-heads c =
-    (_, subst (λ (q : QueueView). HeadsStand c.args.self.now.heads q.requests (issued_commands c.requires.channel c.requires.rows)) (sym c.queue.ensures) c.requires.is_in.heads_stand)
+pub find-found-requires-clause-banks : goal.find-found-requires-clause-banks
+find-found-requires-clause-banks c = let i = c.requires.is_in in omega (arith, i.made_for.banks_are, i.banks_stand.ranks)
 
 pub returns-in-Some-clause-next : goal.returns-in-Some-clause-next
 returns-in-Some-clause-next c s channel rows mail h at =
     let x = c.args.self.now in
-    let q = c.queue.result.now in
-    found-before x s channel rows mail c.args.now c.args.end c.in-Some.cycle c.in-Some.choice.command q h at c.queue.ensures
-    ((c.in-Some.ensures {u = tt}).next s (issued_commands channel rows) (cycle-stands x s channel rows mail q h c.queue.ensures)) c.if-cycle-end.true
+    let q = x.waiting.queue in
+    let found = (c.in-Some.ensures {u = tt}) s (issued_commands channel rows) (cycle-stands x s channel rows mail q h refl) (ahead-from _ _ _ _ h.foresees) (omega (arith, h.cycle_is, at)) in
+    found-before x s channel rows mail c.args.now c.args.end c.in-Some.cycle c.in-Some.choice.command q h at refl found.0 c.if-cycle-end.true
+
+pub returns-in-Some-clause-place : goal.returns-in-Some-clause-place
+returns-in-Some-clause-place c =
+    let p = c.requires in
+    let x = c.args.self.now in
+    ((c.in-Some.ensures {u = tt}) p.s (issued_commands p.channel p.rows) (cycle-stands x p.s p.channel p.rows p.mail x.waiting.queue p.is_in refl) (ahead-from _ _ _ _ p.is_in.foresees) (omega (arith, p.is_in.cycle_is, p.at))).1
+
+pub returns-in_default-clause-in_cycle : goal.returns-in_default-clause-in_cycle
+returns-in_default-clause-in_cycle c s channel rows mail h =
+    let x = c.args.self.now in
+    let p = c.requires in
+    let here : c.args.now ≡ x.cycle = omega (arith, p.is_in.cycle_is, p.at) in
+    kept-in_cycle x s channel rows mail c.args.now c.find-found.result h here
+    (c.find-found.ensures s (issued_commands channel rows) (cycle-stands x s channel rows mail x.waiting.queue h refl) (ahead-from _ _ _ _ h.foresees) (omega arith))
 
 pub returns-in_default-clause-next : goal.returns-in_default-clause-next
 returns-in_default-clause-next c s channel rows mail h at =
     let x = c.args.self.now in
-    let q = c.queue.result.now in
-    let found = (c.in-Some.ensures {u = tt}).next s (issued_commands channel rows) (cycle-stands x s channel rows mail q h c.queue.ensures) in
-    none-before x s channel rows mail c.args.now c.args.end q h at c.queue.ensures (λ t l m. found.none_before t l (omega (arith, c.if-cycle-end.false)))
-
-pub returns-in_default-2-clause-next : goal.returns-in_default-2-clause-next
-returns-in_default-2-clause-next c s channel rows mail h at =
-    let x = c.args.self.now in
-    let q = c.queue.result.now in
-    none-before x s channel rows mail c.args.now c.args.end q h at c.queue.ensures
-    (λ t l m. (subst (IsNext (choice_in s (issued_commands channel rows) q) c.args.now) c.in_default.is
-    (c.next-found.ensures.next s (issued_commands channel rows) (cycle-stands x s channel rows mail q h c.queue.ensures))) t l)
+    let q = x.waiting.queue in
+    let history = issued_commands channel rows in
+    let stand = cycle-stands x s channel rows mail q h refl in
+    let here : x.cycle ≤ c.args.now = omega (arith, h.cycle_is, at) in
+    elim c.in_default.branch [
+      | in_default-via-in-Some+else-cycle-end w ↦
+          let found = ((w.in-Some.ensures {u = tt}) s history stand (ahead-from _ _ _ _ h.foresees) here).0 in
+          none-before x s channel rows mail c.args.now c.args.end q h at refl (λ t l m. found.none_before t l (omega (arith, w.if-cycle-end.false)))
+      | in_default-via-in_default w ↦
+          none-before x s channel rows mail c.args.now c.args.end q h at refl
+          (λ t l m. (subst (IsNext (choice_in s history q) c.args.now) w.in_default.is (c.find-found.ensures s history stand (ahead-from _ _ _ _ h.foresees) here).0) t l)
+    ]

@@ -1,21 +1,29 @@
-use Rattle.std.proofs.Common.{sym, subst, arith}
+use Rattle.std.proofs.Common.{Some, None, refl, ap, arith}
+use Rattle.std.specs.Option.{is_some}
 use Rattle.sim_base.specs.History.{issued_commands}
-use Rattle.queue.specs.View.{QueueView}
-use Rattle.channel_step.specs.Channels.{HeadsStand}
+use Rattle.fr_fcfs.specs.Choices.{choice_in}
+use Rattle.fr_fcfs.proofs.Waking.{first_cycle}
 use Rattle.channel_step.proofs.Starting.{at-in_banks, at-stand, at-first}
+use Rattle.channel_step.proofs.Foreseen.{ahead-from}
 use Rattle.channel_step.proofs.channel.Channel.next_act.Goals as goal
 
-pub wake-requires-clause-places : goal.wake-requires-clause-places
-wake-requires-clause-places c = at-in_banks c.args.self.now c.args.from c.queue.result.now c.requires c.queue.ensures
+pub find-requires-clause-places : goal.find-requires-clause-places
+find-requires-clause-places c = at-in_banks c.args.self.now c.args.from c.args.self.now.waiting.queue c.requires refl
 
-pub wake-requires-clause-banks : goal.wake-requires-clause-banks
-wake-requires-clause-banks c = let i = c.requires.stands in omega (arith, i.made_for.banks_are, i.banks_stand.ranks)
+pub find-requires-clause-banks : goal.find-requires-clause-banks
+find-requires-clause-banks c = let i = c.requires.stands in omega (arith, i.made_for.banks_are, i.banks_stand.ranks)
 
-pub wake-requires-clause-heads : goal.wake-requires-clause-heads
-wake-requires-clause-heads c =
-    (_, subst (λ (q : QueueView). HeadsStand c.args.self.now.heads q.requests (issued_commands c.requires.channel c.requires.rows)) (sym c.queue.ensures) c.requires.stands.heads_stand)
+pub returns-in-Some-clause-first : goal.returns-in-Some-clause-first
+returns-in-Some-clause-first c s channel rows mail h at =
+    let x = c.args.self.now in
+    let q = x.waiting.queue in
+    let found = (c.in-Some.ensures {u = tt}) s (issued_commands channel rows) (at-stand x s channel rows mail q h refl) (ahead-from _ _ _ _ h.foresees) (omega (arith, h.cycle_is, at)) in
+    at-first x s channel rows mail c.args.from q (Some c.in-Some.cycle) h at refl
+    (first_cycle (choice_in s (issued_commands channel rows) q) c.args.from c.in-Some.cycle c.in-Some.field-0-1.command found.0)
 
-pub returns-clause-first : goal.returns-clause-first
-returns-clause-first c s channel rows mail h at =
-    at-first c.args.self.now s channel rows mail c.args.from c.queue.result.now c.wake.result h at c.queue.ensures
-    (c.wake.ensures s (issued_commands channel rows) (at-stand c.args.self.now s channel rows mail c.queue.result.now h c.queue.ensures))
+pub returns-in-None-clause-first : goal.returns-in-None-clause-first
+returns-in-None-clause-first c s channel rows mail h at =
+    let x = c.args.self.now in
+    let q = x.waiting.queue in
+    let found = (c.in-None.ensures {u = tt}) s (issued_commands channel rows) (at-stand x s channel rows mail q h refl) (ahead-from _ _ _ _ h.foresees) (omega (arith, h.cycle_is, at)) in
+    at-first x s channel rows mail c.args.from q None h at refl (λ t late. ap is_some (found.0 t late))

@@ -14,3 +14,4 @@ returns c =
     (ap₂ (λ (x : ChannelStats) d. record x { draining = d }) c.new-stats.ensures c.drained-stats.ensures)
     ((c.in_ok-with_room-2.ensures {u = tt}).banks ∙ c.banks_of.ensures.banks)
     (c.in_ok-with_room-2.ensures {u = tt}).stands
+    refl

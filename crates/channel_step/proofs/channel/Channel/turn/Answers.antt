@@ -25,14 +25,16 @@ pub wait-requires-clause-in_cycle : goal.wait-requires-clause-in_cycle
 wait-requires-clause-in_cycle c =
     let p = c.requires.can_run in
     let h = (c.in_ok-arrived.ensures {u = tt}).in_cycle p.s p.channel p.rows p.mail c.args.until p.stands p.at c.requires.span p.fit in
-    record { s = p.s; channel = p.channel; rows = p.rows; mail = p.mail ++ take c.in_ok-arrived.arrived c.args.inbox.now; is_in = h; at = sym h.cycle_is }
+    let k = c.look.ensures.in_cycle p.s p.channel p.rows (p.mail ++ take c.in_ok-arrived.arrived c.args.inbox.now) h in
+    record { s = p.s; channel = p.channel; rows = p.rows; mail = p.mail ++ take c.in_ok-arrived.arrived c.args.inbox.now; is_in = k; at = sym k.cycle_is }
 
 pub wait-requires-clause-span : goal.wait-requires-clause-span
 wait-requires-clause-span c =
     let p = c.requires.can_run in
     let h = (c.in_ok-arrived.ensures {u = tt}).in_cycle p.s p.channel p.rows p.mail c.args.until p.stands p.at c.requires.span p.fit in
     let i = (c.in-Some.ensures {u = tt}).next p.s p.channel p.rows (p.mail ++ take c.in_ok-arrived.arrived c.args.inbox.now) h p.at in
-    omega (arith, h.cycle_is, i.from_now)
+    let k = c.look.ensures.in_cycle p.s p.channel p.rows (p.mail ++ take c.in_ok-arrived.arrived c.args.inbox.now) h in
+    omega (arith, k.cycle_is, i.from_now)
 
 pub wait-requires-clause-until : goal.wait-requires-clause-until
 wait-requires-clause-until c =
@@ -43,18 +45,6 @@ wait-requires-clause-until c =
     let within = goes-end p.s p.channel p.rows p.mail c.args.inbox.now c.args.now c.args.until c.in_ok-arrived.arrived c.next_arrival-end.result g in
     let i = (c.in-Some.ensures {u = tt}).next p.s p.channel p.rows (p.mail ++ take c.in_ok-arrived.arrived c.args.inbox.now) h p.at in
     omega (arith, i.before_end, within.1, c.requires.until)
-
-pub refreshing-requires : goal.refreshing-requires
-refreshing-requires c =
-    let p = c.requires.can_run in
-    let arrived = c.in_ok-arrived.ensures {u = tt} in
-    let h = arrived.in_cycle p.s p.channel p.rows p.mail c.args.until p.stands p.at c.requires.span p.fit in
-    let there = p.mail ++ take c.in_ok-arrived.arrived c.args.inbox.now in
-    let g = goes c.arrive.new.self p.s p.channel p.rows p.mail c.args.inbox.now c.args.now c.args.until c.in_ok-arrived.arrived c.next_arrival-end.result h p.at p.fit c.requires.span arrived.some c.next_arrival-end.ensures in
-    let within = goes-end p.s p.channel p.rows p.mail c.args.inbox.now c.args.now c.args.until c.in_ok-arrived.arrived c.next_arrival-end.result g in
-    let i = (c.in-Some.ensures {u = tt}).next p.s p.channel p.rows there h p.at in
-    let k = c.wait.ensures.in_cycle p.s p.channel p.rows there h in
-    omega (arith, k.cycle_is, length-idle p.rows (c.in-Some.cycle - length p.rows), i.from_now, i.before_end, within.1, c.requires.until)
 
 -- what is seen, where it is known whether a refresh is due
 abbrev seen_with : Channel → Bool → Seen
@@ -67,7 +57,7 @@ perform-requires-clause-seen c =
     let there = p.mail ++ take c.in_ok-arrived.arrived c.args.inbox.now in
     let i = (c.in-Some.ensures {u = tt}).next p.s p.channel p.rows there h p.at in
     let d = c.wait.new.self in
-    let k = c.wait.ensures.in_cycle p.s p.channel p.rows there h in
+    let k = c.wait.ensures.in_cycle p.s p.channel p.rows there (c.look.ensures.in_cycle p.s p.channel p.rows there h) in
     let at : d.cycle ≡ c.in-Some.cycle = omega (arith, k.cycle_is, length-idle p.rows (c.in-Some.cycle - length p.rows), i.from_now) in
     c.seen-seen.ensures ∙ ap (seen_with d) (c.refreshing.ensures ∙ ap (λ t. is_some (lowest_owed d.refresh t)) at)
 
@@ -83,7 +73,7 @@ perform-requires-clause-chosen c =
       channel = p.channel;
       rows = p.rows ++ replicate (c.in-Some.cycle - length p.rows) None;
       mail = there;
-      is_in = c.wait.ensures.in_cycle p.s p.channel p.rows there h;
+      is_in = c.wait.ensures.in_cycle p.s p.channel p.rows there (c.look.ensures.in_cycle p.s p.channel p.rows there h);
       at = omega (arith, length-idle p.rows (c.in-Some.cycle - length p.rows));
       chosen = i.command_is;
     }
@@ -109,13 +99,14 @@ tell-requires c =
     omega (arith, i.before_end, within.1, c.requires.until)
 
 pub perform-requires-clause-slot : goal.perform-requires-clause-slot
-perform-requires-clause-slot c = subst (λ (w : Queued). IsFor w.queue.requests c.in-Some.chosen) (sym c.wait.ensures.same_queue) (c.in-Some.ensures {u = tt}).place
+perform-requires-clause-slot c = subst (λ (w : Queued). IsFor w.queue.requests c.in-Some.chosen) (sym (c.wait.ensures.same_queue ∙ c.look.ensures.same_queue)) (c.in-Some.ensures {u = tt}).place
 
 pub wait-requires-in-None-clause-in_cycle : goal.wait-requires-in-None-clause-in_cycle
 wait-requires-in-None-clause-in_cycle c =
     let p = c.requires.can_run in
     let h = (c.in_ok-arrived.ensures {u = tt}).in_cycle p.s p.channel p.rows p.mail c.args.until p.stands p.at c.requires.span p.fit in
-    record { s = p.s; channel = p.channel; rows = p.rows; mail = p.mail ++ take c.in_ok-arrived.arrived c.args.inbox.now; is_in = h; at = sym h.cycle_is }
+    let k = c.look.ensures.in_cycle p.s p.channel p.rows (p.mail ++ take c.in_ok-arrived.arrived c.args.inbox.now) h in
+    record { s = p.s; channel = p.channel; rows = p.rows; mail = p.mail ++ take c.in_ok-arrived.arrived c.args.inbox.now; is_in = k; at = sym k.cycle_is }
 
 pub wait-requires-in-None-clause-span : goal.wait-requires-in-None-clause-span
 wait-requires-in-None-clause-span c =
@@ -124,7 +115,8 @@ wait-requires-in-None-clause-span c =
     let h = arrived.in_cycle p.s p.channel p.rows p.mail c.args.until p.stands p.at c.requires.span p.fit in
     let g = goes c.arrive.new.self p.s p.channel p.rows p.mail c.args.inbox.now c.args.now c.args.until c.in_ok-arrived.arrived c.next_arrival-end.result h p.at p.fit c.requires.span arrived.some c.next_arrival-end.ensures in
     let within = goes-end p.s p.channel p.rows p.mail c.args.inbox.now c.args.now c.args.until c.in_ok-arrived.arrived c.next_arrival-end.result g in
-    omega (arith, h.cycle_is, p.at, within.0)
+    let k = c.look.ensures.in_cycle p.s p.channel p.rows (p.mail ++ take c.in_ok-arrived.arrived c.args.inbox.now) h in
+    omega (arith, k.cycle_is, p.at, within.0)
 
 pub wait-requires-in-None-clause-until : goal.wait-requires-in-None-clause-until
 wait-requires-in-None-clause-until c =
@@ -169,7 +161,7 @@ returns-in_ok-tell-in-Some-clause-done c s channel rows mail stands at f =
     let h = arrived.in_cycle s channel rows mail c.args.until stands at c.requires.span f in
     let g = goes c.arrive.new.self s channel rows mail c.args.inbox.now c.args.now c.args.until n c.next_arrival-end.result h at f c.requires.span arrived.some c.next_arrival-end.ensures in
     let i = (c.in-Some.ensures {u = tt}).next s channel rows there h at in
-    let k = c.wait.ensures.in_cycle s channel rows there h in
+    let k = c.wait.ensures.in_cycle s channel rows there (c.look.ensures.in_cycle s channel rows there h) in
     let from = i.from_now in
     let then = rows ++ replicate (c.in-Some.cycle - length rows) None in
     let len : length then ≡ c.in-Some.cycle = omega (arith, length-idle rows (c.in-Some.cycle - length rows)) in
@@ -210,12 +202,13 @@ returns-in-None-clause-done c s channel rows mail stands at f =
     let h = arrived.in_cycle s channel rows mail c.args.until stands at c.requires.span f in
     let g = goes c.arrive.new.self s channel rows mail c.args.inbox.now c.args.now c.args.until n end h at f c.requires.span arrived.some c.next_arrival-end.ensures in
     let within = goes-end s channel rows mail c.args.inbox.now c.args.now c.args.until n end g in
+    let k = c.look.ensures.in_cycle s channel rows there h in
     let idle = subst (IsNextBefore s channel rows there end) c.in-None.is (c.look.ensures.next s channel rows there h at) in
     record {
       issued = [];
       sent = [];
       has_run = waits c.wait-in-None.new.self s channel rows mail c.args.inbox.now c.args.now c.args.until n end g idle
-          (waited-stands c.arrive.new.self c.wait-in-None.new.self s channel rows there (end - length rows) h (c.wait-in-None.ensures.in_cycle s channel rows there h) (omega (arith, within.0)));
+          (waited-stands c.look.new.self c.wait-in-None.new.self s channel rows there (end - length rows) k (c.wait-in-None.ensures.in_cycle s channel rows there k) (omega (arith, within.0)));
       commands_are = sym (append-nil c.args.commands.now.items);
       messages_are = sym (append-nil c.args.messages.now.items);
     }

@@ -6,8 +6,8 @@ use Rattle.core_feed.proofs.Feeding.{may_run, goes_on, fed_after}
 use Rattle.core_feed.proofs.Replaying.{came-more}
 use Rattle.core_feed.proofs.fed.FedCore.run.Goals as goal
 
-pub run-requires-clause-fit : goal.run-requires-clause-fit
-run-requires-clause-fit c =
+pub run_alone-requires-clause-fit : goal.run_alone-requires-clause-fit
+run_alone-requires-clause-fit c =
     let self = c.args.self in
     may_run self.config self.id self.mail.items c.args.inbox.now c.now-from.result c.args.until (view_of self.core) self.fed (c.if-not-may_go.ensures {u = tt}) c.now-from.ensures
 
@@ -17,9 +17,9 @@ invariant_of-result c =
     let may = c.if-not-may_go.ensures {u = tt} in
     let all = (c.in-Ok.ensures {u = tt}).items in
     let a = view_of self.core in
-    let b = view_of c.in-Ok-run.done.core in
-    let goes = goes_on self.config self.id self.mail.items c.args.inbox.now c.extend_from_slice.new.self.items c.now-from.result c.args.until a b c.in-Ok-run.done.messages.items
-    self.fed may c.now-from.ensures all (c.in-Ok-run.ensures {u = tt}) in
+    let b = view_of c.in-Ok-run_alone.done.core in
+    let goes = goes_on self.config self.id self.mail.items c.args.inbox.now c.extend_from_slice.new.self.items c.now-from.result c.args.until a b c.in-Ok-run_alone.done.messages.items
+    self.fed may c.now-from.ensures all (c.in-Ok-run_alone.ensures {u = tt}) in
     record {
       fed = goes.1;
       came = came-more self.config self.id self.mail.items c.args.inbox.now c.extend_from_slice.new.self.items c.args.until a b self.came
@@ -37,16 +37,16 @@ returns-clause-fit c =
 pub returns-clause-fed : goal.returns-clause-fed
 returns-clause-fed c =
     let self = c.args.self in
-    fed_after self.config self.id self.mail.items c.args.inbox.now c.extend_from_slice.new.self.items c.args.until (view_of self.core) (view_of c.in-Ok-run.done.core) c.in-Ok-run.done.messages.items
+    fed_after self.config self.id self.mail.items c.args.inbox.now c.extend_from_slice.new.self.items c.args.until (view_of self.core) (view_of c.in-Ok-run_alone.done.core) c.in-Ok-run_alone.done.messages.items
     (c.in-Ok.ensures {u = tt}).items
-    (goes_on self.config self.id self.mail.items c.args.inbox.now c.extend_from_slice.new.self.items c.now-from.result c.args.until (view_of self.core) (view_of c.in-Ok-run.done.core)
-    c.in-Ok-run.done.messages.items self.fed (c.if-not-may_go.ensures {u = tt}) c.now-from.ensures (c.in-Ok.ensures {u = tt}).items (c.in-Ok-run.ensures {u = tt})).0
+    (goes_on self.config self.id self.mail.items c.args.inbox.now c.extend_from_slice.new.self.items c.now-from.result c.args.until (view_of self.core) (view_of c.in-Ok-run_alone.done.core)
+    c.in-Ok-run_alone.done.messages.items self.fed (c.if-not-may_go.ensures {u = tt}) c.now-from.ensures (c.in-Ok.ensures {u = tt}).items (c.in-Ok-run_alone.ensures {u = tt})).0
 
 pub returns-clause-sent : goal.returns-clause-sent
 returns-clause-sent c =
     let self = c.args.self in
-    let goes = (goes_on self.config self.id self.mail.items c.args.inbox.now c.extend_from_slice.new.self.items c.now-from.result c.args.until (view_of self.core) (view_of c.in-Ok-run.done.core)
-    c.in-Ok-run.done.messages.items self.fed (c.if-not-may_go.ensures {u = tt}) c.now-from.ensures (c.in-Ok.ensures {u = tt}).items (c.in-Ok-run.ensures {u = tt})).0 in
-    ap sent_by (fed_after self.config self.id self.mail.items c.args.inbox.now c.extend_from_slice.new.self.items c.args.until (view_of self.core) (view_of c.in-Ok-run.done.core)
-    c.in-Ok-run.done.messages.items (c.in-Ok.ensures {u = tt}).items goes)
+    let goes = (goes_on self.config self.id self.mail.items c.args.inbox.now c.extend_from_slice.new.self.items c.now-from.result c.args.until (view_of self.core) (view_of c.in-Ok-run_alone.done.core)
+    c.in-Ok-run_alone.done.messages.items self.fed (c.if-not-may_go.ensures {u = tt}) c.now-from.ensures (c.in-Ok.ensures {u = tt}).items (c.in-Ok-run_alone.ensures {u = tt})).0 in
+    ap sent_by (fed_after self.config self.id self.mail.items c.args.inbox.now c.extend_from_slice.new.self.items c.args.until (view_of self.core) (view_of c.in-Ok-run_alone.done.core)
+    c.in-Ok-run_alone.done.messages.items (c.in-Ok.ensures {u = tt}).items goes)
     ∙ goes.sends

@@ -1,7 +1,7 @@
 -- The numbers of a core say how many cycles are alike.
 use Rattle.std.proofs.Common.{arith}
 use Rattle.core_window.specs.CoreViews.{view_of}
-use Rattle.core_window.proofs.Flowing.{flow-here}
+use Rattle.core_window.proofs.Flowing.{flow-here, flow-none}
 use Rattle.core_window.proofs.Turning.{sound}
 use Rattle.core_window.proofs.core_unit.Core.flow.Goals as goal
 
@@ -13,9 +13,15 @@ flow_of-requires-clause-room c = (sound (view_of c.args.self.now) c.requires.sta
 
 pub returns-clause-steady : goal.returns-clause-steady
 returns-clause-steady c =
-    flow-here (view_of c.args.self.now) c.args.ahead.now.one c.args.ahead.now.two c.flow_of.result.retired c.flow_of.result.cycles c.saturating_sub.result _
+    flow-here (view_of c.args.self.now) c.args.ahead.now.one c.args.ahead.now.two c.flow_of.result.retired c.flow_of.result.cycles c.saturating_sub-2.result _
     c.requires.seen.ahead (sound (view_of c.args.self.now) c.requires.stands).retired (omega (arith, c.args.self.now.config.core_in_range.width_in)) c.flow_of.ensures.plain
     (omega (arith, c.len.ensures.value)) c.deref.ensures.value c.flow_of.ensures.flow
 
 pub returns-clause-within : goal.returns-clause-within
 returns-clause-within c = let from = c.requires.seen.ahead.first.is_from in omega (arith, c.flow_of.ensures.plain, c.len.ensures.value)
+
+pub returns-then-saturating_sub-from-clause-steady : goal.returns-then-saturating_sub-from-clause-steady
+returns-then-saturating_sub-from-clause-steady c = flow-none (view_of c.args.self.now) _ _
+
+pub returns-then-saturating_sub-from-clause-within : goal.returns-then-saturating_sub-from-clause-within
+returns-then-saturating_sub-from-clause-within c = let from = c.requires.seen.ahead.first.is_from in omega arith

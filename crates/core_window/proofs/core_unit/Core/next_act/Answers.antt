@@ -1,24 +1,27 @@
--- A core that does nothing in the next cycle never acts.
-use Rattle.std.proofs.Common.{ap}
-use Rattle.sim_base.specs.declared.history.CoreRow.{CoreRow}
+-- A core retires an entry that is done, and does nothing where its window is full of others.
+use Rattle.std.proofs.Common.{refl, subst, List, ◌<◌, ◌≤◌, arith, ⊎_elim}
+use Rattle.std.proofs.lemmas.Bool.{cases_lt, false≢true}
+use Rattle.core_window.specs.Causes.{first_undone}
 use Rattle.core_window.specs.CoreViews.{view_of}
-use Rattle.core_window.proofs.Resting.{rest-standing, row_is_idle, at_rest, first_act}
+use Rattle.core_window.specs.declared.waiting.WaitingRead.{WaitingRead}
+use Rattle.core_window.proofs.Resting.{rest-standing, retires-first}
+use Rattle.core_window.proofs.Sticking.{stuck-rests}
+use Rattle.core_window.proofs.Turning.{sound}
 use Rattle.core_window.proofs.core_unit.Core.next_act.Goals as goal
-use Rattle.core_window.proofs.core_unit.Core.next_act.Goals.{else-row-eq0-via-then-row-eq0+else-row-eq0-2, else-row-eq0-via-else-row-eq0}
 
-pub turn-requires : goal.turn-requires
-turn-requires c = rest-standing (view_of c.args.self.now) c.requires.stands
+pub returns-then-is_next_done : goal.returns-then-is_next_done
+returns-then-is_next_done c s core trace rows mail h =
+    let a = view_of c.args.self.now in
+    retires-first s core trace rows mail a c.args.from c.requires.at (omega (arith, c.args.self.now.config.core_in_range.width_in))
+    (subst (λ (ws : List WaitingRead). a.stats.retired < first_undone a.stats.issued ws) c.deref.ensures.value (c.if-is_next_done.ensures.0 refl)) h
 
-pub returns-then-row-eq0-2 : goal.returns-then-row-eq0-2
-returns-then-row-eq0-2 c s core trace rows mail h =
-    at_rest s core trace rows mail (view_of c.args.self.now) c.turn.result.row c.turn.result.why c.turn.result.memory
-    (row_is_idle c.turn.result.row c.if-row-eq0.true c.if-row-eq0-2.true) c.turn.ensures h
+pub is_full-requires : goal.is_full-requires
+is_full-requires c = (sound (view_of c.args.self.now) (rest-standing (view_of c.args.self.now) c.requires.stands)).retired
 
-pub returns-else-row-eq0 : goal.returns-else-row-eq0
-returns-else-row-eq0 c s core trace rows mail h =
-    first_act s core trace rows mail (view_of c.args.self.now) c.turn.result.row c.turn.result.why c.turn.result.memory c.args.from c.requires.at
-    (λ e. elim c.else-row-eq0.branch [
-      | else-row-eq0-via-then-row-eq0+else-row-eq0-2 w ↦ w.if-row-eq0-2.false (ap (λ (r : CoreRow). r.issued) e)
-      | else-row-eq0-via-else-row-eq0 w ↦ w.if-row-eq0.false (ap (λ (r : CoreRow). r.retired) e)
-    ])
-    c.turn.ensures h
+pub returns-then-is_full : goal.returns-then-is_full
+returns-then-is_full c s core trace rows mail h =
+    let a = view_of c.args.self.now in
+    let undone : first_undone a.stats.issued a.waiting ≤ a.stats.retired =
+    subst (λ (ws : List WaitingRead). first_undone a.stats.issued ws ≤ a.stats.retired) c.deref.ensures.value
+    (⊎_elim (λ l. absurd (false≢true (c.if-is_next_done.ensures.1 l))) (λ g. g) (cases_lt a.stats.retired (first_undone a.stats.issued c.deref.result.now))) in
+    stuck-rests s core trace rows mail a (sound a (rest-standing a c.requires.stands)).issued undone (c.if-is_full.ensures.0 refl) h

@@ -1,14 +1,18 @@
 -- A reply and a credit, each by its lemma; no request is due at a core.
-use Rattle.std.proofs.Common.{◌∙◌, ap, subst, find, eqb}
+use Rattle.std.proofs.Common.{◌∙◌, sym, ap, subst, find, eqb}
 use Rattle.sim_base.specs.Counts.{issue_cycle}
 use Rattle.core_window.specs.CoreViews.{view_of}
 use Rattle.core_window.specs.Fit.{IsDueLoad}
+use Rattle.core_window.specs.Waiting.{IsByNumber}
 use Rattle.core_window.specs.declared.waiting.WaitingRead.{WaitingRead}
-use Rattle.core_window.proofs.Receiving.{reply-room, reply-stands, credit-stands, awaited_found}
+use Rattle.core_window.proofs.Receiving.{waiting-by_number, reply-room, reply-stands, credit-stands, awaited_found}
 use Rattle.core_window.proofs.core_unit.Core.receive.Goals as goal
 
-pub take_reply-requires : goal.take_reply-requires
-take_reply-requires c =
+pub take_reply-requires-clause-order : goal.take_reply-requires-clause-order
+take_reply-requires-clause-order c = let h = c.requires.stands.stands in subst IsByNumber (sym h.waiting) (waiting-by_number c.requires.stands.trace c.requires.stands.rows c.requires.stands.mail)
+
+pub take_reply-requires-clause-room : goal.take_reply-requires-clause-room
+take_reply-requires-clause-room c =
     let h = c.requires.stands in
     reply-room h.s h.core h.trace h.rows h.mail (view_of c.args.self.now) c.in-Reply.entry h.stands c.requires.early
 

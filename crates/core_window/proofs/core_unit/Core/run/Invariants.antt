@@ -6,4 +6,4 @@ use Rattle.core_window.proofs.core_unit.Core.run.Given as goal
 
 abbrev pub invariant-loop-message : goal.invariant-loop-message
 invariant-loop-message l =
-    IsTaking (view_of l.fn.self) l.from l.until l.inbox l.message-index (view_of l.core) l.sent.items × IsSeen l.core.trace l.core.stats.issued l.ahead.one l.ahead.two l.ahead.entry
+    IsTaking (view_of l.fn.self) l.from l.until l.inbox l.message-index (view_of l.self) l.fn.sent.items l.sent.items × IsSeen l.self.trace l.self.stats.issued l.ahead.one l.ahead.two l.ahead.entry

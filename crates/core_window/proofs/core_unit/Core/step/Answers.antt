@@ -20,7 +20,7 @@ count_cycle-requires c =
     (c.requires.turn a h.s h.core h.trace h.rows h.mail (like-self a) h.stands) (omega (arith, c.len-len.ensures.value, c.len-len.ensures.limit)) c.requires.early)
 
 pub returns-clause-advances : goal.returns-clause-advances
-returns-clause-advances c s core trace rows mail h =
+returns-clause-advances c =
     let kept : (with_items c.args.self.now.credits c.spend.new.credits).items ≡ c.spend.new.credits =
     with_items_is c.args.self.now.credits c.spend.new.credits (c.spend.auto.credits ∙ c.deref_mut.ensures.len) in
     step-advances (view_of c.args.self.now) _ c.args.turn.row c.args.turn.why c.args.turn.memory c.args.sent.now.items c.send.new.sent.items
@@ -37,4 +37,4 @@ returns-clause-advances c s core trace rows mail h =
       stats = c.count_cycle.ensures
           ∙ ap (λ n. core_joined c.args.self.now.stats (cycle_counts c.args.turn.row c.args.turn.why c.args.turn.memory c.args.self.now.stats.retired n c.args.self.now.cycle)) c.len-len.ensures.value;
     })
-    (c.in_ok-send.ensures {u = tt}) s core trace rows mail h
+    (c.in_ok-send.ensures {u = tt})

@@ -28,7 +28,7 @@ returns c v s core trace rows mail i h =
     let lack = λ (b : Bool). b && lacks_credit a.config core mail (core_messages s core trace rows) (length rows) (slice_get a.trace one) in
     let lacks = c.if-ahead-near.lacks in
     let seen = c.requires.seen in
-    let near : one < min (a.stats.issued + a.config.width) (length a.trace) → lacks ≡ full = λ l. elim c.if-ahead-near.branch [
+    let near : one < min (a.stats.issued + min a.config.width (a.config.window - (a.stats.issued - gone))) (length a.trace) → lacks ≡ full = λ l. elim c.if-ahead-near.branch [
       | then-ahead-near w ↦
           let inside : one < length a.trace = omega arith in
           w.lacks-is
@@ -36,11 +36,11 @@ returns c v s core trace rows mail i h =
           (λ held says. w.is_without_credit-lacks.ensures held (λ channel b. ap (λ (cs : List Credits). slice_get cs channel) w.deref-then-ahead-near.ensures.value ∙ says channel b))
           ∙ ap (lacks_credit a.config core mail (core_messages s core trace rows) (length rows)) (sym (seen.is_at inside))
           ∙ ap lack (sym (lt-ltb one (length a.trace) inside))
-      | else-ahead-near w ↦ absurd (omega (arith, w.if-ahead-near.false, c.min-near.ensures, c.from-2.ensures, c.len-len.ensures.value))
+      | else-ahead-near w ↦ absurd (omega (arith, w.if-ahead-near.false, c.most_issued-near.ensures, c.from.ensures, c.len-len.ensures.value))
     ] in
-    let far : min (a.stats.issued + a.config.width) (length a.trace) ≤ one → lacks ≡ false = λ g. elim c.if-ahead-near.branch [
-      | then-ahead-near w ↦ absurd (omega (arith, w.if-ahead-near.true, c.min-near.ensures, c.from-2.ensures, c.len-len.ensures.value))
-      | else-ahead-near w ↦ w.lacks-is ∙ le-ltb one c.min-near.result w.if-ahead-near.false
+    let far : min (a.stats.issued + min a.config.width (a.config.window - (a.stats.issued - gone))) (length a.trace) ≤ one → lacks ≡ false = λ g. elim c.if-ahead-near.branch [
+      | then-ahead-near w ↦ absurd (omega (arith, w.if-ahead-near.true, c.most_issued-near.ensures, c.from.ensures, c.len-len.ensures.value))
+      | else-ahead-near w ↦ w.lacks-is ∙ le-ltb one c.most_issued-near.result w.if-ahead-near.false
     ] in
     let count : c.issue_of-issue.result.count ≡ issue_count a.config.width a.config.window a.stats.issued gone one two full =
     c.issue_of-issue.ensures.count ∙ ap (λ n. issue_count a.config.width a.config.window a.stats.issued (a.stats.retired + n) one two lacks) c.from.ensures
@@ -51,7 +51,7 @@ returns c v s core trace rows mail i h =
     turn-is s core trace rows mail (view_of c.args.self.now) v r one two full
     c.issue_of-issue.result.count c.issue_of-issue.result.why c.entry_issued-memory.result i h
     (record {
-      retired = c.retire_count-retired.ensures ∙ ap (λ (ws : List WaitingRead). min a.config.width (first_undone a.stats.issued ws - a.stats.retired)) c.deref.ensures.value;
+      retired = c.retire_count-retired.ensures ∙ ap (λ (ws : List WaitingRead). min a.config.width (first_undone a.stats.issued ws - a.stats.retired)) c.deref-2.ensures.value;
       ahead = seen.ahead;
       credit = refl;
       last = λ may. subst

@@ -8,11 +8,11 @@ use Rattle.heads.proofs.entry.KindHeads.after.Goals as goal
 
 pub returns-then-gap-clause-first : goal.returns-then-gap-clause-first
 returns-then-gap-clause-first c earlier within left calm empty first =
-    no_first c.args.queue.now.requests c.args.gap.bank c.args.write c.args.row _ (empty c.if-gap.true) refl refl
+    no_first c.args.queue.now.requests.now c.args.gap.bank c.args.write c.args.row _ (empty c.if-gap.true) refl refl
 
 pub returns-in-Some-Some-clause-first : goal.returns-in-Some-Some-clause-first
 returns-in-Some-Some-clause-first c earlier within left calm empty first =
-    let rs = c.args.queue.now.requests in
+    let rs = c.args.queue.now.requests.now in
     let bank = c.args.gap.bank in
     let write = c.args.write in
     let row = c.in-Some-Some.row in
@@ -28,7 +28,7 @@ returns-in-Some-Some-clause-first c earlier within left calm empty first =
 
 pub returns-in_default-clause-first : goal.returns-in_default-clause-first
 returns-in_default-clause-first c earlier within left calm empty first =
-    let rs = c.args.queue.now.requests in
+    let rs = c.args.queue.now.requests.now in
     let bank = c.args.gap.bank in
     let write = c.args.write in
     let oldest = c.next_place-oldest.ensures.first earlier within left calm (none_at_start (wants bank write None) rs) first.oldest_is in
@@ -39,7 +39,7 @@ returns-in_default-clause-first c earlier within left calm empty first =
 
 pub returns-in_default-2-clause-first : goal.returns-in_default-2-clause-first
 returns-in_default-2-clause-first c earlier within left calm empty first =
-    let rs = c.args.queue.now.requests in
+    let rs = c.args.queue.now.requests.now in
     let bank = c.args.gap.bank in
     let write = c.args.write in
     record {

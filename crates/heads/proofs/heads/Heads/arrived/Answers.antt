@@ -1,14 +1,14 @@
 -- One request more, and then all.
 use Rattle.std.proofs.Common.{◌<◌, length, take, sym, ap, subst, ◌∙◌, arith}
 use Rattle.std.proofs.lemmas.List.{length-take-le, take_all}
-use Rattle.queue.proofs.Eligible.{length-eligible}
+use Rattle.queue_columns.proofs.Eligible.{length-eligible}
 use Rattle.heads.specs.Stands.{StandsFor}
 use Rattle.heads.proofs.Stood.{first_read, take_next}
 use Rattle.heads.proofs.heads.Heads.arrived.Goals as goal
 
 pub loop-slot-preserved : goal.loop-slot-preserved
 loop-slot-preserved c =
-    let rs = c.args.queue.now.requests in
+    let rs = c.args.queue.now.requests.now in
     let slot = c.loop-slot.slot in
     let within : slot < length rs = omega (arith, ap length c.requests-requests.ensures) in
     record {
@@ -21,8 +21,8 @@ loop-slot-preserved c =
 
 pub returns-clause-stands : goal.returns-clause-stands
 returns-clause-stands c open_rows stands =
-    let rs = c.args.queue.now.requests in
+    let rs = c.args.queue.now.requests.now in
     subst (λ xs. StandsFor c.loop-slot.self xs open_rows) (take_all c.loop-slot.slot rs (omega (arith, ap length c.requests-requests.ensures))) (c.loop-slot.invariant.stands open_rows stands)
 
 pub bounds-marks-slot : goal.bounds-marks-slot
-bounds-marks-slot c = omega (arith, ap length c.eligible-marks.ensures, ap length c.requests-requests.ensures, length-eligible c.args.queue.now.requests)
+bounds-marks-slot c = omega (arith, ap length c.eligible-marks.ensures, ap length c.requests-requests.ensures, length-eligible c.args.queue.now.requests.now)

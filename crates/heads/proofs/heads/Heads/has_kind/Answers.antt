@@ -3,7 +3,7 @@ use Rattle.std.proofs.Common.{◌≡◌, ℕ, ◌<◌, Bool, true, false, not, �
 use Rattle.std.proofs.lemmas.Bool.{cases_Bool}
 use Rattle.std.specs.Option.{is_some}
 use Rattle.sim_base.specs.Scheduling.{is_favoured}
-use Rattle.queue.specs.Columns.{bank_number}
+use Rattle.queue_columns.specs.Columns.{bank_number}
 use Rattle.heads.specs.Heads.{asks, first_place}
 use Rattle.heads.specs.Stands.{bank_count, heads_of}
 use Rattle.heads.specs.Sets.{is_in}

@@ -3,7 +3,7 @@ use Rattle.std.proofs.Common.{◌≡◌, ◌+◌, ◌<◌, min, arith, Bool, tru
 use Rattle.std.proofs.lemmas.List.{get_or_default}
 use Rattle.sim_base.specs.Rules.{is_row}
 use Rattle.sim_base.specs.Scheduling.{asks_for_line, or_else}
-use Rattle.queue.specs.Columns.{bank_number}
+use Rattle.queue_columns.specs.Columns.{bank_number}
 use Rattle.heads.specs.Heads.{kind_number, kind_of}
 use Rattle.heads.specs.Places.{head_in}
 use Rattle.heads.proofs.Counted.{AreCounted, counted_push, kind_below}

@@ -11,7 +11,7 @@ use Rattle.heads.proofs.heads.Heads.opened.Goals as goal
 pub returns-clause-stands : goal.returns-clause-stands
 returns-clause-stands c open_rows stands =
     let old = c.args.self.now in
-    let rs = c.args.queue.now.requests in
+    let rs = c.args.queue.now.requests.now in
     let number = c.number_of-number.result in
     let row = Some c.args.row in
     let exists : number < length old.rows.items = subst (λ n. n < length old.rows.items) (sym c.number_of-number.ensures) c.requires in

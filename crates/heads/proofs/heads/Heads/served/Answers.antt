@@ -3,7 +3,7 @@ use Rattle.std.proofs.Common.{◌≡◌, ℕ, ◌-◌, ◌<◌, eqb, arith, Bool
 use Rattle.std.proofs.lemmas.Bool.{eq-eqb, ne_eqb, eqb-true, true≢false, false≢true}
 use Rattle.std.proofs.lemmas.List.{get_or_default, length-set, get_or-set_same}
 use Rattle.std.specs.List.{remove}
-use Rattle.queue.specs.Columns.{bank_number}
+use Rattle.queue_columns.specs.Columns.{bank_number}
 use Rattle.heads.specs.Heads.{AreFirst, NoneWaits, kind_number, kind_of, kind_count}
 use Rattle.heads.specs.Moves.{kind_past}
 use Rattle.heads.specs.Places.{kind_in}
@@ -23,7 +23,7 @@ returns-clause-stands c earlier open_rows within request left stands =
     let r = c.args.request in
     let old = c.args.self.now in
     let rows = old.rows.items in
-    let rs = c.args.queue.now.requests in
+    let rs = c.args.queue.now.requests.now in
     let slot = c.args.slot in
     let own = bank_number r.place in
     let bank = c.bank_number-bank.result in

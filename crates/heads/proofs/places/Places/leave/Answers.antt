@@ -14,11 +14,11 @@ hits_kind bank write row x is = wants_kind bank write None x (and_parts (asks ba
 
 pub returns-then-gap-clause-own : goal.returns-then-gap-clause-own
 returns-then-gap-clause-own c earlier within left calm empty first moved =
-    no_first c.args.queue.now.requests c.args.gap.bank c.args.write c.args.row _ (empty c.if-gap.true) (c.set-then-gap.ensures.beside ∙ c.set.ensures.same) c.set-then-gap.ensures.same
+    no_first c.args.queue.now.requests.now c.args.gap.bank c.args.write c.args.row _ (empty c.if-gap.true) (c.set-then-gap.ensures.beside ∙ c.set.ensures.same) c.set-then-gap.ensures.same
 
 pub returns-clause-own : goal.returns-clause-own
 returns-clause-own c earlier within left calm empty first moved =
-    subst (AreFirst c.args.queue.now.requests c.args.gap.bank c.args.write c.args.row) (sym c.set_kind.ensures.same) (c.after-heads.ensures.first earlier within left calm empty first)
+    subst (AreFirst c.args.queue.now.requests.now c.args.gap.bank c.args.write c.args.row) (sym c.set_kind.ensures.same) (c.after-heads.ensures.first earlier within left calm empty first)
 
 pub returns-then-stay-clause-own : goal.returns-then-stay-clause-own
 returns-then-stay-clause-own c earlier within left calm empty first moved =
@@ -30,7 +30,7 @@ returns-then-stay-clause-own c earlier within left calm empty first moved =
     let item = item_at earlier slot within in
     let stays : c.stay.result ≡ true = c.if-stay.true in
     let none = calm (c.stay.ensures.calm stays) in
-    subst (AreFirst c.args.queue.now.requests bank write row) (sym moved)
+    subst (AreFirst c.args.queue.now.requests.now bank write row) (sym moved)
     (record {
       oldest_is = calm_place (kind_number bank write) (asks bank write) earlier slot item.0 before.oldest within item.1 (wants_kind bank write None) none first.oldest_is (c.stay.ensures.oldest stays)
           ∙ ap (first_place (asks bank write)) (sym left);

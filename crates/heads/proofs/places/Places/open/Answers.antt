@@ -7,7 +7,7 @@ use Rattle.heads.proofs.places.Places.open.Goals as goal
 
 pub returns-in_default-clause-own : goal.returns-in_default-clause-own
 returns-in_default-clause-own c old first =
-    let rs = c.args.queue.now.requests in
+    let rs = c.args.queue.now.requests.now in
     let bank = c.args.bank in
     let write = c.args.write in
     let none : None ≡ first_place (asks bank write) rs = sym c.in_default.is ∙ c.head.ensures.head ∙ first.oldest_is in

@@ -1,7 +1,7 @@
 -- The mark and the tag of a request are written.
 use Rattle.std.proofs.Common.{true, ◌+◌, drop, set, refl, sym, ap, ◌∙◌}
 use Rattle.std.proofs.lemmas.List.{length-set, get_or-drop}
-use Rattle.queue.specs.Columns.{tag_of, tags_of}
+use Rattle.queue_columns.specs.Columns.{tag_of, tags_of}
 use Rattle.queue.proofs.Dropped.{drop-set}
 use Rattle.queue.proofs.Kept.{tags_turned}
 use Rattle.queue.proofs.aged.Aged.give_turn.Goals as goal
@@ -18,23 +18,14 @@ invariant_of-self c =
     let written = drop-set a.start at place a.tags.items c.tag.result refl ∙ ap (set (drop a.start a.tags.items) at) tag_is in
     record {
       begun = kept.begun;
-      banks_are = kept.banks_are;
-      rows_are = kept.rows_are;
-      kinds_are = kept.kinds_are;
       tags_are = tags_turned (drop a.start a.tags.items) _ rs marks at _ kept.tags_are written ∙ ap (tags_of rs) (sym (drop-set a.start at place a.eligible.items 1 refl));
       prints_are = kept.prints_are;
-      banks_long = kept.banks_long;
-      rows_long = kept.rows_long;
-      kinds_long = kept.kinds_long;
       eligible_long = length-set a.eligible.items place 1 ∙ kept.eligible_long;
       tags_long = length-set a.tags.items place c.tag.result ∙ kept.tags_long;
       prints_long = kept.prints_long;
       within = kept.within;
       enough = kept.enough;
       request_room = kept.request_room;
-      bank_room = kept.bank_room;
-      row_room = kept.row_room;
-      kind_room = kept.kind_room;
       eligible_room = kept.eligible_room;
       tag_room = kept.tag_room;
       print_room = kept.print_room;

@@ -2,8 +2,7 @@
 use Rattle.std.proofs.Common.{◌+◌, ◌-◌, ◌<◌, drop, length, ap, ◌∙◌, arith}
 use Rattle.std.proofs.lemmas.List.{length-drop, with_items_is}
 use Rattle.std.specs.List.{remove}
-use Rattle.lane_scan.specs.Marks.{mark}
-use Rattle.queue.specs.Columns.{bank_number, line_print}
+use Rattle.queue_columns.specs.Columns.{line_print}
 use Rattle.queue.proofs.Dropped.{dropped_older, turned_part}
 use Rattle.queue.proofs.Kept.{map_removed, tags_removed}
 use Rattle.queue.proofs.aged.Aged.remove_older.Goals as goal
@@ -19,43 +18,25 @@ invariant_of-self c =
     let requests =
     dropped_older start at n a.requests.items c.deref_mut.result.now c.move_each_up.new.requests _ c.deref_mut.ensures.value (omega arith) exists c.move_each_up.ensures.requests
     (λ long. with_items_is a.requests (turned_part start n c.deref_mut.result.now c.move_each_up.new.requests) (omega (arith, long, a.requests.ok.0))) in
-    let banks =
-    dropped_older start at n a.banks.items c.deref_mut-2.result.now c.move_each_up.new.banks _ c.deref_mut-2.ensures.value (omega arith) (omega (arith, exists, kept.banks_long)) c.move_each_up.ensures.banks
-    (λ long. with_items_is a.banks (turned_part start n c.deref_mut-2.result.now c.move_each_up.new.banks) (omega (arith, long, a.banks.ok.0))) in
-    let rows =
-    dropped_older start at n a.rows.items c.deref_mut-3.result.now c.move_each_up.new.rows _ c.deref_mut-3.ensures.value (omega arith) (omega (arith, exists, kept.rows_long)) c.move_each_up.ensures.rows
-    (λ long. with_items_is a.rows (turned_part start n c.deref_mut-3.result.now c.move_each_up.new.rows) (omega (arith, long, a.rows.ok.0))) in
-    let kinds =
-    dropped_older start at n a.kinds.items c.deref_mut-4.result.now c.move_each_up.new.kinds _ c.deref_mut-4.ensures.value (omega arith) (omega (arith, exists, kept.kinds_long)) c.move_each_up.ensures.kinds
-    (λ long. with_items_is a.kinds (turned_part start n c.deref_mut-4.result.now c.move_each_up.new.kinds) (omega (arith, long, a.kinds.ok.0))) in
     let eligible =
-    dropped_older start at n a.eligible.items c.deref_mut-5.result.now c.move_each_up.new.eligible _ c.deref_mut-5.ensures.value (omega arith) (omega (arith, exists, kept.eligible_long)) c.move_each_up.ensures.eligible
-    (λ long. with_items_is a.eligible (turned_part start n c.deref_mut-5.result.now c.move_each_up.new.eligible) (omega (arith, long, a.eligible.ok.0))) in
+    dropped_older start at n a.eligible.items c.deref_mut-2.result.now c.move_each_up.new.eligible _ c.deref_mut-2.ensures.value (omega arith) (omega (arith, exists, kept.eligible_long)) c.move_each_up.ensures.eligible
+    (λ long. with_items_is a.eligible (turned_part start n c.deref_mut-2.result.now c.move_each_up.new.eligible) (omega (arith, long, a.eligible.ok.0))) in
     let tags =
-    dropped_older start at n a.tags.items c.deref_mut-6.result.now c.move_each_up.new.tags _ c.deref_mut-6.ensures.value (omega arith) (omega (arith, exists, kept.tags_long)) c.move_each_up.ensures.tags
-    (λ long. with_items_is a.tags (turned_part start n c.deref_mut-6.result.now c.move_each_up.new.tags) (omega (arith, long, a.tags.ok.0))) in
+    dropped_older start at n a.tags.items c.deref_mut-3.result.now c.move_each_up.new.tags _ c.deref_mut-3.ensures.value (omega arith) (omega (arith, exists, kept.tags_long)) c.move_each_up.ensures.tags
+    (λ long. with_items_is a.tags (turned_part start n c.deref_mut-3.result.now c.move_each_up.new.tags) (omega (arith, long, a.tags.ok.0))) in
     let prints =
-    dropped_older start at n a.prints.items c.deref_mut-7.result.now c.move_each_up.new.prints _ c.deref_mut-7.ensures.value (omega arith) (omega (arith, exists, kept.prints_long)) c.move_each_up.ensures.prints
-    (λ long. with_items_is a.prints (turned_part start n c.deref_mut-7.result.now c.move_each_up.new.prints) (omega (arith, long, a.prints.ok.0))) in
+    dropped_older start at n a.prints.items c.deref_mut-4.result.now c.move_each_up.new.prints _ c.deref_mut-4.ensures.value (omega arith) (omega (arith, exists, kept.prints_long)) c.move_each_up.ensures.prints
+    (λ long. with_items_is a.prints (turned_part start n c.deref_mut-4.result.now c.move_each_up.new.prints) (omega (arith, long, a.prints.ok.0))) in
     record {
       begun = omega (arith, exists, requests.0);
-      banks_are = map_removed (λ r. bank_number r.place) (drop start a.banks.items) _ (drop start a.requests.items) _ at kept.banks_are banks.1 requests.1;
-      rows_are = map_removed (λ r. r.place.row) (drop start a.rows.items) _ (drop start a.requests.items) _ at kept.rows_are rows.1 requests.1;
-      kinds_are = map_removed (λ r. mark r.write) (drop start a.kinds.items) _ (drop start a.requests.items) _ at kept.kinds_are kinds.1 requests.1;
       prints_are = map_removed (λ r. line_print r.place) (drop start a.prints.items) _ (drop start a.requests.items) _ at kept.prints_are prints.1 requests.1;
       tags_are = tags_removed (drop start a.tags.items) _ (drop start a.requests.items) _ (drop start a.eligible.items) _ at kept.tags_are tags.1 requests.1 eligible.1;
-      banks_long = omega (arith, banks.0, requests.0, kept.banks_long);
-      rows_long = omega (arith, rows.0, requests.0, kept.rows_long);
-      kinds_long = omega (arith, kinds.0, requests.0, kept.kinds_long);
       eligible_long = omega (arith, eligible.0, requests.0, kept.eligible_long);
       tags_long = omega (arith, tags.0, requests.0, kept.tags_long);
       prints_long = omega (arith, prints.0, requests.0, kept.prints_long);
       within = omega (arith, requests.0, kept.within);
       enough = kept.enough;
       request_room = kept.request_room;
-      bank_room = kept.bank_room;
-      row_room = kept.row_room;
-      kind_room = kept.kind_room;
       eligible_room = kept.eligible_room;
       tag_room = kept.tag_room;
       print_room = kept.print_room;
@@ -83,6 +64,6 @@ returns-clause-marks c =
     let n = start + at + 1 - start in
     let exists : start + at < length a.requests.items = omega (arith, c.requires, ap (λ v. length v.requests) c.self.view_is, length-drop start a.requests.items, kept.begun) in
     let eligible =
-    dropped_older start at n a.eligible.items c.deref_mut-5.result.now c.move_each_up.new.eligible _ c.deref_mut-5.ensures.value (omega arith) (omega (arith, exists, kept.eligible_long)) c.move_each_up.ensures.eligible
-    (λ long. with_items_is a.eligible (turned_part start n c.deref_mut-5.result.now c.move_each_up.new.eligible) (omega (arith, long, a.eligible.ok.0))) in
+    dropped_older start at n a.eligible.items c.deref_mut-2.result.now c.move_each_up.new.eligible _ c.deref_mut-2.ensures.value (omega arith) (omega (arith, exists, kept.eligible_long)) c.move_each_up.ensures.eligible
+    (λ long. with_items_is a.eligible (turned_part start n c.deref_mut-2.result.now c.move_each_up.new.eligible) (omega (arith, long, a.eligible.ok.0))) in
     eligible.1 ∙ ap (λ v. remove v.marks at) c.self.view_is

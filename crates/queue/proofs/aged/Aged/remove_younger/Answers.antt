@@ -3,8 +3,7 @@ use Rattle.std.proofs.Common.{◌≡◌, ◌+◌, ◌-◌, ◌<◌, drop, take, 
 use Rattle.std.proofs.lemmas.List.{length-drop, with_items_is}
 use Rattle.std.specs.List.{remove}
 use Rattle.std.specs.Vec.{with_items}
-use Rattle.lane_scan.specs.Marks.{mark}
-use Rattle.queue.specs.Columns.{bank_number, line_print}
+use Rattle.queue_columns.specs.Columns.{line_print}
 use Rattle.queue.proofs.Dropped.{dropped_down, dropped_younger, turned_part}
 use Rattle.queue.proofs.Kept.{map_removed, tags_removed}
 use Rattle.queue.proofs.aged.Aged.remove_younger.Goals as goal
@@ -27,82 +26,46 @@ invariant_of-self c =
     (λ long. with_items_is a.requests (turned_part (start + at) n c.deref_mut.result.now c.move_each_down.new.requests) (omega (arith, long, requests_long)))
     (c.drop_last.ensures.items ∙ ap (λ len. take (len - 1) (with_items a.requests (turned_part (start + at) n c.deref_mut.result.now c.move_each_down.new.requests)).items) requests_long))
     requests_there in
-    let banks_there : start + at < length a.banks.items = (omega (arith, exists, kept.banks_long)) in
-    let banks_long : a.banks.len ≡ length a.banks.items = a.banks.ok.0 in
-    let banks =
-    dropped_younger start at a.banks.items c.drop_last-2.new.items.items
-    (dropped_down (start + at) n a.banks.items c.deref_mut-2.result.now c.move_each_down.new.banks _ c.drop_last-2.new.items.items c.deref_mut-2.ensures.value banks_there (omega (arith, full, kept.banks_long))
-    c.move_each_down.ensures.banks
-    (λ long. with_items_is a.banks (turned_part (start + at) n c.deref_mut-2.result.now c.move_each_down.new.banks) (omega (arith, long, banks_long)))
-    (c.drop_last-2.ensures.items ∙ ap (λ len. take (len - 1) (with_items a.banks (turned_part (start + at) n c.deref_mut-2.result.now c.move_each_down.new.banks)).items) banks_long))
-    banks_there in
-    let rows_there : start + at < length a.rows.items = (omega (arith, exists, kept.rows_long)) in
-    let rows_long : a.rows.len ≡ length a.rows.items = a.rows.ok.0 in
-    let rows =
-    dropped_younger start at a.rows.items c.drop_last-3.new.items.items
-    (dropped_down (start + at) n a.rows.items c.deref_mut-3.result.now c.move_each_down.new.rows _ c.drop_last-3.new.items.items c.deref_mut-3.ensures.value rows_there (omega (arith, full, kept.rows_long))
-    c.move_each_down.ensures.rows
-    (λ long. with_items_is a.rows (turned_part (start + at) n c.deref_mut-3.result.now c.move_each_down.new.rows) (omega (arith, long, rows_long)))
-    (c.drop_last-3.ensures.items ∙ ap (λ len. take (len - 1) (with_items a.rows (turned_part (start + at) n c.deref_mut-3.result.now c.move_each_down.new.rows)).items) rows_long))
-    rows_there in
-    let kinds_there : start + at < length a.kinds.items = (omega (arith, exists, kept.kinds_long)) in
-    let kinds_long : a.kinds.len ≡ length a.kinds.items = a.kinds.ok.0 in
-    let kinds =
-    dropped_younger start at a.kinds.items c.drop_last-4.new.items.items
-    (dropped_down (start + at) n a.kinds.items c.deref_mut-4.result.now c.move_each_down.new.kinds _ c.drop_last-4.new.items.items c.deref_mut-4.ensures.value kinds_there (omega (arith, full, kept.kinds_long))
-    c.move_each_down.ensures.kinds
-    (λ long. with_items_is a.kinds (turned_part (start + at) n c.deref_mut-4.result.now c.move_each_down.new.kinds) (omega (arith, long, kinds_long)))
-    (c.drop_last-4.ensures.items ∙ ap (λ len. take (len - 1) (with_items a.kinds (turned_part (start + at) n c.deref_mut-4.result.now c.move_each_down.new.kinds)).items) kinds_long))
-    kinds_there in
     let eligible_there : start + at < length a.eligible.items = (omega (arith, exists, kept.eligible_long)) in
     let eligible_long : a.eligible.len ≡ length a.eligible.items = a.eligible.ok.0 in
     let eligible =
-    dropped_younger start at a.eligible.items c.drop_last-5.new.items.items
-    (dropped_down (start + at) n a.eligible.items c.deref_mut-5.result.now c.move_each_down.new.eligible _ c.drop_last-5.new.items.items c.deref_mut-5.ensures.value eligible_there (omega (arith, full, kept.eligible_long))
+    dropped_younger start at a.eligible.items c.drop_last-2.new.items.items
+    (dropped_down (start + at) n a.eligible.items c.deref_mut-2.result.now c.move_each_down.new.eligible _ c.drop_last-2.new.items.items c.deref_mut-2.ensures.value eligible_there (omega (arith, full, kept.eligible_long))
     c.move_each_down.ensures.eligible
-    (λ long. with_items_is a.eligible (turned_part (start + at) n c.deref_mut-5.result.now c.move_each_down.new.eligible) (omega (arith, long, eligible_long)))
-    (c.drop_last-5.ensures.items ∙ ap (λ len. take (len - 1) (with_items a.eligible (turned_part (start + at) n c.deref_mut-5.result.now c.move_each_down.new.eligible)).items) eligible_long))
+    (λ long. with_items_is a.eligible (turned_part (start + at) n c.deref_mut-2.result.now c.move_each_down.new.eligible) (omega (arith, long, eligible_long)))
+    (c.drop_last-2.ensures.items ∙ ap (λ len. take (len - 1) (with_items a.eligible (turned_part (start + at) n c.deref_mut-2.result.now c.move_each_down.new.eligible)).items) eligible_long))
     eligible_there in
     let tags_there : start + at < length a.tags.items = (omega (arith, exists, kept.tags_long)) in
     let tags_long : a.tags.len ≡ length a.tags.items = a.tags.ok.0 in
     let tags =
-    dropped_younger start at a.tags.items c.drop_last-6.new.items.items
-    (dropped_down (start + at) n a.tags.items c.deref_mut-6.result.now c.move_each_down.new.tags _ c.drop_last-6.new.items.items c.deref_mut-6.ensures.value tags_there (omega (arith, full, kept.tags_long))
+    dropped_younger start at a.tags.items c.drop_last-3.new.items.items
+    (dropped_down (start + at) n a.tags.items c.deref_mut-3.result.now c.move_each_down.new.tags _ c.drop_last-3.new.items.items c.deref_mut-3.ensures.value tags_there (omega (arith, full, kept.tags_long))
     c.move_each_down.ensures.tags
-    (λ long. with_items_is a.tags (turned_part (start + at) n c.deref_mut-6.result.now c.move_each_down.new.tags) (omega (arith, long, tags_long)))
-    (c.drop_last-6.ensures.items ∙ ap (λ len. take (len - 1) (with_items a.tags (turned_part (start + at) n c.deref_mut-6.result.now c.move_each_down.new.tags)).items) tags_long))
+    (λ long. with_items_is a.tags (turned_part (start + at) n c.deref_mut-3.result.now c.move_each_down.new.tags) (omega (arith, long, tags_long)))
+    (c.drop_last-3.ensures.items ∙ ap (λ len. take (len - 1) (with_items a.tags (turned_part (start + at) n c.deref_mut-3.result.now c.move_each_down.new.tags)).items) tags_long))
     tags_there in
     let prints_there : start + at < length a.prints.items = (omega (arith, exists, kept.prints_long)) in
     let prints_long : a.prints.len ≡ length a.prints.items = a.prints.ok.0 in
     let prints =
-    dropped_younger start at a.prints.items c.drop_last-7.new.items.items
-    (dropped_down (start + at) n a.prints.items c.deref_mut-7.result.now c.move_each_down.new.prints _ c.drop_last-7.new.items.items c.deref_mut-7.ensures.value prints_there (omega (arith, full, kept.prints_long))
+    dropped_younger start at a.prints.items c.drop_last-4.new.items.items
+    (dropped_down (start + at) n a.prints.items c.deref_mut-4.result.now c.move_each_down.new.prints _ c.drop_last-4.new.items.items c.deref_mut-4.ensures.value prints_there (omega (arith, full, kept.prints_long))
     c.move_each_down.ensures.prints
-    (λ long. with_items_is a.prints (turned_part (start + at) n c.deref_mut-7.result.now c.move_each_down.new.prints) (omega (arith, long, prints_long)))
-    (c.drop_last-7.ensures.items ∙ ap (λ len. take (len - 1) (with_items a.prints (turned_part (start + at) n c.deref_mut-7.result.now c.move_each_down.new.prints)).items) prints_long))
+    (λ long. with_items_is a.prints (turned_part (start + at) n c.deref_mut-4.result.now c.move_each_down.new.prints) (omega (arith, long, prints_long)))
+    (c.drop_last-4.ensures.items ∙ ap (λ len. take (len - 1) (with_items a.prints (turned_part (start + at) n c.deref_mut-4.result.now c.move_each_down.new.prints)).items) prints_long))
     prints_there in
     record {
       begun = omega (arith, exists, requests.0);
-      banks_are = map_removed (λ r. bank_number r.place) (drop start a.banks.items) _ (drop start a.requests.items) _ at kept.banks_are banks.1 requests.1;
-      rows_are = map_removed (λ r. r.place.row) (drop start a.rows.items) _ (drop start a.requests.items) _ at kept.rows_are rows.1 requests.1;
-      kinds_are = map_removed (λ r. mark r.write) (drop start a.kinds.items) _ (drop start a.requests.items) _ at kept.kinds_are kinds.1 requests.1;
       prints_are = map_removed (λ r. line_print r.place) (drop start a.prints.items) _ (drop start a.requests.items) _ at kept.prints_are prints.1 requests.1;
       tags_are = tags_removed (drop start a.tags.items) _ (drop start a.requests.items) _ (drop start a.eligible.items) _ at kept.tags_are tags.1 requests.1 eligible.1;
-      banks_long = omega (arith, banks.0, requests.0, kept.banks_long);
-      rows_long = omega (arith, rows.0, requests.0, kept.rows_long);
-      kinds_long = omega (arith, kinds.0, requests.0, kept.kinds_long);
       eligible_long = omega (arith, eligible.0, requests.0, kept.eligible_long);
       tags_long = omega (arith, tags.0, requests.0, kept.tags_long);
       prints_long = omega (arith, prints.0, requests.0, kept.prints_long);
       within = omega (arith, requests.0, kept.within);
       enough = kept.enough;
       request_room = omega (arith, kept.request_room, c.drop_last.ensures.room);
-      bank_room = omega (arith, kept.bank_room, c.drop_last-2.ensures.room);
-      row_room = omega (arith, kept.row_room, c.drop_last-3.ensures.room);
-      kind_room = omega (arith, kept.kind_room, c.drop_last-4.ensures.room);
-      eligible_room = omega (arith, kept.eligible_room, c.drop_last-5.ensures.room);
-      tag_room = omega (arith, kept.tag_room, c.drop_last-6.ensures.room);
-      print_room = omega (arith, kept.print_room, c.drop_last-7.ensures.room);
+      eligible_room = omega (arith, kept.eligible_room, c.drop_last-2.ensures.room);
+      tag_room = omega (arith, kept.tag_room, c.drop_last-3.ensures.room);
+      print_room = omega (arith, kept.print_room, c.drop_last-4.ensures.room);
     }
 
 pub returns-clause-requests : goal.returns-clause-requests
@@ -137,10 +100,10 @@ returns-clause-marks c =
     let eligible_there : start + at < length a.eligible.items = (omega (arith, exists, kept.eligible_long)) in
     let eligible_long : a.eligible.len ≡ length a.eligible.items = a.eligible.ok.0 in
     let eligible =
-    dropped_younger start at a.eligible.items c.drop_last-5.new.items.items
-    (dropped_down (start + at) n a.eligible.items c.deref_mut-5.result.now c.move_each_down.new.eligible _ c.drop_last-5.new.items.items c.deref_mut-5.ensures.value eligible_there (omega (arith, full, kept.eligible_long))
+    dropped_younger start at a.eligible.items c.drop_last-2.new.items.items
+    (dropped_down (start + at) n a.eligible.items c.deref_mut-2.result.now c.move_each_down.new.eligible _ c.drop_last-2.new.items.items c.deref_mut-2.ensures.value eligible_there (omega (arith, full, kept.eligible_long))
     c.move_each_down.ensures.eligible
-    (λ long. with_items_is a.eligible (turned_part (start + at) n c.deref_mut-5.result.now c.move_each_down.new.eligible) (omega (arith, long, eligible_long)))
-    (c.drop_last-5.ensures.items ∙ ap (λ len. take (len - 1) (with_items a.eligible (turned_part (start + at) n c.deref_mut-5.result.now c.move_each_down.new.eligible)).items) eligible_long))
+    (λ long. with_items_is a.eligible (turned_part (start + at) n c.deref_mut-2.result.now c.move_each_down.new.eligible) (omega (arith, long, eligible_long)))
+    (c.drop_last-2.ensures.items ∙ ap (λ len. take (len - 1) (with_items a.eligible (turned_part (start + at) n c.deref_mut-2.result.now c.move_each_down.new.eligible)).items) eligible_long))
     eligible_there in
     eligible.1 ∙ ap (λ v. remove v.marks at) c.self.view_is

@@ -1,5 +1,5 @@
-use Rattle.timing.proofs.Found.{is_some-hold}
+use Rattle.timing.proofs.Found.{bound-at}
 use Rattle.timing.proofs.gap_table.GapTable.binds.Goals as goal
 
 pub returns : goal.returns
-returns c = cc (is_some-hold c.args.self.now c.args.earlier c.args.later c.args.relation)
+returns c = rw (c.between.ensures.holds, c.index_of_relation.ensures.value) (bound-at c.args.self.now c.args.earlier c.args.later c.args.relation _)

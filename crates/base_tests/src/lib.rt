@@ -1,0 +1,27 @@
+//! Tests of what is read, written and counted, and of the plain machine: a module for each crate, and for each table.
+#![tactic(auto)]
+
+#[cfg(test)]
+mod addresses;
+#[cfg(test)]
+mod command_tables;
+#[cfg(test)]
+mod counts;
+#[cfg(test)]
+mod distances;
+#[cfg(test)]
+mod documents;
+#[cfg(test)]
+mod faults;
+#[cfg(test)]
+mod final_tables;
+#[cfg(test)]
+mod plain_machine;
+#[cfg(test)]
+mod slow;
+#[cfg(test)]
+mod stats_tables;
+#[cfg(test)]
+mod trace_texts;
+#[cfg(test)]
+mod verdicts;

@@ -1,0 +1,335 @@
+//! Small tables, whose verdicts were found by hand from the distances of one profile.
+
+use fixtures::small::{RANK_FIELD, TWO_RANKS, small};
+use rule_check::{Verdict, check};
+use sim_base::fault::Fault;
+use std::alloc::Global;
+use std::test::Fail;
+
+const NO_REFRESH: [&str; 1] = [RANK_FIELD];
+
+const REFRESH: [&str; 2] = [RANK_FIELD, "nREFI = 100"];
+
+const TWO_RANKS_REFRESHED: [&str; 2] = [TWO_RANKS, "nREFI = 100"];
+
+const HEADER: &str = "cycle,channel,command,group,bank,row,column,core,entry\n";
+
+const HEADER_OF_RANKS: &str = "cycle,channel,command,rank,group,bank,row,column,core,entry\n";
+
+// The verdict on the bytes of a table.
+fn verdict_on(
+    alloc: Global,
+    changes: &[&str],
+    table: &[u8],
+) -> Result<Result<Verdict, Fault>, Fail> {
+    let config = small(alloc, changes, "")?;
+    Ok(check(alloc, &config, table))
+}
+
+// The verdict on some rows, below the header.
+fn judged(alloc: Global, changes: &[&str], rows: &str) -> Result<Result<Verdict, Fault>, Fail> {
+    let table = format!(in alloc; "{HEADER}{rows}")?;
+    verdict_on(alloc, changes, table.as_bytes())
+}
+
+fn judged_of_ranks(
+    alloc: Global,
+    changes: &[&str],
+    rows: &str,
+) -> Result<Result<Verdict, Fault>, Fail> {
+    let table = format!(in alloc; "{HEADER_OF_RANKS}{rows}")?;
+    verdict_on(alloc, changes, table.as_bytes())
+}
+
+// A row that comes a cycle too soon, and in time.
+#[derive(Clone, Copy)]
+struct Case {
+    rule: u8,
+    row: u64,
+    before: &'static str,
+    early: &'static str,
+    exact: &'static str,
+}
+
+fn is_kept_exactly(alloc: Global, changes: &[&str], case: Case) -> Result<bool, Fail> {
+    let broken = format!(in alloc; "{}{}", case.before, case.early)?;
+    let kept = format!(in alloc; "{}{}", case.before, case.exact)?;
+    let found = judged(alloc, changes, broken.as_str())?;
+    let legal = judged(alloc, changes, kept.as_str())?;
+    let (row, rule) = (case.row, case.rule);
+    Ok(found == Ok(Verdict::Broken { row, rule }) && legal == Ok(Verdict::Legal))
+}
+
+fn is_kept_exactly_by_ranks(alloc: Global, changes: &[&str], case: Case) -> Result<bool, Fail> {
+    let broken = format!(in alloc; "{}{}", case.before, case.early)?;
+    let kept = format!(in alloc; "{}{}", case.before, case.exact)?;
+    let found = judged_of_ranks(alloc, changes, broken.as_str())?;
+    let legal = judged_of_ranks(alloc, changes, kept.as_str())?;
+    let (row, rule) = (case.row, case.rule);
+    Ok(found == Ok(Verdict::Broken { row, rule }) && legal == Ok(Verdict::Legal))
+}
+
+// The rules that bind commands of a bank, and the order of rows.
+const OF_A_BANK: [Case; 8] = [
+    Case {
+        rule: 1,
+        row: 2,
+        before: "2,0,ACT,0,0,0,,0,0\n",
+        early: "2,0,PREA,,,,,,\n",
+        exact: "10,0,PREA,,,,,,\n",
+    },
+    Case {
+        rule: 2,
+        row: 1,
+        before: "",
+        early: "5,0,RD,0,0,0,0,0,0\n",
+        exact: "5,0,PRE,0,0,,,0,0\n",
+    },
+    Case {
+        rule: 3,
+        row: 2,
+        before: "2,0,ACT,0,0,0,,0,0\n",
+        early: "4,0,RD,0,0,0,0,0,0\n",
+        exact: "5,0,RD,0,0,0,0,0,0\n",
+    },
+    Case {
+        rule: 4,
+        row: 2,
+        before: "2,0,ACT,0,0,0,,0,0\n",
+        early: "9,0,PRE,0,0,,,0,0\n",
+        exact: "10,0,PRE,0,0,,,0,0\n",
+    },
+    Case {
+        rule: 5,
+        row: 3,
+        before: "2,0,ACT,0,0,0,,0,0\n10,0,PRE,0,0,,,0,0\n",
+        early: "12,0,ACT,0,0,1,,0,0\n",
+        exact: "13,0,ACT,0,0,1,,0,0\n",
+    },
+    Case {
+        rule: 6,
+        row: 3,
+        before: "2,0,ACT,0,0,0,,0,0\n11,0,PRE,0,0,,,0,0\n",
+        early: "13,0,ACT,0,0,1,,0,0\n",
+        exact: "14,0,ACT,0,0,1,,0,0\n",
+    },
+    Case {
+        rule: 7,
+        row: 3,
+        before: "2,0,ACT,0,0,0,,0,0\n9,0,RD,0,0,0,0,0,0\n",
+        early: "10,0,PRE,0,0,,,0,0\n",
+        exact: "11,0,PRE,0,0,,,0,0\n",
+    },
+    Case {
+        rule: 8,
+        row: 3,
+        before: "2,0,ACT,0,0,0,,0,0\n5,0,WR,0,0,0,0,0,0\n",
+        early: "15,0,PRE,0,0,,,0,0\n",
+        exact: "16,0,PRE,0,0,,,0,0\n",
+    },
+];
+
+#[test]
+fn each_rule_of_a_bank(rt: HostRuntime) -> Result<(), Fail> {
+    for case in OF_A_BANK {
+        assert!(rt; is_kept_exactly(rt.alloc(), &NO_REFRESH, case)?);
+    }
+    Ok(())
+}
+
+// The rules that bind commands of a rank, by their groups.
+const OF_GROUPS: [Case; 9] = [
+    Case {
+        rule: 9,
+        row: 2,
+        before: "2,0,ACT,0,0,0,,0,0\n",
+        early: "4,0,ACT,0,1,0,,0,0\n",
+        exact: "5,0,ACT,0,1,0,,0,0\n",
+    },
+    Case {
+        rule: 10,
+        row: 2,
+        before: "2,0,ACT,0,0,0,,0,0\n",
+        early: "3,0,ACT,1,0,0,,0,0\n",
+        exact: "4,0,ACT,1,0,0,,0,0\n",
+    },
+    Case {
+        rule: 11,
+        row: 3,
+        before: "2,0,ACT,0,0,0,,0,0\n5,0,RD,0,0,0,0,0,0\n",
+        early: "9,0,RD,0,0,0,1,0,0\n",
+        exact: "10,0,RD,0,0,0,1,0,0\n",
+    },
+    Case {
+        rule: 12,
+        row: 4,
+        before: "2,0,ACT,0,0,0,,0,0\n4,0,ACT,1,0,0,,0,0\n7,0,RD,0,0,0,0,0,0\n",
+        early: "10,0,RD,1,0,0,0,0,0\n",
+        exact: "11,0,RD,1,0,0,0,0,0\n",
+    },
+    Case {
+        rule: 13,
+        row: 3,
+        before: "2,0,ACT,0,0,0,,0,0\n5,0,WR,0,0,0,0,0,0\n",
+        early: "13,0,RD,0,0,0,0,0,0\n",
+        exact: "14,0,RD,0,0,0,0,0,0\n",
+    },
+    Case {
+        rule: 14,
+        row: 4,
+        before: "2,0,ACT,0,0,0,,0,0\n4,0,ACT,1,0,0,,0,0\n5,0,WR,0,0,0,0,0,0\n",
+        early: "12,0,RD,1,0,0,0,0,0\n",
+        exact: "13,0,RD,1,0,0,0,0,0\n",
+    },
+    Case {
+        rule: 15,
+        row: 3,
+        before: "2,0,ACT,0,0,0,,0,0\n5,0,RD,0,0,0,0,0,0\n",
+        early: "11,0,WR,0,0,0,0,0,0\n",
+        exact: "12,0,WR,0,0,0,0,0,0\n",
+    },
+    Case {
+        rule: 16,
+        row: 5,
+        before: "2,0,ACT,0,0,0,,0,0\n4,0,ACT,1,0,0,,0,0\n6,0,ACT,0,1,0,,0,0\n8,0,ACT,1,1,0,,0,0\n",
+        early: "13,0,ACT,0,2,0,,0,0\n",
+        exact: "14,0,ACT,0,2,0,,0,0\n",
+    },
+    Case {
+        rule: 17,
+        row: 2,
+        before: "2,0,REF,,,,,,\n",
+        early: "21,0,ACT,0,0,0,,0,0\n",
+        exact: "22,0,ACT,0,0,0,,0,0\n",
+    },
+];
+
+#[test]
+fn each_rule_of_groups(rt: HostRuntime) -> Result<(), Fail> {
+    for case in OF_GROUPS {
+        assert!(rt; is_kept_exactly(rt.alloc(), &NO_REFRESH, case)?);
+    }
+    let refresh = Case {
+        rule: 18,
+        row: 1,
+        before: "",
+        early: "115,0,ACT,0,0,0,,0,0\n",
+        exact: "114,0,ACT,0,0,0,,0,0\n",
+    };
+    assert!(rt; is_kept_exactly(rt.alloc(), &REFRESH, refresh)?);
+    Ok(())
+}
+
+// The rules that bind commands of two ranks.
+const OF_RANKS: [Case; 3] = [
+    Case {
+        rule: 19,
+        row: 4,
+        before: "2,0,ACT,0,0,0,0,,0,0\n3,0,ACT,1,0,0,0,,0,0\n6,0,RD,0,0,0,0,0,0,0\n",
+        early: "11,0,RD,1,0,0,0,0,0,0\n",
+        exact: "12,0,RD,1,0,0,0,0,0,0\n",
+    },
+    Case {
+        rule: 20,
+        row: 4,
+        before: "2,0,ACT,0,0,0,0,,0,0\n3,0,ACT,1,0,0,0,,0,0\n6,0,RD,0,0,0,0,0,0,0\n",
+        early: "12,0,WR,1,0,0,0,0,0,0\n",
+        exact: "13,0,WR,1,0,0,0,0,0,0\n",
+    },
+    Case {
+        rule: 21,
+        row: 4,
+        before: "2,0,ACT,0,0,0,0,,0,0\n3,0,ACT,1,0,0,0,,0,0\n5,0,WR,0,0,0,0,0,0,0\n",
+        early: "9,0,RD,1,0,0,0,0,0,0\n",
+        exact: "10,0,RD,1,0,0,0,0,0,0\n",
+    },
+];
+
+#[test]
+fn each_rule_of_ranks(rt: HostRuntime) -> Result<(), Fail> {
+    for case in OF_RANKS {
+        assert!(rt; is_kept_exactly_by_ranks(rt.alloc(), &[TWO_RANKS], case)?);
+    }
+    let other = Case {
+        rule: 18,
+        row: 2,
+        before: "100,0,REF,0,,,,,,\n",
+        early: "119,0,ACT,1,0,0,0,,0,0\n",
+        exact: "118,0,ACT,1,0,0,0,,0,0\n",
+    };
+    assert!(rt; is_kept_exactly_by_ranks(rt.alloc(), &TWO_RANKS_REFRESHED, other)?);
+    Ok(())
+}
+
+/// Not the last command alone counts: the write before the last is of the read's group.
+#[test]
+fn each_earlier_command_counts(rt: HostRuntime) -> Result<(), Fail> {
+    let rows =
+        "2,0,ACT,0,0,0,,0,0\n4,0,ACT,1,0,0,,0,0\n5,0,WR,0,0,0,0,0,0\n9,0,WR,1,0,0,0,0,0\n13,0,RD,0,0,0,0,0,0\n";
+    let found = judged(rt.alloc(), &NO_REFRESH, rows)?;
+    assert!(rt; found == Ok(Verdict::Broken { row: 5, rule: 13 }));
+    Ok(())
+}
+
+/// The window of four ACTs is one of a rank.
+#[test]
+fn five_acts_of_two_ranks_are_legal(rt: HostRuntime) -> Result<(), Fail> {
+    let rows =
+        "2,0,ACT,0,0,0,0,,0,0\n4,0,ACT,0,1,0,0,,0,0\n6,0,ACT,0,0,1,0,,0,0\n7,0,ACT,1,0,0,0,,0,0\n8,0,ACT,0,1,1,0,,0,0\n";
+    let found = judged_of_ranks(rt.alloc(), &[TWO_RANKS], rows)?;
+    assert!(rt; found == Ok(Verdict::Legal));
+    Ok(())
+}
+
+#[test]
+fn malformed_rows(rt: HostRuntime) -> Result<(), Fail> {
+    let rows = [
+        "2,0,ACT,2,0,0,,0,0\n",
+        "2,0,PRE,0,0,0,,0,0\n",
+        "4611686018427387904,0,ACT,0,0,0,,0,0\n",
+        "2,0,ACT,0,0,0,,0\n",
+        "2,0,act,0,0,0,,0,0\n",
+        "2,0,ACT,0,0,,,0,0\n",
+        "2,0,ACT,0,0,0,,0,0x\n",
+        "99999999999999999999999,0,ACT,0,0,0,,0,0\n",
+    ];
+    for row in rows {
+        let found = judged(rt.alloc(), &NO_REFRESH, row)?;
+        assert!(rt; found == Err(Fault::CheckRow(1)));
+    }
+    Ok(())
+}
+
+#[test]
+fn other_forms_of_text(rt: HostRuntime) -> Result<(), Fail> {
+    let tables = [
+        "cycle,channel,command,group,bank,row,column,core,entry\n",
+        "cycle,channel,command,group,bank,row,column,core,entry",
+        "cycle,channel,command,group,bank,row,column,core,entry\n002,0,ACT,0,0,0,,0,0\n",
+        "cycle,channel,\"command\",group,bank,row,column,core,entry\n\"2\",0,\"ACT\",0,0,0,,0,0\n",
+        "\n\ncycle,channel,command,group,bank,row,column,core,entry\n\n2,0,ACT,0,0,0,,0,0\n\n",
+        "cycle,channel,command,group,bank,row,column,core,entry\r\n2,0,ACT,0,0,0,,0,0\r\n",
+        "cycle,channel,command,group,bank,row,column,core,entry\r2,0,ACT,0,0,0,,0,0\r",
+    ];
+    for table in tables {
+        let found = verdict_on(rt.alloc(), &NO_REFRESH, table.as_bytes())?;
+        assert!(rt; found == Ok(Verdict::Legal));
+    }
+    Ok(())
+}
+
+#[test]
+fn wrong_headers(rt: HostRuntime) -> Result<(), Fail> {
+    let tables = [
+        "",
+        "2,0,ACT,0,0,0,,0,0\n",
+        "cycle,channel,command,group,bank,row,column,core\n",
+        "cycle,channel,command,rank,group,bank,row,column,core,entry\n",
+        " cycle,channel,command,group,bank,row,column,core,entry\n",
+    ];
+    for table in tables {
+        let found = verdict_on(rt.alloc(), &NO_REFRESH, table.as_bytes())?;
+        assert!(rt; found == Err(Fault::CheckRow(0)));
+    }
+    Ok(())
+}

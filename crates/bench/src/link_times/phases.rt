@@ -1,0 +1,141 @@
+//! Phases of messages.
+
+use crate::clock::nanoseconds_since;
+use anyhow::Result;
+use links::flight::Links;
+use sim_base::document::read_config;
+use sim_base::message::{Cycle, LinkId, Load, Message, Unit};
+use std::alloc::{AllocError, Global};
+use std::rt::Clock;
+use std::time::Instant;
+
+const MACHINE: &str = "\
+cores = 256
+channels = 16
+groups = 2
+columns = 128
+rows = 65536
+fields = [\"channel\", \"column\", \"group\", \"bank\", \"row\"]
+window = 8
+width = 2
+read_credits = 4
+write_credits = 4
+request_latency = 2
+reply_latency = 2
+credit_latency = 2
+nRCD = 3
+nRP = 3
+nRAS = 8
+nRC = 11
+nCL = 4
+nCWL = 3
+nCCD_S = 4
+nCCD_L = 5
+nRRD_S = 2
+nRRD_L = 3
+nFAW = 12
+nRTP = 2
+nWR = 4
+nWTR_S = 1
+nWTR_L = 2
+nRTW = 7
+nRFC = 20
+nREFI = 0
+";
+
+/// Cores and channels.
+pub const UNITS: u64 = 256 + 16;
+
+/// Cycles of a phase, and of a message's travel.
+const SPAN: u64 = 2;
+
+/// What arrived, and the nanoseconds that the calls of each kind took.
+#[derive(Clone, Copy)]
+pub struct Times {
+    pub arrived: u64,
+    pub accept: u64,
+    pub take_due: u64,
+    pub next_arrival: u64,
+    /// Of `next_arrival`, with nothing in flight.
+    pub idle: u64,
+}
+
+fn message(link: LinkId, arrival: Cycle) -> Message {
+    Message {
+        link,
+        arrival,
+        load: Load::Reply(0),
+    }
+}
+
+/// Each core sends a request, and each channel a reply and a credit.
+fn messages_of(alloc: Global, phase: u64, arrival: Cycle) -> Result<Vec<Message>, AllocError> {
+    let mut messages = Vec::new(alloc);
+    for core in 0..256u64 {
+        let channel = (core ^ phase) % 16;
+        messages.push(message(3 * (core * 16 + channel), arrival))?;
+    }
+    for channel in 0..16u64 {
+        let core = (16 * channel ^ phase) % 256;
+        messages.push(message(3 * (core * 16 + channel) + 1, arrival))?;
+        messages.push(message(3 * (core * 16 + channel) + 2, arrival))?;
+    }
+    Ok(messages)
+}
+
+/// Takes out what arrives at each unit, and says how much that is.
+fn take_all(
+    alloc: Global,
+    links: &mut Links,
+    from: Cycle,
+    until: Cycle,
+) -> Result<u64, AllocError> {
+    let mut arrived = 0u64;
+    let mut inbox = Vec::new(alloc);
+    for core in 0..256u16 {
+        inbox.clear();
+        links.take_due_into(Unit::Core(core), from, until, &mut inbox)?;
+        arrived = arrived.wrapping_add(inbox.len() as u64);
+    }
+    for channel in 0..16u32 {
+        inbox.clear();
+        links.take_due_into(Unit::Channel(channel), from, until, &mut inbox)?;
+        arrived = arrived.wrapping_add(inbox.len() as u64);
+    }
+    Ok(arrived)
+}
+
+/// Sends messages in so many phases, each of which takes out what the one before it sent.
+pub fn run_phases(rt: &impl Clock, alloc: Global, phases: u64) -> Result<Times> {
+    let config = read_config(alloc, MACHINE.as_bytes())?;
+    let mut links = Links::start(alloc, &config)?;
+    let mut times = Times {
+        arrived: 0,
+        accept: 0,
+        take_due: 0,
+        next_arrival: 0,
+        idle: 0,
+    };
+    for phase in 0..phases {
+        let now = phase.wrapping_mul(SPAN);
+        let messages = messages_of(alloc, phase, now)?;
+        let start = Instant::now(rt)?;
+        let none = links.next_arrival();
+        times.idle = times.idle.wrapping_add(nanoseconds_since(rt, start)?);
+        let start = Instant::now(rt)?;
+        links.accept(&messages)?;
+        times.accept = times.accept.wrapping_add(nanoseconds_since(rt, start)?);
+        let start = Instant::now(rt)?;
+        let some = links.next_arrival();
+        times.next_arrival = times
+            .next_arrival
+            .wrapping_add(nanoseconds_since(rt, start)?);
+        let start = Instant::now(rt)?;
+        if none.is_none() && some == Some(now) {
+            let arrived = take_all(alloc, &mut links, now, now.wrapping_add(SPAN))?;
+            times.arrived = times.arrived.wrapping_add(arrived);
+        }
+        times.take_due = times.take_due.wrapping_add(nanoseconds_since(rt, start)?);
+    }
+    Ok(times)
+}

@@ -1,0 +1,49 @@
+//! A channel that is run with lists of its own.
+
+ghost use Rattle.std.specs.Prelude.{◌≡◌, ℕ, ◌^◌, ◌≤◌, List, length, Option, IfOk};
+ghost use Rattle.sim_base.specs.declared.config.Config.{Config};
+ghost use Rattle.sim_base.specs.declared.command.Command.{Command};
+ghost use Rattle.sim_base.specs.declared.message.Message.{Message};
+ghost use Rattle.channel_step.specs.Channels.{StandsFor};
+ghost use Rattle.channel_step.specs.Fit.{IsFit};
+ghost use Rattle.channel_step.specs.Runs.{CanRun};
+ghost use Rattle.channel_feed.specs.Done.{IsDone};
+
+use channel_step::channel::Channel;
+use sim_base::command::CommandRow;
+use sim_base::message::{Cycle, Message};
+use std::alloc::{AllocError, Global};
+
+/// A channel at the end of a span, with its commands in the span, in their order, and the messages that it sent in it.
+#[derive(Drop)]
+pub struct ChannelDone {
+    pub channel: Channel,
+    pub commands: Vec<CommandRow>,
+    pub messages: Vec<Message>,
+}
+
+/// Runs a channel over the cycles from `from` on and before `until`, in which these messages arrive. Only memory can be refused.
+pub(crate) fn run_alone(
+    alloc: Global,
+    channel: Channel,
+    inbox: &[Message],
+    from: Cycle,
+    until: Cycle,
+) -> Result<ChannelDone, AllocError>
+    requires can_run { CanRun channel inbox.now from until }
+    requires span { from ≤ until }
+    requires until { until ≤ 2 ^ 62 }
+    ensures { (s : Config) (number : ℕ) (rows : List (Option Command)) (mail : List Message)
+        → StandsFor channel s number rows mail → length rows ≡ from → IsFit s number rows mail inbox.now from until
+        → IfOk result (λ done. IsDone done s number rows mail inbox.now from until) }
+{
+    let mut channel = channel;
+    let mut commands = Vec::new(alloc);
+    let mut messages = Vec::new(alloc);
+    channel.run(inbox, from, until, &mut commands, &mut messages)?;
+    Ok(ChannelDone {
+        channel,
+        commands,
+        messages,
+    })
+}

@@ -1,0 +1,139 @@
+-- What a channel knows of its next command, as cycles pass.
+use Rattle.std.proofs.Common.{◌≡◌, ℕ, ◌≤◌, false, List, Option, Some, None, refl, sym, ap, subst, ◌∙◌, arith}
+use Rattle.std.specs.Prelude.{IfSome, MatchOption, option_map, slice_get}
+use Rattle.sim_base.specs.declared.config.Config.{Config}
+use Rattle.sim_base.specs.Scheduling.{candidates, choice_between, lowest_due, column_command, is_column_command}
+use Rattle.sim_base.specs.declared.command.Command.{Command}
+use Rattle.sim_base.specs.declared.command.CommandRow.{CommandRow}
+use Rattle.sim_base.specs.declared.message.Request.{Request}
+use Rattle.queue.specs.View.{QueueView, is_draining}
+use Rattle.fr_fcfs.specs.Choices.{choice_in, IsFor, Serves}
+use Rattle.channel_step.specs.Queued.{settled}
+use Rattle.sim_base.specs.History.{issued_commands}
+use Rattle.sim_base.specs.declared.message.Message.{Message}
+use Rattle.fr_fcfs.specs.Cycles.{IsNext}
+use Rattle.fr_fcfs.specs.declared.choice.Choice.{Choice}
+use Rattle.channel_step.specs.Channels.{IsAhead, IsAheadAt, IsForeseen, IsFound, IsInCycle}
+use Rattle.channel_step.specs.declared.channel.Channel.{Channel}
+use Rattle.channel_step.specs.declared.ahead.Ahead.{Ahead}
+use Rattle.channel_step.specs.declared.ahead.Ahead.TheVariants.{Unknown, Known}
+use Rattle.channel_step.proofs.Stretches.{settled_twice}
+
+-- the place of a choice
+place-from : (requests : List Request) (command : Command) (o : Option ℕ) → (o ≡ None → is_column_command command ≡ false)
+    → ((slot : ℕ) → o ≡ Some slot → option_map column_command (slice_get requests slot) ≡ Some command) → MatchOption o (is_column_command command ≡ false) (Serves requests command)
+place-from requests command None none some = none refl
+place-from requests command (Some slot) none some = by (slice_get requests slot) refl (some slot refl)
+  where
+    by : (found : Option Request) → slice_get requests slot ≡ found → option_map column_command found ≡ Some command → Serves requests command slot
+    by None is e = cc
+    by (Some r) is e = let same : command ≡ column_command r = cc in (r, is, same)
+
+place-none : (requests : List Request) (command : Command) (o : Option ℕ) → MatchOption o (is_column_command command ≡ false) (Serves requests command) → o ≡ None → is_column_command command ≡ false
+place-none requests command None h e = h
+place-none requests command (Some slot) h e = cc
+
+place-some : (requests : List Request) (command : Command) (o : Option ℕ) → MatchOption o (is_column_command command ≡ false) (Serves requests command)
+    → (slot : ℕ) → o ≡ Some slot → option_map column_command (slice_get requests slot) ≡ Some command
+place-some requests command None h slot e = cc
+place-some requests command (Some k) h slot e =
+    let same : k ≡ slot = cc in
+    ap (λ j. option_map column_command (slice_get requests j)) (sym same) ∙ ap (option_map column_command) h.1 ∙ ap Some (sym h.2)
+
+-- what is foreseen, by cases
+pub ahead-from : (commands : ℕ → Option Command) (requests : List Request) (from : ℕ) (ahead : Ahead) → IsForeseen commands requests from ahead → IsAhead commands requests from ahead
+ahead-from commands requests from Unknown h = tt
+ahead-from commands requests from (Known None) h = h.never refl
+ahead-from commands requests from (Known (Some next)) h = record {
+  then_is = h.then_is next.0 next.1 refl;
+  none_before = h.none_before next.0 next.1 refl;
+  place = place-from requests next.1.command next.1.slot (h.moves_none next.0 next.1 refl) (h.serves next.0 next.1 refl);
+}
+
+pub foreseen-from : (commands : ℕ → Option Command) (requests : List Request) (from : ℕ) (ahead : Ahead) → IsAhead commands requests from ahead → IsForeseen commands requests from ahead
+foreseen-from commands requests from Unknown h = record {
+  never = λ e. cc;
+  then_is = λ cycle choice e. cc;
+  none_before = λ cycle choice e. cc;
+  serves = λ cycle choice e. cc;
+  moves_none = λ cycle choice e. cc;
+}
+foreseen-from commands requests from (Known None) h = record {
+  never = λ e. h;
+  then_is = λ cycle choice e. cc;
+  none_before = λ cycle choice e. cc;
+  serves = λ cycle choice e. cc;
+  moves_none = λ cycle choice e. cc;
+}
+foreseen-from commands requests from (Known (Some next)) h = record {
+  never = λ e. cc;
+  then_is = λ cycle choice e. (at cycle choice e).then_is;
+  none_before = λ cycle choice e. (at cycle choice e).none_before;
+  serves = λ cycle choice e. place-some requests choice.command choice.slot (at cycle choice e).place;
+  moves_none = λ cycle choice e. place-none requests choice.command choice.slot (at cycle choice e).place;
+}
+  where
+    at : (cycle : ℕ) (choice : Choice) → Known (Some next) ≡ Known (Some (cycle, choice)) → IsAheadAt commands requests from cycle choice
+    at cycle choice e = subst (IsAhead commands requests from) e h
+
+-- it is so from each later cycle on
+ahead-later : (commands : ℕ → Option Command) (requests : List Request) (from later : ℕ) (ahead : Ahead) → from ≤ later → IsAhead commands requests from ahead → IsAhead commands requests later ahead
+ahead-later commands requests from later Unknown l h = tt
+ahead-later commands requests from later (Known None) l h = λ t m. h t (omega arith)
+ahead-later commands requests from later (Known (Some next)) l h =
+    record { then_is = h.then_is; none_before = λ t m k. h.none_before t (omega arith) k; place = h.place }
+
+-- a queue that is settled drains as before
+pub settled-same : (queue : QueueView) → is_draining queue ≡ is_draining (settled queue)
+settled-same queue = sym (settled_twice _ _ queue.settled)
+
+-- and it is so for the queue when that is settled
+ahead-settled : (s : Config) (history : List CommandRow) (queue : QueueView) (from : ℕ) (ahead : Ahead) → IsAhead (choice_in s history queue) queue.requests from ahead
+    → IsAhead (choice_in s history (settled queue)) queue.requests from ahead
+ahead-settled s history queue from ahead h =
+    subst (λ d. IsAhead (λ t. choice_between s history t (candidates s d queue.requests) (lowest_due s history t)) queue.requests from ahead) (settled-same queue) h
+
+-- what was found is known from the cycle on in which it was looked for
+found-ahead : (commands : ℕ → Option Command) (requests : List Request) (now : ℕ) (next : Option (ℕ × Choice)) → IsNext commands now next → IfSome next (λ n. IsFor requests n.1)
+    → IsAhead commands requests now (Known next)
+found-ahead commands requests now None h place = h
+found-ahead commands requests now (Some next) h place = record { then_is = h.then_is; none_before = h.none_before; place = place }
+
+pub kept-in_cycle : (c : Channel) (s : Config) (channel : ℕ) (rows : List (Option Command)) (mail : List Message) (now : ℕ) (next : Option (ℕ × Choice)) → IsInCycle c s channel rows mail → now ≡ c.cycle
+    → IsFound c s (issued_commands channel rows) now next → IsInCycle (record c { ahead = Known next }) s channel rows mail
+kept-in_cycle c s channel rows mail now next h at f =
+    let commands = choice_in s (issued_commands channel rows) c.waiting.queue in
+    record {
+      made_for = record {
+        config_is = h.made_for.config_is;
+        number_is = h.made_for.number_is;
+        high_is = h.made_for.high_is;
+        low_is = h.made_for.low_is;
+        room_is = h.made_for.room_is;
+        banks_are = h.made_for.banks_are;
+        within = h.made_for.within;
+        longest = h.made_for.longest;
+      };
+      cycle_is = h.cycle_is;
+      joined = h.joined;
+      heads_stand = h.heads_stand;
+      banks_stand = h.banks_stand;
+      refreshes_stand = h.refreshes_stand;
+      foresees =
+          foreseen-from commands c.waiting.queue.requests c.cycle (Known next)
+          (subst (λ t. IsAhead commands c.waiting.queue.requests t (Known next)) at (found-ahead commands c.waiting.queue.requests now next f.0 f.1));
+    }
+
+-- the same of what is foreseen
+pub foreseen-unknown : (commands : ℕ → Option Command) (requests : List Request) (from : ℕ) → IsForeseen commands requests from Unknown
+foreseen-unknown commands requests from = foreseen-from commands requests from Unknown tt
+
+pub foreseen-later : (commands : ℕ → Option Command) (requests : List Request) (from later : ℕ) (ahead : Ahead) → from ≤ later → IsForeseen commands requests from ahead → IsForeseen commands requests later ahead
+foreseen-later commands requests from later ahead l h =
+    foreseen-from commands requests later ahead (ahead-later commands requests from later ahead l (ahead-from commands requests from ahead h))
+
+pub foreseen-settled : (s : Config) (history : List CommandRow) (queue : QueueView) (from : ℕ) (ahead : Ahead) → IsForeseen (choice_in s history queue) queue.requests from ahead
+    → IsForeseen (choice_in s history (settled queue)) queue.requests from ahead
+foreseen-settled s history queue from ahead h =
+    foreseen-from (choice_in s history (settled queue)) queue.requests from ahead
+    (ahead-settled s history queue from ahead (ahead-from (choice_in s history queue) queue.requests from ahead h))

@@ -1,0 +1,13 @@
+//! What a channel knows of the command that it issues next.
+
+use fr_fcfs::choice::Choice;
+use sim_base::message::Cycle;
+
+/// The next command that a channel issues, if nothing arrives.
+#[derive(Clone, Copy)]
+pub(crate) enum Ahead {
+    /// It was not looked for since a request arrived or a command was issued.
+    Unknown,
+    /// The cycle in which one is issued, and that command; None where none is.
+    Known(Option<(Cycle, Choice)>),
+}

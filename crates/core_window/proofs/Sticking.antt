@@ -1,0 +1,130 @@
+-- Where the first entry of a full window waits, none retires and none issues.
+use Rattle.std.proofs.Common.{zero, suc, [], ◌∷◌, ◌<◌, List, Some, ⊎_elim, Bool, true, false, ◌≡◌, ◌&&◌, ℕ, length, refl, ap, ltb, ◌-◌, ◌+◌, ◌≤◌, None, subst, add-zero, arith}
+use Rattle.std.specs.Prelude.{slice_get}
+use Rattle.sim_base.specs.History.{core_messages}
+use Rattle.std.specs.Prelude.{Option}
+use Rattle.std.proofs.lemmas.Bool.{cases_lt}
+use Rattle.sim_base.specs.Windows.{is_memory_in, lacks_credit}
+use Rattle.sim_base.specs.declared.trace.Entry.{Entry}
+use Rattle.sim_base.specs.declared.trace.Stop.{Stop}
+use Rattle.core_window.specs.Causes.{first_undone, issue_count, cause_at}
+use Rattle.core_window.specs.Inside.{Does}
+use Rattle.core_window.specs.Rests.{idle_row, IsAtRest}
+use Rattle.core_window.specs.Stands.{StandsFor}
+use Rattle.core_window.proofs.Resting.{at_rest}
+use Rattle.sim_base.specs.declared.config.Config.{Config}
+use Rattle.sim_base.specs.declared.history.CoreRow.{CoreRow}
+use Rattle.sim_base.specs.declared.message.Message.{Message}
+use Rattle.core_window.specs.Turns.{IsLast, IsNextOrEnd, IsSeen}
+use Rattle.sim_base.specs.declared.trace.Entry.TheVariants.{Plain, Read, Write}
+use Rattle.core_window.specs.Views.{CoreView}
+use Rattle.core_window.proofs.Stopping.{is_last}
+use Rattle.core_window.proofs.Turning.{turn-is}
+
+no_issue : (width window number gone one two : ℕ) (lacks : Bool) → window ≤ number - gone → 0 ≡ issue_count width window number gone one two lacks
+no_issue width window number gone one two true l = omega arith
+no_issue width window number gone one two false l = omega arith
+
+-- why it stops
+abbrev pub stuck_cause : CoreView → ℕ → Stop
+stuck_cause a two = cause_at a.config.width a.config.window (length a.trace) a.stats.issued a.stats.retired two 0
+
+pub stuck-does : (a : CoreView) (one two : ℕ) (entry : Entry) → IsSeen a.trace a.stats.issued one two entry
+    → first_undone a.stats.issued a.waiting ≤ a.stats.retired → a.config.window ≤ a.stats.issued - a.stats.retired → Does a idle_row (stuck_cause a two) None
+stuck-does a one two entry seen undone most v s core trace rows mail i h =
+    let gone = a.stats.retired + 0 in
+    let full : Bool = ltb one (length a.trace) && lacks_credit a.config core mail (core_messages s core trace rows) (length rows) (slice_get a.trace one) in
+    let none : 0 ≡ issue_count a.config.width a.config.window a.stats.issued gone one two full = no_issue a.config.width a.config.window a.stats.issued gone one two full (omega arith) in
+    let cause : cause_at a.config.width a.config.window (length a.trace) a.stats.issued gone two 0 ≡ stuck_cause a two =
+    ap (λ g. cause_at a.config.width a.config.window (length a.trace) a.stats.issued g two 0) (add-zero a.stats.retired) in
+    turn-is s core trace rows mail a v 0 one two full 0 (stuck_cause a two) None i h
+    (record {
+      retired = omega arith;
+      ahead = seen.ahead;
+      credit = refl;
+      last = λ may. subst
+          (λ why. IsLast a.config core a.trace mail (core_messages s core trace rows) (length rows) a.stats.issued gone one two full 0 why) cause
+          (is_last a.config core a.trace mail (core_messages s core trace rows) (length rows) a.stats.issued gone one two full may 0 none);
+      issues = λ k l b. absurd (omega arith);
+      at = tt;
+    })
+
+-- an entry is Plain, or it is none
+plain_here : (o : Option Entry) → (o ≡ None → ⊥) → is_memory_in o ≡ false → o ≡ Some Plain
+plain_here None n h = absurd (n refl)
+plain_here (Some Plain) n h = refl
+plain_here (Some (Read address)) n h = cc
+plain_here (Some (Write address)) n h = cc
+
+here : (trace : List Entry) (k : ℕ) → k < length trace → slice_get trace k ≡ None → ⊥
+here [] k l h = absurd (omega arith)
+here (x ∷ xs) zero l h = cc
+here (x ∷ xs) (suc k) l h = here xs k (omega arith) h
+
+-- somewhere the next memory entry stands, or the trace ends
+next_from : (trace : List Entry) (left from : ℕ) → from + left ≡ length trace → (n : ℕ) × IsNextOrEnd trace from n
+next_from trace zero from e =
+    (from, record { is_from = omega arith; is_within = omega arith; is_plain_before = λ k l b. absurd (omega arith); is_read_or_write = λ l. absurd (omega arith) })
+next_from trace (suc left) from e = by (is_memory_in (slice_get trace from)) refl (next_from trace left (from + 1) (omega arith))
+  where
+    by : (b : Bool) → is_memory_in (slice_get trace from) ≡ b → (n : ℕ) × IsNextOrEnd trace (from + 1) n → (n : ℕ) × IsNextOrEnd trace from n
+    by true is later =
+        (from, record { is_from = omega arith; is_within = omega arith; is_plain_before = λ k l b. absurd (omega arith); is_read_or_write = λ l. is })
+    by false is later = (
+      later.0,
+      record {
+        is_from = omega (arith, later.1.is_from);
+        is_within = later.1.is_within;
+        is_plain_before = λ k l b. ⊎_elim
+            (λ less. later.1.is_plain_before k (omega arith) b)
+            (λ most. let at : from ≡ k = omega arith in
+            subst (λ j. slice_get trace j ≡ Some Plain) at (plain_here (slice_get trace from) (here trace from (omega arith)) is))
+            (cases_lt from k);
+        is_read_or_write = later.1.is_read_or_write;
+      },
+    )
+
+-- the next two memory entries, wherever they stand
+record Seen (trace : List Entry) (from : ℕ) : Type 0 where
+  one : ℕ
+  two : ℕ
+  entry : Entry
+  seen : IsSeen trace from one two entry
+
+some_entry : (o : Option Entry) → (e : Entry) × ((o ≡ None → ⊥) → o ≡ Some e)
+some_entry None = (Plain, λ n. absurd (n refl))
+some_entry (Some e) = (e, λ n. refl)
+
+seen_from : (trace : List Entry) (from : ℕ) → from ≤ length trace → Seen trace from
+seen_from trace from l =
+    let first = next_from trace (length trace - from) from (omega arith) in
+    let entry = some_entry (slice_get trace first.0) in
+    ⊎_elim
+    (λ inside. let second = next_from trace (length trace - (first.0 + 1)) (first.0 + 1) (omega arith) in
+    record {
+      one = first.0;
+      two = second.0;
+      entry = entry.0;
+      seen = record {
+        ahead = record { first = first.1; second = λ m. second.1; none = λ m. absurd (omega arith) };
+        is_at = λ m. entry.1 (here trace first.0 m);
+      };
+    })
+    (λ end. record {
+      one = first.0;
+      two = length trace;
+      entry = entry.0;
+      seen = record {
+        ahead = record { first = first.1; second = λ m. absurd (omega arith); none = λ m. refl };
+        is_at = λ m. absurd (omega arith);
+      };
+    })
+    (cases_lt first.0 (length trace))
+
+-- such a core does nothing
+pub stuck-rests : (s : Config) (core : ℕ) (trace : List Entry) (rows : List CoreRow) (mail : List Message) (a : CoreView) → a.stats.issued ≤ length a.trace
+    → first_undone a.stats.issued a.waiting ≤ a.stats.retired → a.config.window ≤ a.stats.issued - a.stats.retired → StandsFor s core trace rows mail a
+    → IsAtRest s core trace rows mail
+stuck-rests s core trace rows mail a within undone most h =
+    let x = seen_from a.trace a.stats.issued within in
+    at_rest s core trace rows mail a idle_row (stuck_cause a x.two) None refl (stuck-does a x.one x.two x.entry x.seen undone most) h

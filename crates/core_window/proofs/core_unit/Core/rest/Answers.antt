@@ -1,0 +1,18 @@
+-- What the core does in the next cycle, it does in each until then.
+use Rattle.std.proofs.Common.{◌-◌, ap, arith}
+use Rattle.sim_base.specs.declared.history.CoreRow.{CoreRow}
+use Rattle.core_window.specs.CoreViews.{view_of}
+use Rattle.core_window.proofs.Stretching.{rest-steady, quiet-steady}
+use Rattle.core_window.proofs.core_unit.Core.rest.Goals as goal
+
+pub pass-requires-clause-steady : goal.pass-requires-clause-steady
+pass-requires-clause-steady c =
+    rest-steady (view_of c.args.self.now) c.idle_turn-turn.result.row c.idle_turn-turn.result.why c.idle_turn-turn.result.memory _
+    (ap (λ (r : CoreRow). r.retired) c.idle_turn-turn.ensures.idle) (ap (λ (r : CoreRow). r.issued) c.idle_turn-turn.ensures.idle) c.idle_turn-turn.ensures.does
+
+pub returns-clause-goes : goal.returns-clause-goes
+returns-clause-goes c =
+    quiet-steady (view_of c.args.self.now) (view_of c.pass.new.self) (c.args.until - c.args.self.now.cycle) c.args.until c.idle_turn-turn.result.row c.idle_turn-turn.result.why
+    (rest-steady (view_of c.args.self.now) c.idle_turn-turn.result.row c.idle_turn-turn.result.why c.idle_turn-turn.result.memory _
+    (ap (λ (r : CoreRow). r.retired) c.idle_turn-turn.ensures.idle) (ap (λ (r : CoreRow). r.issued) c.idle_turn-turn.ensures.idle) c.idle_turn-turn.ensures.does)
+    c.pass.ensures (omega arith)

@@ -1,0 +1,10 @@
+-- The units wait, and each phase comes nearer to the limit.
+use Rattle.std.proofs.Common.{◌-◌, ◌≤◌}
+use Rattle.epochs.specs.Wakes.{IsAsleep}
+use Rattle.epochs.proofs.alone.run_to.Given as goal
+
+abbrev pub invariant-loop-now : goal.invariant-loop-now
+invariant-loop-now l = IsAsleep l.machine.config l.machine.traces.items l.now l.slots l.words l.links × (l.now ≤ l.limit)
+
+abbrev pub decreases-loop-now : goal.decreases-loop-now
+decreases-loop-now l = l.limit - l.now

@@ -1,0 +1,30 @@
+use Rattle.std.proofs.Common.{◌∙◌}
+use Rattle.epochs.specs.Units.{unit_at}
+use Rattle.epochs.specs.Wakes.{sleeper}
+use Rattle.epochs.proofs.Due.{exists-at}
+use Rattle.epochs.proofs.Waiting.{waits-ready}
+use Rattle.epochs.proofs.slot.Slot.brought_up.Goals as goal
+
+pub run-requires : goal.run-requires
+run-requires c =
+    let s = c.args.machine.now.config in
+    let traces = c.args.machine.now.traces.items in
+    let r = c.requires in
+    let u = unit_at s c.args.place in
+    record {
+      ready = record {
+        s = s;
+        traces = traces;
+        unit = u;
+        ready = waits-ready s traces u c.args.now (sleeper c.args.self c.args.word) c.deref.result.now (exists-at s c.args.place r.place) r.early r.waits (c.deref.ensures.value ∙ c.clear.ensures.items);
+      };
+    }
+
+pub returns : goal.returns
+returns c =
+    let s = c.args.machine.now.config in
+    let traces = c.args.machine.now.traces.items in
+    let r = c.requires in
+    let u = unit_at s c.args.place in
+    let ready = waits-ready s traces u c.args.now (sleeper c.args.self c.args.word) c.deref.result.now (exists-at s c.args.place r.place) r.early r.waits (c.deref.ensures.value ∙ c.clear.ensures.items) in
+    (c.in_ok-run.ensures {u = tt} s traces u ready).ran.stands

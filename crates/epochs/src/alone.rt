@@ -1,0 +1,227 @@
+//! A machine that is run in place, by the caller alone: only units that wake are touched.
+
+ghost use Rattle.std.specs.Prelude.{◌≡◌, ◌<◌, ◌≤◌, ◌^◌, ◌-◌, ℕ, Bool, true, false, [], length, map, IfOk, OnOk, IfSome, IfNone, All, slice_index_or};
+ghost use Rattle.sim_base.specs.Counts.{in_flight};
+ghost use Rattle.sim_base.specs.History.{is_unit};
+ghost use Rattle.sim_base.specs.Locality.{TravelsFor};
+ghost use Rattle.sim_base.specs.Machine.{run};
+ghost use Rattle.links.specs.InFlight.{receiver_of};
+ghost use Rattle.epochs.specs.Ordered.{HasReached};
+ghost use Rattle.epochs.specs.Parts.{late, StandAt};
+ghost use Rattle.epochs.specs.Units.{unit_at, unit_count};
+ghost use Rattle.epochs.specs.Wakes.{WaitAll, BetweenAll, IsAsleep, AreLowered, sent_in, slot_at};
+
+use crate::machine::Machine;
+use crate::part::Part;
+use crate::planning::end_of_phase;
+use crate::sim::Sim;
+use crate::slot::{Mail, Slot};
+use links::flight::Links;
+use sim_base::config::Config;
+use sim_base::message::{Cycle, LinkId, Message};
+use std::alloc::{AllocError, Global};
+
+/// Takes all units over a phase: those whose word is before its end are run, the others are left as they are.
+fn go_all(
+    machine: &Machine,
+    links: &mut Links,
+    mail: &mut Mail,
+    slots: &mut [Slot],
+    words: &mut [Cycle],
+    now: Cycle,
+    until: Cycle,
+) -> Result<(), AllocError>
+    requires asleep { IsAsleep machine.now.config machine.now.traces.items now slots.old words.old links.old }
+    requires order { now < until }
+    requires early { until ≤ 10 ^ 12 }
+    requires travels { TravelsFor machine.now.config (until - now) }
+    requires sent { mail.old.sent.items ≡ [] }
+    ensures count { length slots.new ≡ length slots.old }
+    ensures words { length words.new ≡ length words.old }
+    ensures between { OnOk result (BetweenAll machine.now.config machine.now.traces.items now until slots.new words.new) }
+    ensures sent { OnOk result (mail.new.sent.items ≡ sent_in machine.now.config machine.now.traces.items now until) }
+    ensures links { OnOk result (links.new ≡ record {
+      channels = machine.now.config.channels;
+      messages = late until (in_flight machine.now.config machine.now.traces.items (run machine.now.config machine.now.traces.items now));
+    }) }
+{
+    for place in 0..slots.len() {
+        slots[place].go_on(machine, links, mail, &mut words[place], place, now, until)?;
+    }
+    Ok(())
+}
+
+/// The place of the unit that a link leads to, if the machine has it.
+fn receiver_place(config: &Config, link: LinkId) -> Option<usize>
+    ensures some { IfSome result (λ place. (place < unit_count config.now) × (unit_at config.now place ≡ receiver_of config.now.channels link)) }
+    ensures none { IfNone result ((place : ℕ) → place < unit_count config.now → is_unit (receiver_of config.now.channels link) (unit_at config.now place) ≡ false) }
+{
+    let pair = link / 3;
+    let cores = u64::from(config.cores);
+    let channels = u64::from(config.channels);
+    if link % 3 == 0 {
+        Some((cores + pair % channels) as usize)
+    } else if pair / channels < cores {
+        Some((pair / channels) as usize)
+    } else {
+        None
+    }
+}
+
+/// Lowers the word of the unit that a message goes to.
+fn lower(config: &Config, words: &mut [Cycle], message: &Message)
+    requires { length words.old ≡ unit_count config.now }
+    ensures count { length words.new ≡ length words.old }
+    ensures less { (k : ℕ) → k < length words.old → slice_index_or words.new k 0 ≤ slice_index_or words.old k 0 }
+    ensures arrival { (k : ℕ) → k < length words.old → is_unit (receiver_of config.now.channels message.now.link) (unit_at config.now k) ≡ true
+        → slice_index_or words.new k 0 ≤ message.now.arrival }
+    ensures since { (cycle k : ℕ) → k < length words.old → cycle ≤ slice_index_or words.old k 0 → cycle ≤ message.now.arrival → cycle ≤ slice_index_or words.new k 0 }
+{
+    if let Some(place) = receiver_place(config, message.link) {
+        words[place] = words[place].min(message.arrival);
+    }
+}
+
+/// Lowers the words to the arrivals of what was sent.
+fn lower_all(config: &Config, words: &mut [Cycle], sent: &[Message])
+    requires { length words.old ≡ unit_count config.now }
+    ensures { AreLowered config.now sent.now words.old words.new }
+{
+    for message in sent {
+        lower(config, words, message);
+    }
+}
+
+/// One phase of a machine: from a cycle on and before another, which is no further than the shortest latency.
+fn step(
+    machine: &Machine,
+    links: &mut Links,
+    mail: &mut Mail,
+    slots: &mut [Slot],
+    words: &mut [Cycle],
+    now: Cycle,
+    until: Cycle,
+) -> Result<(), AllocError>
+    requires asleep { IsAsleep machine.now.config machine.now.traces.items now slots.old words.old links.old }
+    requires order { now < until }
+    requires early { until ≤ 10 ^ 12 }
+    requires travels { TravelsFor machine.now.config (until - now) }
+    ensures { OnOk result (IsAsleep machine.now.config machine.now.traces.items until slots.new words.new links.new) }
+{
+    mail.sent.clear();
+    go_all(machine, links, mail, slots, words, now, until)?;
+    links.accept(&mail.sent)?;
+    lower_all(&machine.config, words, &mail.sent);
+    Ok(())
+}
+
+/// The least word, or a limit that comes sooner.
+fn next_wake(words: &[Cycle], limit: Cycle) -> Cycle
+    ensures within { result ≤ limit }
+    ensures sleep { All (λ word. result ≤ word) words.now }
+    ensures since { (cycle : ℕ) → cycle ≤ limit → All (λ word. cycle ≤ word) words.now → cycle ≤ result }
+{
+    let mut least = limit;
+    for word in words {
+        least = least.min(*word);
+    }
+    least
+}
+
+/// A machine up to a limit, phase by phase: each begins at the least word.
+fn run_to(
+    machine: &Machine,
+    links: &mut Links,
+    mail: &mut Mail,
+    slots: &mut [Slot],
+    words: &mut [Cycle],
+    from: Cycle,
+    limit: Cycle,
+) -> Result<(), AllocError>
+    requires asleep { IsAsleep machine.now.config machine.now.traces.items from slots.old words.old links.old }
+    requires order { from ≤ limit }
+    requires early { limit ≤ 10 ^ 12 }
+    ensures { OnOk result (IsAsleep machine.now.config machine.now.traces.items limit slots.new words.new links.new) }
+{
+    let mut now = from;
+    while now < limit {
+        let begin = next_wake(words, limit);
+        if begin == limit {
+            return Ok(());
+        }
+        let until = end_of_phase(&machine.config, begin, limit);
+        step(machine, links, mail, slots, words, begin, until)?;
+        now = until;
+    }
+    Ok(())
+}
+
+/// All units, brought up to the cycle where the machine stands.
+fn bring_up(
+    alloc: Global,
+    machine: &Machine,
+    mail: &mut Mail,
+    slots: Vec<Slot>,
+    words: &[Cycle],
+    now: Cycle,
+) -> Result<Vec<Part>, AllocError>
+    requires count { length slots.items ≡ unit_count machine.now.config }
+    requires words { length words.now ≡ unit_count machine.now.config }
+    requires early { now ≤ 10 ^ 12 }
+    requires wait { WaitAll machine.now.config machine.now.traces.items now slots.items words.now }
+    ensures count { IfOk result (λ parts. length parts.items ≡ unit_count machine.now.config) }
+    ensures stand { IfOk result (λ parts. StandAt machine.now.config machine.now.traces.items now parts.items) }
+{
+    let mut parts = Vec::with_capacity(alloc, slots.len())?;
+    for slot in slots {
+        let place = parts.len();
+        parts.push(slot.brought_up(machine, mail, words[place], place, now)?)?;
+    }
+    Ok(parts)
+}
+
+/// Units, each where the machine stands.
+fn slots_of(alloc: Global, parts: Vec<Part>, now: Cycle) -> Result<Vec<Slot>, AllocError>
+    ensures { IfOk result (λ slots. slots.items ≡ map (slot_at now) parts.items) }
+{
+    let mut slots = Vec::with_capacity(alloc, parts.len())?;
+    for part in parts {
+        slots.push(Slot { part, at: now })?;
+    }
+    Ok(slots)
+}
+
+impl Sim {
+    /// The simulator at a limit, at most 10^12 cycles, run by the caller alone. Units stay where they are, and only those that have
+    /// something to do in a phase are touched. Only memory can be refused; the simulator is then gone.
+    pub fn run_alone(self, alloc: Global, limit: Cycle) -> Result<Sim, AllocError>
+        requires not_past { self.now ≤ limit }
+        requires early { limit ≤ 10 ^ 12 }
+        ensures { IfOk result (HasReached self limit) }
+    {
+        let Sim {
+            machine,
+            now,
+            phase,
+            parts,
+            mut links,
+        } = self;
+        let mut words = vec![in alloc; now; parts.len()]?;
+        let mut slots = slots_of(alloc, parts, now)?;
+        let mut mail = Mail {
+            inbox: Vec::new(alloc),
+            sent: Vec::new(alloc),
+        };
+        run_to(
+            &machine, &mut links, &mut mail, &mut slots, &mut words, now, limit,
+        )?;
+        let parts = bring_up(alloc, &machine, &mut mail, slots, &words, limit)?;
+        Ok(Sim {
+            machine,
+            now: limit,
+            phase,
+            parts,
+            links,
+        })
+    }
+}

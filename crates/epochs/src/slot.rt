@@ -1,0 +1,155 @@
+//! A unit that stands at a cycle of its own.
+
+ghost use Rattle.std.specs.Prelude.{◌≡◌, ◌<◌, ◌≤◌, ◌^◌, ◌+◌, ◌-◌, ℕ, List, [], IfOk, OnOk, filter};
+ghost use Rattle.sim_base.specs.Counts.{in_flight};
+ghost use Rattle.sim_base.specs.Locality.{TravelsFor};
+ghost use Rattle.sim_base.specs.Machine.{run};
+ghost use Rattle.sim_base.specs.declared.config.Config.{Config};
+ghost use Rattle.sim_base.specs.declared.message.Unit.{Unit as MachineUnit};
+ghost use Rattle.sim_base.specs.declared.trace.Entry.{Entry};
+ghost use Rattle.links.specs.InFlight.{is_due};
+ghost use Rattle.epochs.specs.Flight.{left};
+ghost use Rattle.epochs.specs.Parts.{IsPart};
+ghost use Rattle.epochs.specs.Quiet.{IsInSomeRun};
+ghost use Rattle.epochs.specs.Units.{unit_at, unit_count};
+ghost use Rattle.epochs.specs.Wakes.{IsSilent, Waits, AddsWhatItSent, sleeper};
+
+use crate::machine::{Machine, unit_at};
+use crate::part::Part;
+use links::flight::Links;
+use sim_base::message::{Cycle, Message, Unit};
+use std::alloc::{AllocError, Global};
+
+/// A unit, and the cycle where it stands.
+#[derive(Drop)]
+pub(crate) struct Slot {
+    pub part: Part,
+    pub at: Cycle,
+}
+
+/// Lists that a phase uses again: what arrives at a unit, and what all units send.
+#[derive(Drop)]
+pub(crate) struct Mail {
+    pub inbox: Vec<Message>,
+    pub sent: Vec<Message>,
+}
+
+/// A cycle, not before `from`, where the unit stands, before which it sends nothing, if nothing arrives at it; the last of all words,
+/// where it never does.
+fn send_word(part: &mut Part, from: Cycle) -> Cycle
+    requires stands { IsInSomeRun part.old from }
+    ensures same { part.new ≡ part.old }
+    ensures silent { (s : Config) (traces : List (List Entry)) (unit : MachineUnit) → IsPart s traces unit from part.old → IsSilent s traces from result unit }
+    ensures since { (s : Config) (traces : List (List Entry)) (unit : MachineUnit) → IsPart s traces unit from part.old → from ≤ result }
+{
+    match part {
+        Part::Core(core) => core.silent_until(from),
+        Part::Channel(channel, _) => channel.next_act(from).unwrap_or(Cycle::MAX),
+    }
+}
+
+/// The first cycle from `from` on in which a message in flight may arrive at a unit, or a cycle that comes sooner.
+fn arrival_word(links: &Links, unit: Unit, from: Cycle, send: Cycle) -> Cycle
+    requires { from ≤ send }
+    ensures since { from ≤ result }
+    ensures within { result ≤ send }
+    ensures first { (word : ℕ) → word ≤ result → filter (is_due links.now.channels unit from word) links.now.messages ≡ [] }
+{
+    match links.next_arrival_at(unit) {
+        Some(arrival) => arrival.max(from).min(send),
+        None => send,
+    }
+}
+
+impl Slot {
+    /// Runs the unit at a place up to the end of a phase, with what arrives at it, and puts what it sends at the end of a list. Gives its
+    /// next word.
+    fn woken(
+        &mut self,
+        machine: &Machine,
+        links: &mut Links,
+        mail: &mut Mail,
+        word: Cycle,
+        place: usize,
+        now: Cycle,
+        until: Cycle,
+    ) -> Result<Cycle, AllocError>
+        requires place { place < unit_count machine.now.config }
+        requires order { now < until }
+        requires early { until ≤ 10 ^ 12 }
+        requires travels { TravelsFor machine.now.config (until - now) }
+        requires waits { Waits machine.now.config machine.now.traces.items (unit_at machine.now.config place) now (sleeper self.old word) }
+        requires links { links.old ≡ record {
+          channels = machine.now.config.channels;
+          messages = left machine.now.config now until place (in_flight machine.now.config machine.now.traces.items (run machine.now.config machine.now.traces.items now));
+        } }
+        ensures gone { IfOk result (λ wake. AddsWhatItSent machine.now.config machine.now.traces.items (unit_at machine.now.config place) now until (sleeper self.new wake) mail.old.sent.items mail.new.sent.items) }
+        ensures links { OnOk result (links.new ≡ record {
+          channels = machine.now.config.channels;
+          messages = left machine.now.config now until (place + 1) (in_flight machine.now.config machine.now.traces.items (run machine.now.config machine.now.traces.items now));
+        }) }
+    {
+        let unit = unit_at(&machine.config, place);
+        let Mail { inbox, sent } = mail;
+        inbox.clear();
+        links.take_due_into(unit, now, until, inbox)?;
+        self.part.run(inbox, self.at, until, sent)?;
+        self.at = until;
+        let send = send_word(&mut self.part, until);
+        Ok(arrival_word(links, unit, until, send))
+    }
+
+    /// Takes the unit at a place over a phase. One whose word is before its end is run up to there, with what arrives at it, and what it
+    /// sends is put at the end of a list; another is left as it is.
+    #[inline(always)]
+    pub(crate) fn go_on(
+        &mut self,
+        machine: &Machine,
+        links: &mut Links,
+        mail: &mut Mail,
+        word: &mut Cycle,
+        place: usize,
+        now: Cycle,
+        until: Cycle,
+    ) -> Result<(), AllocError>
+        requires place { place < unit_count machine.now.config }
+        requires order { now < until }
+        requires early { until ≤ 10 ^ 12 }
+        requires travels { TravelsFor machine.now.config (until - now) }
+        requires waits { Waits machine.now.config machine.now.traces.items (unit_at machine.now.config place) now (sleeper self.old word.old) }
+        requires links { links.old ≡ record {
+          channels = machine.now.config.channels;
+          messages = left machine.now.config now until place (in_flight machine.now.config machine.now.traces.items (run machine.now.config machine.now.traces.items now));
+        } }
+        ensures gone { OnOk result (AddsWhatItSent machine.now.config machine.now.traces.items (unit_at machine.now.config place) now until (sleeper self.new word.new) mail.old.sent.items mail.new.sent.items) }
+        ensures links { OnOk result (links.new ≡ record {
+          channels = machine.now.config.channels;
+          messages = left machine.now.config now until (place + 1) (in_flight machine.now.config machine.now.traces.items (run machine.now.config machine.now.traces.items now));
+        }) }
+    {
+        if *word < until {
+            *word = self.woken(machine, links, mail, *word, place, now, until)?;
+        }
+        Ok(())
+    }
+
+    /// The unit at a cycle before which nothing arrives at it.
+    pub(crate) fn brought_up(
+        self,
+        machine: &Machine,
+        mail: &mut Mail,
+        word: Cycle,
+        place: usize,
+        now: Cycle,
+    ) -> Result<Part, AllocError>
+        requires place { place < unit_count machine.now.config }
+        requires early { now ≤ 10 ^ 12 }
+        requires waits { Waits machine.now.config machine.now.traces.items (unit_at machine.now.config place) now (sleeper self word) }
+        ensures { IfOk result (λ part. IsPart machine.now.config machine.now.traces.items (unit_at machine.now.config place) now part) }
+    {
+        let Slot { mut part, at } = self;
+        mail.inbox.clear();
+        part.run(&mail.inbox, at, now, &mut mail.sent)?;
+        Ok(part)
+    }
+}

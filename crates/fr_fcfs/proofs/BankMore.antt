@@ -1,0 +1,268 @@
+-- What one bank offers beside the best offer so far.
+use Rattle.std.proofs.Common.{◌≡◌, ℕ, ◌*◌, ◌<◌, ◌≤◌, Bool, true, false, not, cond, ◌&&◌, ◌||◌, eqb, leb, eq-eqb, List, length, Option, Some, None, refl, sym, ap, subst, ◌∙◌, inl, inr, arith}
+use Rattle.std.proofs.lemmas.Bool.{cases_Bool, and_parts, false_from_ne_true}
+use Rattle.std.specs.List.{All}
+use Rattle.std.specs.Option.{is_some, IfSome}
+use Rattle.sim_base.specs.declared.config.Config.{Config}
+use Rattle.sim_base.specs.declared.command.Command.{Command}
+use Rattle.sim_base.specs.declared.command.CommandRow.{CommandRow}
+use Rattle.sim_base.specs.declared.command.Kind.{Kind}
+use Rattle.sim_base.specs.declared.command.Kind.TheVariants as kind
+use Rattle.sim_base.specs.declared.message.Request.{Request}
+use Rattle.sim_base.specs.Places.{bank_in}
+use Rattle.sim_base.specs.Rules.{is_legal, is_allowed, is_kind, finds_its_banks, open_row, is_row, kind_of, bank_of}
+use Rattle.sim_base.specs.Scheduling.{needed, ready_hit}
+use Rattle.bank_ready.specs.Ready.{ready_from}
+use Rattle.bank_ready.specs.Stands.{IsAllowedFrom}
+use Rattle.bank_ready.proofs.Allowed.{allowed-other}
+use Rattle.queue_columns.specs.Columns.{bank_number}
+use Rattle.heads.specs.declared.entry.BankHeads.{BankHeads}
+use Rattle.heads.specs.declared.entry.KindHeads.{KindHeads}
+use Rattle.heads.specs.Heads.{bank_at, hits, first_place, AreFirst, AreHeads}
+use Rattle.heads.specs.Moves.{earlier}
+use Rattle.heads.proofs.Searches.{none_everywhere}
+use Rattle.fr_fcfs.specs.declared.kinds.Kinds.{Kinds}
+use Rattle.fr_fcfs.specs.declared.offers.Offer.{Offer}
+use Rattle.fr_fcfs.specs.Requests.{IsInBanks, is_hit}
+use Rattle.fr_fcfs.specs.Offers.{is_of, only, column_kind, if_allowed, hit_head, oldest_head, hits_now, hits_in, rows_in, offer_from, row_kind, IsReadyFrom, IsBestOffer, IsBestSoFar}
+use Rattle.fr_fcfs.proofs.Booleans.{and_false, and_true, or_false}
+use Rattle.fr_fcfs.proofs.Legal.{needed_bank}
+use Rattle.fr_fcfs.proofs.Firsts.{same_among, either_among, place_if}
+use Rattle.fr_fcfs.proofs.Bests.{first_alone, hit_offer_is, row_offer_is, best_same}
+use Rattle.fr_fcfs.proofs.BankOffers.{bank_is, row_hit_is, hit_kind, legal_then, rows_are, rows_withheld, none_offered, no_hits}
+use Rattle.fr_fcfs.proofs.Below.{none_is}
+use Rattle.fr_fcfs.proofs.Favoured.{within}
+use Rattle.fr_fcfs.proofs.SoFar.{IsTaken, one_more, so_far_same}
+
+-- heads of a bank that there is not
+pub nowhere : BankHeads
+nowhere = record { row = None; reads = record { oldest = None; hit = None }; writes = record { oldest = None; hit = None } }
+
+-- the heads of a bank to write, or to read
+abbrev pub kind_heads : Bool → BankHeads → KindHeads
+kind_heads write h = cond write h.writes h.reads
+
+pub kind_first : (write : Bool) (requests : List Request) (bank : ℕ) (h : BankHeads) → AreHeads requests bank h → AreFirst requests bank write h.row (kind_heads write h)
+kind_first true requests bank h first = first.writes_are
+kind_first false requests bank h first = first.reads_are
+
+hit_only : (write : Bool) (h : BankHeads) → hit_head (only write) h ≡ (kind_heads write h).hit
+hit_only true h = refl
+hit_only false h = first_alone h.reads.hit
+
+hit_test : (b w k ready hit row_hit legal : Bool) → (b ≡ true → hit ≡ row_hit) → (b ≡ true → w ≡ k → hit ≡ true → legal ≡ ready)
+    → (b && (cond w k (not k) && (hit && legal))) ≡ (ready && ((b && cond k w (not w)) && row_hit))
+hit_test false w k ready hit row_hit legal same when = sym (and_false ready)
+hit_test true true true ready hit row_hit legal same when = one hit row_hit legal ready (same refl) (when refl refl)
+  where
+    one : (h rh l ready : Bool) → h ≡ rh → (h ≡ true → l ≡ ready) → (h && l) ≡ (ready && rh)
+    one true rh l ready is then = then refl ∙ sym (ap (λ t. ready && t) (sym is) ∙ and_true ready)
+    one false rh l ready is then = sym (ap (λ t. ready && t) (sym is) ∙ and_false ready)
+hit_test true true false ready hit row_hit legal same when = sym (and_false ready)
+hit_test true false true ready hit row_hit legal same when = sym (and_false ready)
+hit_test true false false ready hit row_hit legal same when = one hit row_hit legal ready (same refl) (when refl refl)
+  where
+    one : (h rh l ready : Bool) → h ≡ rh → (h ≡ true → l ≡ ready) → (h && l) ≡ (ready && rh)
+    one true rh l ready is then = then refl ∙ sym (ap (λ t. ready && t) (sym is) ∙ and_true ready)
+    one false rh l ready is then = sym (ap (λ t. ready && t) (sym is) ∙ and_false ready)
+
+-- the first row hit of a bank that is ready
+hits_of_kind : (s : Config) (history : List CommandRow) (ranks : ℕ) (requests : List Request) (write : Bool) (bank : ℕ) (h : BankHeads) (ready : ℕ) → All (IsInBanks ranks) requests
+    → AreHeads requests bank h → h.row ≡ open_row (bank_at bank) history → IsReadyFrom s history (bank_at bank) (column_kind write) ready → (cycle : ℕ)
+    → hits_in s history requests (only write) bank cycle ≡ cond (leb ready cycle) (kind_heads write h).hit None
+unfolding ready_hit
+hits_of_kind s history ranks requests write bank h ready places first row_is from cycle =
+    same_among (λ r. eqb (bank_number r.place) bank && hits_now s history (only write) cycle r) (λ r. leb ready cycle && hits bank write h.row r) (IsInBanks ranks) requests places
+    (λ r in_banks.
+    hit_test (eqb (bank_number r.place) bank) r.write write (leb ready cycle) (is_hit history r) (is_row r.place.row h.row) (is_legal s history cycle (needed history r))
+    (row_hit_is history ranks r bank h.row in_banks row_is)
+    (λ here same hit. legal_then s history ranks r bank (column_kind write) ready in_banks from here (hit_kind history r hit ∙ ap column_kind same) cycle))
+    ∙ place_if (leb ready cycle) (hits bank write h.row) requests
+    ∙ ap (λ o. cond (leb ready cycle) o None) (sym (kind_first write requests bank h first).hit_is)
+
+-- what a bank offers to those that ask for its open row
+pub kind_hit : (s : Config) (history : List CommandRow) (ranks : ℕ) (requests : List Request) (write : Bool) (bank : ℕ) (h : BankHeads) (ready now slot : ℕ) → All (IsInBanks ranks) requests
+    → AreHeads requests bank h → h.row ≡ open_row (bank_at bank) history → IsReadyFrom s history (bank_at bank) (column_kind write) ready → (kind_heads write h).hit ≡ Some slot
+    → IsBestOffer now (hits_in s history requests (only write) bank) (rows_in s history requests (only write) bank) (offer_from now ready true slot)
+kind_hit s history ranks requests write bank h ready now slot places first row_is from hit =
+    best_same now (λ c. cond (leb ready c) (Some slot) None) (λ c. None) (hits_in s history requests (only write) bank) (rows_in s history requests (only write) bank)
+    (Some (offer_from now ready true slot))
+    (λ c late. sym (hits_of_kind s history ranks requests write bank h ready places first row_is from c ∙ ap (λ o. cond (leb ready c) o None) hit))
+    (λ c late. sym (rows_withheld s history ranks requests (only write) bank h places first row_is (ap is_some (hit_only write h ∙ hit)) c)) (hit_offer_is now ready (Some slot))
+
+either_within : (n : ℕ) (a b : Option ℕ) (ka kb : Bool) → IfSome a (λ k. k < n) → IfSome b (λ k. k < n) → IfSome (earlier (if_allowed a ka) (if_allowed b kb)) (λ k. k < n)
+either_within n a b false false in_a in_b = tt
+either_within n a b false true in_a in_b = in_b
+either_within n a b true false in_a in_b = subst (λ o. IfSome o (λ k. k < n)) (sym (first_alone a)) in_a
+either_within n None b true true in_a in_b = in_b
+either_within n (Some k) None true true in_a in_b = in_a
+either_within n (Some k) (Some j) true true in_a in_b = omega arith
+
+-- the first request of a bank stands within the queue
+within_kinds : (requests : List Request) (kinds : Kinds) (bank : ℕ) (h : BankHeads) → AreHeads requests bank h → IfSome (oldest_head kinds h) (λ k. k < length requests)
+within_kinds requests kinds bank h first =
+    either_within (length requests) h.reads.oldest h.writes.oldest kinds.reads kinds.writes (within _ requests h.reads.oldest first.reads_are.oldest_is)
+    (within _ requests h.writes.oldest first.writes_are.oldest_is)
+
+-- what a bank offers where none asks for its open row
+kinds_row : (s : Config) (history : List CommandRow) (ranks : ℕ) (requests : List Request) (kinds : Kinds) (bank : ℕ) (h : BankHeads) (ready now slot : ℕ) → All (IsInBanks ranks) requests
+    → AreHeads requests bank h → h.row ≡ open_row (bank_at bank) history → IsReadyFrom s history (bank_at bank) (row_kind h.row) ready → hit_head kinds h ≡ None
+    → oldest_head kinds h ≡ Some slot
+    → IsBestOffer now (hits_in s history requests kinds bank) (rows_in s history requests kinds bank) (offer_from now ready false slot)
+kinds_row s history ranks requests kinds bank h ready now slot places first row_is from none oldest =
+    best_same now (λ c. None) (λ c. cond (leb ready c) (Some slot) None) (hits_in s history requests kinds bank) (rows_in s history requests kinds bank)
+    (Some (offer_from now ready false slot)) (λ c late. sym (no_hits s history ranks requests kinds bank h places first row_is none c))
+    (λ c late. sym (rows_are s history ranks requests kinds bank h ready places first row_is from (ap is_some none) c ∙ ap (λ o. cond (leb ready c) o None) oldest))
+    (row_offer_is now ready (Some slot))
+
+-- the best offer so far with the head of a bank, where none asks for its open row
+pub row_more : (s : Config) (history : List CommandRow) (ranks : ℕ) (requests : List Request) (kinds : Kinds) (bank : ℕ) (h : BankHeads) (ready now : ℕ) (hits rows : ℕ → Option ℕ)
+    (best after : Offer) → ready ≤ 18446744073709551615 → now ≤ 18446744073709551615 → All (IsInBanks ranks) requests → AreHeads requests bank h
+    → h.row ≡ open_row (bank_at bank) history → IsReadyFrom s history (bank_at bank) (row_kind h.row) ready → is_some (hit_head kinds h) ≡ false
+    → (head : Option ℕ) → oldest_head kinds h ≡ head → IsTaken head now ready false best after → IsBestSoFar (length requests) now hits rows best
+    → IsBestSoFar (length requests) now hits (λ c. earlier (rows c) (rows_in s history requests kinds bank c)) after
+row_more s history ranks requests kinds bank h ready now hits rows best after ready_fits now_fits places first row_is from no_hit None oldest step so_far =
+    so_far_same (length requests) now hits rows hits (λ c. earlier (rows c) (rows_in s history requests kinds bank c)) after (λ c late. refl)
+    (λ c late. sym (ap (earlier (rows c)) (none_offered requests kinds bank h _ first oldest) ∙ first_alone (rows c)))
+    (subst (IsBestSoFar (length requests) now hits rows) (sym (step.none refl)) so_far)
+row_more s history ranks requests kinds bank h ready now hits rows best after ready_fits now_fits places first row_is from no_hit (Some slot) oldest step so_far =
+    let none = none_is (hit_head kinds h) no_hit in
+    let inside : slot < length requests = subst (λ o. IfSome o (λ k. k < length requests)) oldest (within_kinds requests kinds bank h first) in
+    so_far_same (length requests) now (λ c. earlier (hits c) (hits_in s history requests kinds bank c)) (λ c. earlier (rows c) (rows_in s history requests kinds bank c)) hits
+    (λ c. earlier (rows c) (rows_in s history requests kinds bank c)) after
+    (λ c late. ap (earlier (hits c)) (no_hits s history ranks requests kinds bank h places first row_is none c) ∙ first_alone (hits c)) (λ c late. refl)
+    (subst (IsBestSoFar (length requests) now (λ c. earlier (hits c) (hits_in s history requests kinds bank c)) (λ c. earlier (rows c) (rows_in s history requests kinds bank c)))
+    (sym (step.some slot refl))
+    (one_more (length requests) now hits rows (hits_in s history requests kinds bank) (rows_in s history requests kinds bank) best (offer_from now ready false slot) inside (omega arith) so_far
+    (kinds_row s history ranks requests kinds bank h ready now slot places first row_is from none oldest)))
+
+-- the same with its row hit
+pub hit_more : (s : Config) (history : List CommandRow) (ranks : ℕ) (requests : List Request) (write : Bool) (bank : ℕ) (h : BankHeads) (ready now : ℕ) (hits rows : ℕ → Option ℕ)
+    (best after : Offer) → ready ≤ 18446744073709551615 → now ≤ 18446744073709551615 → All (IsInBanks ranks) requests → AreHeads requests bank h
+    → h.row ≡ open_row (bank_at bank) history → IsReadyFrom s history (bank_at bank) (column_kind write) ready
+    → (head : Option ℕ) → (kind_heads write h).hit ≡ head → IsTaken head now ready true best after → IsBestSoFar (length requests) now hits rows best
+    → IsBestSoFar (length requests) now (λ c. earlier (hits c) (hits_in s history requests (only write) bank c)) rows after
+hit_more s history ranks requests write bank h ready now hits rows best after ready_fits now_fits places first row_is from None hit step so_far =
+    so_far_same (length requests) now hits rows (λ c. earlier (hits c) (hits_in s history requests (only write) bank c)) rows after
+    (λ c late. sym (ap (earlier (hits c)) (no_hits s history ranks requests (only write) bank h places first row_is (hit_only write h ∙ hit) c) ∙ first_alone (hits c))) (λ c late. refl)
+    (subst (IsBestSoFar (length requests) now hits rows) (sym (step.none refl)) so_far)
+hit_more s history ranks requests write bank h ready now hits rows best after ready_fits now_fits places first row_is from (Some slot) hit step so_far =
+    let inside : slot < length requests = subst (λ o. IfSome o (λ k. k < length requests)) hit (within _ requests (kind_heads write h).hit (kind_first write requests bank h first).hit_is) in
+    so_far_same (length requests) now (λ c. earlier (hits c) (hits_in s history requests (only write) bank c)) (λ c. earlier (rows c) (rows_in s history requests (only write) bank c))
+    (λ c. earlier (hits c) (hits_in s history requests (only write) bank c)) rows after (λ c late. refl)
+    (λ c late. ap (earlier (rows c)) (rows_withheld s history ranks requests (only write) bank h places first row_is (ap is_some (hit_only write h ∙ hit)) c) ∙ first_alone (rows c))
+    (subst (IsBestSoFar (length requests) now (λ c. earlier (hits c) (hits_in s history requests (only write) bank c)) (λ c. earlier (rows c) (rows_in s history requests (only write) bank c)))
+    (sym (step.some slot refl))
+    (one_more (length requests) now hits rows (hits_in s history requests (only write) bank) (rows_in s history requests (only write) bank) best (offer_from now ready true slot) inside (omega arith) so_far
+    (kind_hit s history ranks requests write bank h ready now slot places first row_is from hit)))
+
+-- a bank that is not asked for, or has a row hit, offers nothing else
+pub row_none : (s : Config) (history : List CommandRow) (ranks : ℕ) (requests : List Request) (kinds : Kinds) (bank : ℕ) (h : BankHeads) → All (IsInBanks ranks) requests
+    → AreHeads requests bank h → h.row ≡ open_row (bank_at bank) history → (is_some (oldest_head kinds h) && not (is_some (hit_head kinds h))) ≡ false → (cycle : ℕ)
+    → rows_in s history requests kinds bank cycle ≡ None
+row_none s history ranks requests kinds bank h places first row_is left cycle = elim (cases_Bool (is_some (hit_head kinds h))) [
+  | inl hit ↦ rows_withheld s history ranks requests kinds bank h places first row_is hit cycle
+  | inr no_hit ↦
+      let none : is_some (oldest_head kinds h) ≡ false =
+      sym (and_true (is_some (oldest_head kinds h))) ∙ ap (λ b. is_some (oldest_head kinds h) && not b) (sym no_hit) ∙ left in
+      none_offered requests kinds bank h _ first (none_is (oldest_head kinds h) none)
+]
+
+-- some bank is asked for by a kind that goes
+pub some_allowed : (a b : Option ℕ) (ka kb : Bool) → ((ka && is_some a) || (kb && is_some b)) ≡ is_some (earlier (if_allowed a ka) (if_allowed b kb))
+some_allowed a b false false = refl
+some_allowed a b false true = refl
+some_allowed a b true false = or_false (is_some a) ∙ ap is_some (sym (first_alone a))
+some_allowed None b true true = refl
+some_allowed (Some k) None true true = refl
+some_allowed (Some k) (Some j) true true = refl
+
+pub either_in : {P : Type 0} (kr kw a b : Bool) → ((kr && a) || (kw && b)) ≡ true → (a ≡ true → P) → (b ≡ true → P) → P
+either_in true kw true b there in_a in_b = in_a refl
+either_in true true false b there in_a in_b = in_b there
+either_in true false false b there in_a in_b = cc
+either_in false true a b there in_a in_b = in_b there
+either_in false false a b there in_a in_b = cc
+
+-- row hits to read and to write are all that there are
+kind_hits : (w kr kw h : Bool) → (cond w kw kr && h) ≡ ((kr && (cond w false (not false) && h)) || (kw && (cond w true (not true) && h)))
+kind_hits true true true h = refl
+kind_hits true false true h = refl
+kind_hits true true false h = refl
+kind_hits true false false h = refl
+kind_hits false true kw h = sym (ap (λ t. h || t) (and_false kw) ∙ or_false h)
+kind_hits false false true h = refl
+kind_hits false false false h = refl
+
+pub both_hits : (s : Config) (history : List CommandRow) (requests : List Request) (kinds : Kinds) (cycle : ℕ)
+    → earlier (first_place (λ r. kinds.reads && hits_now s history (only false) cycle r) requests) (first_place (λ r. kinds.writes && hits_now s history (only true) cycle r) requests)
+    ≡ first_place (hits_now s history kinds cycle) requests
+both_hits s history requests kinds cycle =
+    sym
+    (either_among (hits_now s history kinds cycle) (λ r. kinds.reads && hits_now s history (only false) cycle r) (λ r. kinds.writes && hits_now s history (only true) cycle r) (λ r. Unit {0})
+    requests (λ k d exists. tt) (λ r in_all. kind_hits r.write kinds.reads kinds.writes (ready_hit s history cycle r)))
+
+-- places of a kind that does not go
+pub none_goes : (rows : ℕ → Option ℕ) (goes : Bool) (test : ℕ → Request → Bool) (requests : List Request) → goes ≡ false → (cycle : ℕ)
+    → rows cycle ≡ earlier (rows cycle) (first_place (λ r. goes && test cycle r) requests)
+none_goes rows goes test requests off cycle =
+    sym (first_alone (rows cycle))
+    ∙ ap (earlier (rows cycle)) (sym (ap (λ b. cond b (first_place (test cycle) requests) None) off) ∙ sym (place_if goes (test cycle) requests))
+
+-- and of one that does
+pub all_go : (goes : Bool) (test : Request → Bool) (requests : List Request) → goes ≡ true → first_place (λ r. goes && test r) requests ≡ first_place test requests
+all_go goes test requests on = place_if goes test requests ∙ ap (λ b. cond b (first_place test requests) None) on
+
+-- a bank with no row hit
+pub hit_none : (s : Config) (history : List CommandRow) (ranks : ℕ) (requests : List Request) (write : Bool) (bank : ℕ) (h : BankHeads) → All (IsInBanks ranks) requests
+    → AreHeads requests bank h → h.row ≡ open_row (bank_at bank) history → is_some (kind_heads write h).hit ≡ false → (cycle : ℕ)
+    → hits_in s history requests (only write) bank cycle ≡ None
+hit_none s history ranks requests write bank h places first row_is none cycle =
+    no_hits s history ranks requests (only write) bank h places first row_is (hit_only write h ∙ none_is (kind_heads write h).hit none) cycle
+
+-- no command of a kind to some bank of so many ranks is allowed before this cycle
+abbrev pub IsFloor : Config → List CommandRow → ℕ → Kind → ℕ → Type 0
+IsFloor s history ranks k floor =
+    (command : Command) (cycle bank : ℕ) → kind_of command ≡ k → bank_of command ≡ Some (bank_at bank) → bank < 16 * ranks → IsAllowedFrom s history command cycle → floor ≤ cycle
+
+same_kind : (w k : Bool) → cond w k (not k) ≡ true → w ≡ k
+same_kind true true is = refl
+same_kind true false is = sym is
+same_kind false true is = is
+same_kind false false is = refl
+
+column_other : (k : Bool) → is_kind (column_kind k) kind.Act ≡ false
+column_other true = refl
+column_other false = refl
+
+allowed_too : (s : Config) (history : List CommandRow) (cycle : ℕ) (command : Command) → is_legal s history cycle command ≡ true → is_allowed s.timing history cycle command ≡ true
+unfolding is_legal
+allowed_too s history cycle command legal = (and_parts (finds_its_banks s history command) (is_allowed s.timing history cycle command) legal).1
+
+number_in : (ranks : ℕ) (r : Request) → IsInBanks ranks r → bank_number r.place < 16 * ranks
+number_in ranks r places = omega (arith, places.rank, places.group, places.bank)
+
+hit_after : (s : Config) (history : List CommandRow) (ranks : ℕ) (r : Request) (write : Bool) (floor cycle : ℕ) → IsInBanks ranks r → IsFloor s history ranks (column_kind write) floor
+    → hits_now s history (only write) cycle r ≡ true → floor ≤ cycle
+unfolding ready_hit needed
+hit_after s history ranks r write floor cycle in_banks least now_is =
+    let outer = and_parts (is_of (only write) r) (ready_hit s history cycle r) now_is in
+    let parts = and_parts (is_hit history r) (is_legal s history cycle (needed history r)) outer.1 in
+    let bank = bank_number r.place in
+    let command = needed history r in
+    let kind_is : kind_of command ≡ column_kind write = hit_kind history r parts.0 ∙ ap column_kind (same_kind r.write write outer.0) in
+    let bank_is_at : bank_of command ≡ Some (bank_at bank) = needed_bank (open_row (bank_in r.place) history) r ∙ ap Some (bank_is ranks r bank in_banks (eq-eqb bank bank refl)) in
+    let allowed = λ (now : ℕ). allowed-other s.timing history now command (column_kind write) (bank_at bank) kind_is bank_is_at (column_other write) in
+    let late = (allowed cycle).1 (allowed_too s history cycle command parts.1) in
+    let floor_is = least command (ready_from s.timing history (column_kind write) (bank_at bank).rank (Some (bank_at bank))) bank kind_is bank_is_at (number_in ranks r in_banks) allowed in
+    omega (arith, late, floor_is)
+
+-- no row hit is ready before it
+pub hits_before : (s : Config) (history : List CommandRow) (ranks : ℕ) (requests : List Request) (write : Bool) (floor : ℕ) → All (IsInBanks ranks) requests
+    → IsFloor s history ranks (column_kind write) floor → (cycle : ℕ) → cycle < floor → first_place (hits_now s history (only write) cycle) requests ≡ None
+hits_before s history ranks requests write floor places least cycle early =
+    same_among (hits_now s history (only write) cycle) (λ r. false) (IsInBanks ranks) requests places
+    (λ r in_banks.
+    false_from_ne_true (hits_now s history (only write) cycle r)
+    (λ now_is. let late = hit_after s history ranks r write floor cycle in_banks least now_is in absurd (omega arith)))
+    ∙ sym (none_everywhere (λ r. false) requests (λ r. refl))

@@ -1,0 +1,69 @@
+-- One bank less is left, and then none.
+use Rattle.std.proofs.Common.{ℕ, refl, sym, ap, length, ◌∙◌}
+use Rattle.heads.specs.Heads.{first_place}
+use Rattle.heads.specs.Moves.{earlier}
+use Rattle.heads.specs.Sets.{is_in}
+use Rattle.heads.specs.Stands.{bank_count, heads_of}
+use Rattle.fr_fcfs.specs.Offers.{only, hits_now, hits_in}
+use Rattle.fr_fcfs.proofs.Bests.{first_alone}
+use Rattle.fr_fcfs.proofs.Beside.{place_beside, beside_all, beside_more, beside_nothing, left_before, size_less}
+use Rattle.fr_fcfs.proofs.BankMore.{nowhere, hit_none}
+use Rattle.fr_fcfs.proofs.SoFar.{so_far_same, earlier_assoc}
+use Rattle.fr_fcfs.proofs.first.with_all_hits.Goals as goal
+
+pub loop-bank-init : goal.loop-bank-init
+loop-bank-init c =
+    let now = c.args.now in
+    let write = c.args.write in
+    let rest = c.hit-rest.result in
+    record {
+      within = c.hit-rest.ensures.within;
+      so_far = λ s history requests hits rows stands heads places before.
+          so_far_same (length requests) now hits rows (λ cycle. earlier (hits cycle) (place_beside (λ k. is_in rest k) (hits_now s history (only write) cycle) requests)) rows c.args.best.now
+          (λ cycle late.
+          sym
+          (ap (earlier (hits cycle))
+          (beside_nothing (λ k. is_in rest k) (bank_count c.args.heads.now) (hits_now s history (only write) cycle) requests heads.within
+          (λ k exists off.
+          hit_none s history _ requests write k (heads_of c.args.heads.now k nowhere) places (heads.heads_are k nowhere exists) (heads.rows_are k nowhere exists)
+          (sym (c.hit-rest.ensures.each k nowhere exists) ∙ off) cycle))
+          ∙ first_alone (hits cycle)))
+          (λ cycle late. refl) before;
+    }
+
+pub loop-bank-smaller : goal.loop-bank-smaller
+loop-bank-smaller c =
+    size_less (λ k. is_in c.loop-bank.rest k) (λ k. is_in c.without-rest.result k) c.in-Some.bank 64 c.in-Some.ensures.within c.in-Some.ensures.first c.without-rest.ensures.same
+    c.without-rest.ensures.others
+
+pub loop-bank-preserved : goal.loop-bank-preserved
+loop-bank-preserved c =
+    let now = c.args.now in
+    let write = c.args.write in
+    let bank = c.in-Some.bank in
+    let rest = c.loop-bank.rest in
+    let after = c.without-rest.result in
+    record {
+      within = λ k still. c.loop-bank.invariant.within k (left_before (λ j. is_in rest j) (λ j. is_in after j) bank c.without-rest.ensures.same c.without-rest.ensures.others k still);
+      so_far = λ s history requests hits rows stands heads places before.
+          let here = λ (cycle : ℕ). place_beside (λ k. is_in rest k) (hits_now s history (only write) cycle) requests in
+          let so_far = λ (cycle : ℕ). earlier (hits cycle) (here cycle) in
+          so_far_same (length requests) now (λ cycle. earlier (so_far cycle) (hits_in s history requests (only write) bank cycle)) rows
+          (λ cycle. earlier (hits cycle) (place_beside (λ k. is_in after k) (hits_now s history (only write) cycle) requests)) rows c.with_hit.new.best
+          (λ cycle late.
+          earlier_assoc (hits cycle) (here cycle) (hits_in s history requests (only write) bank cycle)
+          ∙ ap (earlier (hits cycle))
+          (sym
+          (beside_more (λ k. is_in rest k) (λ k. is_in after k) bank (hits_now s history (only write) cycle) requests c.in-Some.ensures.first c.without-rest.ensures.same
+          c.without-rest.ensures.others)))
+          (λ cycle late. refl)
+          (c.with_hit.ensures s history requests so_far rows stands heads places (c.loop-bank.invariant.so_far s history requests hits rows stands heads places before));
+    }
+
+pub returns : goal.returns
+returns c s history requests hits rows stands heads places before =
+    let rest = c.loop-bank.rest in
+    so_far_same (length requests) c.args.now (λ cycle. earlier (hits cycle) (place_beside (λ k. is_in rest k) (hits_now s history (only c.args.write) cycle) requests)) rows
+    (λ cycle. earlier (hits cycle) (first_place (hits_now s history (only c.args.write) cycle) requests)) rows c.loop-bank.best
+    (λ cycle late. ap (earlier (hits cycle)) (beside_all (λ k. is_in rest k) (hits_now s history (only c.args.write) cycle) requests c.in_default.ensures.none)) (λ cycle late. refl)
+    (c.loop-bank.invariant.so_far s history requests hits rows stands heads places before)

@@ -1,0 +1,277 @@
+-- The steps of the loops over one ring.
+use Rattle.std.proofs.Common.{ℕ, suc, zero, ◌+◌, ◌-◌, ◌<◌, ◌≤◌, ◌≡◌, Bool, true, false, not, ltb, cond, get_or, set, length, take, drop, List, [], ◌∷◌, ◌++◌, append_assoc, Some, None, refl, sym, ap, ap₂, ◌∙◌, subst, arith}
+use Rattle.std.specs.Prelude.{filter, insert, slice_get}
+use Rattle.std.specs.Option.{option_map, option_map_or}
+use Rattle.std.specs.List.{take_while, AllByRecursion as Each}
+use Rattle.std.proofs.lemmas.Bool.{cond-true, cond-false}
+use Rattle.std.proofs.lemmas.Bool.Decides.{nat_tests}
+use Rattle.std.proofs.lemmas.List.Sums.{take_while-cons}
+use Rattle.sim_base.specs.History.{is_before, insert_by_age, by_age}
+use Rattle.sim_base.specs.declared.message.Message.{Message}
+use Rattle.sim_base.proofs.Arrived.{put, fold-puts}
+use Rattle.sim_base.proofs.Ordered.{Each-weaker, Sorted}
+use Rattle.links.specs.InFlight.{arrives_within}
+use Rattle.links.specs.Rings.{arrives_outside}
+use Rattle.links.proofs.Ages.{in_order-Sorted}
+
+-- ---- putting a message in, from the back
+pub Each-at : {X : Type 0} (P : X → Type 0) (xs : List X) (k : ℕ) (d : X) → Each P xs → k < length xs → P (get_or xs k d)
+Each-at P [] k d h l = absurd (omega arith)
+Each-at P (x ∷ xs) zero d h l = h.0
+Each-at P (x ∷ xs) (suc k) d h l = Each-at P xs k d h.1 (omega arith)
+
+not_before_first : (m y x : Message) → is_before y x ≡ false → is_before m y ≡ false → is_before m x ≡ false
+not_before_first m y x h k = grind (arith, nat_tests)
+
+-- the messages from a place on are younger than a message
+abbrev pub AreYounger : Message → ℕ → List Message → Type 0
+AreYounger m i xs = Each (λ (y : Message). is_before m y ≡ true) (drop i xs)
+
+pub younger_none : (m : Message) (xs : List Message) → AreYounger m (length xs) xs
+younger_none m [] = tt
+younger_none m (x ∷ xs) = younger_none m xs
+
+pub insert_last : (m : Message) (xs : List Message) → insert xs (length xs) m ≡ xs ++ m ∷ []
+insert_last m [] = refl
+insert_last m (x ∷ xs) = ap (λ z. x ∷ z) (insert_last m xs)
+
+pub length_insert : (m : Message) (i : ℕ) (xs : List Message) → i ≤ length xs → length (insert xs i m) ≡ length xs + 1
+length_insert m zero xs l = omega arith
+length_insert m (suc i) [] l = absurd (omega arith)
+length_insert m (suc i) (x ∷ xs) l = omega (arith, length_insert m i xs (omega arith))
+
+insert_before : (m d : Message) (q : ℕ) (xs : List Message) → q < length xs → get_or (insert xs (suc q) m) q d ≡ get_or xs q d
+insert_before m d q [] l = absurd (omega arith)
+insert_before m d zero (x ∷ xs) l = refl
+insert_before m d (suc q) (x ∷ xs) l = insert_before m d q xs (omega arith)
+
+insert_swap : (m d : Message) (q : ℕ) (xs : List Message) → q < length xs → set (set (insert xs (suc q) m) (suc q) (get_or xs q d)) q m ≡ insert xs q m
+insert_swap m d q [] l = absurd (omega arith)
+insert_swap m d zero (x ∷ xs) l = refl
+insert_swap m d (suc q) (x ∷ xs) l = ap (λ z. x ∷ z) (insert_swap m d q xs (omega arith))
+
+younger_more : (m d : Message) (q : ℕ) (xs : List Message) → q < length xs → AreYounger m (suc q) xs → is_before m (get_or xs q d) ≡ true → AreYounger m q xs
+younger_more m d q [] l h k = absurd (omega arith)
+younger_more m d zero (x ∷ xs) l h k = (k, h)
+younger_more m d (suc q) (x ∷ xs) l h k = younger_more m d q xs (omega arith) h k
+
+-- one place further to the front
+pub sunk : (m y : Message) (p q : ℕ) (xs ys : List Message) → p ≡ q + 1 → p ≤ length xs → ys ≡ insert xs p m → get_or ys q y ≡ y → set (set ys p y) q m ≡ insert xs q m
+sunk m y p q xs ys e l h g =
+    let s : p ≡ suc q = omega arith in
+    let at : get_or xs q y ≡ y = sym (insert_before m y q xs (omega arith)) ∙ ap (λ i. get_or (insert xs i m) q y) (sym s) ∙ ap (λ z. get_or z q y) (sym h) ∙ g in
+    ap (λ z. set (set z p y) q m) h
+    ∙ ap (λ i. set (set (insert xs i m) i y) q m) s
+    ∙ ap (λ z. set (set (insert xs (suc q) m) (suc q) z) q m) (sym at)
+    ∙ insert_swap m y q xs (omega arith)
+
+pub sunk_younger : (m y : Message) (p q : ℕ) (xs ys : List Message) → p ≡ q + 1 → p ≤ length xs → ys ≡ insert xs p m → get_or ys q y ≡ y → is_before m y ≡ true
+    → AreYounger m p xs → AreYounger m q xs
+sunk_younger m y p q xs ys e l h g b k =
+    let s : p ≡ suc q = omega arith in
+    let at : get_or xs q y ≡ y = sym (insert_before m y q xs (omega arith)) ∙ ap (λ i. get_or (insert xs i m) q y) (sym s) ∙ ap (λ z. get_or z q y) (sym h) ∙ g in
+    younger_more m y q xs (omega arith) (subst (λ i. AreYounger m i xs) s k) (ap (is_before m) at ∙ b)
+
+put_younger : (m : Message) (xs : List Message) → AreYounger m 0 xs → put m xs ≡ m ∷ xs
+put_younger m [] h = refl
+put_younger m (x ∷ xs) h = cond-true _ _ _ h.0
+
+insert-put_at : (m : Message) (i : ℕ) (xs : List Message) → Sorted xs → i ≤ length xs → AreYounger m i xs → ((k : ℕ) → suc k ≡ i → is_before m (get_or xs k m) ≡ false)
+    → insert xs i m ≡ put m xs
+insert-put_at m zero xs s l h k = sym (put_younger m xs h)
+insert-put_at m (suc i) [] s l h k = absurd (omega arith)
+insert-put_at m (suc i) (x ∷ xs) s l h k =
+    ap (λ z. x ∷ z) (insert-put_at m i xs s.1 (omega arith) h (λ j e. k (suc j) (ap suc e)))
+    ∙ sym (cond-false (is_before m x) (m ∷ x ∷ xs) (x ∷ put m xs) (first i refl))
+  where
+    first : (j : ℕ) → j ≡ i → is_before m x ≡ false
+    first zero e = k 0 (ap suc e)
+    first (suc j) e = not_before_first m (get_or xs j m) x (Each-at _ xs j m s.0 (omega arith)) (k (suc j) (ap suc e))
+
+-- where no younger one stands before it, the message is in its place
+pub placed : (m : Message) (p : ℕ) (xs ys : List Message) → by_age xs ≡ xs → ys ≡ insert xs p m → p ≤ length xs → AreYounger m p xs
+    → ((q : ℕ) → p ≡ q + 1 → is_before m (get_or ys q m) ≡ false) → ys ≡ insert_by_age xs m
+placed m p xs ys s e l h k =
+    e
+    ∙ insert-put_at m p xs (in_order-Sorted xs s) l h
+    (λ q f. let g : p ≡ q + 1 = omega arith in
+    ap (is_before m) (sym (insert_before m m q xs (omega arith)) ∙ ap (λ i. get_or (insert xs i m) q m) f ∙ ap (λ z. get_or z q m) (sym e)) ∙ k q g)
+    ∙ sym (fold-puts xs (m ∷ []))
+
+last_not_younger : (m : Message) (q : ℕ) (xs : List Message) → q < length xs → option_map_or (is_before m) (slice_get xs q) false ≡ false → is_before m (get_or (xs ++ m ∷ []) q m) ≡ false
+last_not_younger m q [] l h = absurd (omega arith)
+last_not_younger m zero (x ∷ xs) l h = h
+last_not_younger m (suc q) (x ∷ xs) l h = last_not_younger m q xs (omega arith) h
+
+-- a message that the last one is not younger than goes to the back
+pub placed_last : (m : Message) (xs : List Message) → by_age xs ≡ xs → option_map_or (is_before m) (slice_get xs (length xs - 1)) false ≡ false → xs ++ m ∷ [] ≡ insert_by_age xs m
+placed_last m xs s h =
+    placed m (length xs) xs (xs ++ m ∷ []) s (sym (insert_last m xs)) (omega arith) (younger_none m xs)
+    (λ q f. let e : length xs - 1 ≡ q = omega arith in
+    last_not_younger m q xs (omega arith) (subst (λ i. option_map_or (is_before m) (slice_get xs i) false ≡ false) e h))
+
+-- ---- the head of a list
+head_true : (p : Message → Bool) (x : Message) (xs : List Message) → p x ≡ true → take_while p (x ∷ xs) ≡ x ∷ take_while p xs
+head_true p x xs e = take_while-cons p x xs ∙ cond-true _ _ _ e
+
+head_false : (p : Message → Bool) (x : Message) (xs : List Message) → p x ≡ false → take_while p (x ∷ xs) ≡ []
+head_false p x xs e = take_while-cons p x xs ∙ cond-false _ _ _ e
+
+-- a list whose first messages are due, up to one that is not
+pub split_head : (p : Message → Bool) (xs ys zs : List Message) → xs ++ ys ≡ zs → Each (λ m. p m ≡ true) xs → option_map_or p (slice_get ys 0) false ≡ false
+    → (xs ≡ take_while p zs) × (ys ≡ drop (length (take_while p zs)) zs)
+split_head p xs ys zs e h k = (sym (head xs ys h k) ∙ ap (take_while p) e, sym (rest xs) ∙ ap₂ (λ ms z. drop (length ms) z) (sym (head xs ys h k) ∙ ap (take_while p) e) e)
+  where
+    head : (xs ys : List Message) → Each (λ m. p m ≡ true) xs → option_map_or p (slice_get ys 0) false ≡ false → take_while p (xs ++ ys) ≡ xs
+    head [] [] h k = refl
+    head [] (y ∷ ys) h k = head_false p y ys k
+    head (x ∷ xs) ys h k = head_true p x (xs ++ ys) h.0 ∙ ap (λ z. x ∷ z) (head xs ys h.1 k)
+
+    rest : (xs : List Message) → drop (length xs) (xs ++ ys) ≡ ys
+    rest [] = refl
+    rest (x ∷ xs) = rest xs
+
+-- the message at a place is not due, if there is one
+not_due_at : (until i : ℕ) (zs : List Message) → ((d : Message) → i < length zs → until ≤ (get_or zs i d).arrival) → option_map_or (λ m. ltb m.arrival until) (slice_get (drop i zs) 0) false ≡ false
+not_due_at until zero [] h = refl
+not_due_at until (suc i) [] h = refl
+not_due_at until zero (z ∷ zs) h = too_late z.arrival until (h z (omega arith))
+  where
+    too_late : (a b : ℕ) → b ≤ a → ltb a b ≡ false
+    too_late a b l = grind (arith, nat_tests)
+not_due_at until (suc i) (z ∷ zs) h = not_due_at until i zs (λ d l. h d (omega arith))
+
+-- the messages up to a place are the head of a list
+pub head_up_to : (until i : ℕ) (zs : List Message) → i ≤ length zs → Each (λ (m : Message). ltb m.arrival until ≡ true) (take i zs)
+    → ((d : Message) → i < length zs → until ≤ (get_or zs i d).arrival) → take i zs ≡ take_while (λ m. ltb m.arrival until) zs
+head_up_to until i zs l h k = (split_head (λ m. ltb m.arrival until) (take i zs) (drop i zs) zs (take_drop i zs) h (not_due_at until i zs k)).0
+  where
+    take_drop : (i : ℕ) (zs : List Message) → take i zs ++ drop i zs ≡ zs
+    take_drop zero [] = refl
+    take_drop (suc i) [] = refl
+    take_drop zero (z ∷ zs) = refl
+    take_drop (suc i) (z ∷ zs) = ap (λ y. z ∷ y) (take_drop i zs)
+
+-- ---- taking messages out
+not_sooner : (m y : Message) → is_before y m ≡ false → m.arrival ≤ y.arrival
+not_sooner m y h = grind (arith, nat_tests)
+
+outside_late : (from until : ℕ) (m : Message) → until ≤ m.arrival → arrives_within from until m ≡ false
+outside_late from until m h = grind (arith, nat_tests)
+
+-- what arrives too late for a span
+late : (from until : ℕ) (ms : List Message) → Each (λ (y : Message). until ≤ y.arrival) ms → (filter (arrives_within from until) ms ≡ []) × (filter (arrives_outside from until) ms ≡ ms)
+late from until [] h = (refl, refl)
+late from until (m ∷ ms) h =
+    let no : arrives_within from until m ≡ false = outside_late from until m h.0 in
+    let rest = late from until ms h.1 in
+    (cond-false _ _ _ no ∙ rest.0, cond-true _ _ _ (ap not no) ∙ ap (λ x. m ∷ x) rest.1)
+
+all_late : (until : ℕ) (m : Message) (ms : List Message) → Sorted (m ∷ ms) → until ≤ m.arrival → Each (λ (y : Message). until ≤ y.arrival) (m ∷ ms)
+all_late until m ms s l = (l, Each-weaker _ (λ (y : Message). until ≤ y.arrival) (λ y h. omega (arith, not_sooner m y h)) ms s.0)
+
+filter_cut : (from until i : ℕ) (ms : List Message) → Sorted ms → ((d : Message) → i < length ms → until ≤ (get_or ms i d).arrival)
+    → filter (arrives_within from until) (take i ms) ≡ filter (arrives_within from until) ms
+filter_cut from until zero [] s h = refl
+filter_cut from until (suc i) [] s h = refl
+filter_cut from until zero (m ∷ ms) s h = sym (late from until (m ∷ ms) (all_late until m ms s (h m (omega arith)))).0
+filter_cut from until (suc i) (m ∷ ms) s h =
+    ap (λ x. cond (arrives_within from until m) (m ∷ x) x) (filter_cut from until i ms s.1 (λ d l. h d (omega arith)))
+
+-- all that is due stands before the first that arrives too late
+pub copied_all : (from until i : ℕ) (ms : List Message) → by_age ms ≡ ms → ((d : Message) → i < length ms → until ≤ (get_or ms i d).arrival)
+    → filter (arrives_within from until) (take i ms) ≡ filter (arrives_within from until) ms
+copied_all from until i ms s h = filter_cut from until i ms (in_order-Sorted ms s) h
+
+pub filter_more : (p : Message → Bool) (i : ℕ) (m : Message) (ms : List Message) → i < length ms → get_or ms i m ≡ m
+    → filter p (take (i + 1) ms) ≡ cond (p m) (filter p (take i ms) ++ m ∷ []) (filter p (take i ms))
+filter_more p i m ms l e = ap (λ k. filter p (take k ms)) one ∙ by_case i ms l e
+  where
+    one : i + 1 ≡ suc i
+    one = omega arith
+
+    by_case : (i : ℕ) (ms : List Message) → i < length ms → get_or ms i m ≡ m → filter p (take (suc i) ms) ≡ cond (p m) (filter p (take i ms) ++ m ∷ []) (filter p (take i ms))
+    by_case i [] l e = absurd (omega arith)
+    by_case zero (x ∷ xs) l e = ap (λ y. cond (p y) (y ∷ []) []) e
+    by_case (suc i) (x ∷ xs) l e =
+        ap (λ z. cond (p x) (x ∷ z) z) (by_case i xs (omega arith) e) ∙ through (p x) (p m)
+      where
+        through : (a b : Bool) → cond a (x ∷ cond b (filter p (take i xs) ++ m ∷ []) (filter p (take i xs))) (cond b (filter p (take i xs) ++ m ∷ []) (filter p (take i xs)))
+            ≡ cond b (cond a (x ∷ filter p (take i xs)) (filter p (take i xs)) ++ m ∷ []) (cond a (x ∷ filter p (take i xs)) (filter p (take i xs)))
+        through true true = refl
+        through true false = refl
+        through false true = refl
+        through false false = refl
+
+-- nothing stands in a ring with no first message
+pub empty_where_no_first : (ms : List Message) → option_map (λ (m : Message). m.arrival) (slice_get ms 0) ≡ None → ms ≡ []
+empty_where_no_first [] h = refl
+empty_where_no_first (m ∷ ms) h = cc
+
+-- where the first message arrives too late, nothing is due
+pub none_due : (from until first : ℕ) (ms : List Message) → by_age ms ≡ ms → option_map (λ (m : Message). m.arrival) (slice_get ms 0) ≡ Some first → until ≤ first
+    → (filter (arrives_within from until) ms ≡ []) × (filter (arrives_outside from until) ms ≡ ms)
+none_due from until first [] s h l = (refl, refl)
+none_due from until first (m ∷ ms) s h l = let e : m.arrival ≡ first = cc in late from until (m ∷ ms) (all_late until m ms (in_order-Sorted (m ∷ ms) s) (omega arith))
+
+is_within : (from until : ℕ) (m : Message) → from ≤ m.arrival → ltb m.arrival until ≡ true → arrives_within from until m ≡ true
+is_within from until m h e = grind (arith, nat_tests)
+
+past : (until : ℕ) (m : Message) → ltb m.arrival until ≡ false → until ≤ m.arrival
+past until m e = grind (arith, nat_tests)
+
+-- where no message arrives too early, those that are due stand at the head
+due_at_head : (from until : ℕ) (ms : List Message) → Sorted ms → Each (λ (y : Message). from ≤ y.arrival) ms
+    → (take_while (λ m. ltb m.arrival until) ms ≡ filter (arrives_within from until) ms)
+    × (drop (length (take_while (λ m. ltb m.arrival until) ms)) ms ≡ filter (arrives_outside from until) ms)
+due_at_head from until [] s h = (refl, refl)
+due_at_head from until (m ∷ ms) s h = by (ltb m.arrival until) refl (due_at_head from until ms s.1 h.1)
+  where
+    by : (b : Bool) → ltb m.arrival until ≡ b
+        → (take_while (λ m. ltb m.arrival until) ms ≡ filter (arrives_within from until) ms)
+        × (drop (length (take_while (λ m. ltb m.arrival until) ms)) ms ≡ filter (arrives_outside from until) ms)
+        → (take_while (λ m. ltb m.arrival until) (m ∷ ms) ≡ filter (arrives_within from until) (m ∷ ms))
+        × (drop (length (take_while (λ m. ltb m.arrival until) (m ∷ ms))) (m ∷ ms) ≡ filter (arrives_outside from until) (m ∷ ms))
+    by true e rest =
+        let yes : arrives_within from until m ≡ true = is_within from until m h.0 e in
+        let head = head_true (λ m. ltb m.arrival until) m ms e in (
+          head ∙ ap (λ z. m ∷ z) rest.0 ∙ sym (cond-true _ _ _ yes),
+          ap (λ z. drop (length z) (m ∷ ms)) head ∙ rest.1 ∙ sym (cond-false _ _ _ (ap not yes)),
+        )
+    by false e rest =
+        let none = late from until (m ∷ ms) (all_late until m ms s (past until m e)) in
+        let head = head_false (λ m. ltb m.arrival until) m ms e in (
+          head ∙ sym none.0,
+          ap (λ z. drop (length z) (m ∷ ms)) head ∙ sym none.1,
+        )
+
+pub head_due : (from until first : ℕ) (ms : List Message) → by_age ms ≡ ms → option_map (λ (m : Message). m.arrival) (slice_get ms 0) ≡ Some first → from ≤ first
+    → (take_while (λ m. ltb m.arrival until) ms ≡ filter (arrives_within from until) ms)
+    × (drop (length (take_while (λ m. ltb m.arrival until) ms)) ms ≡ filter (arrives_outside from until) ms)
+head_due from until first [] s h l = (refl, refl)
+head_due from until first (m ∷ ms) s h l =
+    let e : m.arrival ≡ first = cc in
+    let sorted = in_order-Sorted (m ∷ ms) s in
+    due_at_head from until (m ∷ ms) sorted (all_late from m ms sorted (omega arith))
+
+-- ---- turning a ring over
+pub turned : (p : Message → Bool) (i : ℕ) (xs : List Message) → i < length xs
+    → drop 1 (drop i xs ++ filter p (take i xs)) ++ filter p (take 1 (drop i xs ++ filter p (take i xs))) ≡ drop (i + 1) xs ++ filter p (take (i + 1) xs)
+turned p i xs l = by_case i xs l (filter p (take i xs)) ∙ ap (λ z. drop (i + 1) xs ++ z) (rest i xs l)
+  where
+    by_case : (i : ℕ) (xs : List Message) → i < length xs → (done : List Message)
+        → drop 1 (drop i xs ++ done) ++ filter p (take 1 (drop i xs ++ done)) ≡ drop (i + 1) xs ++ (done ++ filter p (take 1 (drop i xs)))
+    by_case i [] l done = absurd (omega arith)
+    by_case zero (x ∷ xs) l done = append_assoc xs done (filter p (x ∷ []))
+    by_case (suc i) (x ∷ xs) l done = let e : suc i + 1 ≡ suc (i + 1) = omega arith in by_case i xs (omega arith) done ∙ ap (λ k. drop k (x ∷ xs) ++ (done ++ filter p (take 1 (drop i xs)))) (sym e)
+
+    rest : (i : ℕ) (xs : List Message) → i < length xs → filter p (take i xs) ++ filter p (take 1 (drop i xs)) ≡ filter p (take (i + 1) xs)
+    rest i [] l = absurd (omega arith)
+    rest zero (x ∷ xs) l = refl
+    rest (suc i) (x ∷ xs) l =
+        let e : suc i + 1 ≡ suc (i + 1) = omega arith in
+        through (p x) (filter p (take i xs)) (filter p (take 1 (drop i xs))) ∙ ap (λ z. cond (p x) (x ∷ z) z) (rest i xs (omega arith)) ∙ ap (λ k. filter p (take k (x ∷ xs))) (sym e)
+      where
+        through : (b : Bool) (ys zs : List Message) → cond b (x ∷ ys) ys ++ zs ≡ cond b (x ∷ (ys ++ zs)) (ys ++ zs)
+        through true ys zs = refl
+        through false ys zs = refl

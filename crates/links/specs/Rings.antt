@@ -1,0 +1,80 @@
+-- The messages in flight in rings, one for each unit: those of channels first, then those of cores.
+--     ring_of channels unit      the number of a unit's ring
+--     ring_to channels m      the number of the ring of the unit that a message goes to
+--     ring_if_any channels unit      the same for a unit that may be none of the machine's channels
+--     contents rings      what stands in each ring
+--     joined rings      what stands in all of them, ring by ring
+--     AreRings channels first rings      each ring holds messages to its unit, by age
+--     sooner_of least ms      the lesser of a cycle and of the first arrival
+--     HasRoom rings number more      a ring has room for so many messages more
+--     Grows old new      the same messages, with more room
+use Rattle.std.specs.Prelude.{◌≡◌, ℕ, ◌+◌, ◌<◌, ◌≤◌, nat_lt, Bool, not, List, [], ◌∷◌, ◌++◌, length, map, min, slice_index_or, Option, Some, None, if◌then◌else◌}
+use Rattle.std.specs.List.{AllByRecursion}
+use Rattle.std.specs.Option.{option_map_or}
+use Rattle.circular_buffer.specs.Buffer.{Buffer, buffer}
+use Rattle.sim_base.specs.History.{by_age}
+use Rattle.sim_base.specs.declared.message.Message.{Message}
+use Rattle.sim_base.specs.declared.message.Unit.{Unit as MachineUnit}
+use Rattle.sim_base.specs.declared.message.Unit.TheVariants.{Core, Channel}
+use Rattle.links.specs.InFlight.{receiver_of, arrives_within}
+
+-- the number of a unit's ring
+abbrev pub ring_of : ℕ → MachineUnit → ℕ
+ring_of channels (Channel channel) = channel
+ring_of channels (Core core) = channels + core
+
+-- the number of the ring of the unit that a message goes to
+abbrev pub ring_to : ℕ → Message → ℕ
+ring_to channels m = ring_of channels (receiver_of channels m.link)
+
+-- the number of a unit's ring; none, where the machine has no such channel
+abbrev pub ring_if_any : ℕ → MachineUnit → Option ℕ
+ring_if_any channels (Channel channel) = if nat_lt channel channels then Some channel else None
+ring_if_any channels (Core core) = Some (channels + core)
+
+-- what stands in each ring
+abbrev pub contents : List (Buffer Message) → List (List Message)
+contents rings = map (λ ring. ring.items) rings
+
+-- what stands in a ring; nothing, where there is no such ring
+abbrev pub ring_at : List (List Message) → ℕ → List Message
+ring_at rings number = slice_index_or rings number []
+
+-- what stands in all rings, ring by ring
+abbrev pub joined : List (List Message) → List Message
+joined [] = []
+joined (ms ∷ rest) = ms ++ joined rest
+
+-- a ring holds messages to its unit, by age
+pub record IsRing (channels number : ℕ) (ms : List Message) : Type 0 where
+  pub to_unit : AllByRecursion (λ m. ring_to channels m ≡ number) ms
+  pub in_order : by_age ms ≡ ms
+
+-- so does each, where the first has this number
+abbrev pub AreRings : ℕ → ℕ → List (List Message) → Type 0
+AreRings channels first [] = Unit {0}
+AreRings channels first (ms ∷ rest) = IsRing channels first ms × AreRings channels (first + 1) rest
+
+-- the ring has room for so many messages more
+pub record HasRoom (rings : List (Buffer Message)) (number more : ℕ) : Type 0 where
+  pub exists : number < length rings
+  pub room : length (slice_index_or rings number (buffer [] 0)).items + more ≤ (slice_index_or rings number (buffer [] 0)).capacity
+
+-- the ring of each message has room for so many more
+abbrev pub HaveRoom : ℕ → List (Buffer Message) → ℕ → List Message → Type 0
+HaveRoom channels rings more ms = AllByRecursion (λ m. HasRoom rings (ring_to channels m) more) ms
+
+-- the lesser of a cycle and of the arrival of the first message; the one of them that there is
+abbrev pub sooner_of : Option ℕ → List Message → Option ℕ
+sooner_of least [] = least
+sooner_of least (m ∷ ms) = Some (option_map_or (λ cycle. min cycle m.arrival) least m.arrival)
+
+-- rings of which some may have got more room, or which may have got empty rings behind them
+pub record Grows (old new : List (Buffer Message)) : Type 0 where
+  pub messages : joined (contents new) ≡ joined (contents old)
+  pub rings : (channels first : ℕ) → AreRings channels first (contents old) → AreRings channels first (contents new)
+  pub room : (number more : ℕ) → HasRoom old number more → HasRoom new number more
+
+-- a message does not arrive within a span
+abbrev pub arrives_outside : ℕ → ℕ → Message → Bool
+arrives_outside from until m = not (arrives_within from until m)

@@ -1,0 +1,268 @@
+//! Rings of messages, each by age.
+
+ghost use Rattle.std.specs.Prelude.{◌≡◌, ◌+◌, ◌<◌, ◌≤◌, [], ◌++◌, length, take, take_while, drop, filter, slice_get, slice_index_or, slice_set, nat_lt, ◌-◌, ◌^◌, true, false, IfSome, IsNone, OnOk, OnErr, ◌∷◌, vec_len, vec_capacity};
+ghost use Rattle.std.specs.Option.{option_map, option_map_or};
+ghost use Rattle.sim_base.specs.History.{is_before, insert_by_age, by_age};
+ghost use Rattle.sim_base.specs.declared.message.Message.{Message};
+ghost use Rattle.links.specs.InFlight.{arrives_within};
+ghost use Rattle.links.specs.Rings.{arrives_outside};
+
+use circular_buffer::HeapCircularBuffer;
+use sim_base::message::{Cycle, Message};
+use std::alloc::AllocError;
+
+/// The messages in flight to one unit.
+pub type Ring = HeapCircularBuffer<Message>;
+
+/// The least capacity of a ring that holds any message.
+const FEW: usize = 4;
+
+/// Makes room for so many messages more.
+pub fn make_room(ring: &mut Ring, more: usize) -> Result<(), AllocError>
+    ensures items { ring.new.items ≡ ring.old.items }
+    ensures capacity { ring.old.capacity ≤ ring.new.capacity }
+    ensures room { OnOk result (length ring.old.items + more ≤ ring.new.capacity) }
+{
+    let capacity = ring.capacity();
+    let needed = ring.len().checked_add(more).ok_or(AllocError)?;
+    if needed <= capacity {
+        return Ok(());
+    }
+    ring.resize(needed.max(2 * capacity).max(FEW))
+}
+
+/// Whether a message goes before another one.
+pub fn is_older(a: &Message, b: &Message) -> bool
+    ensures { result ≡ is_before a.now b.now }
+{
+    a.arrival < b.arrival || (a.arrival == b.arrival && a.link < b.link)
+}
+
+/// Puts another message into a place.
+fn put_into(ring: &mut Ring, place: usize, message: &Message)
+    requires { place < length ring.old.items }
+    ensures items { ring.new.items ≡ slice_set ring.old.items place message.now }
+    ensures capacity { ring.new.capacity ≡ ring.old.capacity }
+{
+    if let Some(slot) = ring.get_mut(place) {
+        *slot = *message;
+    }
+}
+
+/// The message before a place, where it is younger than this one.
+fn younger_before(ring: &Ring, place: usize, message: &Message) -> Option<Message>
+    ensures some { IfSome result (λ y. (0 < place) × (place ≤ length ring.now.items) × (slice_index_or ring.now.items (place - 1) y ≡ y) × (is_before message.now y ≡ true)) }
+    ensures none { IsNone result → 0 < place → place ≤ length ring.now.items → is_before message.now (slice_index_or ring.now.items (place - 1) message.now) ≡ false }
+{
+    let before = place.checked_sub(1)?;
+    let last = ring.get(before)?;
+    if is_older(message, last) {
+        Some(*last)
+    } else {
+        None
+    }
+}
+
+/// Puts a message into its place by age, which is sought from the back.
+#[cold]
+#[inline(never)]
+fn put_among(ring: &mut Ring, message: &Message)
+    requires room { length ring.old.items < ring.old.capacity }
+    requires in_order { by_age ring.old.items ≡ ring.old.items }
+    ensures items { ring.new.items ≡ insert_by_age ring.old.items message.now }
+    ensures capacity { ring.new.capacity ≡ ring.old.capacity }
+{
+    let mut place = ring.len();
+    ring.push_back(*message);
+    while let Some(younger) = younger_before(ring, place, message) {
+        put_into(ring, place, &younger);
+        place -= 1;
+        put_into(ring, place, message);
+    }
+}
+
+/// Whether a message goes before the last one of a ring.
+fn is_before_last(ring: &Ring, message: &Message) -> bool
+    ensures { result ≡ option_map_or (is_before message.now) (slice_get ring.now.items (length ring.now.items - 1)) false }
+{
+    ring.nth_back(0).is_some_and(|last| is_older(message, last))
+}
+
+/// Puts a message into its place by age, which is the back of the ring unless a younger one stands there.
+pub fn put_by_age(ring: &mut Ring, message: &Message)
+    requires room { length ring.old.items < ring.old.capacity }
+    requires in_order { by_age ring.old.items ≡ ring.old.items }
+    ensures items { ring.new.items ≡ insert_by_age ring.old.items message.now }
+    ensures capacity { ring.new.capacity ≡ ring.old.capacity }
+{
+    if is_before_last(ring, message) {
+        put_among(ring, message);
+    } else {
+        let _room = ring.try_push_back(*message);
+    }
+}
+
+fn is_within(from: Cycle, until: Cycle, message: &Message) -> bool
+    ensures { result ≡ arrives_within from until message.now }
+{
+    from <= message.arrival && message.arrival < until
+}
+
+/// When the first message arrives.
+pub fn first_arrival(ring: &Ring) -> Option<Cycle>
+    ensures { result ≡ option_map (λ m. m.arrival) (slice_get ring.now.items 0) }
+{
+    ring.front().map(|message| message.arrival)
+}
+
+/// The message in a place, where it arrives before a cycle.
+fn arrived_at(ring: &Ring, place: usize, until: Cycle) -> Option<&Message>
+    ensures some { IfSome result (λ m. (place < length ring.now.items) × (slice_index_or ring.now.items place m.now ≡ m.now) × (m.now.arrival < until)) }
+    ensures none { IsNone result → (d : Message) → place < length ring.now.items → until ≤ (slice_index_or ring.now.items place d).arrival }
+    ensures small { IfSome result (λ _. place + 1 < 2 ^ 64) }
+{
+    if place >= ring.len() {
+        return None;
+    }
+    let message = ring.get(place)?;
+    if message.arrival < until {
+        Some(message)
+    } else {
+        None
+    }
+}
+
+/// Copies what arrives within a span.
+pub fn copy_due(
+    ring: &Ring,
+    from: Cycle,
+    until: Cycle,
+    inbox: &mut Vec<Message>,
+) -> Result<(), AllocError>
+    requires empty { inbox.old.items ≡ [] }
+    requires in_order { by_age ring.now.items ≡ ring.now.items }
+    ensures { OnOk result (inbox.new.items ≡ filter (arrives_within from until) ring.now.items) }
+{
+    let mut place = 0;
+    while let Some(message) = arrived_at(ring, place, until) {
+        if from <= message.arrival {
+            inbox.push(*message)?;
+        }
+        place += 1;
+    }
+    Ok(())
+}
+
+/// Moves the first message to the back, or takes it out, where it arrives within a span.
+fn turn(ring: &mut Ring, from: Cycle, until: Cycle)
+    requires { length ring.old.items ≤ ring.old.capacity }
+    ensures items { ring.new.items ≡ drop 1 ring.old.items ++ filter (arrives_outside from until) (take 1 ring.old.items) }
+    ensures within { length ring.new.items ≤ ring.new.capacity }
+    ensures capacity { ring.new.capacity ≡ ring.old.capacity }
+{
+    match ring.pop_front() {
+        Some(message) if !is_within(from, until, &message) => {
+            ring.push_back(message);
+        }
+        _ => {}
+    }
+}
+
+/// Takes out what arrives within a span, wherever it stands.
+fn drop_within(ring: &mut Ring, from: Cycle, until: Cycle)
+    ensures items { ring.new.items ≡ filter (arrives_outside from until) ring.old.items }
+    ensures capacity { ring.new.capacity ≡ ring.old.capacity }
+{
+    for _ in 0..ring.len() {
+        turn(ring, from, until);
+    }
+}
+
+/// Takes out what arrives within a span, into an empty list, where a message may arrive before the span. Where memory is refused,
+/// the ring stays as it was.
+#[cold]
+#[inline(never)]
+fn take_within(
+    ring: &mut Ring,
+    from: Cycle,
+    until: Cycle,
+    inbox: &mut Vec<Message>,
+) -> Result<(), AllocError>
+    requires empty { inbox.old.items ≡ [] }
+    requires in_order { by_age ring.old.items ≡ ring.old.items }
+    ensures taken { OnOk result (inbox.new.items ≡ filter (arrives_within from until) ring.old.items) }
+    ensures rest { OnOk result (ring.new.items ≡ filter (arrives_outside from until) ring.old.items) }
+    ensures err { OnErr result (ring.new.items ≡ ring.old.items) }
+{
+    copy_due(ring, from, until, inbox)?;
+    drop_within(ring, from, until);
+    Ok(())
+}
+
+/// Puts a message at the end of a list, which has room for it. With the test, which always passes, the compiler sees that the list need
+/// not grow.
+fn append(list: &mut Vec<Message>, message: &Message)
+    requires { vec_len list.old < vec_capacity list.old }
+    ensures items { list.new.items ≡ list.old.items ++ message.now ∷ [] }
+    ensures len { vec_len list.new ≡ vec_len list.old + 1 }
+    ensures capacity { vec_capacity list.old ≤ vec_capacity list.new }
+{
+    if list.len() < list.capacity() {
+        let _pushed = list.push(*message);
+    }
+}
+
+/// Copies the messages at the head of a ring that arrive before a cycle into an empty list, which has room for all of the ring, and
+/// says how many they are.
+fn copy_before(ring: &Ring, until: Cycle, inbox: &mut Vec<Message>) -> usize
+    requires empty { inbox.old.items ≡ [] }
+    requires room { vec_len inbox.old + length ring.now.items ≤ vec_capacity inbox.old }
+    ensures count { result ≡ length (take_while (λ m. nat_lt m.arrival until) ring.now.items) }
+    ensures copied { inbox.new.items ≡ take_while (λ m. nat_lt m.arrival until) ring.now.items }
+{
+    let mut place = 0;
+    while let Some(message) = arrived_at(ring, place, until) {
+        append(inbox, message);
+        place += 1;
+    }
+    place
+}
+
+/// Takes out the messages at the head of a ring that arrive before a cycle, into an empty list. Where memory is refused, the ring
+/// stays as it was.
+fn take_before(ring: &mut Ring, until: Cycle, inbox: &mut Vec<Message>) -> Result<(), AllocError>
+    requires { inbox.old.items ≡ [] }
+    ensures taken { OnOk result (inbox.new.items ≡ take_while (λ m. nat_lt m.arrival until) ring.old.items) }
+    ensures rest { OnOk result (ring.new.items ≡ drop (length (take_while (λ m. nat_lt m.arrival until) ring.old.items)) ring.old.items) }
+    ensures err { OnErr result (ring.new.items ≡ ring.old.items) }
+{
+    inbox.reserve(ring.len())?;
+    let count = copy_before(ring, until, inbox);
+    ring.truncate_front(ring.len() - count);
+    Ok(())
+}
+
+/// Takes out what arrives within a span, into an empty list. Where memory is refused, the ring stays as it was.
+pub fn take_due(
+    ring: &mut Ring,
+    from: Cycle,
+    until: Cycle,
+    inbox: &mut Vec<Message>,
+) -> Result<(), AllocError>
+    requires empty { inbox.old.items ≡ [] }
+    requires in_order { by_age ring.old.items ≡ ring.old.items }
+    ensures taken { OnOk result (inbox.new.items ≡ filter (arrives_within from until) ring.old.items) }
+    ensures rest { OnOk result (ring.new.items ≡ filter (arrives_outside from until) ring.old.items) }
+    ensures err { OnErr result (ring.new.items ≡ ring.old.items) }
+{
+    let Some(first) = first_arrival(ring) else {
+        return Ok(());
+    };
+    if first < from {
+        return take_within(ring, from, until, inbox);
+    }
+    if first < until {
+        take_before(ring, until, inbox)?;
+    }
+    Ok(())
+}

@@ -1,0 +1,56 @@
+//! A drain that begins with three writes and ends with one.
+
+ghost use Rattle.std.specs.Prelude.{◌≡◌, true};
+
+use queue::Queue;
+use sim_base::message::Request;
+use sim_base::place::Place;
+use std::alloc::Global;
+use std::test::Fail;
+
+fn write(entry: u64) -> Request
+    ensures { result.write ≡ true }
+{
+    Request {
+        core: 0,
+        entry,
+        write: true,
+        address: 0,
+        place: Place {
+            channel: 0,
+            rank: 0,
+            group: 0,
+            bank: 0,
+            row: 0,
+            column: 0,
+        },
+        arrival: 0,
+        link: 0,
+    }
+}
+
+#[test]
+fn drains_from_three_writes_down_to_one(rt: HostRuntime) -> Result<(), Fail> {
+    let mut queue = Queue::with_room(rt.alloc(), 8, 3, 1)?;
+    queue.arrive(write(0));
+    queue.arrive(write(1));
+    queue.settle();
+    assert!(rt; !queue.draining());
+    queue.arrive(write(2));
+    queue.settle();
+    assert!(rt; queue.draining());
+    queue.serve(0);
+    queue.settle();
+    assert!(rt; queue.draining());
+    queue.serve(0);
+    queue.arrive(write(3));
+    queue.settle();
+    assert!(rt; queue.draining());
+    queue.serve(0);
+    queue.settle();
+    assert!(rt; !queue.draining());
+    queue.arrive(write(4));
+    queue.settle();
+    assert!(rt; !queue.draining());
+    Ok(())
+}

@@ -1,0 +1,14 @@
+//! Tests of the parts that a channel and the links are made of: a module for each crate.
+#![tactic(auto)]
+
+#[cfg(test)]
+#[cfg(test)]
+mod drains;
+#[cfg(test)]
+mod flights;
+#[cfg(test)]
+mod lanes;
+#[cfg(test)]
+mod readiness;
+#[cfg(test)]
+mod refreshes;

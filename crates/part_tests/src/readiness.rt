@@ -1,0 +1,123 @@
+//! What some commands leave allowed, counted by hand from the distances of one profile.
+
+ghost use Rattle.std.specs.Prelude.{◌≡◌, ◌+◌, ◌*◌, ◌<◌, IsTrue, IfOk};
+ghost use Rattle.bank_ready.specs.Stands.{rank_count};
+ghost use Rattle.bank_ready.specs.Words.{names_bank};
+
+use bank_ready::banks::Banks;
+use fixtures::small::{RANK_FIELD, small};
+use sim_base::command::{Command, Kind, Source};
+use sim_base::config::Config;
+use sim_base::message::Cycle;
+use sim_base::place::BankId;
+use std::alloc::Global;
+use std::test::Fail;
+
+/// Two ranks, which take turns without a pause.
+fn config(alloc: Global, n_cwl: &str) -> Result<Config, Fail>
+    ensures { IfOk result (λ config. config.ranks ≡ 2) }
+{
+    let config = small(alloc, &[RANK_FIELD, n_cwl], "ranks = 2\n")?;
+    if config.ranks != 2 {
+        return Err(Fail::from("other ranks"));
+    }
+    Ok(config)
+}
+
+fn bank(rank: u32, group: u32, bank: u32) -> BankId
+    ensures { result ≡ record { rank = rank; group = group; bank = bank } }
+{
+    BankId { rank, group, bank }
+}
+
+/// The earliest cycle of a command in a bank, which banks know by its number.
+fn earliest(banks: &Banks, kind: Kind, bank: BankId) -> Cycle
+    requires kind { IsTrue (names_bank kind) }
+    requires bank { 16 * bank.rank + 4 * bank.group + bank.bank < 16 * rank_count banks.now }
+    requires small { bank.rank < 4 }
+{
+    banks.earliest_in(kind, (16 * bank.rank + 4 * bank.group + bank.bank) as usize)
+}
+
+fn act(bank: BankId) -> Command
+    ensures { result ≡ Command.Act bank 0 (record { core = 0; entry = 0 }) }
+{
+    Command::Act {
+        bank,
+        row: 0,
+        source: Source { core: 0, entry: 0 },
+    }
+}
+
+/// An ACT in cycle 2: 3 cycles to a RD, 8 to a PRE, 11 to an ACT of the same bank, 3 in its group, 2 in another. No rule binds
+/// it to a REF.
+#[test]
+fn act_holds_back_its_bank_group_and_rank(rt: HostRuntime) -> Result<(), Fail> {
+    let config = config(rt.alloc(), "nCWL = 3")?;
+    let mut banks = Banks::new(rt.alloc(), &config)?;
+    banks.note(act(bank(0, 0, 0)), 2);
+    assert_eq!(rt; earliest(&banks, Kind::Rd, bank(0, 0, 0)), 5);
+    assert_eq!(rt; earliest(&banks, Kind::Pre, bank(0, 0, 0)), 10);
+    assert_eq!(rt; earliest(&banks, Kind::Act, bank(0, 0, 0)), 13);
+    assert_eq!(rt; earliest(&banks, Kind::Act, bank(0, 0, 1)), 5);
+    assert_eq!(rt; earliest(&banks, Kind::Act, bank(0, 1, 0)), 4);
+    assert_eq!(rt; banks.earliest_all(Kind::Prea, 0), 10);
+    assert_eq!(rt; banks.earliest_all(Kind::Ref, 0), 0);
+    Ok(())
+}
+
+/// Four ACTs in cycles 2 to 8: a fifth one in the rank comes 12 cycles after the first, and another rank is free.
+#[test]
+fn fifth_act_waits_for_the_window(rt: HostRuntime) -> Result<(), Fail> {
+    let config = config(rt.alloc(), "nCWL = 3")?;
+    let mut banks = Banks::new(rt.alloc(), &config)?;
+    banks.note(act(bank(0, 0, 0)), 2);
+    banks.note(act(bank(0, 1, 0)), 4);
+    banks.note(act(bank(0, 0, 1)), 6);
+    assert_eq!(rt; earliest(&banks, Kind::Act, bank(0, 1, 1)), 8);
+    banks.note(act(bank(0, 1, 1)), 8);
+    assert_eq!(rt; earliest(&banks, Kind::Act, bank(0, 0, 2)), 14);
+    assert_eq!(rt; earliest(&banks, Kind::Act, bank(1, 0, 2)), 0);
+    Ok(())
+}
+
+/// A RD in cycle 50: 4 cycles to a RD of another group, and 5 to a WR of another rank, are the least to any bank. An ACT and a REF
+/// change neither.
+#[test]
+fn floors_are_the_least_of_all_banks(rt: HostRuntime) -> Result<(), Fail> {
+    let config = config(rt.alloc(), "nCWL = 3")?;
+    let mut banks = Banks::new(rt.alloc(), &config)?;
+    assert_eq!(rt; banks.data_floor(Kind::Rd), 0);
+    banks.note(act(bank(0, 0, 0)), 2);
+    assert_eq!(rt; banks.data_floor(Kind::Rd), 0);
+    let read = Command::Rd {
+        bank: bank(0, 0, 0),
+        row: 0,
+        column: 0,
+        source: Source { core: 0, entry: 0 },
+    };
+    banks.note(read, 50);
+    assert_eq!(rt; banks.data_floor(Kind::Rd), 54);
+    assert_eq!(rt; banks.data_floor(Kind::Wr), 55);
+    banks.note(Command::Ref { rank: 1 }, 52);
+    assert_eq!(rt; banks.data_floor(Kind::Rd), 54);
+    assert_eq!(rt; banks.data_floor(Kind::Wr), 55);
+    Ok(())
+}
+
+/// Where a write's data begins so late that the distance between ranks is 0, the earlier command still holds the later one back
+/// in its own cycle.
+#[test]
+fn distance_of_no_cycles_holds_back_too(rt: HostRuntime) -> Result<(), Fail> {
+    let config = config(rt.alloc(), "nCWL = 8")?;
+    let mut banks = Banks::new(rt.alloc(), &config)?;
+    let read = Command::Rd {
+        bank: bank(0, 0, 0),
+        row: 0,
+        column: 0,
+        source: Source { core: 0, entry: 0 },
+    };
+    banks.note(read, 50);
+    assert_eq!(rt; earliest(&banks, Kind::Wr, bank(1, 0, 0)), 50);
+    Ok(())
+}

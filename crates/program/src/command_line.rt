@@ -1,0 +1,123 @@
+//! The command line, as `clap` reads it.
+
+ghost use Rattle.std.specs.Prelude.{◌≡◌, IfOk, false};
+ghost use Rattle.clap.specs.Words.{app_of, new_app, rule_of};
+ghost use Rattle.program.specs.CommandLine.{text_rule, config_rule, option_rule, number_rule, texts_rule, run_app, check_app, map_app, program_app};
+
+use clap::{Arg, ArgAction, Command, value_parser};
+use std::alloc::{AllocError, Global};
+
+// A word that has to be given.
+fn text_arg<'a>(alloc: Global, id: &'a str, name: &'a str, help: &'a str) -> Arg<'a>
+    ensures rule { rule_of result ≡ text_rule id.entry.now }
+    ensures own { result.global ≡ false }
+{
+    Arg::new(alloc, id)
+        .required(true)
+        .value_name(name)
+        .help(help)
+}
+
+// One word or more.
+fn texts_arg<'a>(alloc: Global, id: &'a str, name: &'a str, help: &'a str) -> Arg<'a>
+    ensures rule { rule_of result ≡ texts_rule id.entry.now }
+    ensures own { result.global ≡ false }
+{
+    text_arg(alloc, id, name, help).action(ArgAction::Append)
+}
+
+// An option that takes a word.
+fn option_arg<'a>(alloc: Global, id: &'a str, name: &'a str, help: &'a str) -> Arg<'a>
+    ensures rule { rule_of result ≡ option_rule id.entry.now }
+    ensures own { result.global ≡ false }
+{
+    text_arg(alloc, id, name, help).long(id)
+}
+
+// An option that takes a number.
+fn number_arg<'a>(alloc: Global, id: &'a str, name: &'a str, help: &'a str) -> Arg<'a>
+    ensures rule { rule_of result ≡ number_rule id.entry.now }
+    ensures own { result.global ≡ false }
+{
+    option_arg(alloc, id, name, help).value_parser(value_parser!(u64))
+}
+
+fn config_arg<'a>(alloc: Global) -> Arg<'a>
+    ensures rule { rule_of result ≡ config_rule }
+    ensures own { result.global ≡ false }
+{
+    text_arg(alloc, "config", "CONFIG", "The configuration, a TOML file")
+}
+
+// A command with no argument yet.
+fn command<'a>(alloc: Global, name: &'a str, about: &'a str) -> Command<'a>
+    ensures app { app_of result ≡ new_app name.entry.now }
+{
+    Command::new(alloc, name).about(about)
+}
+
+// `run CONFIG --cycles N --workers N --out DIR TRACE...`
+fn run_command<'a>(alloc: Global) -> Result<Command<'a>, AllocError>
+    ensures { IfOk result (λ c. app_of c ≡ run_app) }
+{
+    let cycles = number_arg(alloc, "cycles", "N", "How many cycles to simulate, at most");
+    let workers = number_arg(alloc, "workers", "N", "How many threads work, 1 to 64");
+    let out = option_arg(
+        alloc,
+        "out",
+        "DIR",
+        "The folder for the tables, which must exist",
+    );
+    let traces = texts_arg(alloc, "trace", "TRACE", "The trace of each core, in order");
+    command(alloc, "run", "Simulates traces and writes the commands")
+        .arg(config_arg(alloc))?
+        .arg(cycles)?
+        .arg(workers)?
+        .arg(out)?
+        .arg(traces)
+}
+
+// `check CONFIG COMMANDS`
+fn check_command<'a>(alloc: Global) -> Result<Command<'a>, AllocError>
+    ensures { IfOk result (λ c. app_of c ≡ check_app) }
+{
+    let commands = text_arg(
+        alloc,
+        "commands",
+        "COMMANDS",
+        "The table of commands, a CSV file",
+    );
+    command(
+        alloc,
+        "check",
+        "Tests a table of commands against the DDR4 rules",
+    )
+    .arg(config_arg(alloc))?
+    .arg(commands)
+}
+
+// `map CONFIG ADDRESS`
+fn map_command<'a>(alloc: Global) -> Result<Command<'a>, AllocError>
+    ensures { IfOk result (λ c. app_of c ≡ map_app) }
+{
+    let address = text_arg(
+        alloc,
+        "address",
+        "ADDRESS",
+        "A decimal number, or one after 0x",
+    );
+    command(alloc, "map", "Prints where an address lies")
+        .arg(config_arg(alloc))?
+        .arg(address)
+}
+
+/// The program's command line.
+pub fn program<'a>(alloc: Global) -> Result<Command<'a>, AllocError>
+    ensures { IfOk result (λ c. app_of c ≡ program_app) }
+{
+    command(alloc, "dramsim", "Simulates DDR4 main memory")
+        .subcommand_required(true)
+        .subcommand(run_command(alloc)?)?
+        .subcommand(check_command(alloc)?)?
+        .subcommand(map_command(alloc)?)
+}

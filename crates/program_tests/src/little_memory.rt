@@ -1,0 +1,79 @@
+//! A small run that is refused memory: it gives fault 10, or 11 where a worker did not start, or what it gives else. To be run
+//! with each allocation failing in turn; what these tests take of memory themselves counts too.
+
+use fixtures::small::SMALL;
+use fixtures::texts::texts_of;
+use sim_base::command::Kind;
+use sim_base::fault::Fault;
+use simulation::runs::simulate;
+use statistics::channels::ChannelStats;
+use statistics::cores::CoreStats;
+use statistics::outcome::Outcome;
+use std::alloc::Global;
+use std::sync::Wait;
+use std::thread::Threads;
+use workers::gate::Open;
+
+/// Whether these are the commands of one core that reads one line: an ACT in cycle 2 and an RD in cycle 5.
+fn has_commands(outcome: &Outcome) -> bool {
+    match outcome.commands.as_slice() {
+        [act, read] => {
+            act.cycle == 2
+                && act.command.kind() == Kind::Act
+                && read.cycle == 5
+                && read.command.kind() == Kind::Rd
+        }
+        _ => false,
+    }
+}
+
+/// Whether these are its statistics over 16 cycles.
+fn has_stats(outcome: &Outcome) -> bool {
+    let core = CoreStats {
+        issued: 1,
+        retired: 1,
+        reads: 1,
+        replies: 1,
+        read_latency: 15,
+        stop_end: 16,
+        finish: Some(15),
+        ..CoreStats::new()
+    };
+    let channel = ChannelStats {
+        act: 1,
+        rd: 1,
+        queued: 4,
+        queued_max: 1,
+        idle: 12,
+        ..ChannelStats::new()
+    };
+    outcome.stats.cycles == 16
+        && outcome.stats.cores.as_slice() == [core].as_slice()
+        && outcome.stats.channels.as_slice() == [channel].as_slice()
+}
+
+/// Whether this is the outcome of that run.
+fn is_right(outcome: &Outcome) -> bool {
+    has_commands(outcome) && has_stats(outcome) && outcome.last.in_flight.is_empty()
+}
+
+/// Whether a run by so many workers gives what it is to give, or is refused for want of memory, or of a worker.
+fn is_right_or_refused<R: Threads + Wait + Sync>(rt: &R, alloc: Global, workers: u64) -> bool {
+    let Ok(texts) = texts_of(alloc, &["0 0\n"]) else {
+        return true;
+    };
+    match simulate(rt, alloc, &Open, SMALL.as_bytes(), &texts, 16, workers) {
+        Ok(outcome) => is_right(&outcome),
+        Err(fault) => fault == Fault::Memory || workers > 1 && fault == Fault::WorkerStart,
+    }
+}
+
+#[test]
+fn one_worker_with_little_memory(rt: HostRuntime) {
+    assert!(rt; is_right_or_refused(&rt, rt.alloc(), 1));
+}
+
+#[test]
+fn two_workers_with_little_memory(rt: HostRuntime) {
+    assert!(rt; is_right_or_refused(&rt, rt.alloc(), 2));
+}

@@ -1,0 +1,94 @@
+//! Orders in which the results of a phase come, and one that loses some.
+
+ghost use Rattle.std.specs.Prelude.{IsPermutation};
+
+use epochs::job::Done;
+use epochs::ordered::Order;
+use sim_base::message::Cycle;
+
+/// The results as they come.
+#[derive(Drop)]
+pub(crate) struct AsTheyCome;
+
+impl Order for AsTheyCome {
+    fn arrange(&mut self, _phase: u64, results: Vec<Done>) -> Vec<Done> {
+        results
+    }
+}
+
+/// The results as they come, of which it notes the spans of the first eight phases.
+#[derive(Drop)]
+pub(crate) struct Noting {
+    pub(crate) phases: u64,
+    pub(crate) spans: [(Cycle, Cycle); 8],
+}
+
+impl Order for Noting {
+    fn arrange(&mut self, phase: u64, results: Vec<Done>) -> Vec<Done> {
+        if let Some(done) = results.first() {
+            let name = done.name();
+            if phase < 8 {
+                self.spans[phase as usize] = (name.from, name.until);
+            }
+        }
+        self.phases = self.phases.saturating_add(1);
+        results
+    }
+}
+
+/// The results from the last on.
+#[derive(Drop)]
+pub(crate) struct Reversed;
+
+impl Order for Reversed {
+    ghost use Rattle.std.specs.Prelude.{IsPermutation};
+
+    ghost may_give = { λ _ results arranged. IsPermutation results arranged };
+
+    fn arrange(&mut self, _phase: u64, mut results: Vec<Done>) -> Vec<Done> {
+        results.reverse();
+        results
+    }
+}
+
+/// The results in turn, from one further on in each phase.
+#[derive(Drop)]
+pub(crate) struct Turned;
+
+impl Order for Turned {
+    ghost use Rattle.std.specs.Prelude.{IsPermutation};
+
+    ghost may_give = { λ _ results arranged. IsPermutation results arranged };
+
+    fn arrange(&mut self, phase: u64, mut results: Vec<Done>) -> Vec<Done> {
+        let count = results.len();
+        if count == 0 {
+            return results;
+        }
+        results.rotate_left((phase % count as u64) as usize);
+        results
+    }
+}
+
+/// The last result stands in the middle, and so many are left.
+#[derive(Drop)]
+pub(crate) struct Leaves(pub(crate) usize);
+
+impl Order for Leaves {
+    fn arrange(&mut self, _phase: u64, mut results: Vec<Done>) -> Vec<Done> {
+        let count = results.len();
+        exchange(&mut results, count / 2, count.saturating_sub(1));
+        results.truncate(self.0);
+        results
+    }
+}
+
+/// Two results in each other's places, if there are such places.
+pub(crate) fn exchange(results: &mut Vec<Done>, place: usize, other: usize)
+    ensures { IsPermutation results.old.items results.new.items }
+{
+    if place >= results.len() || other >= results.len() {
+        return;
+    }
+    results.swap(place, other);
+}

@@ -1,0 +1,3 @@
+pub mod SameLine
+pub mod Eligible
+pub mod Tags

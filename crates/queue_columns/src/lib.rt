@@ -1,0 +1,71 @@
+//! What a queue shows of its requests: columns of words by age.
+#![tactic(auto)]
+
+pub mod words;
+
+ghost use Rattle.std.specs.Prelude.{◌≡◌, ◌-◌, ◌^◌, ◌<◌, length};
+ghost use Rattle.queue_columns.specs.Columns.{eligible_column, tag_column};
+
+use sim_base::message::Request;
+
+/// Requests by age, with a mark and a tag for each.
+#[derive(Clone, Copy)]
+pub struct Columns<'a> {
+    requests: &'a [Request],
+    eligible: &'a [u64],
+    tags: &'a [u8],
+    ghost eligible_are: { eligible.now ≡ eligible_column requests.now },
+    ghost tags_are: { tags.now ≡ tag_column requests.now },
+    ghost short: { length requests.now < 2 ^ 16 - 1 },
+}
+
+impl<'a> Columns<'a> {
+    /// The columns of these requests, of which these may be served, and which have these tags.
+    #[inline(always)]
+    pub fn new(requests: &'a [Request], eligible: &'a [u64], tags: &'a [u8]) -> Self
+        requires eligible { eligible.now ≡ eligible_column requests.now }
+        requires tags { tags.now ≡ tag_column requests.now }
+        requires short { length requests.now < 2 ^ 16 - 1 }
+        ensures { result.requests.now ≡ requests.entry.now }
+    {
+        Columns {
+            requests,
+            eligible,
+            tags,
+        }
+    }
+
+    /// How many requests there are.
+    #[inline(always)]
+    pub fn len(&self) -> usize
+        ensures value { result ≡ length self.now.requests.now }
+        ensures short { result < 2 ^ 16 - 1 }
+    {
+        self.requests.len()
+    }
+
+    /// The requests, by age.
+    #[inline(always)]
+    pub fn requests(&self) -> &[Request]
+        ensures { result.now ≡ self.now.requests.now }
+    {
+        self.requests
+    }
+
+    /// Which requests may be served, by age: 1 where no older request of the same line waits, 0 elsewhere.
+    #[inline(always)]
+    pub fn eligible(&self) -> &[u64]
+        ensures { result.now ≡ eligible_column self.now.requests.now }
+    {
+        self.eligible
+    }
+
+    /// The tag of each request, by age, which says in one byte what a search for a bank asks for: bit 7 is 1 where the request may
+    /// be served, bit 6 where it is a write, and bits 0 to 5 have the number of its bank modulo 64.
+    #[inline(always)]
+    pub fn tags(&self) -> &[u8]
+        ensures { result.now ≡ tag_column self.now.requests.now }
+    {
+        self.tags
+    }
+}

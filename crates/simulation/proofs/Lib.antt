@@ -1,0 +1,4 @@
+pub mod TraceLists
+pub mod Inputs
+pub mod Judged
+pub mod Outcomes

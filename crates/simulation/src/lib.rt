@@ -1,0 +1,4 @@
+//! Runs from the bytes of a configuration and of traces: the tests of the input, and the machine.
+#![tactic(auto)]
+
+pub mod runs;

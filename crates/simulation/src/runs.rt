@@ -1,0 +1,175 @@
+//! A run of the simulator, from the bytes of its input.
+
+ghost use Rattle.std.specs.Prelude.{◌≡◌, ◌≢◌, ◌≤◌, ◌^◌, ◌==◌, ◌&&◌, nat_le, length, vec_len, map, Ok, Err, IfOk, IfErr};
+ghost use Rattle.sim_base.specs.Document.{document_of};
+ghost use Rattle.sim_base.specs.Values.{values_of};
+ghost use Rattle.simulation.specs.Runs.{unless, limits_of, traces_of, input_of, IsRunOf, IsJudgedLegal};
+
+use cpu_trace::reader::read_trace;
+use cpu_trace::trace::Trace;
+use one_clock::machine::run_plain;
+use sim_base::config::Config;
+use sim_base::document::read_config;
+use sim_base::fault::Fault;
+use sim_base::message::{CoreId, Cycle};
+use statistics::outcome::Outcome;
+use std::alloc::Global;
+use std::sync::Wait;
+use std::thread::Threads;
+use workers::gate::Gate;
+use workers::machine::run_machine;
+
+/// The greatest limit of a run, in cycles.
+pub const MOST_CYCLES: Cycle = 1_000_000_000_000;
+
+/// The greatest number of workers.
+pub const MOST_WORKERS: u64 = 64;
+
+// One trace a core.
+fn check_count(cores: u16, texts: usize) -> Result<(), Fault>
+    ensures { result ≡ unless (texts == cores) Fault.TraceCount }
+{
+    if texts == usize::from(cores) {
+        Ok(())
+    } else {
+        Err(Fault::TraceCount)
+    }
+}
+
+fn check_workers(workers: u64) -> Result<(), Fault>
+    ensures { result ≡ unless (nat_le 1 workers && nat_le workers 64) Fault.Workers }
+{
+    if 1 <= workers && workers <= MOST_WORKERS {
+        Ok(())
+    } else {
+        Err(Fault::Workers)
+    }
+}
+
+fn check_cycles(cycles: Cycle) -> Result<(), Fault>
+    ensures { result ≡ unless (nat_le cycles 1000000000000) Fault.Cycles }
+{
+    if cycles <= MOST_CYCLES {
+        Ok(())
+    } else {
+        Err(Fault::Cycles)
+    }
+}
+
+#[tactic(auto, unfolding(crate::specs::Runs::limits_of))]
+fn check_limits(cores: u16, texts: usize, cycles: Cycle, workers: u64) -> Result<(), Fault>
+    ensures { result ≡ limits_of cores texts cycles workers }
+{
+    check_count(cores, texts)?;
+    check_workers(workers)?;
+    check_cycles(cycles)
+}
+
+// The traces of the cores, in their order.
+fn read_traces<R: Threads + Sync>(
+    rt: &R,
+    alloc: Global,
+    texts: &[Vec<u8>],
+) -> Result<Vec<Trace>, Fault>
+    requires { length texts.now ≤ 256 }
+    ensures ok { IfOk result (λ v. traces_of 0 (map (λ t. t.items) texts.now) ≡ Ok v.items) }
+    ensures count { IfOk result (λ v. vec_len v ≡ length texts.now) }
+    ensures refused { IfErr result (λ e. e ≢ Fault.Memory → traces_of 0 (map (λ t. t.items) texts.now) ≡ Err e) }
+{
+    let mut traces = Vec::new(alloc);
+    for text in texts {
+        let core = traces.len() as CoreId;
+        let trace = match read_trace(rt, alloc, core, text) {
+            Ok(trace) => trace,
+            Err(fault) => return Err(fault),
+        };
+        let Ok(()) = traces.push(trace) else {
+            return Err(Fault::Memory);
+        };
+    }
+    Ok(traces)
+}
+
+// The configuration and the traces, after all tests of a run's input.
+fn read_input<R: Threads + Sync>(
+    rt: &R,
+    alloc: Global,
+    config: &[u8],
+    texts: &[Vec<u8>],
+    cycles: Cycle,
+    workers: u64,
+) -> Result<(Config, Vec<Trace>), Fault>
+    ensures configured { IfOk result (λ r. document_of config.now ≡ Ok (values_of r.0)) }
+    ensures traces { IfOk result (λ r. traces_of 0 (map (λ t. t.items) texts.now) ≡ Ok r.1.items) }
+    ensures input { IfOk result (λ r. input_of config.now (map (λ t. t.items) texts.now) cycles workers ≡ Ok r.1.items) }
+    ensures count { IfOk result (λ r. vec_len r.1 ≡ r.0.cores) }
+    ensures workers { IfOk result (λ _. (1 ≤ workers) × (workers ≤ 64)) }
+    ensures cycles { IfOk result (λ _. cycles ≤ 10 ^ 12) }
+    ensures refused { IfErr result (λ e. e ≢ Fault.Memory → input_of config.now (map (λ t. t.items) texts.now) cycles workers ≡ Err e) }
+{
+    let config = match read_config(alloc, config) {
+        Ok(config) => config,
+        Err(fault) => return Err(fault),
+    };
+    if let Err(fault) = check_limits(config.cores, texts.len(), cycles, workers) {
+        return Err(fault);
+    }
+    let traces = match read_traces(rt, alloc, texts) {
+        Ok(traces) => traces,
+        Err(fault) => return Err(fault),
+    };
+    Ok((config, traces))
+}
+
+/// Runs the machine that a configuration and one trace a core describe, for at most `cycles` cycles, and gives its commands, its
+/// statistics and the state in which it ends. Each phase is run by so many workers at most, 1 to 64, each in a thread of its
+/// own; with one worker, in the thread of the caller. A worker passes the gate at the beginning and at the end of each job. What
+/// comes out depends on neither the workers nor the gate.
+///
+/// The input is tested in this order: the configuration, the number of traces, the number of workers (1 to 64), the limit (at
+/// most 10^12 cycles), and the traces by core. The first fault is answered. `Fault::Memory` may come at any time, and the run
+/// itself is refused by nothing but this and `Fault::WorkerStart`. The table of its commands is legal, as `check` reads it under
+/// the same configuration.
+pub fn simulate<R: Threads + Wait + Sync, G: Gate + Sync>(
+    rt: &R,
+    alloc: Global,
+    gate: &G,
+    config: &[u8],
+    texts: &[Vec<u8>],
+    cycles: Cycle,
+    workers: u64,
+) -> Result<Outcome, Fault>
+    ensures run { IfOk result (IsRunOf config.now (map (λ t. t.items) texts.now) cycles workers) }
+    ensures legal { IfOk result (IsJudgedLegal config.now) }
+    ensures refused { IfErr result (λ e. e ≢ Fault.Memory → e ≢ Fault.WorkerStart → input_of config.now (map (λ t. t.items) texts.now) cycles workers ≡ Err e) }
+{
+    let (config, traces) = match read_input(rt, alloc, config, texts, cycles, workers) {
+        Ok(input) => input,
+        Err(fault) => return Err(fault),
+    };
+    run_machine(rt, alloc, gate, workers as usize, &config, traces, cycles)
+}
+
+/// The same run by the one-clock machine, one cycle after the other, with no workers: their number is only tested, and threads
+/// read long traces alone. Tests compare with it.
+pub fn simulate_plain<R: Threads + Sync>(
+    rt: &R,
+    alloc: Global,
+    config: &[u8],
+    texts: &[Vec<u8>],
+    cycles: Cycle,
+    workers: u64,
+) -> Result<Outcome, Fault>
+    ensures run { IfOk result (IsRunOf config.now (map (λ t. t.items) texts.now) cycles workers) }
+    ensures legal { IfOk result (IsJudgedLegal config.now) }
+    ensures refused { IfErr result (λ e. e ≢ Fault.Memory → input_of config.now (map (λ t. t.items) texts.now) cycles workers ≡ Err e) }
+{
+    let (config, traces) = match read_input(rt, alloc, config, texts, cycles, workers) {
+        Ok(input) => input,
+        Err(fault) => return Err(fault),
+    };
+    let Ok(outcome) = run_plain(alloc, &config, &traces, cycles) else {
+        return Err(Fault::Memory);
+    };
+    Ok(outcome)
+}

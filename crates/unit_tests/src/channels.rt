@@ -1,0 +1,146 @@
+//! An idle channel, which is refreshed or not, and a channel with one read, as they are worked out by hand.
+
+ghost use Rattle.std.specs.Prelude.{◌≡◌, ◌≤◌, ◌^◌, [], IfOk};
+ghost use Rattle.channel_step.specs.Fit.{IsFit};
+ghost use Rattle.channel_step.specs.Past.{CarriesRequest};
+ghost use Rattle.channel_step.specs.Channels.{HasRank, HasBank};
+
+use channel_step::channel::Channel;
+use fixtures::small::{RANK_FIELD, small};
+use sim_base::command::{Command, CommandRow};
+use sim_base::config::Config;
+use sim_base::message::{Cycle, Load, Message, Request};
+use sim_base::place::{BankId, Place};
+use std::alloc::{AllocError, Global};
+use std::test::Fail;
+
+const BANK: BankId = BankId {
+    rank: 0,
+    group: 0,
+    bank: 0,
+};
+
+/// The small machine, with an interval of refreshes.
+fn config(alloc: Global, n_refi: &str) -> Result<Config, Fail>
+    ensures { IfOk result (λ config. config.ranks ≡ 1) }
+{
+    let config = small(alloc, &[RANK_FIELD, n_refi], "")?;
+    if config.ranks != 1 {
+        return Err(Fail::from("other ranks"));
+    }
+    Ok(config)
+}
+
+/// A channel after a span, with what it issued and sent in it.
+#[derive(Drop)]
+struct ChannelDone {
+    channel: Channel,
+    commands: Vec<CommandRow>,
+    messages: Vec<Message>,
+}
+
+/// Runs a channel from its start over a span in which these messages arrive.
+fn run_alone(
+    alloc: Global,
+    config: &Config,
+    inbox: &[Message],
+    until: Cycle,
+) -> Result<ChannelDone, AllocError>
+    requires fit { IsFit config.now 0 [] [] inbox.now 0 until }
+    requires until { until ≤ 2 ^ 62 }
+    requires ranks { config.now.ranks ≡ 1 }
+    ensures rank { IfOk result (λ done. HasRank done.channel 0) }
+    ensures bank { IfOk result (λ done. HasBank done.channel BANK) }
+{
+    let mut channel = Channel::start(alloc, config, 0)?;
+    let mut commands = Vec::new(alloc);
+    let mut messages = Vec::new(alloc);
+    channel.run(inbox, 0, until, &mut commands, &mut messages)?;
+    Ok(ChannelDone {
+        channel,
+        commands,
+        messages,
+    })
+}
+
+/// A read of the first line, which arrives in cycle 2.
+fn first_read(config: &Config) -> Message
+    ensures carries { CarriesRequest config.now 0 result }
+    ensures arrival { result.arrival ≡ 2 }
+{
+    let link = config.request_link(0, 0);
+    Message {
+        link,
+        arrival: 2,
+        load: Load::Request(Request {
+            core: 0,
+            entry: 0,
+            write: false,
+            address: 0,
+            place: Place {
+                channel: 0,
+                rank: 0,
+                group: 0,
+                bank: 0,
+                row: 0,
+                column: 0,
+            },
+            arrival: 2,
+            link,
+        }),
+    }
+}
+
+/// No requests and no refreshes, for a million million cycles.
+#[test]
+fn idle_span_is_skipped(rt: HostRuntime) -> Result<(), Fail> {
+    let config = config(rt.alloc(), "nREFI = 0")?;
+    let done = run_alone(rt.alloc(), &config, &[], 1_000_000_000_000)?;
+    let channel = &done.channel;
+    let stats = channel.stats();
+    assert_eq!(rt; channel.now(), 1_000_000_000_000);
+    assert_eq!(rt;
+        (stats.idle, stats.queued, stats.refreshing),
+        (1_000_000_000_000, 0, 0)
+    );
+    assert_eq!(rt; (done.commands.len(), done.messages.len()), (0, 0));
+    assert_eq!(rt; (channel.due(0), channel.open_row(BANK)), (0, None));
+    Ok(())
+}
+
+/// No requests, and a refresh every 100 cycles: REF 100, REF 200.
+#[test]
+fn idle_channel_is_refreshed(rt: HostRuntime) -> Result<(), Fail> {
+    let config = config(rt.alloc(), "nREFI = 100")?;
+    let done = run_alone(rt.alloc(), &config, &[], 250)?;
+    let stats = done.channel.stats();
+    let rows = &done.commands;
+    assert_eq!(rt; rows.len(), 2);
+    let refresh = Command::Ref { rank: 0 };
+    assert_eq!(rt; (rows[0].cycle, rows[0].command), (100, refresh));
+    assert_eq!(rt; (rows[1].cycle, rows[1].command), (200, refresh));
+    assert_eq!(rt; (stats.refs, stats.refreshing, stats.idle), (2, 2, 250));
+    Ok(())
+}
+
+/// One read, which is in the queue from cycle 2 on: ACT 2, RD 5. Its credit is back in cycle 7, and its data in cycle 15.
+#[test]
+fn one_read_is_served(rt: HostRuntime) -> Result<(), Fail> {
+    let config = config(rt.alloc(), "nREFI = 0")?;
+    let inbox = [first_read(&config)];
+    let done = run_alone(rt.alloc(), &config, &inbox, 16)?;
+    let channel = &done.channel;
+    let stats = channel.stats();
+    let rows = &done.commands;
+    let sent = &done.messages;
+    assert_eq!(rt; channel.now(), 16);
+    assert_eq!(rt; rows.len(), 2);
+    assert_eq!(rt; (rows[0].cycle, rows[1].cycle), (2, 5));
+    assert_eq!(rt; sent.len(), 2);
+    assert_eq!(rt; (sent[0].arrival, sent[1].arrival), (15, 7));
+    assert_eq!(rt; (stats.queued, stats.queued_max, stats.idle), (4, 1, 12));
+    assert_eq!(rt; (stats.act, stats.rd, stats.hits), (1, 1, 0));
+    assert_eq!(rt; channel.open_row(BANK), Some(0));
+    assert_eq!(rt; channel.requests().len(), 0);
+    Ok(())
+}
