@@ -1,12 +1,12 @@
--- The messages in rings: those to a unit stand in its ring, and a message that is put into its ring is put in among all.
-use Rattle.std.proofs.Common.{ℕ, suc, zero, ◌+◌, ◌/◌, ◌%◌, ◌<◌, ◌≡◌, Bool, true, false, not, ◌&&◌, eqb, ltb, cond, get_or, length, set, List, [], ◌∷◌, ◌++◌, append-nil, Option, Some, None, refl, sym, ap, ap₂, ◌∙◌, subst, arith}
-use Rattle.std.specs.Prelude.{filter}
-use Rattle.std.specs.Option.{option_map_or}
+-- The messages in rings: those to a unit stand in its rings, and a message that is put into its ring is put in among all.
+use Rattle.std.proofs.Common.{ℕ, suc, zero, ◌+◌, ◌*◌, ◌-◌, ◌/◌, ◌%◌, ◌<◌, ◌≤◌, ◌≡◌, Bool, true, false, not, ◌&&◌, ◌||◌, eqb, ltb, cond, get_or, length, set, List, [], ◌∷◌, ◌++◌, append-nil, append_assoc, Some, None, refl, sym, ap, ap₂, ◌∙◌, subst, inl, inr, ◌⊎◌, arith}
+use Rattle.std.specs.Prelude.{filter, fold}
 use Rattle.std.specs.List.{AllByRecursion as Each}
-use Rattle.std.proofs.lemmas.Bool.{cond_both, cond-true, cond-false, eq-eqb, ltb-true, lt-ltb, and_parts, eqb-true, false_from_ne_true}
+use Rattle.std.proofs.lemmas.Bool.{cond_both, cond-true, cond-false, cases_lt, eq-eqb, ltb-true, and_parts, eqb-true, false_from_ne_true}
 use Rattle.std.proofs.lemmas.Bool.Decides.{nat_tests}
+use Rattle.std.proofs.lemmas.List.{get_or-set_other}
 use Rattle.std.proofs.lemmas.List.Elements.{filter-append}
-use Rattle.sim_base.specs.History.{is_unit, by_age}
+use Rattle.sim_base.specs.History.{is_unit, insert_by_age, by_age}
 use Rattle.sim_base.specs.declared.message.Message.{Message}
 use Rattle.sim_base.specs.declared.message.Unit.{Unit as MachineUnit}
 use Rattle.sim_base.specs.declared.message.Unit.TheVariants.{Core, Channel}
@@ -15,31 +15,48 @@ use Rattle.sim_base.proofs.Each.{Each-append, Each-filter}
 use Rattle.sim_base.proofs.Ordered.{Each-weaker, puts-append, filter-by_age}
 use Rattle.links.specs.InFlight.{receiver_of}
 use Rattle.links.specs.Rings.{ring_of, ring_to, ring_if_any, joined, IsRing, AreRings}
-use Rattle.links.proofs.Ages.{is_tie, in_order-Sorted, by_age-nil, put-in_order, filter-in_order, puts-put_first}
+use Rattle.links.proofs.Ages.{is_tie, in_order-Sorted, by_age-nil, by_age-twice, put-in_order, filter-in_order, puts-put_first}
+use Rattle.links.proofs.Merging.{by_age-merge}
 
 channel_found : (ch b n : ℕ) → cond (ltb b ch) (Some b) None ≡ Some n → (b < ch) × (b ≡ n)
 channel_found ch b n h = cond_both (ltb b ch) (Some b) None (λ o. o ≡ Some n → (b < ch) × (b ≡ n)) (λ e k. (ltb-true b ch e, cc)) (λ e k. cc) h
 
--- links lead to units that the machine has
-pub receiver_exists : (ch link : ℕ) → 0 < ch → ring_if_any ch (receiver_of ch link) ≡ Some (ring_of ch (receiver_of ch link))
-receiver_exists ch link h =
-    cond_both (eqb (link % 3) 0) (Channel (link / 3 % ch)) (Core (link / 3 / ch)) (λ u. ring_if_any ch u ≡ Some (ring_of ch u))
-    (λ e. cond-true _ _ _ (lt-ltb (link / 3 % ch) ch (omega arith)))
-    (λ e. refl)
+-- messages to a channel are those that go to its ring
+core_above : (ch b core kind : ℕ) → b < ch → false ≡ eqb (ch + 2 * core + kind) b
+core_above ch b core kind l = grind (arith, nat_tests)
 
--- such a unit is known by the number of its ring
-by_ring : (ch n : ℕ) (a b : MachineUnit) → ring_if_any ch a ≡ Some (ring_of ch a) → ring_if_any ch b ≡ Some n → is_unit a b ≡ eqb (ring_of ch a) n
-by_ring ch n (Core a) (Core b) h k = let e : ch + b ≡ n = cc in grind (arith, nat_tests)
-by_ring ch n (Channel a) (Channel b) h k = let e = channel_found ch b n k in grind (arith, nat_tests)
-by_ring ch n (Core a) (Channel b) h k = let e = channel_found ch b n k in grind (arith, nat_tests)
-by_ring ch n (Channel a) (Core b) h k = let e = channel_found ch a a h in let f : ch + b ≡ n = cc in grind (arith, nat_tests)
+channel_by_ring : (ch b link : ℕ) → b < ch → is_unit (receiver_of ch link) (Channel b) ≡ eqb (ring_of ch link) b
+channel_by_ring ch b link l = by (eqb (link % 3) 0)
+  where
+    by : (t : Bool) → is_unit (cond t (Channel (link / 3 % ch)) (Core (link / 3 / ch))) (Channel b) ≡ eqb (cond t (link / 3 % ch) (ch + 2 * (link / 3 / ch) + (link % 3 - 1))) b
+    by true = refl
+    by false = core_above ch b (link / 3 / ch) (link % 3 - 1) l
 
-not_there : (ch : ℕ) (a b : MachineUnit) → ring_if_any ch a ≡ Some (ring_of ch a) → ring_if_any ch b ≡ None → is_unit a b ≡ false
-not_there ch a (Core b) h k = cc
-not_there ch (Core a) (Channel b) h k = refl
-not_there ch (Channel a) (Channel b) h k =
-    let e = channel_found ch a a h in
-    cond_both (ltb b ch) (Some b) None (λ o. o ≡ None → eqb a b ≡ false) (λ f x. cc) (λ f x. grind (arith, nat_tests)) k
+-- none are to a channel that the machine does not have
+not_a_channel : (ch b link : ℕ) → 0 < ch → ch ≤ b → is_unit (receiver_of ch link) (Channel b) ≡ false
+not_a_channel ch b link h l = by (eqb (link % 3) 0)
+  where
+    apart : (a : ℕ) → a < ch → eqb a b ≡ false
+    apart a k = grind (arith, nat_tests)
+
+    by : (t : Bool) → is_unit (cond t (Channel (link / 3 % ch)) (Core (link / 3 / ch))) (Channel b) ≡ false
+    by true = apart (link / 3 % ch) (omega arith)
+    by false = refl
+
+-- messages to a core are those that go to one of its rings
+channel_below : (ch b channel : ℕ) → channel < ch → false ≡ (eqb channel (ch + 2 * b) || eqb channel (ch + 2 * b + 1))
+channel_below ch b channel l = grind (arith, nat_tests)
+
+one_of_both : (ch b core kind : ℕ) → kind ≤ 1 → eqb core b ≡ (eqb (ch + 2 * core + kind) (ch + 2 * b) || eqb (ch + 2 * core + kind) (ch + 2 * b + 1))
+one_of_both ch b core kind l = grind (arith, nat_tests)
+
+core_by_rings : (ch b link : ℕ) → 0 < ch → is_unit (receiver_of ch link) (Core b) ≡ (eqb (ring_of ch link) (ch + 2 * b) || eqb (ring_of ch link) (ch + 2 * b + 1))
+core_by_rings ch b link h = by (eqb (link % 3) 0)
+  where
+    by : (t : Bool) → is_unit (cond t (Channel (link / 3 % ch)) (Core (link / 3 / ch))) (Core b)
+        ≡ (eqb (cond t (link / 3 % ch) (ch + 2 * (link / 3 / ch) + (link % 3 - 1))) (ch + 2 * b) || eqb (cond t (link / 3 % ch) (ch + 2 * (link / 3 / ch) + (link % 3 - 1))) (ch + 2 * b + 1))
+    by true = channel_below ch b (link / 3 % ch) (omega arith)
+    by false = one_of_both ch b (link / 3 / ch) (link % 3 - 1) (omega arith)
 
 -- a test that is true of some messages to one ring alone
 abbrev pub IsOfRing : ℕ → ℕ → (Message → Bool) → (Message → Bool) → Type 0
@@ -48,8 +65,19 @@ IsOfRing ch n p q = (m : Message) → p m ≡ (eqb (ring_to ch m) n && q m)
 abbrev pub to_unit : ℕ → MachineUnit → (Message → Bool) → Message → Bool
 to_unit ch unit q m = is_unit (receiver_of ch m.link) unit && q m
 
-pub of_ring : (ch n : ℕ) (unit : MachineUnit) (q : Message → Bool) → 0 < ch → ring_if_any ch unit ≡ Some n → IsOfRing ch n (to_unit ch unit q) q
-of_ring ch n unit q h k m = ap (λ b. b && q m) (by_ring ch n (receiver_of ch m.link) unit (receiver_exists ch m.link h) k)
+pub of_channel : (ch n b : ℕ) (q : Message → Bool) → ring_if_any ch (Channel b) ≡ Some n → IsOfRing ch n (to_unit ch (Channel b) q) q
+of_channel ch n b q k m =
+    let e = channel_found ch b n k in
+    ap (λ t. t && q m) (channel_by_ring ch b m.link e.0) ∙ ap (λ i. eqb (ring_to ch m) i && q m) e.1
+
+-- a test that is true of some messages to two rings alone, which stand one behind the other
+abbrev pub IsOfBoth : ℕ → ℕ → (Message → Bool) → (Message → Bool) → Type 0
+IsOfBoth ch n p q = (m : Message) → p m ≡ ((eqb (ring_to ch m) n || eqb (ring_to ch m) (n + 1)) && q m)
+
+pub of_core : (ch n b : ℕ) (q : Message → Bool) → 0 < ch → ring_if_any ch (Core b) ≡ Some n → IsOfBoth ch n (to_unit ch (Core b) q) q
+of_core ch n b q h k m =
+    let e : ch + 2 * b ≡ n = cc in
+    ap (λ t. t && q m) (core_by_rings ch b m.link h) ∙ ap (λ i. (eqb (ring_to ch m) i || eqb (ring_to ch m) (i + 1)) && q m) e
 
 module _ (ch n : ℕ) (p q : Message → Bool) (is : IsOfRing ch n p q) where
   elsewhere : (k : ℕ) (ms : List Message) → Each (λ m. ring_to ch m ≡ k) ms → eqb k n ≡ false → (filter p ms ≡ []) × (filter (λ m. not (p m)) ms ≡ ms)
@@ -70,7 +98,7 @@ module _ (ch n : ℕ) (p q : Message → Bool) (is : IsOfRing ch n p q) where
   later first [] h l = (refl, refl)
   later first (ms ∷ rest) h l =
       let apart : eqb first n ≡ false = grind (arith, nat_tests) in
-      let none = elsewhere first ms h.0.to_unit apart in
+      let none = elsewhere first ms h.0.to_ring apart in
       let others = later (first + 1) rest h.1 (omega arith) in (
         filter-append p ms (joined rest) ∙ ap₂ (λ a b. a ++ b) none.0 others.0,
         filter-append (λ m. not (p m)) ms (joined rest) ∙ ap₂ (λ a b. a ++ b) none.1 others.1,
@@ -82,12 +110,12 @@ module _ (ch n : ℕ) (p q : Message → Bool) (is : IsOfRing ch n p q) where
   filter-joined zero first (ms ∷ rest) e h =
       let same : first ≡ n = omega arith in
       filter-append p ms (joined rest)
-      ∙ ap₂ (λ a b. a ++ b) (here ms (subst (λ k. Each (λ m. ring_to ch m ≡ k) ms) same h.0.to_unit)).0 (later (first + 1) rest h.1 (omega arith)).0
+      ∙ ap₂ (λ a b. a ++ b) (here ms (subst (λ k. Each (λ m. ring_to ch m ≡ k) ms) same h.0.to_ring)).0 (later (first + 1) rest h.1 (omega arith)).0
       ∙ append-nil (filter q ms)
   filter-joined (suc i) first (ms ∷ rest) e h =
       let apart : eqb first n ≡ false = grind (arith, nat_tests) in
       filter-append p ms (joined rest)
-      ∙ ap₂ (λ a b. a ++ b) (elsewhere first ms h.0.to_unit apart).0 (filter-joined i (first + 1) rest (omega arith) h.1)
+      ∙ ap₂ (λ a b. a ++ b) (elsewhere first ms h.0.to_ring apart).0 (filter-joined i (first + 1) rest (omega arith) h.1)
 
   -- and the others stand in the others, and in what is left of it
   filter-others : (i first : ℕ) (rings : List (List Message)) → first + i ≡ n → AreRings ch first rings
@@ -96,15 +124,90 @@ module _ (ch n : ℕ) (p q : Message → Bool) (is : IsOfRing ch n p q) where
   filter-others zero first (ms ∷ rest) e h =
       let same : first ≡ n = omega arith in
       sym (filter-append (λ m. not (p m)) ms (joined rest)
-      ∙ ap₂ (λ a b. a ++ b) (here ms (subst (λ k. Each (λ m. ring_to ch m ≡ k) ms) same h.0.to_unit)).1 (later (first + 1) rest h.1 (omega arith)).1)
+      ∙ ap₂ (λ a b. a ++ b) (here ms (subst (λ k. Each (λ m. ring_to ch m ≡ k) ms) same h.0.to_ring)).1 (later (first + 1) rest h.1 (omega arith)).1)
   filter-others (suc i) first (ms ∷ rest) e h =
       let apart : eqb first n ≡ false = grind (arith, nat_tests) in
       ap (λ x. ms ++ x) (filter-others i (first + 1) rest (omega arith) h.1)
-      ∙ ap (λ x. x ++ filter (λ m. not (p m)) (joined rest)) (sym (elsewhere first ms h.0.to_unit apart).1)
+      ∙ ap (λ x. x ++ filter (λ m. not (p m)) (joined rest)) (sym (elsewhere first ms h.0.to_ring apart).1)
       ∙ sym (filter-append (λ m. not (p m)) ms (joined rest))
 
+-- what goes to one ring
+abbrev pub in_ring : ℕ → ℕ → (Message → Bool) → Message → Bool
+in_ring ch n q m = eqb (ring_to ch m) n && q m
+
+filter_same : (p q : Message → Bool) (ms : List Message) → Each (λ m. p m ≡ q m) ms → filter p ms ≡ filter q ms
+filter_same p q [] h = refl
+filter_same p q (m ∷ ms) h = ap₂ (λ b x. cond b (m ∷ x) x) h.0 (filter_same p q ms h.1)
+
+filter_twice : (f g h : Message → Bool) → ((m : Message) → (f m && g m) ≡ h m) → (ms : List Message) → filter g (filter f ms) ≡ filter h ms
+filter_twice f g h is [] = refl
+filter_twice f g h is (m ∷ ms) = by (f m) refl (filter_twice f g h is ms)
+  where
+    by : (b : Bool) → f m ≡ b → filter g (filter f ms) ≡ filter h ms → filter g (cond b (m ∷ filter f ms) (filter f ms)) ≡ filter h (m ∷ ms)
+    by true e rest = ap₂ (λ t x. cond t (m ∷ x) x) (ap (λ t. t && g m) (sym e) ∙ is m) rest
+    by false e rest = rest ∙ sym (cond-false _ _ _ (sym (is m) ∙ ap (λ t. t && g m) e))
+
+neither : (a b c : Bool) → (not (a && c) && not (b && c)) ≡ not ((a || b) && c)
+neither true true true = refl
+neither true true false = refl
+neither true false true = refl
+neither true false false = refl
+neither false true true = refl
+neither false true false = refl
+neither false false true = refl
+neither false false false = refl
+
+numbered_from : (ch first : ℕ) (rings : List (List Message)) → AreRings ch first rings → Each (λ m. first ≤ ring_to ch m) (joined rings)
+numbered_from ch first [] h = tt
+numbered_from ch first (ms ∷ rest) h =
+    Each-append (λ m. first ≤ ring_to ch m) ms (joined rest)
+    (Each-weaker (λ m. ring_to ch m ≡ first) (λ m. first ≤ ring_to ch m) (λ m e. omega arith) ms h.0.to_ring)
+    (Each-weaker (λ m. first + 1 ≤ ring_to ch m) (λ m. first ≤ ring_to ch m) (λ m l. omega arith) (joined rest) (numbered_from ch (first + 1) rest h.1))
+
+low_ring : (r n : ℕ) (b : Bool) → r ≤ n → ((eqb r n || eqb r (n + 1)) && b) ≡ (eqb r n && b)
+low_ring r n b l = let e : eqb r (n + 1) ≡ false = grind (arith, nat_tests) in rw e (ap (λ t. t && b) (or_false (eqb r n)))
+  where
+    or_false : (t : Bool) → (t || false) ≡ t
+    or_false true = refl
+    or_false false = refl
+
+high_ring : (r n : ℕ) (b : Bool) → n + 1 ≤ r → ((eqb r n || eqb r (n + 1)) && b) ≡ (eqb r (n + 1) && b)
+high_ring r n b l = let e : eqb r n ≡ false = grind (arith, nat_tests) in rw e refl
+
+module _ (ch n : ℕ) (p q : Message → Bool) (is : IsOfBoth ch n p q) where
+  -- what goes to both rings stands in the first, and then in the second
+  in_both : (first : ℕ) (rings : List (List Message)) → AreRings ch first rings
+      → filter p (joined rings) ≡ filter (in_ring ch n q) (joined rings) ++ filter (in_ring ch (n + 1) q) (joined rings)
+  in_both first [] h = refl
+  in_both first (ms ∷ rest) h = by (cases_lt n first) (in_both (first + 1) rest h.1)
+    where
+      by : (n < first) ⊎ (first ≤ n)
+          → filter p (joined rest) ≡ filter (in_ring ch n q) (joined rest) ++ filter (in_ring ch (n + 1) q) (joined rest)
+          → filter p (joined (ms ∷ rest)) ≡ filter (in_ring ch n q) (joined (ms ∷ rest)) ++ filter (in_ring ch (n + 1) q) (joined (ms ∷ rest))
+      by (inl l) others =
+          filter_same p (in_ring ch (n + 1) q) (joined (ms ∷ rest))
+          (Each-weaker (λ m. first ≤ ring_to ch m) (λ m. p m ≡ in_ring ch (n + 1) q m) (λ m k. is m ∙ high_ring (ring_to ch m) n (q m) (omega arith))
+          (joined (ms ∷ rest)) (numbered_from ch first (ms ∷ rest) h))
+          ∙ ap (λ x. x ++ filter (in_ring ch (n + 1) q) (joined (ms ∷ rest)))
+          (sym (later ch n (in_ring ch n q) q (λ m. refl) first (ms ∷ rest) h l).0)
+      by (inr l) others =
+          let apart : eqb first (n + 1) ≡ false = grind (arith, nat_tests) in
+          let none = (elsewhere ch (n + 1) (in_ring ch (n + 1) q) q (λ m. refl) first ms h.0.to_ring apart).0 in
+          let same = filter_same p (in_ring ch n q) ms
+          (Each-weaker (λ m. ring_to ch m ≡ first) (λ m. p m ≡ in_ring ch n q m) (λ m e. is m ∙ low_ring (ring_to ch m) n (q m) (omega arith)) ms h.0.to_ring) in
+          filter-append p ms (joined rest)
+          ∙ ap₂ (λ x y. x ++ y) same others
+          ∙ sym (append_assoc (filter (in_ring ch n q) ms) (filter (in_ring ch n q) (joined rest)) (filter (in_ring ch (n + 1) q) (joined rest)))
+          ∙ ap₂ (λ x y. x ++ y) (sym (filter-append (in_ring ch n q) ms (joined rest)))
+          (sym (filter-append (in_ring ch (n + 1) q) ms (joined rest) ∙ ap (λ x. x ++ filter (in_ring ch (n + 1) q) (joined rest)) none))
+
+  out_of_both : (ms : List Message) → filter (λ m. not (in_ring ch (n + 1) q m)) (filter (λ m. not (in_ring ch n q m)) ms) ≡ filter (λ m. not (p m)) ms
+  out_of_both ms =
+      filter_twice (λ m. not (in_ring ch n q m)) (λ m. not (in_ring ch (n + 1) q m)) (λ m. not (p m))
+      (λ m. neither (eqb (ring_to ch m) n) (eqb (ring_to ch m) (n + 1)) (q m) ∙ ap not (sym (is m))) ms
+
 pub IsRing-nil : (ch n : ℕ) → IsRing ch n []
-IsRing-nil ch n = record { to_unit = tt; in_order = by_age-nil }
+IsRing-nil ch n = record { to_ring = tt; in_order = by_age-nil }
 
 pub ring_is : (ch i first : ℕ) (rings : List (List Message)) → AreRings ch first rings → IsRing ch (first + i) (get_or rings i [])
 ring_is ch i first [] h = IsRing-nil ch (first + i)
@@ -125,13 +228,13 @@ AreRings-in_order ch first (ms ∷ rest) h = (h.0.in_order, AreRings-in_order ch
 other_ring : (ch : ℕ) (m y : Message) → (ring_to ch m ≡ ring_to ch y → ⊥) → is_tie m y ≡ false
 other_ring ch m y h =
     false_from_ne_true (is_tie m y)
-    (λ t. h (ap (λ l. ring_of ch (receiver_of ch l)) (eqb-true m.link y.link (and_parts (eqb m.arrival y.arrival) (eqb m.link y.link) t).1)))
+    (λ t. h (ap (ring_of ch) (eqb-true m.link y.link (and_parts (eqb m.arrival y.arrival) (eqb m.link y.link) t).1)))
 
 no_ties : (ch first : ℕ) (m : Message) (rings : List (List Message)) → AreRings ch first rings → ring_to ch m < first → Each (λ (y : Message). is_tie m y ≡ false) (joined rings)
 no_ties ch first m [] h l = tt
 no_ties ch first m (ms ∷ rest) h l =
     Each-append _ ms (joined rest)
-    (Each-weaker _ (λ (y : Message). is_tie m y ≡ false) (λ y e. other_ring ch m y (λ f. absurd (omega arith))) ms h.0.to_unit)
+    (Each-weaker _ (λ (y : Message). is_tie m y ≡ false) (λ y e. other_ring ch m y (λ f. absurd (omega arith))) ms h.0.to_ring)
     (no_ties ch (first + 1) m rest h.1 (omega arith))
 
 puts-joined : (ch i first : ℕ) (m : Message) (acc : List Message) (rings : List (List Message)) → AreRings ch first rings → first + i ≡ ring_to ch m → i < length rings
@@ -156,13 +259,13 @@ AreRings-put ch i m rings h e =
     let ring = ring_is ch i 0 rings h in
     let n : ring_to ch m ≡ 0 + i = omega arith in
     AreRings-set ch i 0 (put m (get_or rings i [])) rings h
-    (record { to_unit = Each-put (λ (y : Message). ring_to ch y ≡ 0 + i) m n (get_or rings i []) ring.to_unit; in_order = put-in_order m (get_or rings i []) ring.in_order })
+    (record { to_ring = Each-put (λ (y : Message). ring_to ch y ≡ 0 + i) m n (get_or rings i []) ring.to_ring; in_order = put-in_order m (get_or rings i []) ring.in_order })
 
 pub AreRings-filter : (ch i : ℕ) (p : Message → Bool) (rings : List (List Message)) → AreRings ch 0 rings → AreRings ch 0 (set rings i (filter p (get_or rings i [])))
 AreRings-filter ch i p rings h =
     let ring = ring_is ch i 0 rings h in
     AreRings-set ch i 0 (filter p (get_or rings i [])) rings h
-    (record { to_unit = Each-filter (λ (y : Message). ring_to ch y ≡ 0 + i) p (get_or rings i []) ring.to_unit; in_order = filter-in_order p (get_or rings i []) ring.in_order })
+    (record { to_ring = Each-filter (λ (y : Message). ring_to ch y ≡ 0 + i) p (get_or rings i []) ring.to_ring; in_order = filter-in_order p (get_or rings i []) ring.in_order })
 
 -- the messages to a unit, by a test, are those in its ring
 pub held : (ch n : ℕ) (p q : Message → Bool) (rings : List (List Message)) → IsOfRing ch n p q → AreRings ch 0 rings → filter p (by_age (joined rings)) ≡ filter q (get_or rings n [])
@@ -180,10 +283,55 @@ none_there p h (m ∷ ms) =
     let rest = none_there p h ms in
     (cond-false _ _ _ (h m) ∙ rest.0, cond-true _ _ _ (ap not (h m)) ∙ ap (λ x. m ∷ x) rest.1)
 
+-- the messages to a unit with two rings, by a test, are those in both of them, merged
+pub held_both : (ch n : ℕ) (p q : Message → Bool) (rings : List (List Message)) → IsOfBoth ch n p q → AreRings ch 0 rings
+    → filter p (by_age (joined rings)) ≡ fold insert_by_age (filter q (get_or rings n [])) (filter q (get_or rings (n + 1) []))
+held_both ch n p q rings is h =
+    filter-by_age p (joined rings)
+    ∙ ap by_age (in_both ch n p q is 0 rings h)
+    ∙ sym (by_age-merge (filter (in_ring ch n q) (joined rings)) (filter (in_ring ch (n + 1) q) (joined rings)))
+    ∙ ap₂ (λ x y. fold insert_by_age x y) (one n) (one (n + 1))
+  where
+    one : (i : ℕ) → by_age (filter (in_ring ch i q) (joined rings)) ≡ filter q (get_or rings i [])
+    one i = sym (filter-by_age (in_ring ch i q) (joined rings)) ∙ held ch i (in_ring ch i q) q rings (λ m. refl) h
+
+-- they are in order
+pub both_in_order : (xs ys : List Message) → by_age xs ≡ xs → by_age ys ≡ ys → by_age (fold insert_by_age xs ys) ≡ fold insert_by_age xs ys
+both_in_order xs ys h k =
+    let e : fold insert_by_age xs ys ≡ by_age (xs ++ ys) = ap₂ (λ x y. fold insert_by_age x y) (sym h) (sym k) ∙ by_age-merge xs ys in
+    ap by_age e ∙ by_age-twice (xs ++ ys) ∙ sym e
+
+-- and the others are those that stay in the two rings and stand in others
+pub others_both : (ch n : ℕ) (p q : Message → Bool) (rings : List (List Message)) → IsOfBoth ch n p q → AreRings ch 0 rings
+    → by_age (joined (set (set rings n (filter (λ m. not (q m)) (get_or rings n []))) (n + 1) (filter (λ m. not (q m)) (get_or rings (n + 1) []))))
+    ≡ filter (λ m. not (p m)) (by_age (joined rings))
+others_both ch n p q rings is h =
+    let once = set rings n (filter (λ m. not (q m)) (get_or rings n [])) in
+    let same : get_or once (n + 1) [] ≡ get_or rings (n + 1) [] = get_or-set_other rings n (n + 1) _ [] (λ e. absurd (omega arith)) in
+    ap (λ ms. by_age (joined (set once (n + 1) (filter (λ m. not (q m)) ms)))) (sym same)
+    ∙ others ch (n + 1) (in_ring ch (n + 1) q) q once (λ m. refl) (AreRings-filter ch n (λ m. not (q m)) rings h)
+    ∙ ap (filter (λ m. not (in_ring ch (n + 1) q m))) (others ch n (in_ring ch n q) q rings (λ m. refl) h)
+    ∙ out_of_both ch n p q is (by_age (joined rings))
+
+pub AreRings-filter_both : (ch n : ℕ) (p : Message → Bool) (rings : List (List Message)) → AreRings ch 0 rings
+    → AreRings ch 0 (set (set rings n (filter p (get_or rings n []))) (n + 1) (filter p (get_or rings (n + 1) [])))
+AreRings-filter_both ch n p rings h =
+    let once = set rings n (filter p (get_or rings n [])) in
+    let same : get_or once (n + 1) [] ≡ get_or rings (n + 1) [] = get_or-set_other rings n (n + 1) _ [] (λ e. absurd (omega arith)) in
+    subst (λ ms. AreRings ch 0 (set once (n + 1) (filter p ms))) same (AreRings-filter ch (n + 1) p once (AreRings-filter ch n p rings h))
+
 -- nothing is sent to a channel that the machine does not have
+not_there : (ch link : ℕ) (unit : MachineUnit) → 0 < ch → ring_if_any ch unit ≡ None → is_unit (receiver_of ch link) unit ≡ false
+not_there ch link (Core b) h k = cc
+not_there ch link (Channel b) h k =
+    cond_both (ltb b ch) (Some b) None (λ o. o ≡ None → is_unit (receiver_of ch link) (Channel b) ≡ false) (λ e x. cc) (λ e x. not_a_channel ch b link h (not_below b ch e)) k
+  where
+    not_below : (a b : ℕ) → ltb a b ≡ false → b ≤ a
+    not_below a b e = grind (arith, nat_tests)
+
 pub nowhere : (ch : ℕ) (unit : MachineUnit) (q : Message → Bool) (ms : List Message) → 0 < ch → ring_if_any ch unit ≡ None
     → (filter (to_unit ch unit q) ms ≡ []) × (filter (λ m. not (to_unit ch unit q m)) ms ≡ ms)
-nowhere ch unit q ms l e = none_there (to_unit ch unit q) (λ m. ap (λ b. b && q m) (not_there ch (receiver_of ch m.link) unit (receiver_exists ch m.link l) e)) ms
+nowhere ch unit q ms l e = none_there (to_unit ch unit q) (λ m. ap (λ b. b && q m) (not_there ch m.link unit l e)) ms
 
 and_true : (b : Bool) → (b && true) ≡ b
 and_true true = refl
@@ -193,14 +341,30 @@ filter_true : (ms : List Message) → filter (λ _. true) ms ≡ ms
 filter_true [] = refl
 filter_true (m ∷ ms) = ap (λ x. m ∷ x) (filter_true ms)
 
--- all messages to a unit are what stands in its ring, if it has one
-pub at_unit : (ch : ℕ) (unit : MachineUnit) (rings : List (List Message)) → 0 < ch → AreRings ch 0 rings
-    → filter (λ m. is_unit (receiver_of ch m.link) unit) (by_age (joined rings)) ≡ option_map_or (λ n. get_or rings n []) (ring_if_any ch unit) []
-at_unit ch unit rings l h = by (ring_if_any ch unit) refl
-  where
-    by : (o : Option ℕ) → ring_if_any ch unit ≡ o → filter (λ m. is_unit (receiver_of ch m.link) unit) (by_age (joined rings)) ≡ option_map_or (λ n. get_or rings n []) o []
-    by None e = (none_there (λ m. is_unit (receiver_of ch m.link) unit) (λ m. not_there ch (receiver_of ch m.link) unit (receiver_exists ch m.link l) e) (by_age (joined rings))).0
-    by (Some n) e =
-        held ch n (λ m. is_unit (receiver_of ch m.link) unit) (λ _. true) rings
-        (λ m. by_ring ch n (receiver_of ch m.link) unit (receiver_exists ch m.link l) e ∙ sym (and_true (eqb (ring_to ch m) n))) h
-        ∙ filter_true (get_or rings n [])
+-- none are to a unit that the machine does not have
+pub at_no_unit : (ch : ℕ) (unit : MachineUnit) (ms : List Message) → 0 < ch → ring_if_any ch unit ≡ None → filter (λ m. is_unit (receiver_of ch m.link) unit) ms ≡ []
+at_no_unit ch unit ms l e = (none_there (λ m. is_unit (receiver_of ch m.link) unit) (λ m. not_there ch m.link unit l e) ms).0
+
+pub of_a_channel : (ch n b : ℕ) (unit : MachineUnit) (q : Message → Bool) → unit ≡ Channel b → ring_if_any ch unit ≡ Some n → IsOfRing ch n (to_unit ch unit q) q
+of_a_channel ch n b unit q e k =
+    subst (λ u. ring_if_any ch u ≡ Some n → IsOfRing ch n (to_unit ch u q) q) (sym e) (of_channel ch n b q) k
+
+pub of_a_core : (ch n b : ℕ) (unit : MachineUnit) (q : Message → Bool) → 0 < ch → unit ≡ Core b → ring_if_any ch unit ≡ Some n → IsOfBoth ch n (to_unit ch unit q) q
+of_a_core ch n b unit q h e k =
+    subst (λ u. ring_if_any ch u ≡ Some n → IsOfBoth ch n (to_unit ch u q) q) (sym e) (of_core ch n b q h) k
+
+-- all messages to a channel are what stands in its ring
+pub at_channel : (ch n b : ℕ) (unit : MachineUnit) (rings : List (List Message)) → unit ≡ Channel b → ring_if_any ch unit ≡ Some n → AreRings ch 0 rings
+    → filter (λ m. is_unit (receiver_of ch m.link) unit) (by_age (joined rings)) ≡ get_or rings n []
+at_channel ch n b unit rings e k h =
+    held ch n (λ m. is_unit (receiver_of ch m.link) unit) (λ _. true) rings
+    (λ m. sym (and_true (is_unit (receiver_of ch m.link) unit)) ∙ of_a_channel ch n b unit (λ _. true) e k m) h
+    ∙ filter_true (get_or rings n [])
+
+-- and those to a core are what stands in its two, merged
+pub at_core : (ch n b : ℕ) (unit : MachineUnit) (rings : List (List Message)) → 0 < ch → unit ≡ Core b → ring_if_any ch unit ≡ Some n → AreRings ch 0 rings
+    → filter (λ m. is_unit (receiver_of ch m.link) unit) (by_age (joined rings)) ≡ fold insert_by_age (get_or rings n []) (get_or rings (n + 1) [])
+at_core ch n b unit rings l e k h =
+    held_both ch n (λ m. is_unit (receiver_of ch m.link) unit) (λ _. true) rings
+    (λ m. sym (and_true (is_unit (receiver_of ch m.link) unit)) ∙ of_a_core ch n b unit (λ _. true) l e k m) h
+    ∙ ap₂ (λ x y. fold insert_by_age x y) (filter_true (get_or rings n [])) (filter_true (get_or rings (n + 1) []))

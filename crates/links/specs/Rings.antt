@@ -1,14 +1,15 @@
--- The messages in flight in rings, one for each unit: those of channels first, then those of cores.
---     ring_of channels unit      the number of a unit's ring
---     ring_to channels m      the number of the ring of the unit that a message goes to
---     ring_if_any channels unit      the same for a unit that may be none of the machine's channels
+-- The messages in flight in rings: first one for each channel, then two for each core, of replies and of credits.
+--     ring_of channels link      the number of the ring of a link's messages
+--     ring_to channels m      the number of the ring that a message goes to
+--     ring_if_any channels unit      the number of a unit's first ring, if the machine has the unit
 --     contents rings      what stands in each ring
 --     joined rings      what stands in all of them, ring by ring
---     AreRings channels first rings      each ring holds messages to its unit, by age
+--     AreRings channels first rings      each ring holds messages that go to it, by age
 --     sooner_of least ms      the lesser of a cycle and of the first arrival
+--     lesser_of first second      the lesser of two cycles
 --     HasRoom rings number more      a ring has room for so many messages more
 --     Grows old new      the same messages, with more room
-use Rattle.std.specs.Prelude.{◌≡◌, ℕ, ◌+◌, ◌<◌, ◌≤◌, nat_lt, Bool, not, List, [], ◌∷◌, ◌++◌, length, map, min, slice_index_or, Option, Some, None, if◌then◌else◌}
+use Rattle.std.specs.Prelude.{◌≡◌, ℕ, ◌+◌, ◌*◌, ◌-◌, ◌/◌, ◌%◌, ◌==◌, ◌<◌, ◌≤◌, nat_lt, Bool, not, List, [], ◌∷◌, ◌++◌, length, map, min, slice_index_or, Option, Some, None, if◌then◌else◌}
 use Rattle.std.specs.List.{AllByRecursion}
 use Rattle.std.specs.Option.{option_map_or}
 use Rattle.circular_buffer.specs.Buffer.{Buffer, buffer}
@@ -16,21 +17,21 @@ use Rattle.sim_base.specs.History.{by_age}
 use Rattle.sim_base.specs.declared.message.Message.{Message}
 use Rattle.sim_base.specs.declared.message.Unit.{Unit as MachineUnit}
 use Rattle.sim_base.specs.declared.message.Unit.TheVariants.{Core, Channel}
-use Rattle.links.specs.InFlight.{receiver_of, arrives_within}
+use Rattle.links.specs.InFlight.{arrives_within}
 
--- the number of a unit's ring
-abbrev pub ring_of : ℕ → MachineUnit → ℕ
-ring_of channels (Channel channel) = channel
-ring_of channels (Core core) = channels + core
+-- the number of the ring of a link's messages; of those to a core, replies are on links with the remainder 1, credits with 2
+abbrev pub ring_of : ℕ → ℕ → ℕ
+ring_of channels link = if link % 3 == 0 then link / 3 % channels else channels + 2 * (link / 3 / channels) + (link % 3 - 1)
 
--- the number of the ring of the unit that a message goes to
+-- the number of the ring that a message goes to
 abbrev pub ring_to : ℕ → Message → ℕ
-ring_to channels m = ring_of channels (receiver_of channels m.link)
+ring_to channels m = ring_of channels m.link
 
--- the number of a unit's ring; none, where the machine has no such channel
+-- the number of a channel's ring, or of a core's ring of replies, behind which its ring of credits stands; none, where the machine has
+-- no such channel
 abbrev pub ring_if_any : ℕ → MachineUnit → Option ℕ
 ring_if_any channels (Channel channel) = if nat_lt channel channels then Some channel else None
-ring_if_any channels (Core core) = Some (channels + core)
+ring_if_any channels (Core core) = Some (channels + 2 * core)
 
 -- what stands in each ring
 abbrev pub contents : List (Buffer Message) → List (List Message)
@@ -45,9 +46,9 @@ abbrev pub joined : List (List Message) → List Message
 joined [] = []
 joined (ms ∷ rest) = ms ++ joined rest
 
--- a ring holds messages to its unit, by age
+-- a ring holds messages that go to it, by age
 pub record IsRing (channels number : ℕ) (ms : List Message) : Type 0 where
-  pub to_unit : AllByRecursion (λ m. ring_to channels m ≡ number) ms
+  pub to_ring : AllByRecursion (λ m. ring_to channels m ≡ number) ms
   pub in_order : by_age ms ≡ ms
 
 -- so does each, where the first has this number
@@ -78,3 +79,9 @@ pub record Grows (old new : List (Buffer Message)) : Type 0 where
 -- a message does not arrive within a span
 abbrev pub arrives_outside : ℕ → ℕ → Message → Bool
 arrives_outside from until m = not (arrives_within from until m)
+
+-- the lesser of two cycles; the one of them that there is
+abbrev pub lesser_of : Option ℕ → Option ℕ → Option ℕ
+lesser_of None second = second
+lesser_of (Some a) None = Some a
+lesser_of (Some a) (Some b) = Some (min a b)

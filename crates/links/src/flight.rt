@@ -1,14 +1,14 @@
 //! The messages in flight.
 
-ghost use Rattle.std.specs.Prelude.{◌≡◌, ◌+◌, ◌<◌, ◌^◌, ◌≤◌, [], length, filter, fold, not, ◌==◌, slice_get, slice_set, All, Any, ◌↔◌, IsTrue, IsNone, IfSome, IfOk, OnOk, OnErr, IsOkAnd};
+ghost use Rattle.std.specs.Prelude.{◌≡◌, ◌+◌, ◌<◌, ◌^◌, ◌≤◌, [], length, filter, fold, not, ◌==◌, slice_get, slice_set, nat_lt, false, All, Any, ◌↔◌, IsTrue, IsNone, IfSome, IfOk, OnOk, OnErr, IsOkAnd};
 ghost use Rattle.std.specs.List.{list_all};
 ghost use Rattle.std.specs.Option.{option_map, option_map_or};
 ghost use Rattle.sim_base.specs.History.{is_unit, insert_by_age, by_age};
 ghost use Rattle.links.specs.InFlight.{receiver_of, arrives_within, is_due};
-ghost use Rattle.links.specs.Rings.{ring_of, ring_if_any, contents, joined, ring_at, sooner_of, arrives_outside, AreRings, HasRoom, HaveRoom, Grows};
+ghost use Rattle.links.specs.Rings.{ring_of, ring_if_any, contents, joined, ring_at, sooner_of, lesser_of, arrives_outside, AreRings, HasRoom, HaveRoom, Grows};
 
-use crate::merge::messages_of;
-use crate::rings::{Ring, first_arrival, make_room, put_by_age, take_due};
+use crate::merge::{merged, messages_of};
+use crate::rings::{Ring, copy_due, drop_within, first_arrival, make_room, put_by_age, take_due};
 use circular_buffer::HeapCircularBuffer;
 use sim_base::config::Config;
 use sim_base::message::{Cycle, Inbox, LinkId, Message, Unit};
@@ -23,7 +23,8 @@ use std::marker::Model;
 pub struct Links {
     alloc: Global,
     channels: u16,
-    /// A ring for each unit, channels first and then cores, as far as messages have been sent to them.
+    /// A ring for each channel and then two for each core, of replies and of credits, as far as messages have been sent to them. A core's
+    /// credits pass replies in flight; in rings of their own nearly every message joins at the back.
     rings: Vec<Ring>,
 }
 
@@ -40,28 +41,30 @@ impl Model for Links {
     ghost invariant = { λ l. (0 < l.channels) × AreRings l.channels 0 (contents l.rings.items) };
 }
 
-/// The number of the ring of the unit that a link leads to.
+/// The number of the ring of a link's messages.
 fn ring_of_link(channels: u16, link: LinkId) -> usize
     requires { 0 < channels }
-    ensures number { result ≡ ring_of channels (receiver_of channels link) }
+    ensures number { result ≡ ring_of channels link }
     ensures small { result + 1 < 2 ^ 64 }
 {
     let pair = link / 3;
-    if link % 3 == 0 {
+    let kind = link % 3;
+    if kind == 0 {
         (pair % u64::from(channels)) as usize
     } else {
-        usize::from(channels) + (pair / u64::from(channels)) as usize
+        usize::from(channels) + 2 * (pair / u64::from(channels)) as usize + (kind - 1) as usize
     }
 }
 
-/// The number of a unit's ring; none, where the machine has no such channel.
+/// The number of a channel's ring, or of a core's ring of replies; none, where the machine has no such channel.
 fn ring_of_unit(channels: u16, unit: Unit) -> Option<usize>
-    ensures { result ≡ ring_if_any channels unit }
+    ensures number { result ≡ ring_if_any channels unit }
+    ensures small { IfSome result (λ number. number + 1 < 2 ^ 64) }
 {
     match unit {
         Unit::Channel(channel) if channel < u32::from(channels) => Some(channel as usize),
         Unit::Channel(_) => None,
-        Unit::Core(core) => Some(usize::from(channels) + usize::from(core)),
+        Unit::Core(core) => Some(usize::from(channels) + 2 * usize::from(core)),
     }
 }
 
@@ -194,18 +197,87 @@ fn take_from(
     Ok(())
 }
 
-/// The ring of a unit, if there is one.
-fn ring_for(rings: &[Ring], channels: u16, unit: Unit) -> Option<&Ring>
-    ensures { option_map_or (λ ring. ring.now.items) result [] ≡ option_map_or (ring_at (contents rings.now)) (ring_if_any channels unit) [] }
+/// Whether the first message in a ring arrives before a cycle.
+fn is_first_before(rings: &[Ring], number: usize, until: Cycle) -> bool
+    ensures { result ≡ option_map_or (λ m. nat_lt m.arrival until) (slice_get (ring_at (contents rings.now) number) 0) false }
 {
-    rings.get(ring_of_unit(channels, unit)?)
+    first_arrival_in(rings, number).is_some_and(|arrival: Cycle| arrival < until)
 }
 
-/// When the first message in a ring arrives; none, where there is no ring.
-fn first_arrival_in(ring: Option<&Ring>) -> Option<Cycle>
-    ensures { result ≡ option_map (λ m. m.arrival) (slice_get (option_map_or (λ ring. ring.now.items) ring.entry []) 0) }
+/// Takes what arrives within a span out of two rings that stand one behind the other, into an empty list, by age; of two messages of one
+/// age the one of the first ring goes first. Where memory is refused, the rings stay as they were.
+#[cold]
+#[inline(never)]
+fn take_merged(
+    alloc: Global,
+    rings: &mut Vec<Ring>,
+    number: usize,
+    from: Cycle,
+    until: Cycle,
+    inbox: &mut Vec<Message>,
+) -> Result<(), AllocError>
+    requires small { number + 1 < 2 ^ 64 }
+    requires exist { number + 1 < length rings.old.items }
+    requires empty { inbox.old.items ≡ [] }
+    requires first { by_age (ring_at (contents rings.old.items) number) ≡ ring_at (contents rings.old.items) number }
+    requires second { by_age (ring_at (contents rings.old.items) (number + 1)) ≡ ring_at (contents rings.old.items) (number + 1) }
+    ensures taken { OnOk result (inbox.new.items ≡ fold insert_by_age (filter (arrives_within from until) (ring_at (contents rings.old.items) number)) (filter (arrives_within from until) (ring_at (contents rings.old.items) (number + 1)))) }
+    ensures rest { OnOk result (contents rings.new.items ≡ slice_set (slice_set (contents rings.old.items) number (filter (arrives_outside from until) (ring_at (contents rings.old.items) number))) (number + 1) (filter (arrives_outside from until) (ring_at (contents rings.old.items) (number + 1)))) }
+    ensures err { OnErr result (contents rings.new.items ≡ contents rings.old.items) }
 {
-    first_arrival(ring?)
+    copy_due(&rings[number], from, until, inbox)?;
+    let mut second = Vec::new(alloc);
+    copy_due(&rings[number + 1], from, until, &mut second)?;
+    let all = merged(alloc, inbox, &second)?;
+    *inbox = all;
+    drop_within(&mut rings[number], from, until);
+    drop_within(&mut rings[number + 1], from, until);
+    Ok(())
+}
+
+/// Takes what arrives within a span out of two rings that stand one behind the other, into an empty list, by age. Where memory is
+/// refused, the rings stay as they were.
+fn take_from_both(
+    alloc: Global,
+    rings: &mut Vec<Ring>,
+    number: usize,
+    from: Cycle,
+    until: Cycle,
+    inbox: &mut Vec<Message>,
+) -> Result<(), AllocError>
+    requires small { number + 1 < 2 ^ 64 }
+    requires empty { inbox.old.items ≡ [] }
+    requires first { by_age (ring_at (contents rings.old.items) number) ≡ ring_at (contents rings.old.items) number }
+    requires second { by_age (ring_at (contents rings.old.items) (number + 1)) ≡ ring_at (contents rings.old.items) (number + 1) }
+    ensures taken { OnOk result (inbox.new.items ≡ fold insert_by_age (filter (arrives_within from until) (ring_at (contents rings.old.items) number)) (filter (arrives_within from until) (ring_at (contents rings.old.items) (number + 1)))) }
+    ensures rest { OnOk result (contents rings.new.items ≡ slice_set (slice_set (contents rings.old.items) number (filter (arrives_outside from until) (ring_at (contents rings.old.items) number))) (number + 1) (filter (arrives_outside from until) (ring_at (contents rings.old.items) (number + 1)))) }
+    ensures err { OnErr result (contents rings.new.items ≡ contents rings.old.items) }
+{
+    if !is_first_before(rings, number + 1, until) {
+        return take_from(rings, number, from, until, inbox);
+    }
+    if !is_first_before(rings, number, until) {
+        return take_from(rings, number + 1, from, until, inbox);
+    }
+    take_merged(alloc, rings, number, from, until, inbox)
+}
+
+/// When the first message in a ring arrives; none, where there is no such ring.
+fn first_arrival_in(rings: &[Ring], number: usize) -> Option<Cycle>
+    ensures { result ≡ option_map (λ m. m.arrival) (slice_get (ring_at (contents rings.now) number) 0) }
+{
+    first_arrival(rings.get(number)?)
+}
+
+/// The lesser of two cycles; the one of them that there is.
+fn lesser(first: Option<Cycle>, second: Option<Cycle>) -> Option<Cycle>
+    ensures { result ≡ lesser_of first second }
+{
+    match (first, second) {
+        (Some(a), Some(b)) => Some(a.min(b)),
+        (None, _) => second,
+        (_, None) => first,
+    }
 }
 
 fn all_empty(rings: &[Ring]) -> bool
@@ -276,8 +348,16 @@ impl Links {
         let Some(number) = ring_of_unit(self.channels, unit) else {
             return Ok(());
         };
-        take_from(&mut self.rings, number, from, until, inbox)?;
-        Ok(())
+        match unit {
+            Unit::Channel(_) => {
+                take_from(&mut self.rings, number, from, until, inbox)?;
+                Ok(())
+            }
+            Unit::Core(_) => {
+                take_from_both(self.alloc, &mut self.rings, number, from, until, inbox)?;
+                Ok(())
+            }
+        }
     }
 
     /// Takes out the messages to a unit that arrive from `from` on and before `until`, by age. Where memory is refused, the
@@ -318,7 +398,14 @@ impl Links {
         ensures first { result ≡ option_map (λ m. m.arrival) (slice_get (filter (λ m. is_unit (receiver_of self.now.channels m.link) unit) self.now.messages) 0) }
         ensures least { IfSome result (λ cycle. All (λ m. cycle ≤ m.arrival) (filter (λ m. is_unit (receiver_of self.now.channels m.link) unit) self.now.messages)) }
     {
-        first_arrival_in(ring_for(&self.rings, self.channels, unit))
+        let Some(number) = ring_of_unit(self.channels, unit) else {
+            return None;
+        };
+        let first = first_arrival_in(&self.rings, number);
+        match unit {
+            Unit::Channel(_) => first,
+            Unit::Core(_) => lesser(first, first_arrival_in(&self.rings, number + 1)),
+        }
     }
 
     /// The least arrival of a message in flight; none, where none is in flight.

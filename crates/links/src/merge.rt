@@ -17,7 +17,11 @@ fn are_left(first: &[Message], i: usize, second: &[Message], j: usize) -> bool
 }
 
 /// Two lists by age as one; of two messages of one age the one of the first list goes first.
-fn merged(alloc: Global, first: &[Message], second: &[Message]) -> Result<Vec<Message>, AllocError>
+pub fn merged(
+    alloc: Global,
+    first: &[Message],
+    second: &[Message],
+) -> Result<Vec<Message>, AllocError>
     requires { by_age second.now ≡ second.now }
     ensures { IfOk result (λ v. v.items ≡ fold insert_by_age first.now second.now) }
 {

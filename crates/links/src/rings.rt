@@ -169,7 +169,7 @@ fn turn(ring: &mut Ring, from: Cycle, until: Cycle)
 }
 
 /// Takes out what arrives within a span, wherever it stands.
-fn drop_within(ring: &mut Ring, from: Cycle, until: Cycle)
+pub fn drop_within(ring: &mut Ring, from: Cycle, until: Cycle)
     ensures items { ring.new.items ≡ filter (arrives_outside from until) ring.old.items }
     ensures capacity { ring.new.capacity ≡ ring.old.capacity }
 {

@@ -1,33 +1,59 @@
-use Rattle.std.proofs.Common.{◌≡◌, ◌≤◌, [], ap, ◌∙◌, sym, subst}
+use Rattle.std.proofs.Common.{◌≡◌, ◌≤◌, ◌+◌, ap, ap₂, ◌∙◌, sym, subst}
 use Rattle.std.specs.Prelude.{slice_get, filter, All, IfSome}
 use Rattle.sim_base.specs.History.{is_unit, by_age}
-use Rattle.std.specs.Option.{option_map, option_map_or}
+use Rattle.std.specs.Option.{option_map}
 use Rattle.sim_base.specs.declared.message.Message.{Message}
-use Rattle.links.specs.Rings.{contents, joined, ring_at, ring_if_any}
+use Rattle.links.specs.Rings.{contents, joined, ring_at, lesser_of}
 use Rattle.links.specs.InFlight.{receiver_of}
 use Rattle.links.proofs.Ages.{filter-in_order, first_is_least, by_age-twice}
-use Rattle.links.proofs.Held.{at_unit}
+use Rattle.links.proofs.Both.{first_of_both}
+use Rattle.links.proofs.Held.{at_no_unit, at_channel, at_core, ring_is}
 use Rattle.links.proofs.flight.Links.next_arrival_at.Goals as goal
+use Rattle.links.proofs.flight.Links.next_arrival_at.Goals.{In-Channel, After-lesser}
 
-pub returns-clause-first : goal.returns-clause-first
-returns-clause-first c =
+pub returns-in_default-clause-first : goal.returns-in_default-clause-first
+returns-in_default-clause-first c =
     rw (← c.self.view_is)
-    (c.first_arrival_in.ensures
-    ∙ ap (λ ms. option_map (λ (m : Message). m.arrival) (slice_get ms 0))
-    (c.ring_for.ensures
-    ∙ ap (λ rings. option_map_or (ring_at (contents rings)) (ring_if_any c.self.inside.channels c.args.unit) []) c.deref.ensures.value
-    ∙ sym (at_unit _ c.args.unit _ c.self.invariant.0 c.self.invariant.1)))
+    (ap (λ ms. option_map (λ (m : Message). m.arrival) (slice_get ms 0))
+    (sym (at_no_unit _ c.args.unit (by_age (joined (contents c.self.inside.rings.items))) c.self.invariant.0 (sym c.ring_of_unit.ensures.number ∙ c.in_default.is))))
 
-pub returns-clause-least : goal.returns-clause-least
-returns-clause-least c =
+to_channel : (c : In-Channel) → c.first_arrival_in-first.result
+    ≡ option_map (λ (m : Message). m.arrival) (slice_get (filter (λ m. is_unit (receiver_of c.self.inside.channels m.link) c.args.unit) (by_age (joined (contents c.self.inside.rings.items)))) 0)
+to_channel c =
+    c.first_arrival_in-first.ensures
+    ∙ ap (λ rings. option_map (λ (m : Message). m.arrival) (slice_get (ring_at (contents rings) c.in-Some.number) 0)) c.deref.ensures.value
+    ∙ ap (λ ms. option_map (λ (m : Message). m.arrival) (slice_get ms 0))
+    (sym (at_channel _ _ _ c.args.unit _ c.in-Channel.is (sym c.ring_of_unit.ensures.number ∙ c.in-Some.is) c.self.invariant.1))
+
+pub returns-in-Channel-clause-first : goal.returns-in-Channel-clause-first
+returns-in-Channel-clause-first c = rw (← c.self.view_is) (to_channel c)
+
+pub returns-in-Channel-clause-least : goal.returns-in-Channel-clause-least
+returns-in-Channel-clause-least c =
     let to = λ (m : Message). is_unit (receiver_of c.self.inside.channels m.link) c.args.unit in
     let all = by_age (joined (contents c.self.inside.rings.items)) in
-    let first : c.first_arrival_in.result ≡ option_map (λ (m : Message). m.arrival) (slice_get (filter to all) 0) =
-    c.first_arrival_in.ensures
-    ∙ ap (λ ms. option_map (λ (m : Message). m.arrival) (slice_get ms 0))
-    (c.ring_for.ensures
-    ∙ ap (λ rings. option_map_or (ring_at (contents rings)) (ring_if_any c.self.inside.channels c.args.unit) []) c.deref.ensures.value
-    ∙ sym (at_unit _ c.args.unit _ c.self.invariant.0 c.self.invariant.1)) in
     rw (← c.self.view_is)
-    (subst (λ r. IfSome r (λ cycle. All (λ (m : Message). cycle ≤ m.arrival) (filter to all))) (sym first)
+    (subst (λ r. IfSome r (λ cycle. All (λ (m : Message). cycle ≤ m.arrival) (filter to all))) (sym (to_channel c))
+    (first_is_least (filter to all) (filter-in_order to all (by_age-twice (joined (contents c.self.inside.rings.items))))))
+
+to_core : (c : After-lesser) → c.lesser.result
+    ≡ option_map (λ (m : Message). m.arrival) (slice_get (filter (λ m. is_unit (receiver_of c.self.inside.channels m.link) c.args.unit) (by_age (joined (contents c.self.inside.rings.items)))) 0)
+to_core c =
+    c.lesser.ensures
+    ∙ ap₂ lesser_of
+    (c.first_arrival_in-first.ensures ∙ ap (λ rings. option_map (λ (m : Message). m.arrival) (slice_get (ring_at (contents rings) c.in-Some.number) 0)) c.deref.ensures.value)
+    (c.first_arrival_in.ensures ∙ ap (λ rings. option_map (λ (m : Message). m.arrival) (slice_get (ring_at (contents rings) (c.in-Some.number + 1)) 0)) c.deref-in-Core.ensures.value)
+    ∙ first_of_both _ _ (ring_is _ (c.in-Some.number + 1) 0 _ c.self.invariant.1).in_order
+    ∙ ap (λ ms. option_map (λ (m : Message). m.arrival) (slice_get ms 0))
+    (sym (at_core _ _ _ c.args.unit _ c.self.invariant.0 c.in-Core.is (sym c.ring_of_unit.ensures.number ∙ c.in-Some.is) c.self.invariant.1))
+
+pub returns-in-Core-clause-first : goal.returns-in-Core-clause-first
+returns-in-Core-clause-first c = rw (← c.self.view_is) (to_core c)
+
+pub returns-in-Core-clause-least : goal.returns-in-Core-clause-least
+returns-in-Core-clause-least c =
+    let to = λ (m : Message). is_unit (receiver_of c.self.inside.channels m.link) c.args.unit in
+    let all = by_age (joined (contents c.self.inside.rings.items)) in
+    rw (← c.self.view_is)
+    (subst (λ r. IfSome r (λ cycle. All (λ (m : Message). cycle ≤ m.arrival) (filter to all))) (sym (to_core c))
     (first_is_least (filter to all) (filter-in_order to all (by_age-twice (joined (contents c.self.inside.rings.items))))))
