@@ -5,6 +5,7 @@ pub mod Retiring
 pub mod Issuing
 pub mod Stepping
 pub mod Turning
+pub mod Foreseeing
 pub mod Taking
 pub mod Receiving
 pub mod Running

@@ -4,6 +4,7 @@ pub mod Stands
 pub mod Fit
 pub mod Inside
 pub mod Turns
+pub mod Ahead
 pub mod Causes
 pub mod CoreViews
 pub mod Replies

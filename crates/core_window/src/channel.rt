@@ -1,29 +1,19 @@
-//! The channel and the place of an address.
+//! The place of an address.
 
 ghost use Rattle.std.specs.Prelude.{◌≡◌, ◌<◌};
 ghost use Rattle.sim_base.specs.Places.{place_of};
+ghost use Rattle.core_window.specs.Ahead.{IsPlaced};
 
 use address_map::place_of;
 use sim_base::config::Config;
-use sim_base::message::ChannelId;
 use sim_base::place::{Field, Place};
-
-/// The number of the channel in which an address lies: its lowest digit, where the channel is the first field.
-#[tactic(auto, unfolding(sim_base::specs::Places::place_of, sim_base::specs::Places::field_of, sim_base::specs::Places::digit_of))]
-pub fn channel_of(config: &Config, address: u64) -> ChannelId
-    ensures value { result ≡ (place_of config.now address).channel }
-    ensures range { result < config.now.channels }
-{
-    match config.fields.as_slice() {
-        [Field::Channel, ..] => (address / 64 % u64::from(config.channels)) as u32,
-        _ => place_of(config, address).channel,
-    }
-}
+use sim_base::trace::Entry;
 
 /// Where an address lies: digit by digit, where its fields stand in the usual order.
 #[tactic(auto, unfolding(sim_base::specs::Places::place_of, sim_base::specs::Places::field_of, sim_base::specs::Places::digit_of))]
 pub fn place_at(config: &Config, address: u64) -> Place
-    ensures { result ≡ place_of config.now address }
+    ensures value { result ≡ place_of config.now address }
+    ensures range { result.channel < config.now.channels }
 {
     let line = address / 64;
     let columns = line / u64::from(config.channels);
@@ -59,5 +49,22 @@ pub fn place_at(config: &Config, address: u64) -> Place
             ..place
         },
         _ => place_of(config, address),
+    }
+}
+
+/// Where a Read or a Write lies.
+pub fn place_of_entry(config: &Config, entry: Entry) -> Place
+    ensures { IsPlaced config.now entry result }
+{
+    match entry {
+        Entry::Read(address) | Entry::Write(address) => place_at(config, address),
+        Entry::Plain => Place {
+            channel: 0,
+            rank: 0,
+            group: 0,
+            bank: 0,
+            row: 0,
+            column: 0,
+        },
     }
 }

@@ -7,7 +7,9 @@ ghost use Rattle.sim_base.specs.declared.config.Config.{Config};
 ghost use Rattle.sim_base.specs.declared.trace.Entry.{Entry};
 ghost use Rattle.statistics.specs.declared.final_state.Credits.{Credits};
 ghost use Rattle.core_window.specs.Causes.{first_undone};
-ghost use Rattle.core_window.specs.Turns.{lacks_by, IsSeen, credits_of_kind, more_credit};
+ghost use Rattle.std.specs.Option.{IfSome};
+ghost use Rattle.core_window.specs.Ahead.{IsPlaced, IsKnown};
+ghost use Rattle.core_window.specs.Turns.{lacks_by, IsNextOrEnd, IsSeen, credits_of_kind, more_credit};
 ghost use Rattle.core_window.specs.Fit.{IsDue, MayRun, RunsOnto};
 ghost use Rattle.core_window.specs.Stands.{StandsFor};
 ghost use Rattle.core_window.specs.Inside.{IsStanding, IsReceiving, StandsAt, Advances, GoesOn, GoesQuietly, Does};
@@ -19,10 +21,9 @@ ghost use Rattle.core_window.specs.Replies.{MayTakeReply, after_reply};
 ghost use Rattle.core_window.specs.Waiting.{is_waiting, IsByNumber};
 ghost use Rattle.core_window.specs.declared.waiting.WaitingRead.{WaitingRead};
 
-use crate::channel::channel_of;
 use crate::counts::{count_cycle, count_cycles, cycle_counts};
 use crate::flow::{Flow, WindowNumbers, cycles_within, flow_of};
-use crate::issue::{Ahead, cause_at, entry_issued, issue_of, most_issued, next_two};
+use crate::issue::{Ahead, ahead_of, cause_at, entry_issued, issue_of, most_issued, next_two};
 use crate::issue_effects::{send, spend, wait_for};
 use crate::receive::{add_credit_at, count_reply, is_waiting, take_read};
 use crate::retire::{is_next_done, is_stuck, retire_count};
@@ -51,6 +52,7 @@ pub struct Core {
     found: Ahead,
     found_from: u64,
     ghost seen: { IsSeen trace found_from found.one found.two found.entry },
+    ghost known: { IsKnown config trace found },
 }
 
 /// What a core does in a cycle, and why it stops; with the memory entry that it issues, if it issues one.
@@ -61,14 +63,16 @@ pub(crate) struct Turn {
     pub memory: Option<MemoryEntry>,
 }
 
-fn is_without_credit(credits: &[Credits], config: &Config, entry: Entry) -> bool
-    requires { length credits.now ≡ config.now.channels }
-    ensures { (held : ℕ → Credits) → ((channel : ℕ) → channel < config.now.channels → slice_get credits.now channel ≡ Some (held channel))
-        → result ≡ lacks_by config.now held entry }
+/// Whether there is no credit for the first of the next two memory entries.
+fn is_without_credit(credits: &[Credits], ahead: &Ahead) -> bool
+    requires { ahead.now.place.channel < length credits.now }
+    ensures { (s : Config) (held : ℕ → Credits) → IsPlaced s ahead.now.entry ahead.now.place
+        → ((channel : ℕ) → channel < s.channels → slice_get credits.now channel ≡ Some (held channel))
+        → result ≡ lacks_by s held ahead.now.entry }
 {
-    match entry {
-        Entry::Read(address) => credits[channel_of(config, address) as usize].read == 0,
-        Entry::Write(address) => credits[channel_of(config, address) as usize].write == 0,
+    match ahead.entry {
+        Entry::Read(_) => credits[ahead.place.channel as usize].read == 0,
+        Entry::Write(_) => credits[ahead.place.channel as usize].write == 0,
         Entry::Plain => false,
     }
 }
@@ -76,22 +80,28 @@ fn is_without_credit(credits: &[Credits], config: &Config, entry: Entry) -> bool
 impl Core {
     ghost use Rattle.core_window.specs.CoreViews.{view_of};
 
+    /// How many memory entries it issued.
+    fn memory_issued(&self) -> u64 {
+        self.stats.reads.saturating_add(self.stats.writes)
+    }
+
     /// The next two memory entries of its trace.
     fn ahead(&self) -> Ahead
         requires { IsStanding (view_of self.now) }
-        ensures { IsSeen self.now.trace self.now.stats.issued result.one result.two result.entry }
+        ensures seen { IsSeen self.now.trace self.now.stats.issued result.one result.two result.entry }
+        ensures known { IsKnown self.now.config self.now.trace result }
     {
         let number = self.stats.issued;
         if self.found_from <= number && number <= self.found.one {
             return self.found;
         }
-        let before = self.stats.reads.saturating_add(self.stats.writes);
-        next_two(&self.trace, number, before)
+        next_two(&self.config, &self.trace, number, self.memory_issued())
     }
 
     /// Keeps the next two memory entries of its trace for the next span.
     fn keep(&mut self, ahead: Ahead)
-        requires { IsSeen self.old.trace self.old.stats.issued ahead.one ahead.two ahead.entry }
+        requires seen { IsSeen self.old.trace self.old.stats.issued ahead.one ahead.two ahead.entry }
+        requires known { IsKnown self.old.config self.old.trace ahead }
         ensures { view_of self.new ≡ view_of self.old }
     {
         let issued = self.stats.issued;
@@ -132,22 +142,16 @@ impl Core {
     fn turn_with(&self, ahead: &Ahead) -> Turn
         requires stands { IsStanding (view_of self.now) }
         requires seen { IsSeen self.now.trace self.now.stats.issued ahead.now.one ahead.now.two ahead.now.entry }
-        ensures { Does (view_of self.now) result.row result.why result.memory }
+        requires known { IsKnown self.now.config self.now.trace ahead.now }
+        ensures does { Does (view_of self.now) result.row result.why result.memory }
+        ensures entry { IfSome result.memory (λ e. e.entry ≡ ahead.now.entry) }
     {
         let len = self.trace.len();
         let number = self.stats.issued;
-        if is_stuck(
-            self.config.window,
-            &self.waiting,
-            number,
-            self.stats.retired,
-        ) {
-            return self.idle_turn(ahead);
-        }
         let retired = retire_count(self.config.width, &self.waiting, number, self.stats.retired);
         let gone = self.stats.retired + u64::from(retired);
         let near = most_issued(&self.config, len, number, gone);
-        let lacks = ahead.one < near && is_without_credit(&self.credits, &self.config, ahead.entry);
+        let lacks = ahead.one < near && is_without_credit(&self.credits, ahead);
         let issue = issue_of(&self.config, len, number, gone, ahead, lacks);
         let memory = entry_issued(number, ahead, issue.count);
         Turn {
@@ -169,18 +173,28 @@ impl Core {
     }
 
     /// Goes on by a cycle, in which no further message comes, and does this.
-    fn step(&mut self, turn: Turn, sent: &mut Vec<Message>) -> Result<(), AllocError>
+    fn step(&mut self, ahead: &Ahead, turn: Turn, sent: &mut Vec<Message>) -> Result<(), AllocError>
         requires stands { IsStanding (view_of self.old) }
         requires turn { Does (view_of self.old) turn.row turn.why turn.memory }
+        requires known { IsKnown self.old.config self.old.trace ahead.now }
+        requires entry { IfSome turn.memory (λ e. e.entry ≡ ahead.now.entry) }
         requires early { self.old.cycle < 2 ^ 62 }
         ensures cycle { OnOk result (self.new.cycle ≡ self.old.cycle + 1) }
         ensures entries { OnOk result (self.new.trace ≡ self.old.trace) }
+        ensures config { OnOk result (self.new.config ≡ self.old.config) }
         ensures issued { OnOk result (self.old.stats.issued ≤ self.new.stats.issued) }
         ensures advances { OnOk result (Advances 1 (view_of self.old) sent.old.items (view_of self.new) sent.new.items) }
     {
         wait_for(&mut self.waiting, turn.memory, self.cycle)?;
-        spend(&mut self.credits, &self.config, turn.memory);
-        send(sent, &self.config, self.id, self.cycle, turn.memory)?;
+        spend(&mut self.credits, &ahead.place, turn.memory);
+        send(
+            sent,
+            &self.config,
+            self.id,
+            self.cycle,
+            &ahead.place,
+            turn.memory,
+        )?;
         let len = self.trace.len();
         count_cycle(
             &mut self.stats,
@@ -274,15 +288,37 @@ impl Core {
         flow_of(&numbers, &self.waiting, most)
     }
 
+    /// The next two memory entries, where the first of those that were found has issued, and the second has not.
+    fn ahead_from_second(&self, ahead: &Ahead) -> Ahead
+        requires within { ahead.now.two ≤ length self.now.trace }
+        requires known { IsKnown self.now.config self.now.trace ahead.now }
+        ensures seen { (from : ℕ) → IsNextOrEnd self.now.trace from ahead.now.two → IsSeen self.now.trace from result.one result.two result.entry }
+        ensures known { IsKnown self.now.config self.now.trace result }
+    {
+        let first = MemoryEntry {
+            number: ahead.two,
+            entry: ahead.second,
+        };
+        ahead_of(&self.config, &self.trace, first, self.memory_issued())
+    }
+
     /// Looks for the next two memory entries anew, where the first of those that were found has issued.
     fn look_ahead(&self, ahead: &mut Ahead)
         requires stands { IsStanding (view_of self.now) }
         requires seen { (from : ℕ) × (from ≤ self.now.stats.issued) × IsSeen self.now.trace from ahead.old.one ahead.old.two ahead.old.entry }
-        ensures { IsSeen self.now.trace self.now.stats.issued ahead.new.one ahead.new.two ahead.new.entry }
+        requires known { IsKnown self.now.config self.now.trace ahead.old }
+        ensures seen { IsSeen self.now.trace self.now.stats.issued ahead.new.one ahead.new.two ahead.new.entry }
+        ensures known { IsKnown self.now.config self.now.trace ahead.new }
     {
-        if ahead.one < self.stats.issued {
-            *ahead = self.ahead();
+        let issued = self.stats.issued;
+        if issued <= ahead.one {
+            return;
         }
+        *ahead = if issued <= ahead.two {
+            self.ahead_from_second(ahead)
+        } else {
+            self.ahead()
+        };
     }
 
     /// Goes on by a cycle, or up to a cycle, if the core does nothing until a message comes.
@@ -294,10 +330,12 @@ impl Core {
     ) -> Result<(), AllocError>
         requires stands { IsStanding (view_of self.old) }
         requires seen { IsSeen self.old.trace self.old.stats.issued ahead.now.one ahead.now.two ahead.now.entry }
+        requires known { IsKnown self.old.config self.old.trace ahead.now }
         requires order { self.old.cycle < until }
         requires early { until < 2 ^ 62 }
         ensures goes { OnOk result (GoesOn until (view_of self.old) sent.old.items (view_of self.new) sent.new.items) }
         ensures entries { OnOk result (self.new.trace ≡ self.old.trace) }
+        ensures config { OnOk result (self.new.config ≡ self.old.config) }
         ensures issued { OnOk result (self.old.stats.issued ≤ self.new.stats.issued) }
     {
         let turn = self.turn_with(ahead);
@@ -305,7 +343,7 @@ impl Core {
             self.pass(turn.row, turn.why, until - self.cycle);
             Ok(())
         } else {
-            self.step(turn, sent)
+            self.step(ahead, turn, sent)
         }
     }
 
@@ -340,6 +378,8 @@ impl Core {
         requires early { until < 2 ^ 62 }
         ensures goes { GoesQuietly until (view_of self.old) (view_of self.new) }
         ensures cycle { self.new.cycle ≡ until }
+        ensures entries { self.new.trace ≡ self.old.trace }
+        ensures config { self.new.config ≡ self.old.config }
         ensures seen { IsSeen self.new.trace self.new.stats.issued ahead.now.one ahead.now.two ahead.now.entry }
     {
         let turn = self.idle_turn(ahead);
@@ -354,6 +394,8 @@ impl Core {
         requires order { self.old.cycle < until }
         requires early { until < 2 ^ 62 }
         ensures goes { GoesQuietly until (view_of self.old) (view_of self.new) }
+        ensures entries { self.new.trace ≡ self.old.trace }
+        ensures config { self.new.config ≡ self.old.config }
         ensures seen { IsSeen self.new.trace self.new.stats.issued ahead.now.one ahead.now.two ahead.now.entry }
     {
         let flow = self.flow(ahead, until - self.cycle);
@@ -376,10 +418,12 @@ impl Core {
     ) -> Result<(), AllocError>
         requires stands { IsStanding (view_of self.old) }
         requires seen { IsSeen self.old.trace self.old.stats.issued ahead.old.one ahead.old.two ahead.old.entry }
+        requires known { IsKnown self.old.config self.old.trace ahead.old }
         requires order { self.old.cycle < until }
         requires early { until < 2 ^ 62 }
         ensures goes { OnOk result (GoesOn until (view_of self.old) sent.old.items (view_of self.new) sent.new.items) }
         ensures seen { OnOk result (IsSeen self.new.trace self.new.stats.issued ahead.new.one ahead.new.two ahead.new.entry) }
+        ensures known { OnOk result (IsKnown self.new.config self.new.trace ahead.new) }
     {
         if self.is_stuck() {
             self.rest(ahead, until);
@@ -403,11 +447,13 @@ impl Core {
     ) -> Result<(), AllocError>
         requires stands { IsStanding (view_of self.old) }
         requires seen { IsSeen self.old.trace self.old.stats.issued ahead.old.one ahead.old.two ahead.old.entry }
+        requires known { IsKnown self.old.config self.old.trace ahead.old }
         requires order { self.old.cycle ≤ until }
         requires early { until < 2 ^ 62 }
         ensures cycle { OnOk result (self.new.cycle ≡ until) }
         ensures advances { OnOk result (Advances (until - self.old.cycle) (view_of self.old) sent.old.items (view_of self.new) sent.new.items) }
         ensures seen { OnOk result (IsSeen self.new.trace self.new.stats.issued ahead.new.one ahead.new.two ahead.new.entry) }
+        ensures known { OnOk result (IsKnown self.new.config self.new.trace ahead.new) }
     {
         'cycles: while self.cycle < until {
             self.go_on(ahead, until, sent)?;
@@ -425,13 +471,18 @@ impl Core {
     ) -> Result<(), AllocError>
         requires stands { IsStanding (view_of self.old) }
         requires seen { IsSeen self.old.trace self.old.stats.issued ahead.old.one ahead.old.two ahead.old.entry }
+        requires known { IsKnown self.old.config self.old.trace ahead.old }
         requires order { self.old.cycle ≤ until }
         requires early { until < 2 ^ 62 }
         ensures cycle { OnOk result (self.new.cycle ≡ until) }
         ensures advances { OnOk result (Advances (until - self.old.cycle) (view_of self.old) sent.old.items (view_of self.new) sent.new.items) }
         ensures seen { OnOk result (IsSeen self.new.trace self.new.stats.issued ahead.new.one ahead.new.two ahead.new.entry) }
+        ensures known { OnOk result (IsKnown self.new.config self.new.trace ahead.new) }
     {
-        if self.cycle < until && self.is_stuck() {
+        if until <= self.cycle {
+            return Ok(());
+        }
+        if self.is_stuck() {
             self.rest(ahead, until);
             return Ok(());
         }
@@ -452,7 +503,7 @@ impl Core {
             read: u64::from(config.read_credits),
             write: u64::from(config.write_credits),
         };
-        let found = next_two(&trace, 0, 0);
+        let found = next_two(config, &trace, 0, 0);
         Ok(Core {
             config: config.copy(alloc)?,
             id,

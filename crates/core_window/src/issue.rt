@@ -1,55 +1,90 @@
 //! How many entries issue in a cycle, and why no more.
 
-ghost use Rattle.std.specs.Prelude.{◌≡◌, ℕ, ◌+◌, ◌-◌, ◌^◌, ◌≤◌, ◌<◌, List, length, min};
+ghost use Rattle.std.specs.Prelude.{◌≡◌, ℕ, ◌+◌, ◌-◌, ◌^◌, ◌≤◌, ◌<◌, List, length, slice_get, Some, min};
 ghost use Rattle.std.specs.Option.{IfSome};
 ghost use Rattle.sim_base.specs.declared.trace.Entry.{Entry};
 ghost use Rattle.core_window.specs.Turns.{IsNextOrEnd, IsSeen, IsIssued};
+ghost use Rattle.core_window.specs.Ahead.{IsKnown};
 ghost use Rattle.core_window.specs.Causes.{issue_count, cause_at};
 
+use crate::channel::place_of_entry;
 use cpu_trace::entries::MemoryEntry;
 use cpu_trace::trace::Trace;
 use sim_base::config::Config;
+use sim_base::place::Place;
 use sim_base::trace::{Entry, Stop};
 
-/// The number of the next Read or Write from a number on, before which so many stand, or the length of the trace, where there
-/// is none.
-fn next_or_end(trace: &Trace, from: u64, before: u64) -> u64
+/// The number of the next Read or Write from a number on, before which so many stand, and the entry itself; the length of the
+/// trace, where there is none.
+fn next_or_end(trace: &Trace, from: u64, before: u64) -> MemoryEntry
     requires { from ≤ length trace.now }
-    ensures { IsNextOrEnd trace.now from result }
+    ensures next { IsNextOrEnd trace.now from result.number }
+    ensures entry { result.number < length trace.now → slice_get trace.now result.number ≡ Some result.entry }
 {
     match trace.next_memory_near(from, before) {
-        Some(next) => next.number,
-        None => trace.len(),
+        Some(next) => next,
+        None => MemoryEntry {
+            number: trace.len(),
+            entry: Entry::Plain,
+        },
     }
 }
 
-/// The numbers of the next two memory entries, or the length of the trace, and the first of these entries.
+/// The numbers of the next two memory entries, or the length of the trace, and these entries, with the place where the first
+/// lies.
 #[derive(Clone, Copy, PartialEq, Eq, Debug)]
 pub struct Ahead {
     pub one: u64,
     pub entry: Entry,
+    pub place: Place,
     pub two: u64,
+    pub second: Entry,
+}
+
+/// The memory entry behind one of this number, before which so many stand; the length of the trace, where there is none.
+fn entry_behind(trace: &Trace, number: u64, before: u64) -> MemoryEntry
+    requires { number ≤ length trace.now }
+    ensures inside { number < length trace.now → IsNextOrEnd trace.now (number + 1) result.number }
+    ensures none { length trace.now ≤ number → result.number ≡ length trace.now }
+    ensures entry { result.number < length trace.now → slice_get trace.now result.number ≡ Some result.entry }
+{
+    let len = trace.len();
+    if number < len {
+        next_or_end(trace, number + 1, before.saturating_add(1))
+    } else {
+        MemoryEntry {
+            number: len,
+            entry: Entry::Plain,
+        }
+    }
+}
+
+/// The next two memory entries, of which the first is known. Before it, so many stand.
+#[tactic(auto, using(crate::proofs::Foreseeing::seen_from))]
+pub fn ahead_of(config: &Config, trace: &Trace, first: MemoryEntry, before: u64) -> Ahead
+    requires { first.number ≤ length trace.now }
+    ensures seen { (from : ℕ) → IsNextOrEnd trace.now from first.number
+        → (first.number < length trace.now → slice_get trace.now first.number ≡ Some first.entry)
+        → IsSeen trace.now from result.one result.two result.entry }
+    ensures known { IsKnown config.now trace.now result }
+{
+    let second = entry_behind(trace, first.number, before);
+    Ahead {
+        one: first.number,
+        entry: first.entry,
+        place: place_of_entry(config, first.entry),
+        two: second.number,
+        second: second.entry,
+    }
 }
 
 /// The next two memory entries from a number on, before which so many stand.
-#[tactic(auto, using(std::proofs::lemmas::Option::slice_get_within))]
-pub fn next_two(trace: &Trace, from: u64, before: u64) -> Ahead
+pub fn next_two(config: &Config, trace: &Trace, from: u64, before: u64) -> Ahead
     requires { from ≤ length trace.now }
-    ensures { IsSeen trace.now from result.one result.two result.entry }
+    ensures seen { IsSeen trace.now from result.one result.two result.entry }
+    ensures known { IsKnown config.now trace.now result }
 {
-    let len = trace.len();
-    match trace.next_memory_near(from, before) {
-        Some(next) => Ahead {
-            one: next.number,
-            entry: next.entry,
-            two: next_or_end(trace, next.number + 1, before.saturating_add(1)),
-        },
-        None => Ahead {
-            one: len,
-            entry: Entry::Plain,
-            two: len,
-        },
-    }
+    ahead_of(config, trace, next_or_end(trace, from, before), before)
 }
 
 /// How many entries issue, and why no more.
@@ -145,6 +180,7 @@ pub fn entry_issued(number: u64, ahead: &Ahead, count: u16) -> Option<MemoryEntr
     ensures issued { (trace : List Entry) → IsSeen trace number ahead.now.one ahead.now.two ahead.now.entry → number + count ≤ ahead.now.two
         → number ≤ length trace → IsIssued trace number count result }
     ensures at { IfSome result (λ e. e.number ≡ ahead.now.one) }
+    ensures entry { IfSome result (λ e. e.entry ≡ ahead.now.entry) }
 {
     if ahead.one < number + u64::from(count) {
         Some(MemoryEntry {

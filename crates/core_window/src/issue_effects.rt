@@ -2,15 +2,19 @@
 
 ghost use Rattle.std.specs.Prelude.{◌≡◌, ℕ, ◌^◌, ◌<◌, ◌++◌, ◌==◌, length, slice_get, Some, OnOk, if◌then◌else◌};
 ghost use Rattle.sim_base.specs.History.{request, request_of};
+ghost use Rattle.std.specs.Option.{IfSome};
+ghost use Rattle.sim_base.specs.Places.{place_of};
+ghost use Rattle.sim_base.specs.declared.config.Config.{Config};
+ghost use Rattle.core_window.specs.Ahead.{IsPlaced};
 ghost use Rattle.core_window.specs.Turns.{reads_issued, requests_issued, credit_after, credit_after_entry, less_credit};
 ghost use Rattle.statistics.specs.declared.final_state.Credits.{Credits};
 
-use crate::channel::{channel_of, place_at};
 use crate::receive::take_credit;
 use crate::waiting::WaitingRead;
 use cpu_trace::entries::MemoryEntry;
 use sim_base::config::Config;
 use sim_base::message::{CoreId, Cycle, Load, Message, Request};
+use sim_base::place::Place;
 use sim_base::trace::Entry;
 use statistics::final_state::Credits;
 use std::alloc::AllocError;
@@ -43,16 +47,17 @@ fn spend_at(credits: &mut [Credits], place: u32, write: bool)
     take_credit(&mut credits[place as usize], write);
 }
 
-/// The entry that issues spends a credit.
-pub fn spend(credits: &mut [Credits], config: &Config, memory: Option<MemoryEntry>)
-    requires { length credits.old ≡ config.now.channels }
-    ensures { (channel : ℕ) (c : Credits) → slice_get credits.old channel ≡ Some c
-        → slice_get credits.new channel ≡ Some (credit_after config.now channel memory c) }
+/// The entry that issues, which lies at this place, spends a credit.
+pub fn spend(credits: &mut [Credits], place: &Place, memory: Option<MemoryEntry>)
+    requires { place.now.channel < length credits.old }
+    ensures { (s : Config) → IfSome memory (λ e. IsPlaced s e.entry place.now)
+        → (channel : ℕ) (c : Credits) → slice_get credits.old channel ≡ Some c
+        → slice_get credits.new channel ≡ Some (credit_after s channel memory c) }
 {
     if let Some(next) = memory {
         match next.entry {
-            Entry::Read(address) => spend_at(credits, channel_of(config, address), false),
-            Entry::Write(address) => spend_at(credits, channel_of(config, address), true),
+            Entry::Read(_) => spend_at(credits, place.channel, false),
+            Entry::Write(_) => spend_at(credits, place.channel, true),
             Entry::Plain => (),
         }
     }
@@ -66,11 +71,12 @@ fn request_of_address(
     entry: u64,
     write: bool,
     address: u64,
+    place: Place,
 ) -> Message
-    requires { now < 2 ^ 62 }
+    requires early { now < 2 ^ 62 }
+    requires placed { place ≡ place_of config.now address }
     ensures { result ≡ request config.now core now entry write address }
 {
-    let place = place_at(config, address);
     let link = config.request_link(core, place.channel);
     let arrival = now + u64::from(config.latency(link));
     Message {
@@ -88,15 +94,17 @@ fn request_of_address(
     }
 }
 
-/// The entry that issues sends its request.
+/// The entry that issues, which lies at this place, sends its request.
 pub fn send(
     sent: &mut Vec<Message>,
     config: &Config,
     core: CoreId,
     now: Cycle,
+    place: &Place,
     memory: Option<MemoryEntry>,
 ) -> Result<(), AllocError>
-    requires { now < 2 ^ 62 }
+    requires early { now < 2 ^ 62 }
+    requires placed { IfSome memory (λ e. IsPlaced config.now e.entry place.now) }
     ensures { OnOk result (sent.new.items ≡ sent.old.items ++ requests_issued config.now core now memory) }
 {
     if let Some(next) = memory {
@@ -105,7 +113,7 @@ pub fn send(
             Entry::Write(address) => (true, address),
             Entry::Plain => return Ok(()),
         };
-        sent.push(request_of_address(config, core, now, next.number, write, address))?;
+        sent.push(request_of_address(config, core, now, next.number, write, address, *place))?;
     }
     Ok(())
 }

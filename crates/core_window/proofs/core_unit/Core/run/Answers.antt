@@ -4,6 +4,7 @@ use Rattle.core_window.specs.CoreViews.{view_of}
 use Rattle.core_window.specs.Fit.{RunsOnto}
 use Rattle.core_window.specs.Inside.{IsReceiving}
 use Rattle.core_window.proofs.Flowing.{seen-same}
+use Rattle.core_window.proofs.Foreseeing.{known-same}
 use Rattle.core_window.proofs.Running.{stands-at, IsTaking, is_at, taking-first, taking-standing, taking-order, taking-within, taking-until, taking-on, taking-receives, taking-more, taking-last}
 use Rattle.core_window.proofs.core_unit.Core.run.Goals as goal
 
@@ -13,7 +14,7 @@ ahead-ahead-requires c =
     record { s = m.s; core = m.core; trace = m.trace; rows = m.rows; mail = m.mail; stands = stands-at m.s m.core m.trace m.rows m.mail (view_of c.args.self.now) m.stands }
 
 pub loop-message-init : goal.loop-message-init
-loop-message-init c = (taking-first (view_of c.args.self.now) c.args.from c.args.until c.args.inbox.now c.args.sent.now.items c.requires.at c.requires.order, c.ahead-ahead.ensures)
+loop-message-init c = (taking-first (view_of c.args.self.now) c.args.from c.args.until c.args.inbox.now c.args.sent.now.items c.requires.at c.requires.order, c.ahead-ahead.ensures.seen, c.ahead-ahead.ensures.known)
 
 pub advance-requires-clause-stands : goal.advance-requires-clause-stands
 advance-requires-clause-stands c =
@@ -53,6 +54,8 @@ loop-message-preserved c =
           at (c.in_ok-advance.ensures {u = tt}).cycle c.receive.ensures,
       seen-same h.s h.core h.trace h.rows h.mail _ (view_of c.advance.new.self) (view_of c.receive.new.self) c.advance.new.ahead.one c.advance.new.ahead.two c.advance.new.ahead.entry
           h.stands (c.receive.ensures h.s h.core h.trace h.rows h.mail h.stands h.now h.due) (c.in_ok-advance.ensures {u = tt}).seen,
+      known-same h.s h.core h.trace h.rows h.mail _ (view_of c.advance.new.self) (view_of c.receive.new.self) c.advance.new.ahead
+          h.stands (c.receive.ensures h.s h.core h.trace h.rows h.mail h.stands h.now h.due) (c.in_ok-advance.ensures {u = tt}).known,
     )
 
 pub advance-requires-2-clause-stands : goal.advance-requires-2-clause-stands
@@ -62,8 +65,11 @@ advance-requires-2-clause-stands c =
 pub advance-requires-2-clause-order : goal.advance-requires-2-clause-order
 advance-requires-2-clause-order c = taking-until (view_of c.args.self.now) c.args.from c.args.until c.args.inbox.now c.loop-message.message-index (view_of c.loop-message.self) c.args.sent.now.items c.loop-message.sent.items c.requires.fit c.loop-message.invariant.0
 
-pub keep-requires : goal.keep-requires
-keep-requires c = (c.in_ok-advance-2.ensures {u = tt}).seen
+pub keep-requires-clause-seen : goal.keep-requires-clause-seen
+keep-requires-clause-seen c = (c.in_ok-advance-2.ensures {u = tt}).seen
+
+pub keep-requires-clause-known : goal.keep-requires-clause-known
+keep-requires-clause-known c = (c.in_ok-advance-2.ensures {u = tt}).known
 
 pub returns : goal.returns
 returns c =

@@ -15,7 +15,7 @@ plain_cycles-requires-clause-stands c = rest-standing (view_of c.args.self.now) 
 pub returns-in-Some-clause-silent : goal.returns-in-Some-clause-silent
 returns-in-Some-clause-silent c =
     plain-silent (view_of c.args.self.now) c.ahead.result.one c.ahead.result.two c.plain_cycles.result c.saturating_add.result c.ahead.result.entry
-    c.ahead.ensures c.plain_cycles.ensures (omega (arith, c.requires.at, c.saturating_add.ensures))
+    c.ahead.ensures.seen c.plain_cycles.ensures (omega (arith, c.requires.at, c.saturating_add.ensures))
 
 pub returns-in-None-clause-silent : goal.returns-in-None-clause-silent
 returns-in-None-clause-silent c s core trace rows mail h =

@@ -7,6 +7,7 @@ use Rattle.statistics.specs.Cores.{core_joined, CoreFits}
 use Rattle.statistics.specs.declared.final_state.Credits.{Credits}
 use Rattle.core_window.specs.CoreViews.{view_of}
 use Rattle.core_window.specs.Turns.{cycle_counts}
+use Rattle.core_window.proofs.Foreseeing.{issued-placed}
 use Rattle.core_window.proofs.Stepping.{step-fits, step-advances}
 use Rattle.core_window.proofs.Turning.{like-self}
 use Rattle.core_window.proofs.core_unit.Core.step.Goals as goal
@@ -33,8 +34,11 @@ returns-clause-advances c =
       waiting = c.in_ok-wait_for.ensures {u = tt};
       channels = ap length kept ∙ c.spend.auto.credits ∙ ap length c.deref_mut.ensures.value;
       credits = λ channel x e. ap (λ (cs : List Credits). slice_get cs channel) kept
-          ∙ c.spend.ensures channel x (ap (λ (cs : List Credits). slice_get cs channel) c.deref_mut.ensures.value ∙ e);
+          ∙ c.spend.ensures c.args.self.now.config (issued-placed c.args.self.now.config c.args.self.now.trace c.args.ahead.now c.args.turn.memory c.requires.known c.requires.entry) channel x (ap (λ (cs : List Credits). slice_get cs channel) c.deref_mut.ensures.value ∙ e);
       stats = c.count_cycle.ensures
           ∙ ap (λ n. core_joined c.args.self.now.stats (cycle_counts c.args.turn.row c.args.turn.why c.args.turn.memory c.args.self.now.stats.retired n c.args.self.now.cycle)) c.len-len.ensures.value;
     })
     (c.in_ok-send.ensures {u = tt})
+
+pub send-requires-clause-placed : goal.send-requires-clause-placed
+send-requires-clause-placed c = issued-placed c.args.self.now.config c.args.self.now.trace c.args.ahead.now c.args.turn.memory c.requires.known c.requires.entry

@@ -17,8 +17,8 @@ use Rattle.core_window.proofs.core_unit.Core.turn_with.Goals.{then-ahead-near, e
 pub overflow_add-gone : goal.overflow_add-gone
 overflow_add-gone c = let h : IsSound (view_of c.args.self.now) = sound _ c.requires.stands in omega arith
 
-pub returns : goal.returns
-returns c v s core trace rows mail i h =
+pub returns-clause-does : goal.returns-clause-does
+returns-clause-does c v s core trace rows mail i h =
     let a = view_of c.args.self.now in
     let one = c.args.ahead.now.one in
     let two = c.args.ahead.now.two in
@@ -33,7 +33,7 @@ returns c v s core trace rows mail i h =
           let inside : one < length a.trace = omega arith in
           w.lacks-is
           ∙ lacks_here s core trace rows mail a v c.args.ahead.now.entry w.is_without_credit-lacks.result i h
-          (λ held says. w.is_without_credit-lacks.ensures held (λ channel b. ap (λ (cs : List Credits). slice_get cs channel) w.deref-then-ahead-near.ensures.value ∙ says channel b))
+          (λ held says. w.is_without_credit-lacks.ensures a.config held c.requires.known.placed (λ channel b. ap (λ (cs : List Credits). slice_get cs channel) w.deref-then-ahead-near.ensures.value ∙ says channel b))
           ∙ ap (lacks_credit a.config core mail (core_messages s core trace rows) (length rows)) (sym (seen.is_at inside))
           ∙ ap lack (sym (lt-ltb one (length a.trace) inside))
       | else-ahead-near w ↦ absurd (omega (arith, w.if-ahead-near.false, c.most_issued-near.ensures, c.from.ensures, c.len-len.ensures.value))
@@ -51,7 +51,7 @@ returns c v s core trace rows mail i h =
     turn-is s core trace rows mail (view_of c.args.self.now) v r one two full
     c.issue_of-issue.result.count c.issue_of-issue.result.why c.entry_issued-memory.result i h
     (record {
-      retired = c.retire_count-retired.ensures ∙ ap (λ (ws : List WaitingRead). min a.config.width (first_undone a.stats.issued ws - a.stats.retired)) c.deref-2.ensures.value;
+      retired = c.retire_count-retired.ensures ∙ ap (λ (ws : List WaitingRead). min a.config.width (first_undone a.stats.issued ws - a.stats.retired)) c.deref.ensures.value;
       ahead = seen.ahead;
       credit = refl;
       last = λ may. subst

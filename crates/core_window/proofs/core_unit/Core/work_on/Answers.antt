@@ -6,7 +6,7 @@ use Rattle.core_window.proofs.Running.{underway-first, underway-more, underway-s
 use Rattle.core_window.proofs.core_unit.Core.work_on.Goals as goal
 
 pub cycles-init : goal.cycles-init
-cycles-init c = (underway-first c.args.until (view_of c.args.self.now) c.args.sent.now.items c.requires.order, c.requires.seen)
+cycles-init c = (underway-first c.args.until (view_of c.args.self.now) c.args.sent.now.items c.requires.order, c.requires.seen, c.requires.known)
 
 pub go_on-requires-clause-stands : goal.go_on-requires-clause-stands
 go_on-requires-clause-stands c = underway-standing c.args.until _ _ _ _ c.cycles.invariant.0 c.requires.stands
@@ -16,6 +16,7 @@ cycles-preserved c = (
   underway-more c.args.until (view_of c.args.self.now) (view_of c.cycles.self) (view_of c.go_on.new.self) c.args.sent.now.items c.cycles.sent.items c.go_on.new.sent.items
       c.cycles.invariant.0 (c.in_ok-go_on.ensures {u = tt}).goes,
   (c.in_ok-go_on.ensures {u = tt}).seen,
+  (c.in_ok-go_on.ensures {u = tt}).known,
 )
 
 pub returns-clause-advances : goal.returns-clause-advances

@@ -1,0 +1,39 @@
+-- What a core keeps of the next two memory entries stays right while it goes on.
+use Rattle.std.proofs.Common.{◌≡◌, ℕ, ◌+◌, ◌<◌, ◌≤◌, List, length, Option, Some, None, sym, subst, ◌∙◌, arith, ⊎_elim}
+use Rattle.std.specs.Prelude.{slice_get}
+use Rattle.std.specs.Option.{IfSome}
+use Rattle.std.proofs.lemmas.Bool.{cases_lt}
+use Rattle.sim_base.specs.declared.config.Config.{Config}
+use Rattle.sim_base.specs.declared.history.CoreRow.{CoreRow}
+use Rattle.sim_base.specs.declared.message.Message.{Message}
+use Rattle.sim_base.specs.declared.trace.Entry.{Entry}
+use Rattle.cpu_trace.specs.declared.entries.MemoryEntry.{MemoryEntry}
+use Rattle.core_window.specs.Ahead.{IsPlaced, IsKnown}
+use Rattle.core_window.specs.Inside.{StandsAt}
+use Rattle.core_window.specs.Turns.{IsNextOrEnd, IsSeen}
+use Rattle.core_window.specs.Views.{CoreView}
+use Rattle.core_window.specs.declared.issue.Ahead.{Ahead}
+
+-- the next two memory entries, by what is known of each
+pub seen_from : (trace : List Entry) (from one two : ℕ) (entry : Entry) → IsNextOrEnd trace from one → (one < length trace → IsNextOrEnd trace (one + 1) two) → (length trace ≤ one → two ≡ length trace)
+    → (one < length trace → slice_get trace one ≡ Some entry) → IsSeen trace from one two entry
+seen_from trace from one two entry first second none at = record { ahead = record { first = first; second = second; none = none }; is_at = at }
+
+-- the second is the next from any number on between the two
+pub second_next : (trace : List Entry) (from number one two : ℕ) (entry : Entry) → IsSeen trace from one two entry → one < number → number ≤ two → IsNextOrEnd trace number two
+second_next trace from number one two entry seen behind before =
+    let inside : one < length trace = ⊎_elim (λ l. l) (λ g. let e = seen.ahead.none g in absurd (omega (arith, g, e))) (cases_lt one (length trace)) in
+    let second = seen.ahead.second inside in
+    record { is_from = before; is_within = second.is_within; is_plain_before = λ k l b. second.is_plain_before k (omega arith) b; is_read_or_write = second.is_read_or_write }
+
+-- a core keeps its configuration and its trace
+pub known-same : (s : Config) (core : ℕ) (trace : List Entry) (rows : List CoreRow) (mail more : List Message) (a b : CoreView) (ahead : Ahead)
+    → StandsAt s core trace rows mail a → StandsAt s core trace rows more b → IsKnown a.config a.trace ahead → IsKnown b.config b.trace ahead
+known-same s core trace rows mail more a b ahead h k known =
+    subst (λ x. IsKnown x b.trace ahead) (h.config ∙ sym k.config) (subst (λ t. IsKnown a.config t ahead) (h.entries ∙ sym k.entries) known)
+
+-- the memory entry that issues is the first ahead
+pub issued-placed : (s : Config) (trace : List Entry) (ahead : Ahead) (memory : Option MemoryEntry) → IsKnown s trace ahead → IfSome memory (λ e. e.entry ≡ ahead.entry)
+    → IfSome memory (λ e. IsPlaced s e.entry ahead.place)
+issued-placed s trace ahead None known same = tt
+issued-placed s trace ahead (Some e) known same = subst (λ x. IsPlaced s x ahead.place) (sym same) known.placed
