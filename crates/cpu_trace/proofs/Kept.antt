@@ -8,7 +8,7 @@ use Rattle.sim_base.specs.declared.fault.Fault.TheVariants.{TraceLine, TraceTooL
 use Rattle.sim_base.specs.declared.fault.LineCause.{LineCause}
 use Rattle.sim_base.specs.declared.trace.Entry.{Entry}
 use Rattle.sim_base.specs.TraceText.{◌>>=◌, lines_of, line_entries, BadLine, in_line, entries_of_lines, trace_entries, in_trace, limited, trace_answer}
-use Rattle.cpu_trace.specs.Reading.{kept, appended, kept_of}
+use Rattle.cpu_trace.specs.Reading.{kept, appended, kept_of, kept_from}
 
 pub kept-short : (entries : List Entry) → length entries ≤ 2 ^ 62 → kept entries ≡ Some entries
 unfolding kept
@@ -56,11 +56,6 @@ trace_answer-long core text so_far e none = trace_answer-kept core text ∙ ap (
 pub trace_answer-bad : (core : ℕ) (text : List ℕ) (line : ℕ) (cause : LineCause) → kept_of (lines_of text) ≡ Err (record { line = line; cause = cause }) → trace_answer core text ≡ Err (TraceLine core line cause)
 trace_answer-bad core text line cause e = trace_answer-kept core text ∙ ap (answer_by core) e
 
--- what is kept from a line on, after what was kept so far
-unfoldable pub kept_from : Option (List Entry) → ℕ → List (List ℕ) → Result (Option (List Entry)) BadLine
-kept_from so_far number [] = Ok so_far
-kept_from so_far number (line ∷ lines) = in_line number (line_entries line) >>= λ entries. kept_from (appended so_far entries) (number + 1) lines
-
 -- what is kept of lines, after these entries
 abbrev kept_after : List Entry → Result (List Entry) BadLine → Result (Option (List Entry)) BadLine
 kept_after entries rest = rest >>= λ more. Ok (kept (entries ++ more))
@@ -84,31 +79,6 @@ kept_from-is entries number (line ∷ lines) =
 pub kept_from-first : (lines : List (List ℕ)) → kept_of lines ≡ kept_from (Some []) 1 lines
 unfolding kept_of
 kept_from-first lines = sym (ap (λ so_far. kept_from so_far 1 lines) (sym (kept-short [] (omega arith))) ∙ kept_from-is [] 1 lines)
-
--- the lines from a place on begin with the line there
-lines_from : (so_far : Option (List Entry)) (lines : List (List ℕ)) (n : ℕ) (line : List ℕ) → n < length lines → line ≡ get_or lines n line → kept_from so_far (n + 1) (drop n lines) ≡ kept_from so_far (n + 1) (line ∷ drop (n + 1) lines)
-lines_from so_far lines n line lt e =
-    ap (kept_from so_far (n + 1)) (drop_more lines n line lt ∙ ap (λ l. l ∷ drop (n + 1) lines) (sym e))
-
--- one line on
-pub kept_from-good : (so_far after : Option (List Entry)) (lines : List (List ℕ)) (n : ℕ) (line : List ℕ) (entries : List Entry) → n < length lines → line ≡ get_or lines n line → line_entries line ≡ Ok entries → after ≡ appended so_far entries → kept_from so_far (n + 1) (drop n lines) ≡ kept_from after (n + 1 + 1) (drop (n + 1) lines)
-unfolding kept_from
-kept_from-good so_far after lines n line entries lt e good more =
-    lines_from so_far lines n line lt e
-    ∙ ap (λ r. in_line (n + 1) r >>= λ es. kept_from (appended so_far es) (n + 1 + 1) (drop (n + 1) lines)) good
-    ∙ ap (λ o. kept_from o (n + 1 + 1) (drop (n + 1) lines)) (sym more)
-
--- a bad line decides
-pub kept_from-bad : (so_far : Option (List Entry)) (lines : List (List ℕ)) (n : ℕ) (line : List ℕ) (cause : LineCause) → n < length lines → line ≡ get_or lines n line → line_entries line ≡ Err cause → kept_from so_far (n + 1) (drop n lines) ≡ Err (record { line = n + 1; cause = cause })
-unfolding kept_from
-kept_from-bad so_far lines n line cause lt e bad =
-    lines_from so_far lines n line lt e
-    ∙ ap (λ r. in_line (n + 1) r >>= λ es. kept_from (appended so_far es) (n + 1 + 1) (drop (n + 1) lines)) bad
-
--- after the last line
-pub kept_from-end : (so_far : Option (List Entry)) (lines : List (List ℕ)) (n : ℕ) → n ≡ length lines → kept_from so_far (n + 1) (drop n lines) ≡ Ok so_far
-unfolding kept_from
-kept_from-end so_far lines n e = ap (kept_from so_far (n + 1)) (drop_all n lines (omega (arith, e)))
 
 -- a trace that is not too long has the entries of its text
 limited-cases : (b : Bool) (core : ℕ) (all entries : List Entry) → leb (length all) (2 ^ 62) ≡ b → limited core all ≡ Ok entries → all ≡ entries

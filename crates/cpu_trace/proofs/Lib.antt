@@ -4,9 +4,10 @@ pub mod GrammarLemmas
 pub mod Growth
 pub mod Joining
 pub mod Kept
-pub mod LineTurns
 pub mod Meaning
 pub mod Numbers
 pub mod Refusals
 pub mod Spelling
 pub mod Tokens
+pub mod Turns
+pub mod UsualLines

@@ -48,18 +48,18 @@ token-of_line token number (inr h) =
     let by_mark = λ (m : List ℕ) (e : h.mark ≡ m). h.parts ∙ ap (λ mark. mark ++ h.digits) e in
     elim h.is_mark [ inl e ↦ rw (by_mark (codes "0x") e) digits | inr e ↦ rw (by_mark (codes "0X") e) digits ]
 
-joined-of_line : (line numbers : List ℕ) → JoinsNumbers line numbers → AreOfLine line
+pub joined-of_line : (line numbers : List ℕ) → JoinsNumbers line numbers → AreOfLine line
 joined-of_line line [] h = gap-of_line line h
 joined-of_line line (number ∷ numbers) h =
     let token = token-of_line h.1.token number h.1.is_number in
     let rest = joined-of_line h.0 numbers h.2 in
     rw h.1.parts (join-of_line h.1.gap (h.1.token ++ h.0) (gap-of_line h.1.gap h.1.is_gap) (join-of_line h.1.token h.0 token rest))
 
-false_from_not : (b : Bool) → not b ≡ true → b ≡ false
+pub false_from_not : (b : Bool) → not b ≡ true → b ≡ false
 false_from_not true h = absurd (false≢true h)
 false_from_not false h = refl
 
-no_line_feed : (line : List ℕ) → AreOfLine line → All (λ byte. is_line_feed byte ≡ false) line
+pub no_line_feed : (line : List ℕ) → AreOfLine line → All (λ byte. is_line_feed byte ≡ false) line
 no_line_feed line h k d lt = false_from_not (is_line_feed (get_or line k d)) (AllPass-from_list_all is_of_line line h k d lt)
 
 -- lines that are joined are the lines of the text

@@ -5,3 +5,4 @@ pub mod Lines
 pub mod Reading
 pub mod Pieces
 pub mod Marks
+pub mod Usual

@@ -2,16 +2,18 @@
 --     kept entries      the entries, where they are not too many
 --     appended so_far more, joined so_far more      what is kept with some more, or with what is kept of others
 --     kept_of lines      what is kept of the entries of lines, or their first bad line
+--     kept_from so_far number lines      the same after what was kept so far, where the first line has this number
+--     IsReadUpTo text before count rest after      so many lines of a text are read, and then what is left of it
 --     IsReadingOf lines reading, IsUnreadOf lines unread      what is read of lines, and why they are not read
 --     IsRead lines result      either of these
 --     told_behind before unread      why lines behind so many others are not read
 --     fault_of core unread      the fault of a core's trace whose lines are not read
 --     line_told unread, lines_told result      how many lines there are at least
-use Rattle.std.specs.Prelude.{◌≡◌, ⊤, ℕ, ◌+◌, ◌^◌, nat_le, List, ◌++◌, length, Option, Some, None, option_and_then, Result, Ok, Err, MatchResult, if◌then◌else◌}
+use Rattle.std.specs.Prelude.{◌≡◌, ⊤, ℕ, ◌+◌, ◌^◌, ◌≤◌, nat_le, List, [], ◌∷◌, ◌++◌, length, Option, Some, None, option_and_then, Result, Ok, Err, MatchResult, if◌then◌else◌}
 use Rattle.sim_base.specs.declared.fault.Fault.{Fault}
 use Rattle.sim_base.specs.declared.fault.Fault.TheVariants as fault
 use Rattle.sim_base.specs.declared.trace.Entry.{Entry}
-use Rattle.sim_base.specs.TraceText.{◌>>=◌, BadLine, entries_of_lines}
+use Rattle.sim_base.specs.TraceText.{◌>>=◌, BadLine, in_line, line_entries, lines_of, entries_of_lines}
 use Rattle.cpu_trace.specs.declared.reading.Reading.{Reading}
 use Rattle.cpu_trace.specs.declared.reading.Unread.{Unread}
 use Rattle.cpu_trace.specs.declared.reading.Unread.TheVariants as unread
@@ -31,6 +33,17 @@ joined so_far more = option_and_then (appended so_far) more
 -- what is kept of the entries of lines, or their first bad line
 unfoldable pub kept_of : List (List ℕ) → Result (Option (List Entry)) BadLine
 kept_of lines = entries_of_lines 1 lines >>= λ entries. Ok (kept entries)
+
+-- what is kept from a line on, after what was kept so far
+unfoldable pub kept_from : Option (List Entry) → ℕ → List (List ℕ) → Result (Option (List Entry)) BadLine
+kept_from so_far number [] = Ok so_far
+kept_from so_far number (line ∷ lines) = in_line number (line_entries line) >>= λ entries. kept_from (appended so_far entries) (number + 1) lines
+
+-- So many lines at the start of a text are read, and then what is left of it: what is kept before them and after them.
+pub record IsReadUpTo (text : List ℕ) (before : Option (List Entry)) (count : ℕ) (rest : List ℕ) (after : Option (List Entry)) : Type 0 where
+  pub counted : length (lines_of text) ≡ count + length (lines_of rest)
+  pub is_kept : (number : ℕ) → kept_from before number (lines_of text) ≡ kept_from after (number + count) (lines_of rest)
+  pub shorter : count + length rest ≤ length text
 
 -- what is read of lines: how many they are, and what is kept of their entries
 pub record IsReadingOf (lines : List (List ℕ)) (reading : Reading) : Type 0 where

@@ -12,3 +12,4 @@ pub mod reader;
 mod reading;
 mod stored;
 pub mod trace;
+mod usual;

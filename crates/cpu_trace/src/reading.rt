@@ -63,8 +63,8 @@ impl Unread {
     }
 }
 
-// Whether the entries of a line may follow others.
-fn has_room(entries: &Entries, line: Option<Line>) -> bool
+/// Whether the entries of a line may follow others.
+pub(crate) fn has_room(entries: &Entries, line: Option<Line>) -> bool
     ensures { IsTrue result ↔ (length entries.now + length (entries_in line) ≤ 2 ^ 62) }
 {
     let Some(line) = line else {
@@ -74,8 +74,8 @@ fn has_room(entries: &Entries, line: Option<Line>) -> bool
     line.plain <= MOST_ENTRIES && entries.len() + line.plain + more <= MOST_ENTRIES
 }
 
-// Adds the entries of a line.
-fn add_line(entries: &mut Entries, line: Option<Line>) -> Result<(), AllocError>
+/// Adds the entries of a line.
+pub(crate) fn add_line(entries: &mut Entries, line: Option<Line>) -> Result<(), AllocError>
     requires { length entries.old + length (entries_in line) ≤ 2 ^ 62 }
     ensures { OnOk result (entries.new ≡ entries.old ++ entries_in line) }
 {

@@ -1,0 +1,79 @@
+//! Lines of the usual form, which are read in one pass: two numbers or three, a space between them, and a line feed. A
+//! number has at most 19 decimal digits, or at most 16 hexadecimal ones behind `0x`, so that it fits 64 bits.
+
+ghost use Rattle.std.specs.Prelude.{◌≡◌, ◌^◌, ◌<◌, ◌≤◌, ◌∷◌, length, IfSome};
+ghost use Rattle.cpu_trace.specs.Usual.{BeginsWithDigits, BeginsWithToken, BeginsWithLine};
+
+use crate::line::Line;
+
+// The number that the digits at the start of a text write, of which no more than so many are read, and what stands
+// behind them; none where there is no digit. It is inlined, so that each radix has a loop of its own.
+#[inline(always)]
+fn split_digits(radix: u32, most: usize, text: &[u8]) -> Option<(u64, &[u8])>
+    requires lower { 2 ≤ radix }
+    requires upper { radix ≤ 36 }
+    requires room { radix ^ most ≤ 2 ^ 64 }
+    ensures { IfSome result (λ parts. BeginsWithDigits radix text.now parts.0 parts.1.now) }
+{
+    let end = text.len().min(most);
+    let mut number = 0;
+    let mut len = 0;
+    while len < end {
+        let Some(digit) = char::from(text[len]).to_digit(radix) else {
+            break;
+        };
+        number = number * u64::from(radix) + u64::from(digit);
+        len += 1;
+    }
+    if len == 0 {
+        return None;
+    }
+    Some((number, &text[len..]))
+}
+
+// What stands behind a byte at the start of a text.
+#[inline(always)]
+fn behind(byte: u8, text: &[u8]) -> Option<&[u8]>
+    ensures { IfSome result (λ rest. text.now ≡ byte ∷ rest.now) }
+{
+    let (first, rest) = text.split_first()?;
+    if *first == byte { Some(rest) } else { None }
+}
+
+// What stands behind `0x` at the start of a text.
+#[inline(always)]
+fn behind_mark(text: &[u8]) -> Option<&[u8]>
+    ensures { IfSome result (λ rest. text.now ≡ 48 ∷ 120 ∷ rest.now) }
+{
+    behind(b'x', behind(b'0', text)?)
+}
+
+// The number that the token at the start of a text writes, and what stands behind it.
+#[inline(always)]
+fn split_number(text: &[u8]) -> Option<(u64, &[u8])>
+    ensures { IfSome result (λ parts. BeginsWithToken text.now parts.0 parts.1.now) }
+{
+    match behind_mark(text) {
+        Some(digits) => split_digits(16, 16, digits),
+        None => split_digits(10, 19, text),
+    }
+}
+
+/// The numbers of the line at the start of a text, and what stands behind its line feed; none where the line has not the
+/// usual form.
+#[inline(always)]
+pub(crate) fn split_usual_line(text: &[u8]) -> Option<(Line, &[u8])>
+    ensures line { IfSome result (λ parts. BeginsWithLine text.now parts.0 parts.1.now) }
+    ensures shorter { IfSome result (λ parts. length parts.1.now < length text.now) }
+{
+    let (plain, rest) = split_number(text)?;
+    let (read, rest) = split_number(behind(b' ', rest)?)?;
+    if let Some(rest) = behind(b'\n', rest) {
+        let write = None;
+        return Some((Line { plain, read, write }, rest));
+    }
+    let (write, rest) = split_number(behind(b' ', rest)?)?;
+    let rest = behind(b'\n', rest)?;
+    let write = Some(write);
+    Some((Line { plain, read, write }, rest))
+}
