@@ -74,6 +74,13 @@ module _ (from until n : ℕ) (rings : List (List Message)) (s : by_age (get_or 
         ap (λ z. set z (n + 1) (filter (arrives_outside from until) (get_or rings (n + 1) []))) (sym (ap (set rings n) none.1 ∙ set_unchanged n rings)),
       )
 
+-- what stands in the second ring, after the first is replaced
+pub items_behind : (n : ℕ) (a e : Buffer Message) (rings : List (Buffer Message)) → n + 1 < length rings → e ≡ get_or (set rings n a) (n + 1) e → get_or (contents rings) (n + 1) [] ≡ e.items
+items_behind n a e rings l at =
+    sym (get_or-set_other (contents rings) n (n + 1) a.items [] (λ f. absurd (omega arith)))
+    ∙ ap (λ z. get_or z (n + 1) []) (sym (taken_out n a.items a rings refl))
+    ∙ items_at (n + 1) e (set rings n a) (omega (arith, length-set rings n a)) at
+
 -- what is left of both rings
 pub left_of_both : (n : ℕ) (p : Message → Bool) (d e a b : Buffer Message) (rings : List (Buffer Message)) → n + 1 < length rings → d ≡ get_or rings n d → a.items ≡ filter p d.items
     → e ≡ get_or (set rings n a) (n + 1) e → b.items ≡ filter p e.items
@@ -81,10 +88,7 @@ pub left_of_both : (n : ℕ) (p : Message → Bool) (d e a b : Buffer Message) (
 left_of_both n p d e a b rings l at left at_second second =
     let once : contents (set rings n a) ≡ set (contents rings) n (filter p (get_or (contents rings) n [])) =
     taken_out n _ a rings (left ∙ ap (filter p) (sym (items_at n d rings (omega arith) at))) in
-    let other : e.items ≡ get_or (contents rings) (n + 1) [] =
-    sym (items_at (n + 1) e (set rings n a) (omega (arith, length-set rings n a)) at_second)
-    ∙ ap (λ z. get_or z (n + 1) []) once
-    ∙ get_or-set_other (contents rings) n (n + 1) _ [] (λ f. absurd (omega arith)) in
+    let other : e.items ≡ get_or (contents rings) (n + 1) [] = sym (items_behind n a e rings l at_second) in
     taken_out (n + 1) _ b (set rings n a) (second ∙ ap (filter p) other) ∙ ap (λ z. set z (n + 1) (filter p (get_or (contents rings) (n + 1) []))) once
 
 -- the first of both rings

@@ -5,4 +5,5 @@ pub mod Both
 pub mod Room
 pub mod Next
 pub mod Merging
+pub mod Heads
 pub mod Shortest

@@ -55,7 +55,7 @@ by_age-merge xs ys =
     ∙ puts-puts (puts [] xs) [] ys tt
     ∙ sym (by_age-puts (xs ++ ys) ∙ puts-append [] xs ys)
 
-one_less : (d : Message) (i : ℕ) (xs : List Message) → i < length xs → drop i xs ≡ get_or xs i d ∷ drop (i + 1) xs
+pub one_less : (d : Message) (i : ℕ) (xs : List Message) → i < length xs → drop i xs ≡ get_or xs i d ∷ drop (i + 1) xs
 one_less d i [] l = absurd (omega arith)
 one_less d zero (x ∷ xs) l = refl
 one_less d (suc i) (x ∷ xs) l = let e : suc i + 1 ≡ suc (i + 1) = omega arith in one_less d i xs (omega arith) ∙ ap (λ k. get_or xs i d ∷ drop k (x ∷ xs)) (sym e)
@@ -70,7 +70,7 @@ pub record Merges (i j : ℕ) (xs ys done : List Message) : Type 0 where
 pub Merges-start : (xs ys : List Message) → by_age ys ≡ ys → Merges 0 0 xs ys []
 Merges-start xs ys h = record { first_within = omega arith; second_within = omega arith; merged = refl; in_order = h }
 
-append_one : (x : Message) (done rest all : List Message) → done ++ (x ∷ rest) ≡ all → (done ++ x ∷ []) ++ rest ≡ all
+pub append_one : (x : Message) (done rest all : List Message) → done ++ (x ∷ rest) ≡ all → (done ++ x ∷ []) ++ rest ≡ all
 append_one x done rest all h = append_assoc done (x ∷ []) rest ∙ h
 
 pub Merges-second : (i j : ℕ) (d e : Message) (xs ys done : List Message) → i < length xs → j < length ys → Merges i j xs ys done → is_before (get_or ys j e) (get_or xs i d) ≡ true
@@ -109,7 +109,7 @@ Merges-first i j d e xs ys done l k h b =
       in_order = h.in_order;
     }
 
-drop_past : (i : ℕ) (xs : List Message) → length xs ≤ i → drop i xs ≡ []
+pub drop_past : (i : ℕ) (xs : List Message) → length xs ≤ i → drop i xs ≡ []
 drop_past zero [] l = refl
 drop_past (suc i) [] l = refl
 drop_past zero (x ∷ xs) l = absurd (omega arith)

@@ -1,5 +1,5 @@
 -- The steps of the loops over one ring.
-use Rattle.std.proofs.Common.{ℕ, suc, zero, ◌+◌, ◌-◌, ◌<◌, ◌≤◌, ◌≡◌, Bool, true, false, not, ltb, cond, get_or, set, length, take, drop, List, [], ◌∷◌, ◌++◌, append_assoc, Some, None, refl, sym, ap, ap₂, ◌∙◌, subst, arith}
+use Rattle.std.proofs.Common.{ℕ, suc, zero, ◌+◌, ◌-◌, ◌<◌, ◌≤◌, ◌≡◌, Bool, true, false, not, ltb, cond, get_or, set, length, take, drop, List, [], ◌∷◌, ◌++◌, append_assoc, Some, None, refl, sym, ap, ◌∙◌, subst, arith}
 use Rattle.std.specs.Prelude.{filter, insert, slice_get}
 use Rattle.std.specs.Option.{option_map, option_map_or}
 use Rattle.std.specs.List.{take_while, AllByRecursion as Each}
@@ -111,46 +111,11 @@ placed_last m xs s h =
     last_not_younger m q xs (omega arith) (subst (λ i. option_map_or (is_before m) (slice_get xs i) false ≡ false) e h))
 
 -- ---- the head of a list
-head_true : (p : Message → Bool) (x : Message) (xs : List Message) → p x ≡ true → take_while p (x ∷ xs) ≡ x ∷ take_while p xs
+pub head_true : (p : Message → Bool) (x : Message) (xs : List Message) → p x ≡ true → take_while p (x ∷ xs) ≡ x ∷ take_while p xs
 head_true p x xs e = take_while-cons p x xs ∙ cond-true _ _ _ e
 
-head_false : (p : Message → Bool) (x : Message) (xs : List Message) → p x ≡ false → take_while p (x ∷ xs) ≡ []
+pub head_false : (p : Message → Bool) (x : Message) (xs : List Message) → p x ≡ false → take_while p (x ∷ xs) ≡ []
 head_false p x xs e = take_while-cons p x xs ∙ cond-false _ _ _ e
-
--- a list whose first messages are due, up to one that is not
-pub split_head : (p : Message → Bool) (xs ys zs : List Message) → xs ++ ys ≡ zs → Each (λ m. p m ≡ true) xs → option_map_or p (slice_get ys 0) false ≡ false
-    → (xs ≡ take_while p zs) × (ys ≡ drop (length (take_while p zs)) zs)
-split_head p xs ys zs e h k = (sym (head xs ys h k) ∙ ap (take_while p) e, sym (rest xs) ∙ ap₂ (λ ms z. drop (length ms) z) (sym (head xs ys h k) ∙ ap (take_while p) e) e)
-  where
-    head : (xs ys : List Message) → Each (λ m. p m ≡ true) xs → option_map_or p (slice_get ys 0) false ≡ false → take_while p (xs ++ ys) ≡ xs
-    head [] [] h k = refl
-    head [] (y ∷ ys) h k = head_false p y ys k
-    head (x ∷ xs) ys h k = head_true p x (xs ++ ys) h.0 ∙ ap (λ z. x ∷ z) (head xs ys h.1 k)
-
-    rest : (xs : List Message) → drop (length xs) (xs ++ ys) ≡ ys
-    rest [] = refl
-    rest (x ∷ xs) = rest xs
-
--- the message at a place is not due, if there is one
-not_due_at : (until i : ℕ) (zs : List Message) → ((d : Message) → i < length zs → until ≤ (get_or zs i d).arrival) → option_map_or (λ m. ltb m.arrival until) (slice_get (drop i zs) 0) false ≡ false
-not_due_at until zero [] h = refl
-not_due_at until (suc i) [] h = refl
-not_due_at until zero (z ∷ zs) h = too_late z.arrival until (h z (omega arith))
-  where
-    too_late : (a b : ℕ) → b ≤ a → ltb a b ≡ false
-    too_late a b l = grind (arith, nat_tests)
-not_due_at until (suc i) (z ∷ zs) h = not_due_at until i zs (λ d l. h d (omega arith))
-
--- the messages up to a place are the head of a list
-pub head_up_to : (until i : ℕ) (zs : List Message) → i ≤ length zs → Each (λ (m : Message). ltb m.arrival until ≡ true) (take i zs)
-    → ((d : Message) → i < length zs → until ≤ (get_or zs i d).arrival) → take i zs ≡ take_while (λ m. ltb m.arrival until) zs
-head_up_to until i zs l h k = (split_head (λ m. ltb m.arrival until) (take i zs) (drop i zs) zs (take_drop i zs) h (not_due_at until i zs k)).0
-  where
-    take_drop : (i : ℕ) (zs : List Message) → take i zs ++ drop i zs ≡ zs
-    take_drop zero [] = refl
-    take_drop (suc i) [] = refl
-    take_drop zero (z ∷ zs) = refl
-    take_drop (suc i) (z ∷ zs) = ap (λ y. z ∷ y) (take_drop i zs)
 
 -- ---- taking messages out
 not_sooner : (m y : Message) → is_before y m ≡ false → m.arrival ≤ y.arrival

@@ -8,7 +8,10 @@ ghost use Rattle.links.specs.InFlight.{receiver_of, arrives_within, is_due};
 ghost use Rattle.links.specs.Rings.{ring_of, ring_if_any, contents, joined, ring_at, sooner_of, lesser_of, arrives_outside, AreRings, HasRoom, HaveRoom, Grows};
 
 use crate::merge::{merged, messages_of};
-use crate::rings::{Ring, copy_due, drop_within, first_arrival, make_room, put_by_age, take_due};
+use crate::rings::{
+    Ring, copy_both_before, copy_due, drop_first, drop_within, first_arrival, make_room,
+    put_by_age, take_due,
+};
 use circular_buffer::HeapCircularBuffer;
 use sim_base::config::Config;
 use sim_base::message::{Cycle, Inbox, LinkId, Message, Unit};
@@ -204,8 +207,8 @@ fn is_first_before(rings: &[Ring], number: usize, until: Cycle) -> bool
     first_arrival_in(rings, number).is_some_and(|arrival: Cycle| arrival < until)
 }
 
-/// Takes what arrives within a span out of two rings that stand one behind the other, into an empty list, by age; of two messages of one
-/// age the one of the first ring goes first. Where memory is refused, the rings stay as they were.
+/// Takes what arrives within a span out of two rings that stand one behind the other, into an empty list, by age, where a
+/// message may arrive before the span. Where memory is refused, the rings stay as they were.
 #[cold]
 #[inline(never)]
 fn take_merged(
@@ -235,6 +238,33 @@ fn take_merged(
     Ok(())
 }
 
+/// Takes what arrives before a cycle out of two rings that stand one behind the other, into an empty list, by age, where nothing arrives
+/// before the span. Where memory is refused, the rings stay as they were.
+fn take_heads(
+    rings: &mut Vec<Ring>,
+    number: usize,
+    from: Cycle,
+    until: Cycle,
+    inbox: &mut Vec<Message>,
+) -> Result<(), AllocError>
+    requires small { number + 1 < 2 ^ 64 }
+    requires exist { number + 1 < length rings.old.items }
+    requires empty { inbox.old.items ≡ [] }
+    requires first { by_age (ring_at (contents rings.old.items) number) ≡ ring_at (contents rings.old.items) number }
+    requires second { by_age (ring_at (contents rings.old.items) (number + 1)) ≡ ring_at (contents rings.old.items) (number + 1) }
+    requires first_in_time { option_map_or (λ m. nat_lt m.arrival from) (slice_get (ring_at (contents rings.old.items) number) 0) false ≡ false }
+    requires second_in_time { option_map_or (λ m. nat_lt m.arrival from) (slice_get (ring_at (contents rings.old.items) (number + 1)) 0) false ≡ false }
+    ensures taken { OnOk result (inbox.new.items ≡ fold insert_by_age (filter (arrives_within from until) (ring_at (contents rings.old.items) number)) (filter (arrives_within from until) (ring_at (contents rings.old.items) (number + 1)))) }
+    ensures rest { OnOk result (contents rings.new.items ≡ slice_set (slice_set (contents rings.old.items) number (filter (arrives_outside from until) (ring_at (contents rings.old.items) number))) (number + 1) (filter (arrives_outside from until) (ring_at (contents rings.old.items) (number + 1)))) }
+    ensures err { OnErr result (contents rings.new.items ≡ contents rings.old.items) }
+{
+    inbox.reserve(rings[number].len() + rings[number + 1].len())?;
+    let (first, second) = copy_both_before(&rings[number], &rings[number + 1], until, inbox);
+    drop_first(&mut rings[number], first);
+    drop_first(&mut rings[number + 1], second);
+    Ok(())
+}
+
 /// Takes what arrives within a span out of two rings that stand one behind the other, into an empty list, by age. Where memory is
 /// refused, the rings stay as they were.
 fn take_from_both(
@@ -259,7 +289,10 @@ fn take_from_both(
     if !is_first_before(rings, number, until) {
         return take_from(rings, number + 1, from, until, inbox);
     }
-    take_merged(alloc, rings, number, from, until, inbox)
+    if is_first_before(rings, number, from) || is_first_before(rings, number + 1, from) {
+        return take_merged(alloc, rings, number, from, until, inbox);
+    }
+    take_heads(rings, number, from, until, inbox)
 }
 
 /// When the first message in a ring arrives; none, where there is no such ring.

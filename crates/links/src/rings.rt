@@ -1,6 +1,6 @@
 //! Rings of messages, each by age.
 
-ghost use Rattle.std.specs.Prelude.{◌≡◌, ◌+◌, ◌<◌, ◌≤◌, [], ◌++◌, length, take, take_while, drop, filter, slice_get, slice_index_or, slice_set, nat_lt, ◌-◌, ◌^◌, true, false, IfSome, IsNone, OnOk, OnErr, ◌∷◌, vec_len, vec_capacity};
+ghost use Rattle.std.specs.Prelude.{◌≡◌, ◌+◌, ◌<◌, ◌≤◌, [], ◌++◌, length, fold, take, take_while, drop, filter, slice_get, slice_index_or, slice_set, nat_lt, ◌-◌, ◌^◌, true, false, IfSome, IsNone, OnOk, OnErr, ◌∷◌, vec_len, vec_capacity};
 ghost use Rattle.std.specs.Option.{option_map, option_map_or};
 ghost use Rattle.sim_base.specs.History.{is_before, insert_by_age, by_age};
 ghost use Rattle.sim_base.specs.declared.message.Message.{Message};
@@ -212,20 +212,30 @@ fn append(list: &mut Vec<Message>, message: &Message)
     }
 }
 
-/// Copies the messages at the head of a ring that arrive before a cycle into an empty list, which has room for all of the ring, and
-/// says how many they are.
-fn copy_before(ring: &Ring, until: Cycle, inbox: &mut Vec<Message>) -> usize
-    requires empty { inbox.old.items ≡ [] }
-    requires room { vec_len inbox.old + length ring.now.items ≤ vec_capacity inbox.old }
+/// Copies the messages of a ring from a place on that arrive before a cycle to the end of a list, which has room for all of them, and
+/// says how many arrive before it in all.
+fn copy_before(ring: &Ring, start: usize, until: Cycle, inbox: &mut Vec<Message>) -> usize
+    requires within { start ≤ length (take_while (λ m. nat_lt m.arrival until) ring.now.items) }
+    requires room { vec_len inbox.old + (length ring.now.items - start) ≤ vec_capacity inbox.old }
     ensures count { result ≡ length (take_while (λ m. nat_lt m.arrival until) ring.now.items) }
-    ensures copied { inbox.new.items ≡ take_while (λ m. nat_lt m.arrival until) ring.now.items }
+    ensures copied { inbox.new.items ≡ inbox.old.items ++ drop start (take_while (λ m. nat_lt m.arrival until) ring.now.items) }
+    ensures len { vec_len inbox.new + start ≤ vec_len inbox.old + length ring.now.items }
+    ensures capacity { vec_capacity inbox.old ≤ vec_capacity inbox.new }
 {
-    let mut place = 0;
+    let mut place = start;
     while let Some(message) = arrived_at(ring, place, until) {
         append(inbox, message);
         place += 1;
     }
     place
+}
+
+/// Takes out the first messages.
+pub fn drop_first(ring: &mut Ring, count: usize)
+    requires { count ≤ length ring.old.items }
+    ensures items { ring.new.items ≡ drop count ring.old.items }
+{
+    ring.truncate_front(ring.len() - count);
 }
 
 /// Takes out the messages at the head of a ring that arrive before a cycle, into an empty list. Where memory is refused, the ring
@@ -237,9 +247,39 @@ fn take_before(ring: &mut Ring, until: Cycle, inbox: &mut Vec<Message>) -> Resul
     ensures err { OnErr result (ring.new.items ≡ ring.old.items) }
 {
     inbox.reserve(ring.len())?;
-    let count = copy_before(ring, until, inbox);
-    ring.truncate_front(ring.len() - count);
+    let count = copy_before(ring, 0, until, inbox);
+    drop_first(ring, count);
     Ok(())
+}
+
+/// Copies the messages at the heads of two rings that arrive before a cycle into an empty list, which has room for both rings, by age,
+/// and says how many they are of each ring.
+pub fn copy_both_before(
+    first: &Ring,
+    second: &Ring,
+    until: Cycle,
+    inbox: &mut Vec<Message>,
+) -> (usize, usize)
+    requires empty { inbox.old.items ≡ [] }
+    requires room { vec_len inbox.old + (length first.now.items + length second.now.items) ≤ vec_capacity inbox.old }
+    requires in_order { by_age second.now.items ≡ second.now.items }
+    ensures first { result.0 ≡ length (take_while (λ m. nat_lt m.arrival until) first.now.items) }
+    ensures second { result.1 ≡ length (take_while (λ m. nat_lt m.arrival until) second.now.items) }
+    ensures copied { inbox.new.items ≡ fold insert_by_age (take_while (λ m. nat_lt m.arrival until) first.now.items) (take_while (λ m. nat_lt m.arrival until) second.now.items) }
+{
+    let (mut i, mut j) = (0, 0);
+    while let (Some(a), Some(b)) = (arrived_at(first, i, until), arrived_at(second, j, until)) {
+        if is_older(b, a) {
+            append(inbox, b);
+            j += 1;
+        } else {
+            append(inbox, a);
+            i += 1;
+        }
+    }
+    let of_first = copy_before(first, i, until, inbox);
+    let of_second = copy_before(second, j, until, inbox);
+    (of_first, of_second)
 }
 
 /// Takes out what arrives within a span, into an empty list. Where memory is refused, the ring stays as it was.

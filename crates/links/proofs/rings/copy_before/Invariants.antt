@@ -1,15 +1,15 @@
-use Rattle.std.proofs.Common.{◌≡◌, ◌+◌, ◌-◌, ◌≤◌, true, ltb, length, take}
+use Rattle.std.proofs.Common.{◌≡◌, ◌+◌, ◌-◌, ◌≤◌, ◌++◌, length, drop}
 use Rattle.std.specs.Prelude.{vec_len, vec_capacity}
-use Rattle.std.specs.List.{AllByRecursion as Each}
-use Rattle.sim_base.specs.declared.message.Message.{Message}
+use Rattle.links.proofs.Heads.{head_of}
 use Rattle.links.proofs.rings.copy_before.Given as goal
 
 abbrev pub invariant-loop-message : goal.invariant-loop-message
 invariant-loop-message l = record {
-  within : l.place ≤ length l.ring.items;
-  copied : l.inbox.items ≡ take l.place l.ring.items;
-  before : Each (λ (m : Message). ltb m.arrival l.until ≡ true) (take l.place l.ring.items);
+  within : l.place ≤ length (head_of l.until l.ring.items);
+  copied : l.inbox.items ++ drop l.place (head_of l.until l.ring.items) ≡ l.initial.inbox.items ++ drop l.start (head_of l.until l.ring.items);
   room : vec_len l.inbox + (length l.ring.items - l.place) ≤ vec_capacity l.inbox;
+  len : vec_len l.inbox + l.start ≤ vec_len l.initial.inbox + l.place;
+  capacity : vec_capacity l.initial.inbox ≤ vec_capacity l.inbox;
 }
 
 abbrev pub decreases-loop-message : goal.decreases-loop-message

@@ -1,0 +1,142 @@
+-- The heads of lists by age, up to a cycle.
+use Rattle.std.proofs.Common.{ℕ, suc, zero, ◌+◌, ◌<◌, ◌≤◌, ◌≡◌, Bool, true, false, ◌&&◌, ltb, get_or, length, drop, List, [], ◌∷◌, ◌++◌, append-nil, refl, sym, ap, ap₂, ◌∙◌, subst, inl, inr, ◌⊎◌, arith}
+use Rattle.std.specs.Prelude.{filter, fold}
+use Rattle.std.specs.List.{take_while, AllByRecursion as Each}
+use Rattle.std.proofs.lemmas.Bool.{lt-ltb}
+use Rattle.std.proofs.lemmas.Bool.Decides.{nat_tests}
+use Rattle.sim_base.specs.History.{is_before, insert_by_age, by_age}
+use Rattle.sim_base.specs.declared.message.Message.{Message}
+use Rattle.sim_base.proofs.Ordered.{Sorted}
+use Rattle.links.specs.InFlight.{arrives_within}
+use Rattle.links.specs.Rings.{arrives_outside}
+use Rattle.links.proofs.Ages.{in_order-Sorted, by_age-same}
+use Rattle.links.proofs.Both.{is_first_before}
+use Rattle.links.proofs.Merging.{Merges, Merges-second, Merges-first, Merges-end, one_less, append_one, drop_past}
+use Rattle.links.proofs.Steps.{head_true, head_false, head_due}
+
+-- what stands before the first message that does not arrive before a cycle
+abbrev pub head_of : ℕ → List Message → List Message
+head_of until ms = take_while (λ m. ltb m.arrival until) ms
+
+too_late : (a b : ℕ) → b ≤ a → ltb a b ≡ false
+too_late a b l = grind (arith, nat_tests)
+
+in_time : (a b : ℕ) → ltb a b ≡ false → b ≤ a
+in_time a b e = grind (arith, nat_tests)
+
+pub length_head : (until : ℕ) (zs : List Message) → length (head_of until zs) ≤ length zs
+length_head until [] = omega arith
+length_head until (z ∷ zs) = by (ltb z.arrival until) refl (length_head until zs)
+  where
+    by : (b : Bool) → ltb z.arrival until ≡ b → length (head_of until zs) ≤ length zs → length (head_of until (z ∷ zs)) ≤ length (z ∷ zs)
+    by true e rest = rw (head_true (λ m. ltb m.arrival until) z zs e) (omega (arith, rest))
+    by false e rest = rw (head_false (λ m. ltb m.arrival until) z zs e) (omega arith)
+
+-- a message of the list that arrives before the cycle stands in the head, where all before it do
+pub at_head : (until i : ℕ) (zs : List Message) (d : Message) → i ≤ length (head_of until zs) → i < length zs → ltb (get_or zs i d).arrival until ≡ true
+    → (i < length (head_of until zs)) × (get_or (head_of until zs) i d ≡ get_or zs i d)
+at_head until i [] d l k h = absurd (omega arith)
+at_head until zero (z ∷ zs) d l k h = rw (head_true (λ m. ltb m.arrival until) z zs h) (omega arith, refl)
+at_head until (suc i) (z ∷ zs) d l k h = by (ltb z.arrival until) refl (at_head until i zs d)
+  where
+    by : (b : Bool) → ltb z.arrival until ≡ b
+        → (i ≤ length (head_of until zs) → i < length zs → ltb (get_or zs i d).arrival until ≡ true → (i < length (head_of until zs)) × (get_or (head_of until zs) i d ≡ get_or zs i d))
+        → (suc i < length (head_of until (z ∷ zs))) × (get_or (head_of until (z ∷ zs)) (suc i) d ≡ get_or zs i d)
+    by true e rest =
+        let long = ap length (head_true (λ m. ltb m.arrival until) z zs e) in
+        let at = rest (omega (arith, l, long)) (omega (arith, k)) h in
+        rw (head_true (λ m. ltb m.arrival until) z zs e) (omega (arith, at.0), at.1)
+    by false e rest = absurd (omega (arith, l, ap length (head_false (λ m. ltb m.arrival until) z zs e)))
+
+-- the head ends before the first message that does not
+pub head_ends : (until i : ℕ) (zs : List Message) → i ≤ length (head_of until zs) → ((d : Message) → i < length zs → until ≤ (get_or zs i d).arrival) → i ≡ length (head_of until zs)
+head_ends until i [] l h = omega (arith, l)
+head_ends until zero (z ∷ zs) l h = rw (head_false (λ m. ltb m.arrival until) z zs (too_late z.arrival until (h z (omega arith)))) refl
+head_ends until (suc i) (z ∷ zs) l h = by (ltb z.arrival until) refl (λ k. head_ends until i zs k (λ d j. h d (omega (arith, j))))
+  where
+    by : (b : Bool) → ltb z.arrival until ≡ b → (i ≤ length (head_of until zs) → i ≡ length (head_of until zs)) → suc i ≡ length (head_of until (z ∷ zs))
+    by true e rest =
+        let long = ap length (head_true (λ m. ltb m.arrival until) z zs e) in
+        omega (arith, rest (omega (arith, l, long)), long)
+    by false e rest = absurd (omega (arith, l, ap length (head_false (λ m. ltb m.arrival until) z zs e)))
+
+Each-head : (P : Message → Type 0) (until : ℕ) (zs : List Message) → Each P zs → Each P (head_of until zs)
+Each-head P until [] h = tt
+Each-head P until (z ∷ zs) h = by (ltb z.arrival until) refl (Each-head P until zs h.1)
+  where
+    by : (b : Bool) → ltb z.arrival until ≡ b → Each P (head_of until zs) → Each P (head_of until (z ∷ zs))
+    by true e rest = rw (head_true (λ m. ltb m.arrival until) z zs e) (h.0, rest)
+    by false e rest = rw (head_false (λ m. ltb m.arrival until) z zs e) tt
+
+Sorted-head : (until : ℕ) (zs : List Message) → Sorted zs → Sorted (head_of until zs)
+Sorted-head until [] h = tt
+Sorted-head until (z ∷ zs) h = by (ltb z.arrival until) refl (Sorted-head until zs h.1)
+  where
+    by : (b : Bool) → ltb z.arrival until ≡ b → Sorted (head_of until zs) → Sorted (head_of until (z ∷ zs))
+    by true e rest = rw (head_true (λ m. ltb m.arrival until) z zs e) (Each-head (λ (y : Message). is_before y z ≡ false) until zs h.0, rest)
+    by false e rest = rw (head_false (λ m. ltb m.arrival until) z zs e) tt
+
+pub head_in_order : (until : ℕ) (zs : List Message) → by_age zs ≡ zs → by_age (head_of until zs) ≡ head_of until zs
+head_in_order until zs h = by_age-same (head_of until zs) (Sorted-head until zs (in_order-Sorted zs h))
+
+-- ---- the loops
+-- the message at a place of a list arrives before a cycle
+abbrev IsThere : ℕ → ℕ → List Message → Message → Type 0
+IsThere until i zs m = (i < length zs) × (get_or zs i m ≡ m) × (m.arrival < until)
+
+pub found : (until i : ℕ) (zs : List Message) (m : Message) → i ≤ length (head_of until zs) → IsThere until i zs m → (i < length (head_of until zs)) × (get_or (head_of until zs) i m ≡ m)
+found until i zs m l h =
+    let at = at_head until i zs m l h.0 (ap (λ (x : Message). ltb x.arrival until) h.1 ∙ lt-ltb m.arrival until h.2) in
+    (at.0, at.1 ∙ h.1)
+
+pub one_copied : (until i : ℕ) (zs : List Message) (m : Message) (done all : List Message) → i ≤ length (head_of until zs) → IsThere until i zs m → done ++ drop i (head_of until zs) ≡ all
+    → (i + 1 ≤ length (head_of until zs)) × ((done ++ m ∷ []) ++ drop (i + 1) (head_of until zs) ≡ all)
+one_copied until i zs m done all l h k =
+    let at = found until i zs m l h in (
+      omega (arith, at.0),
+      append_one m done (drop (i + 1) (head_of until zs)) all
+          (ap (λ x. done ++ x) (sym (one_less m i (head_of until zs) at.0 ∙ ap (λ x. x ∷ drop (i + 1) (head_of until zs)) at.1)) ∙ k),
+    )
+
+pub all_copied : (until i : ℕ) (zs done all : List Message) → i ≡ length (head_of until zs) → done ++ drop i (head_of until zs) ≡ all → done ≡ all
+all_copied until i zs done all e h =
+    sym (ap (λ x. done ++ x) (drop_past i (head_of until zs) (omega (arith, e))) ∙ append-nil done) ∙ h
+
+pub merged_second : (until i j : ℕ) (xs ys : List Message) (a b : Message) (done : List Message) → IsThere until i xs a → IsThere until j ys b → is_before b a ≡ true
+    → Merges i j (head_of until xs) (head_of until ys) done → Merges i (j + 1) (head_of until xs) (head_of until ys) (done ++ b ∷ [])
+merged_second until i j xs ys a b done h k o m =
+    let at = found until i xs a m.first_within h in
+    let of = found until j ys b m.second_within k in
+    subst (λ x. Merges i (j + 1) (head_of until xs) (head_of until ys) (done ++ x ∷ [])) of.1
+    (Merges-second i j a b (head_of until xs) (head_of until ys) done at.0 of.0 m (ap₂ is_before of.1 at.1 ∙ o))
+
+pub merged_first : (until i j : ℕ) (xs ys : List Message) (a b : Message) (done : List Message) → IsThere until i xs a → IsThere until j ys b → is_before b a ≡ false
+    → Merges i j (head_of until xs) (head_of until ys) done → Merges (i + 1) j (head_of until xs) (head_of until ys) (done ++ a ∷ [])
+merged_first until i j xs ys a b done h k o m =
+    let at = found until i xs a m.first_within h in
+    let of = found until j ys b m.second_within k in
+    subst (λ x. Merges (i + 1) j (head_of until xs) (head_of until ys) (done ++ x ∷ [])) at.1
+    (Merges-first i j a b (head_of until xs) (head_of until ys) done at.0 of.0 m (ap₂ is_before of.1 at.1 ∙ o))
+
+pub merged_all : (i j : ℕ) (xs ys done : List Message) → Merges i j xs ys done → (i ≡ length xs) ⊎ (j ≡ length ys) → (done ++ drop i xs) ++ drop j ys ≡ fold insert_by_age xs ys
+merged_all i j xs ys done m h = Merges-end i j xs ys done m (none_left (length xs) (length ys) h)
+  where
+    none_left : (p q : ℕ) → (i ≡ p) ⊎ (j ≡ q) → (ltb i p && ltb j q) ≡ false
+    none_left p q (inl e) = grind (arith, nat_tests)
+    none_left p q (inr e) = grind (arith, nat_tests)
+
+-- where no message arrives before a span, the head is what arrives within it, and the rest what does not
+pub head_is_due : (from until : ℕ) (ms : List Message) → by_age ms ≡ ms → is_first_before from ms ≡ false
+    → (head_of until ms ≡ filter (arrives_within from until) ms) × (drop (length (head_of until ms)) ms ≡ filter (arrives_outside from until) ms)
+head_is_due from until [] s h = (refl, refl)
+head_is_due from until (m ∷ ms) s h = head_due from until m.arrival (m ∷ ms) s refl (in_time m.arrival from h)
+
+-- what is left of a ring whose head is taken out
+pub left_by_head : (from until k : ℕ) (ms xs ys rest : List Message) → ms ≡ xs → ms ≡ ys → by_age ms ≡ ms → is_first_before from ms ≡ false → k ≡ length (head_of until xs) → rest ≡ drop k ys
+    → rest ≡ filter (arrives_outside from until) ys
+left_by_head from until k ms xs ys rest e f s t h r =
+    r
+    ∙ ap (λ z. drop z ys) (h ∙ ap (λ z. length (head_of until z)) (sym e))
+    ∙ ap (drop (length (head_of until ms))) (sym f)
+    ∙ (head_is_due from until ms s t).1
+    ∙ ap (filter (arrives_outside from until)) f
