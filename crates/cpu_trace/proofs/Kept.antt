@@ -1,7 +1,7 @@
 -- What a reader keeps, line by line.
-use Rattle.std.proofs.Common.{◌≡◌, ℕ, ◌+◌, ◌^◌, ◌<◌, ◌≤◌, Bool, true, false, leb, List, [], ◌∷◌, ◌++◌, length, get_or, drop, Option, Some, None, Result, Ok, Err, refl, sym, ap, ◌∙◌, arith, append_assoc, length-append}
+use Rattle.std.proofs.Common.{◌≡◌, ℕ, ◌+◌, ◌^◌, ◌<◌, ◌≤◌, Bool, true, false, leb, List, [], ◌∷◌, ◌++◌, length, Option, Some, None, Result, Ok, Err, refl, sym, ap, ◌∙◌, arith, append_assoc, length-append}
 use Rattle.std.proofs.lemmas.Bool.{leb-true, leb-false, le-leb, lt-leb}
-use Rattle.std.proofs.lemmas.List.{append-nil, drop_more, drop_all}
+use Rattle.std.proofs.lemmas.List.{append-nil}
 use Rattle.std.specs.Option.{ok_or}
 use Rattle.sim_base.specs.declared.fault.Fault.{Fault}
 use Rattle.sim_base.specs.declared.fault.Fault.TheVariants.{TraceLine, TraceTooLong}

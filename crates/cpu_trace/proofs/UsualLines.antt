@@ -1,5 +1,5 @@
 -- Texts that begin with a line of the usual form.
-use Rattle.std.proofs.Common.{Option, Bor, ◌≡◌, ℕ, ◌+◌, ◌*◌, ◌^◌, ◌<◌, ◌≤◌, List, [], ◌∷◌, ◌++◌, length, get_or, take, drop, Some, None, Ok, refl, sym, ap, ◌∙◌, arith, append_assoc, length-append, inl, inr, codes}
+use Rattle.std.proofs.Common.{Option, Bor, ◌≡◌, ℕ, ◌+◌, ◌*◌, ◌^◌, ◌<◌, ◌≤◌, List, [], ◌∷◌, ◌++◌, length, get_or, take, Some, None, refl, sym, ap, ◌∙◌, arith, append_assoc, inl, inr, codes}
 use Rattle.std.proofs.lemmas.List.{append-nil, length-take-le}
 use Rattle.std.proofs.lemmas.List.Splits.{slice_split_at}
 use Rattle.std.proofs.lemmas.Int.Digits.{digits_more, digits_value_more, digits_value-lt}
@@ -7,9 +7,8 @@ use Rattle.std.proofs.Math.Nat.{pow-le-pow_right}
 use Rattle.std.specs.Char.{digit_value}
 use Rattle.std.specs.Option.{IfSome}
 use Rattle.std.specs.Str.Parse.{AllDigits, digits_value}
-use Rattle.sim_base.specs.TraceGrammar.{AreDigitsOf, WritesNumber, JoinsNumbers, StandsForLine}
+use Rattle.sim_base.specs.TraceGrammar.{WritesNumber, JoinsNumbers}
 use Rattle.sim_base.specs.TraceText.{is_line_feed, lines_of}
-use Rattle.cpu_trace.specs.declared.line.Line.{Line}
 use Rattle.cpu_trace.specs.Usual.{BeginsWithDigits, BeginsWithToken, BeginsWithLine}
 use Rattle.cpu_trace.proofs.GrammarLemmas.{line_entries-meant}
 use Rattle.cpu_trace.proofs.Meaning.{no_line_feed, joined-of_line}

@@ -1,6 +1,5 @@
-use Rattle.std.proofs.Common.{◌≡◌, ◌+◌, ◌^◌, ◌≤◌, ◌++◌, length, length-append, Some, sym, ap, ◌∙◌, arith}
+use Rattle.std.proofs.Common.{◌^◌, ◌≤◌, ◌++◌, length, length-append, Some, sym, ap, ◌∙◌, arith}
 use Rattle.cpu_trace.specs.Lines.{entries_of}
-use Rattle.cpu_trace.specs.Reading.{appended}
 use Rattle.cpu_trace.proofs.Kept.{kept-short}
 use Rattle.cpu_trace.proofs.Turns.{IsReadUpTo-line}
 use Rattle.cpu_trace.proofs.piece.add_usual_lines.Goals as goal
