@@ -1,7 +1,7 @@
 //! Configurations that are read or refused, and why.
 
+use config_reader::read_config;
 use fixtures::small::SMALL;
-use sim_base::document::read_config;
 use sim_base::fault::Fault;
 use sim_base::place::Field;
 use sim_base::timing::Timing;

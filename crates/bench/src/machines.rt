@@ -1,8 +1,8 @@
 //! Machines of DDR4-2400.
 
 use anyhow::Result;
+use config_reader::read_config;
 use sim_base::config::Config;
-use sim_base::document::read_config;
 use std::alloc::Global;
 
 /// What they share: devices of 8 Gb with 8 data pins, the times of their commands, and the latencies of links.

@@ -11,6 +11,3 @@ pub mod Spans
 pub mod Ordered
 pub mod Grows
 pub mod SameValues
-pub mod TableViews
-pub mod LinkTests
-pub mod DocumentTexts

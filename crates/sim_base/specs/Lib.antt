@@ -4,7 +4,6 @@ pub mod Fields
 pub mod Relations
 pub mod Config
 pub mod Values
-pub mod Document
 pub mod Places
 pub mod Row
 pub mod History

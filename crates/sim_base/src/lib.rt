@@ -3,7 +3,6 @@
 
 pub mod command;
 pub mod config;
-pub mod document;
 pub mod fault;
 pub mod history;
 pub mod job;

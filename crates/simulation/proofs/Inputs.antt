@@ -3,7 +3,7 @@ use Rattle.std.proofs.Common.{◌≡◌, ℕ, ◌≤◌, Bool, true, false, eqb,
 use Rattle.std.proofs.lemmas.Bool.Decides.{nat_tests}
 use Rattle.sim_base.specs.declared.fault.Fault.{Fault}
 use Rattle.sim_base.specs.declared.fault.Fault.TheVariants.{TraceCount, Workers, Cycles}
-use Rattle.sim_base.specs.Document.{document_of}
+use Rattle.config_reader.specs.Document.{document_of}
 use Rattle.sim_base.specs.Values.{Values}
 use Rattle.sim_base.specs.TraceText.{◌>>=◌}
 use Rattle.std.proofs.Common.{arith}

@@ -7,7 +7,7 @@ use Rattle.sim_base.specs.declared.config.Config.{Config}
 use Rattle.sim_base.specs.declared.fault.Fault.{Fault}
 use Rattle.sim_base.specs.declared.fault.Fault.TheVariants.{TraceTooLong}
 use Rattle.sim_base.specs.declared.trace.Entry.{Entry}
-use Rattle.sim_base.specs.Document.{document_of}
+use Rattle.config_reader.specs.Document.{document_of}
 use Rattle.sim_base.specs.Values.{values_of}
 use Rattle.sim_base.specs.TraceText.{◌>>=◌, trace_answer, in_trace, trace_entries, limited}
 use Rattle.sim_base.specs.Machine.{run, is_over, cycles_run}

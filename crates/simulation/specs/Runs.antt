@@ -9,7 +9,7 @@ use Rattle.sim_base.specs.declared.config.Config.{Config}
 use Rattle.sim_base.specs.declared.fault.Fault.{Fault}
 use Rattle.sim_base.specs.declared.fault.Fault.TheVariants.{TraceCount, Workers, Cycles}
 use Rattle.sim_base.specs.declared.trace.Entry.{Entry}
-use Rattle.sim_base.specs.Document.{document_of}
+use Rattle.config_reader.specs.Document.{document_of}
 use Rattle.sim_base.specs.Values.{values_of}
 use Rattle.sim_base.specs.TraceText.{◌>>=◌, trace_answer}
 use Rattle.sim_base.specs.Machine.{cycles_run}

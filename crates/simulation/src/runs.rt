@@ -1,15 +1,15 @@
 //! A run of the simulator, from the bytes of its input.
 
 ghost use Rattle.std.specs.Prelude.{◌≡◌, ◌≢◌, ◌≤◌, ◌^◌, ◌==◌, ◌&&◌, nat_le, length, vec_len, map, Ok, Err, IfOk, IfErr};
-ghost use Rattle.sim_base.specs.Document.{document_of};
+ghost use Rattle.config_reader.specs.Document.{document_of};
 ghost use Rattle.sim_base.specs.Values.{values_of};
 ghost use Rattle.simulation.specs.Runs.{unless, limits_of, traces_of, input_of, IsRunOf, IsJudgedLegal};
 
+use config_reader::read_config;
 use cpu_trace::reader::read_trace;
 use cpu_trace::trace::Trace;
 use one_clock::machine::run_plain;
 use sim_base::config::Config;
-use sim_base::document::read_config;
 use sim_base::fault::Fault;
 use sim_base::message::{CoreId, Cycle};
 use statistics::outcome::Outcome;

@@ -4,13 +4,13 @@ mod alone;
 mod rows;
 
 use crate::units::Units;
+use config_reader::read_config;
 use cpu_trace::trace::Trace;
 use fixtures::generated::made_up;
 use fixtures::random::Random;
 use fixtures::texts::traces_of;
 use one_clock::machine::run_plain;
 use sim_base::config::Config;
-use sim_base::document::read_config;
 use sim_base::message::{Message, Unit};
 use statistics::outcome::Outcome;
 use std::alloc::Global;

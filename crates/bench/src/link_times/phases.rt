@@ -2,8 +2,8 @@
 
 use crate::clock::nanoseconds_since;
 use anyhow::Result;
+use config_reader::read_config;
 use links::flight::Links;
-use sim_base::document::read_config;
 use sim_base::message::{Cycle, LinkId, Load, Message, Unit};
 use std::alloc::{AllocError, Global};
 use std::rt::Clock;

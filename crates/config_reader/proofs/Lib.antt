@@ -1,0 +1,3 @@
+pub mod TableViews
+pub mod LinkTests
+pub mod DocumentTexts

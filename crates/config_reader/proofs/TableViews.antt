@@ -1,0 +1,29 @@
+-- Tests over the entries of a table, and over the values of an array, beside those over what they stand for.
+use Rattle.std.proofs.Common.{◌≡◌, ◌&&◌, length, suc, List, [], ◌∷◌, ◌++◌, Result, Ok, Err, refl, ap, string_bytes}
+use Rattle.std.specs.List.{list_all}
+use Rattle.std.specs.Map.{keys_of}
+use Rattle.std.specs.Prelude.{is_some}
+use Rattle.toml.specs.View.{view, items_view, members_view}
+use Rattle.toml.specs.Data.{as_str}
+use Rattle.toml.specs.declared.value.Value.{Value}
+use Rattle.toml.proofs.Views.{Entry}
+use Rattle.sim_base.specs.declared.fault.Fault.{Fault}
+use Rattle.config_reader.specs.Document.Fields.{are_texts}
+use Rattle.config_reader.specs.Document.Keys.{is_known, keys_are_known, count_of}
+
+pub keys_are_known-view : (es : List Entry) → list_all (λ k. is_known (string_bytes k)) (keys_of es) ≡ keys_are_known (members_view es)
+keys_are_known-view [] = refl
+keys_are_known-view (e ∷ es) = ap (λ b. is_known (string_bytes e.0) && b) (keys_are_known-view es)
+
+pub count_of-view : (es : List Entry) → count_of (members_view es) ≡ length es
+count_of-view [] = refl
+count_of-view (e ∷ es) = ap suc (count_of-view es)
+
+pub are_texts-view : (vs : List Value) → list_all (λ v. is_some (as_str (view v))) vs ≡ are_texts (items_view vs)
+are_texts-view [] = refl
+are_texts-view (v ∷ vs) = ap (λ b. is_some (as_str (view v)) && b) (are_texts-view vs)
+
+-- what a loop has read so far, and then what it reads of the rest
+abbrev pub prepend : {T : Type 0} → List T → Result (List T) Fault → Result (List T) Fault
+prepend xs (Ok ys) = Ok (xs ++ ys)
+prepend xs (Err e) = Err e

@@ -1,0 +1,115 @@
+-- The numbers of a document, key by key.
+--     machine_of, memory_of, core_of, latencies_of, timing_of, drain_of      groups of keys that stand one after the other
+--     end_of      whether the run ends as soon as all is done
+use Rattle.std.specs.Prelude.{ℕ, List, Bool, true, false, if◌then◌else◌, codes, Option, Some, None, Result, Ok, Err}
+use Rattle.std.specs.Str.{bytes_eq}
+use Rattle.toml.specs.Data.{Data, Members, as_str}
+use Rattle.config_reader.specs.declared.numbers.MachineSize.{MachineSize}
+use Rattle.config_reader.specs.declared.numbers.MemoryShape.{MemoryShape}
+use Rattle.config_reader.specs.declared.numbers.CoreLimits.{CoreLimits}
+use Rattle.config_reader.specs.declared.numbers.Latencies.{Latencies}
+use Rattle.config_reader.specs.declared.numbers.Drain.{Drain}
+use Rattle.sim_base.specs.declared.fault.Fault.{Fault}
+use Rattle.sim_base.specs.declared.fault.Fault.TheVariants.{ConfigKey, ConfigRange}
+use Rattle.sim_base.specs.declared.key.Key.TheVariants as key
+use Rattle.sim_base.specs.declared.timing.Timing.{Timing}
+use Rattle.config_reader.specs.Document.Keys.{◌>>=◌, data_at, number_of, number_or, power_of, power_or}
+
+-- how many cores and channels there are
+unfoldable pub machine_of : Members → Result MachineSize Fault
+machine_of ms = do
+  cores ← number_of ms key.Cores 1 256
+  channels ← power_of ms key.Channels 1 16
+  Ok (record { cores = cores; channels = channels })
+
+-- the ranks, groups, columns and rows of a channel's memory; one rank where the key is left out
+unfoldable pub memory_of : Members → Result MemoryShape Fault
+memory_of ms = do
+  groups ← power_of ms key.Groups 2 4
+  ranks ← power_or 1 ms key.Ranks 1 4
+  columns ← power_of ms key.Columns 1 1024
+  rows ← power_of ms key.Rows 1 262144
+  Ok (record { ranks = ranks; groups = groups; columns = columns; rows = rows })
+
+-- what a core may hold and do at once
+unfoldable pub core_of : Members → Result CoreLimits Fault
+core_of ms = do
+  window ← number_of ms key.Window 1 4096
+  width ← number_of ms key.Width 1 16
+  read_credits ← number_of ms key.ReadCredits 1 64
+  write_credits ← number_of ms key.WriteCredits 1 64
+  Ok (record { window = window; width = width; read_credits = read_credits; write_credits = write_credits })
+
+-- the latency of each kind of link
+unfoldable pub latencies_of : Members → Result Latencies Fault
+latencies_of ms = do
+  request ← number_of ms key.RequestLatency 1 1000000
+  reply ← number_of ms key.ReplyLatency 1 1000000
+  credit ← number_of ms key.CreditLatency 1 1000000
+  Ok (record { request = request; reply = reply; credit = credit })
+
+-- the distances between commands; no turn between ranks where its key is left out
+unfoldable pub timing_of : Members → Result Timing Fault
+timing_of ms = do
+  n_rcd ← number_of ms key.NRcd 1 100000
+  n_rp ← number_of ms key.NRp 1 100000
+  n_ras ← number_of ms key.NRas 1 100000
+  n_rc ← number_of ms key.NRc 1 100000
+  n_cl ← number_of ms key.NCl 1 100000
+  n_cwl ← number_of ms key.NCwl 1 100000
+  n_ccd_s ← number_of ms key.NCcdS 1 100000
+  n_ccd_l ← number_of ms key.NCcdL 1 100000
+  n_rrd_s ← number_of ms key.NRrdS 1 100000
+  n_rrd_l ← number_of ms key.NRrdL 1 100000
+  n_faw ← number_of ms key.NFaw 1 100000
+  n_rtp ← number_of ms key.NRtp 1 100000
+  n_wr ← number_of ms key.NWr 1 100000
+  n_wtr_s ← number_of ms key.NWtrS 1 100000
+  n_wtr_l ← number_of ms key.NWtrL 1 100000
+  n_rtw ← number_of ms key.NRtw 1 100000
+  n_rfc ← number_of ms key.NRfc 1 100000
+  n_rtrs ← number_or 0 ms key.NRtrs 0 100000
+  n_refi ← number_of ms key.NRefi 0 100000
+  Ok (record {
+    n_rcd = n_rcd;
+    n_rp = n_rp;
+    n_ras = n_ras;
+    n_rc = n_rc;
+    n_cl = n_cl;
+    n_cwl = n_cwl;
+    n_ccd_s = n_ccd_s;
+    n_ccd_l = n_ccd_l;
+    n_rrd_s = n_rrd_s;
+    n_rrd_l = n_rrd_l;
+    n_faw = n_faw;
+    n_rtp = n_rtp;
+    n_wr = n_wr;
+    n_wtr_s = n_wtr_s;
+    n_wtr_l = n_wtr_l;
+    n_rtw = n_rtw;
+    n_rfc = n_rfc;
+    n_rtrs = n_rtrs;
+    n_refi = n_refi;
+  })
+
+-- where a drain begins and ends; there is none where the keys are left out
+unfoldable pub drain_of : Members → Result Drain Fault
+drain_of ms = do
+  write_high ← number_or 0 ms key.WriteHigh 0 8192
+  write_low ← number_or 0 ms key.WriteLow 0 8192
+  Ok (record { write_high = write_high; write_low = write_low })
+
+-- the word for the run's end
+abbrev pub end_named : Option (List ℕ) → Result Bool Fault
+end_named None = Err (ConfigKey key.End)
+end_named (Some word) =
+    if bytes_eq word (codes "limit") then Ok false else
+    if bytes_eq word (codes "drained") then Ok true else Err (ConfigRange key.End)
+
+abbrev pub end_from : Option Data → Result Bool Fault
+end_from None = Ok false
+end_from (Some d) = end_named (as_str d)
+
+-- whether the run ends as soon as all is done: `drained`; it ends at the limit alone by `limit`, and where the key is left out
+unfoldable pub end_of : Members → Result Bool Fault
+end_of ms = end_from (data_at ms key.End)

@@ -1,0 +1,196 @@
+//! One key of a document's table.
+
+ghost use Rattle.std.specs.Prelude.{◌≡◌, ◌≤◌, IfOk, IsTrue, option_map, string_bytes};
+ghost use Rattle.std.specs.BTreeMap.{keys};
+ghost use Rattle.std.specs.Int.{is_power_of_two};
+ghost use Rattle.std.specs.List.{list_all};
+ghost use Rattle.toml.specs.View.{view, table_view};
+ghost use Rattle.sim_base.specs.Ranges.{Within};
+ghost use Rattle.config_reader.specs.Document.Keys.{data_at, integer_at, in_range, number_of, number_or, as_power, power_of, power_or, is_known, keys_are_known, known_of, count_of};
+
+use sim_base::fault::Fault;
+use sim_base::key::Key;
+use toml::{Table, Value};
+
+/// What stands at a key.
+pub(super) fn value_at(table: &Table, key: Key) -> Option<&Value>
+    ensures { option_map (λ v. view v.now) result ≡ data_at (table_view table.now) key }
+{
+    table.get(key.name())
+}
+
+/// The integer at a key, if the key holds one.
+pub(super) fn integer_at(table: &Table, key: Key) -> Option<i64>
+    ensures { result ≡ integer_at (table_view table.now) key }
+{
+    match value_at(table, key) {
+        Some(value) => value.as_integer(),
+        None => None,
+    }
+}
+
+/// A value that has to be an integer between two bounds.
+pub(super) fn in_range(key: Key, low: u32, high: u32, value: Option<i64>) -> Result<u32, Fault>
+    ensures value { result ≡ in_range key low high value }
+    ensures range { IfOk result (Within low high) }
+{
+    match value {
+        Some(n) => match u32::try_from(n) {
+            Ok(n) if low <= n && n <= high => Ok(n),
+            _ => Err(Fault::ConfigRange(key)),
+        },
+        None => Err(Fault::ConfigKey(key)),
+    }
+}
+
+/// The number at a key, which has to be there.
+#[tactic(auto, unfolding(crate::specs::Document::Keys::number_of))]
+pub(super) fn number_at(table: &Table, key: Key, low: u32, high: u32) -> Result<u32, Fault>
+    ensures value { result ≡ number_of (table_view table.now) key low high }
+    ensures range { IfOk result (Within low high) }
+{
+    in_range(key, low, high, integer_at(table, key))
+}
+
+/// The number at a key that may be left out.
+#[tactic(auto, unfolding(crate::specs::Document::Keys::number_or))]
+pub(super) fn number_or(
+    default: u32,
+    table: &Table,
+    key: Key,
+    low: u32,
+    high: u32,
+) -> Result<u32, Fault>
+    requires low { low ≤ default }
+    requires high { default ≤ high }
+    ensures value { result ≡ number_or default (table_view table.now) key low high }
+    ensures range { IfOk result (Within low high) }
+{
+    match value_at(table, key) {
+        Some(value) => in_range(key, low, high, value.as_integer()),
+        None => Ok(default),
+    }
+}
+
+/// A number that has to be a power of two.
+fn as_power(key: Key, n: u32) -> Result<u32, Fault>
+    ensures value { result ≡ as_power key n }
+    ensures same { IfOk result (λ m. m ≡ n) }
+    ensures power { IfOk result (λ m. IsTrue (is_power_of_two m)) }
+{
+    if n.is_power_of_two() {
+        Ok(n)
+    } else {
+        Err(Fault::ConfigRange(key))
+    }
+}
+
+/// The power of two at a key, which has to be there.
+#[tactic(auto, unfolding(crate::specs::Document::Keys::power_of))]
+pub(super) fn power_at(table: &Table, key: Key, low: u32, high: u32) -> Result<u32, Fault>
+    ensures value { result ≡ power_of (table_view table.now) key low high }
+    ensures range { IfOk result (Within low high) }
+    ensures power { IfOk result (λ n. IsTrue (is_power_of_two n)) }
+{
+    as_power(key, number_at(table, key, low, high)?)
+}
+
+/// The power of two at a key that may be left out.
+#[tactic(auto, unfolding(crate::specs::Document::Keys::power_or))]
+pub(super) fn power_or(
+    default: u32,
+    table: &Table,
+    key: Key,
+    low: u32,
+    high: u32,
+) -> Result<u32, Fault>
+    requires low { low ≤ default }
+    requires high { default ≤ high }
+    ensures value { result ≡ power_or default (table_view table.now) key low high }
+    ensures range { IfOk result (Within low high) }
+    ensures power { IfOk result (λ n. IsTrue (is_power_of_two n)) }
+{
+    as_power(key, number_or(default, table, key, low, high)?)
+}
+
+/// The keys that a document may have.
+const KNOWN_KEYS: [Key; 37] = [
+    Key::Cores,
+    Key::Channels,
+    Key::Groups,
+    Key::Ranks,
+    Key::Columns,
+    Key::Rows,
+    Key::Fields,
+    Key::Window,
+    Key::Width,
+    Key::ReadCredits,
+    Key::WriteCredits,
+    Key::RequestLatency,
+    Key::ReplyLatency,
+    Key::CreditLatency,
+    Key::NRcd,
+    Key::NRp,
+    Key::NRas,
+    Key::NRc,
+    Key::NCl,
+    Key::NCwl,
+    Key::NCcdS,
+    Key::NCcdL,
+    Key::NRrdS,
+    Key::NRrdL,
+    Key::NFaw,
+    Key::NRtp,
+    Key::NWr,
+    Key::NWtrS,
+    Key::NWtrL,
+    Key::NRtw,
+    Key::NRfc,
+    Key::NRtrs,
+    Key::NRefi,
+    Key::WriteHigh,
+    Key::WriteLow,
+    Key::End,
+    Key::Link,
+];
+
+/// Whether a document may have a key of this name.
+#[tactic(auto, unfolding(crate::specs::Document::Keys::is_known))]
+fn is_known(name: &str) -> bool
+    ensures { result ≡ is_known name.now }
+{
+    KNOWN_KEYS.iter().any(|key| key.name() == name)
+}
+
+/// Whether a document may have each key of the table's map.
+fn are_known(table: &Table) -> bool
+    ensures { result ≡ list_all (λ k. is_known (string_bytes k)) (keys table.now) }
+{
+    table.keys().all(|key| is_known(key.as_str()))
+}
+
+/// Whether a document may have each key of the table.
+fn has_known_keys(table: &Table) -> bool
+    ensures { result ≡ keys_are_known (table_view table.now) }
+{
+    are_known(table)
+}
+
+/// Refuses a key that no configuration has.
+#[tactic(auto, unfolding(crate::specs::Document::Keys::known_of))]
+pub(super) fn check_keys(table: &Table) -> Result<(), Fault>
+    ensures { result ≡ known_of (table_view table.now) }
+{
+    if has_known_keys(table) {
+        Ok(())
+    } else {
+        Err(Fault::ConfigKey(Key::Unknown))
+    }
+}
+
+/// How many keys a table has.
+pub(super) fn key_count(table: &Table) -> usize
+    ensures { result ≡ count_of (table_view table.now) }
+{
+    table.len()
+}

@@ -1,0 +1,156 @@
+//! What must hold between the numbers of a document.
+
+ghost use Rattle.std.specs.Prelude.{◌≡◌, ◌↔◌, ◌*◌, ◌≤◌, ◌==◌, ◌<◌, All, IsOk, IsTrue, nat_lt};
+ghost use Rattle.std.specs.List.{list_all, list_any};
+ghost use Rattle.sim_base.specs.Ranges.{MachineInRange, CoreInRange, TimingInRange, DrainInRange, Within};
+ghost use Rattle.sim_base.specs.Relations.{refresh_slack_of, DistancesFit, RefreshFits, CreditsFit, LinksExist, LinksDiffer, RanksHaveField, DrainFits};
+ghost use Rattle.config_reader.specs.Document.Relations.{relation, distances_of, refresh_of, credits_of, links_differ, links_of, ranks_of, drain_fits_of};
+
+use crate::fields::count;
+use crate::numbers::{CoreLimits, Drain, MachineSize};
+use sim_base::fault::Fault;
+use sim_base::overrides::Override;
+use sim_base::place::Field;
+use sim_base::timing::Timing;
+
+/// Refuses by the number of a relation that does not hold.
+fn relation(number: u8, holds: bool) -> Result<(), Fault>
+    ensures { result ≡ relation number holds }
+{
+    if holds {
+        Ok(())
+    } else {
+        Err(Fault::ConfigRelation(number))
+    }
+}
+
+/// Relations 1 to 5.
+#[tactic(auto, unfolding(crate::specs::Document::Relations::distances_of))]
+pub(super) fn check_distances(timing: &Timing) -> Result<(), Fault>
+    requires { TimingInRange timing.now }
+    ensures value { result ≡ distances_of timing.now }
+    ensures fit { IsOk result ↔ DistancesFit timing.now }
+{
+    relation(1, timing.n_rtw + timing.n_cwl >= timing.n_cl + 4)?;
+    relation(2, timing.n_ccd_s >= 4)?;
+    relation(3, timing.n_ccd_l >= timing.n_ccd_s)?;
+    relation(4, timing.n_rrd_l >= timing.n_rrd_s)?;
+    relation(5, timing.n_wtr_l >= timing.n_wtr_s)
+}
+
+/// How late a rank's refresh may be, in cycles.
+fn refresh_slack(timing: &Timing, ranks: u32) -> u32
+    requires timing { TimingInRange timing.now }
+    requires ranks { Within 1 4 ranks }
+    ensures value { result ≡ refresh_slack_of timing.now ranks }
+    ensures small { result ≤ 1000000 }
+{
+    let closing = timing
+        .n_ras
+        .max(timing.n_rtp.max(timing.n_cwl + 4 + timing.n_wr))
+        + timing.n_rp;
+    closing + (ranks - 1) * (timing.n_rp + 1)
+}
+
+/// Relation 6.
+#[tactic(auto, unfolding(crate::specs::Document::Relations::refresh_of))]
+pub(super) fn check_refresh(timing: &Timing, ranks: u32) -> Result<(), Fault>
+    requires timing { TimingInRange timing.now }
+    requires ranks { Within 1 4 ranks }
+    ensures value { result ≡ refresh_of timing.now ranks }
+    ensures fit { IsOk result ↔ RefreshFits timing.now ranks }
+{
+    relation(
+        6,
+        timing.n_refi == 0 || timing.n_refi >= refresh_slack(timing, ranks) + timing.n_rfc + 1,
+    )
+}
+
+/// Relation 7.
+#[tactic(auto, unfolding(crate::specs::Document::Relations::credits_of))]
+pub(super) fn check_credits(cores: u16, core: CoreLimits) -> Result<(), Fault>
+    requires { CoreInRange core.window core.width core.read_credits core.write_credits }
+    ensures value { result ≡ credits_of cores core.read_credits core.write_credits }
+    ensures fit { IsOk result ↔ CreditsFit cores core.read_credits core.write_credits }
+{
+    relation(
+        7,
+        u32::from(cores) * (core.read_credits + core.write_credits) <= 8192,
+    )
+}
+
+/// Whether each override is of a link below a bound.
+#[tactic(auto, using(crate::proofs::LinkTests::links_exist))]
+fn are_below(overrides: &[Override], bound: u64) -> bool
+    ensures value { result ≡ list_all (λ o. nat_lt o.link bound) overrides.now }
+    ensures below { IsTrue result ↔ All (λ o. o.link < bound) overrides.now }
+{
+    overrides.iter().all(|o| o.link < bound)
+}
+
+/// Whether an override is of a link.
+fn has_link(overrides: &[Override], link: u64) -> bool
+    ensures { result ≡ list_any (λ o. o.link == link) overrides.now }
+{
+    overrides.iter().any(|o| o.link == link)
+}
+
+/// Whether each override is of another link than those after it.
+fn differ_from_later(overrides: &[Override]) -> bool
+    ensures { result ≡ links_differ overrides.now }
+{
+    let mut rest = overrides;
+    while let [first, others @ ..] = rest {
+        if has_link(others, first.link) {
+            return false;
+        }
+        rest = others;
+    }
+    true
+}
+
+/// Whether no two overrides are of one link.
+#[tactic(auto, using(crate::proofs::LinkTests::links_apart))]
+fn links_differ(overrides: &[Override]) -> bool
+    ensures value { result ≡ links_differ overrides.now }
+    ensures differ { IsTrue result ↔ LinksDiffer overrides.now }
+{
+    differ_from_later(overrides)
+}
+
+/// Relations 8 and 9.
+#[tactic(auto, unfolding(crate::specs::Document::Relations::links_of))]
+pub(super) fn check_links(machine: MachineSize, overrides: &[Override]) -> Result<(), Fault>
+    requires { MachineInRange machine.cores machine.channels }
+    ensures value { result ≡ links_of machine.cores machine.channels overrides.now }
+    ensures fit { IsOk result ↔ (LinksExist machine.cores machine.channels overrides.now × LinksDiffer overrides.now) }
+{
+    let links = 3 * u64::from(machine.cores) * u64::from(machine.channels);
+    relation(8, are_below(overrides, links))?;
+    relation(9, links_differ(overrides))
+}
+
+/// Relation 10.
+#[tactic(auto, unfolding(crate::specs::Document::Relations::ranks_of))]
+pub(super) fn check_ranks(ranks: u32, fields: &[Field]) -> Result<(), Fault>
+    requires { Within 1 4 ranks }
+    ensures value { result ≡ ranks_of ranks fields.now }
+    ensures have_field { IsOk result ↔ RanksHaveField ranks fields.now }
+{
+    relation(10, ranks == 1 || count(fields, Field::Rank) == 1)
+}
+
+/// Relations 11 and 12.
+#[tactic(auto, unfolding(crate::specs::Document::Relations::drain_fits_of))]
+pub(super) fn check_drain(cores: u16, write_credits: u32, drain: Drain) -> Result<(), Fault>
+    requires credits { Within 1 64 write_credits }
+    requires drain { DrainInRange drain.write_high drain.write_low }
+    ensures value { result ≡ drain_fits_of cores write_credits drain.write_high drain.write_low }
+    ensures fits { IsOk result ↔ DrainFits cores write_credits drain.write_high drain.write_low }
+{
+    relation(
+        11,
+        drain.write_high + drain.write_low == 0 || drain.write_low < drain.write_high,
+    )?;
+    relation(12, drain.write_high <= u32::from(cores) * write_credits)
+}

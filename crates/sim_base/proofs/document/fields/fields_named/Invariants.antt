@@ -1,9 +1,0 @@
-use Rattle.std.proofs.Common.{◌≡◌, drop}
-use Rattle.toml.specs.View.{items_view}
-use Rattle.sim_base.specs.Document.Fields.{fields_named}
-use Rattle.sim_base.proofs.TableViews.{prepend}
-use Rattle.sim_base.proofs.document.fields.fields_named.Given as goal
-
-abbrev pub invariant-loop-value : goal.invariant-loop-value
-invariant-loop-value l =
-    fields_named (items_view l.array.items) ≡ prepend l.fields.items (fields_named (items_view (drop l.value-index l.array.items)))

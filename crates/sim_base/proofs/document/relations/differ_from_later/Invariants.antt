@@ -1,9 +1,0 @@
-use Rattle.std.proofs.Common.{◌≡◌, length}
-use Rattle.sim_base.specs.Document.Relations.{links_differ}
-use Rattle.sim_base.proofs.document.relations.differ_from_later.Given as goal
-
-abbrev pub decreases-loop-rest : goal.decreases-loop-rest
-decreases-loop-rest l = length l.rest
-
-abbrev pub invariant-loop-rest : goal.invariant-loop-rest
-invariant-loop-rest l = links_differ l.overrides ≡ links_differ l.rest
