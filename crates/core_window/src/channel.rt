@@ -52,19 +52,13 @@ pub fn place_at(config: &Config, address: u64) -> Place
     }
 }
 
-/// Where a Read or a Write lies.
+/// Where a Read or a Write lies; for a Plain entry, which lies nowhere, where address 0 does.
 pub fn place_of_entry(config: &Config, entry: Entry) -> Place
     ensures { IsPlaced config.now entry result }
 {
-    match entry {
-        Entry::Read(address) | Entry::Write(address) => place_at(config, address),
-        Entry::Plain => Place {
-            channel: 0,
-            rank: 0,
-            group: 0,
-            bank: 0,
-            row: 0,
-            column: 0,
-        },
-    }
+    let address = match entry {
+        Entry::Read(address) | Entry::Write(address) => address,
+        Entry::Plain => 0,
+    };
+    place_at(config, address)
 }

@@ -1,6 +1,6 @@
 //! A core.
 
-ghost use Rattle.std.specs.Prelude.{[], IsTrue, ◌↔◌, ◌∷◌, ◌++◌, ◌/◌, ◌%◌, find, if◌then◌else◌, ◌≡◌, ◌==◌, ◌^◌, ◌+◌, ◌-◌, ◌*◌, ◌≤◌, ◌<◌, ℕ, Some, List, length, replicate, slice_get, OnOk, OnErr, IfOk};
+ghost use Rattle.std.specs.Prelude.{[], IsTrue, ◌↔◌, ◌∷◌, ◌++◌, ◌/◌, ◌%◌, find, if◌then◌else◌, ◌≡◌, ◌==◌, ◌^◌, ◌+◌, ◌-◌, ◌*◌, ◌≤◌, ◌<◌, ℕ, Some, List, length, replicate, slice_get, min, OnOk, OnErr, IfOk};
 ghost use Rattle.sim_base.specs.declared.history.CoreRow.{CoreRow};
 ghost use Rattle.sim_base.specs.declared.message.Message.{Message};
 ghost use Rattle.sim_base.specs.declared.config.Config.{Config};
@@ -80,8 +80,10 @@ fn is_without_credit(credits: &[Credits], ahead: &Ahead) -> bool
 impl Core {
     ghost use Rattle.core_window.specs.CoreViews.{view_of};
 
-    /// How many memory entries it issued.
-    fn memory_issued(&self) -> u64 {
+    /// How many memory entries it issued, where they are fewer than 2^64.
+    fn memory_issued(&self) -> u64
+        ensures { result ≡ min (self.now.stats.reads + self.now.stats.writes) (2 ^ 64 - 1) }
+    {
         self.stats.reads.saturating_add(self.stats.writes)
     }
 

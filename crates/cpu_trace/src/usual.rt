@@ -7,7 +7,7 @@ ghost use Rattle.cpu_trace.specs.Usual.{BeginsWithDigits, BeginsWithToken, Begin
 use crate::line::Line;
 
 // The number that the digits at the start of a text write, of which no more than so many are read, and what stands
-// behind them; none where there is no digit. It is inlined, so that each radix has a loop of its own.
+// behind them; none where it reads no digit. It is inlined, so that each radix has a loop of its own.
 #[inline(always)]
 fn split_digits(radix: u32, most: usize, text: &[u8]) -> Option<(u64, &[u8])>
     requires lower { 2 ≤ radix }
@@ -59,8 +59,8 @@ fn split_number(text: &[u8]) -> Option<(u64, &[u8])>
     }
 }
 
-/// The numbers of the line at the start of a text, and what stands behind its line feed; none where the line has not the
-/// usual form.
+/// The numbers of the line at the start of a text, and what stands behind its line feed, where the line has the usual form.
+/// None says nothing of the line: the general reader takes it.
 #[inline(always)]
 pub(crate) fn split_usual_line(text: &[u8]) -> Option<(Line, &[u8])>
     ensures line { IfSome result (λ parts. BeginsWithLine text.now parts.0 parts.1.now) }

@@ -1,11 +1,11 @@
 //! The messages in flight.
 
-ghost use Rattle.std.specs.Prelude.{◌≡◌, ◌+◌, ◌<◌, ◌^◌, ◌≤◌, [], length, filter, fold, not, ◌==◌, slice_get, slice_set, nat_lt, false, All, Any, ◌↔◌, IsTrue, IsNone, IfSome, IfOk, OnOk, OnErr, IsOkAnd};
+ghost use Rattle.std.specs.Prelude.{◌≡◌, ◌+◌, ◌<◌, ◌^◌, ◌≤◌, [], length, filter, fold, not, ◌==◌, slice_get, false, All, Any, ◌↔◌, IsTrue, IsNone, IfSome, IfOk, OnOk, OnErr, IsOkAnd};
 ghost use Rattle.std.specs.List.{list_all};
-ghost use Rattle.std.specs.Option.{option_map, option_map_or};
+ghost use Rattle.std.specs.Option.{option_map};
 ghost use Rattle.sim_base.specs.History.{is_unit, insert_by_age, by_age};
 ghost use Rattle.links.specs.InFlight.{receiver_of, arrives_within, is_due};
-ghost use Rattle.links.specs.Rings.{ring_of, ring_if_any, contents, joined, ring_at, sooner_of, lesser_of, arrives_outside, AreRings, HasRoom, HaveRoom, Grows};
+ghost use Rattle.links.specs.Rings.{ring_of, ring_if_any, contents, joined, ring_at, sooner_of, lesser_of, begins_before, due_of_both, without_due, without_due_of_both, AreRings, HasRoom, HaveRoom, Grows};
 
 use crate::merge::{merged, messages_of};
 use crate::rings::{
@@ -190,7 +190,7 @@ fn take_from(
     requires empty { inbox.old.items ≡ [] }
     requires in_order { by_age (ring_at (contents rings.old.items) number) ≡ ring_at (contents rings.old.items) number }
     ensures taken { OnOk result (inbox.new.items ≡ filter (arrives_within from until) (ring_at (contents rings.old.items) number)) }
-    ensures rest { OnOk result (contents rings.new.items ≡ slice_set (contents rings.old.items) number (filter (arrives_outside from until) (ring_at (contents rings.old.items) number))) }
+    ensures rest { OnOk result (contents rings.new.items ≡ without_due from until (contents rings.old.items) number) }
     ensures err { OnErr result (contents rings.new.items ≡ contents rings.old.items) }
 {
     if number >= rings.len() {
@@ -202,7 +202,7 @@ fn take_from(
 
 /// Whether the first message in a ring arrives before a cycle.
 fn is_first_before(rings: &[Ring], number: usize, until: Cycle) -> bool
-    ensures { result ≡ option_map_or (λ m. nat_lt m.arrival until) (slice_get (ring_at (contents rings.now) number) 0) false }
+    ensures { result ≡ begins_before until (contents rings.now) number }
 {
     first_arrival_in(rings, number).is_some_and(|arrival: Cycle| arrival < until)
 }
@@ -224,8 +224,8 @@ fn take_merged(
     requires empty { inbox.old.items ≡ [] }
     requires first { by_age (ring_at (contents rings.old.items) number) ≡ ring_at (contents rings.old.items) number }
     requires second { by_age (ring_at (contents rings.old.items) (number + 1)) ≡ ring_at (contents rings.old.items) (number + 1) }
-    ensures taken { OnOk result (inbox.new.items ≡ fold insert_by_age (filter (arrives_within from until) (ring_at (contents rings.old.items) number)) (filter (arrives_within from until) (ring_at (contents rings.old.items) (number + 1)))) }
-    ensures rest { OnOk result (contents rings.new.items ≡ slice_set (slice_set (contents rings.old.items) number (filter (arrives_outside from until) (ring_at (contents rings.old.items) number))) (number + 1) (filter (arrives_outside from until) (ring_at (contents rings.old.items) (number + 1)))) }
+    ensures taken { OnOk result (inbox.new.items ≡ due_of_both from until (contents rings.old.items) number) }
+    ensures rest { OnOk result (contents rings.new.items ≡ without_due_of_both from until (contents rings.old.items) number) }
     ensures err { OnErr result (contents rings.new.items ≡ contents rings.old.items) }
 {
     copy_due(&rings[number], from, until, inbox)?;
@@ -252,10 +252,10 @@ fn take_heads(
     requires empty { inbox.old.items ≡ [] }
     requires first { by_age (ring_at (contents rings.old.items) number) ≡ ring_at (contents rings.old.items) number }
     requires second { by_age (ring_at (contents rings.old.items) (number + 1)) ≡ ring_at (contents rings.old.items) (number + 1) }
-    requires first_in_time { option_map_or (λ m. nat_lt m.arrival from) (slice_get (ring_at (contents rings.old.items) number) 0) false ≡ false }
-    requires second_in_time { option_map_or (λ m. nat_lt m.arrival from) (slice_get (ring_at (contents rings.old.items) (number + 1)) 0) false ≡ false }
-    ensures taken { OnOk result (inbox.new.items ≡ fold insert_by_age (filter (arrives_within from until) (ring_at (contents rings.old.items) number)) (filter (arrives_within from until) (ring_at (contents rings.old.items) (number + 1)))) }
-    ensures rest { OnOk result (contents rings.new.items ≡ slice_set (slice_set (contents rings.old.items) number (filter (arrives_outside from until) (ring_at (contents rings.old.items) number))) (number + 1) (filter (arrives_outside from until) (ring_at (contents rings.old.items) (number + 1)))) }
+    requires first_in_time { begins_before from (contents rings.old.items) number ≡ false }
+    requires second_in_time { begins_before from (contents rings.old.items) (number + 1) ≡ false }
+    ensures taken { OnOk result (inbox.new.items ≡ due_of_both from until (contents rings.old.items) number) }
+    ensures rest { OnOk result (contents rings.new.items ≡ without_due_of_both from until (contents rings.old.items) number) }
     ensures err { OnErr result (contents rings.new.items ≡ contents rings.old.items) }
 {
     inbox.reserve(rings[number].len() + rings[number + 1].len())?;
@@ -279,8 +279,8 @@ fn take_from_both(
     requires empty { inbox.old.items ≡ [] }
     requires first { by_age (ring_at (contents rings.old.items) number) ≡ ring_at (contents rings.old.items) number }
     requires second { by_age (ring_at (contents rings.old.items) (number + 1)) ≡ ring_at (contents rings.old.items) (number + 1) }
-    ensures taken { OnOk result (inbox.new.items ≡ fold insert_by_age (filter (arrives_within from until) (ring_at (contents rings.old.items) number)) (filter (arrives_within from until) (ring_at (contents rings.old.items) (number + 1)))) }
-    ensures rest { OnOk result (contents rings.new.items ≡ slice_set (slice_set (contents rings.old.items) number (filter (arrives_outside from until) (ring_at (contents rings.old.items) number))) (number + 1) (filter (arrives_outside from until) (ring_at (contents rings.old.items) (number + 1)))) }
+    ensures taken { OnOk result (inbox.new.items ≡ due_of_both from until (contents rings.old.items) number) }
+    ensures rest { OnOk result (contents rings.new.items ≡ without_due_of_both from until (contents rings.old.items) number) }
     ensures err { OnErr result (contents rings.new.items ≡ contents rings.old.items) }
 {
     if !is_first_before(rings, number + 1, until) {
