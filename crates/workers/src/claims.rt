@@ -96,6 +96,7 @@ impl<'a, R: Threads + Wait + Sync, G: Gate + Sync> Claims<'a, R, G> {
     pub fn new(rt: &'a R, alloc: Global, gate: &'a G, workers: usize) -> Claims<'a, R, G>
         requires some { 1 ≤ workers }
         requires few { workers ≤ 64 }
+        ensures { result.workers ≡ workers }
     {
         Claims {
             rt,

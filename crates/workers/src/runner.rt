@@ -1,6 +1,6 @@
 //! Who runs the jobs of a phase.
 
-ghost use Rattle.std.specs.Prelude.{IsPermutation, IfOk, IfErr};
+ghost use Rattle.std.specs.Prelude.{◌≡◌, IsPermutation, IfOk, IfErr};
 ghost use Rattle.workers.specs.Runs.{IsOfHost};
 
 use crate::gate::{Gate, run_all};
@@ -29,7 +29,9 @@ pub struct Serial<'a, G: Gate> {
 
 impl<'a, G: Gate> Serial<'a, G> {
     /// A runner with this gate.
-    pub fn new(alloc: Global, gate: &'a G) -> Serial<'a, G> {
+    pub fn new(alloc: Global, gate: &'a G) -> Serial<'a, G>
+        ensures { result.gate.now ≡ gate.now }
+    {
         Serial { alloc, gate }
     }
 }

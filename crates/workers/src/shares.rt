@@ -140,6 +140,7 @@ impl<'a, R: Threads + Wait + Sync, G: Gate + Sync> Shares<'a, R, G> {
     pub fn new(rt: &'a R, alloc: Global, gate: &'a G, workers: usize) -> Shares<'a, R, G>
         requires some { 1 ≤ workers }
         requires few { workers ≤ 64 }
+        ensures { result.workers ≡ workers }
     {
         Shares {
             rt,
