@@ -6,10 +6,11 @@ use sim_base::place::Place;
 use std::alloc::Global;
 use std::test::Fail;
 
+/// The last address is of the last line, and groups follow the columns.
 #[test]
-fn last_address_is_the_last_line(rt: HostRuntime) -> Result<(), Fail> {
+fn places_of_addresses(rt: HostRuntime) -> Result<(), Fail> {
     let config = small(rt.alloc(), &[], "")?;
-    let place = Place {
+    let last = Place {
         channel: 0,
         rank: 0,
         group: 1,
@@ -17,14 +18,7 @@ fn last_address_is_the_last_line(rt: HostRuntime) -> Result<(), Fail> {
         row: 65535,
         column: 127,
     };
-    assert_eq!(rt; place_of(&config, 18446744073709551615), place);
-    Ok(())
-}
-
-#[test]
-fn groups_follow_the_columns(rt: HostRuntime) -> Result<(), Fail> {
-    let config = small(rt.alloc(), &[], "")?;
-    let place = Place {
+    let next_group = Place {
         channel: 0,
         rank: 0,
         group: 1,
@@ -32,7 +26,14 @@ fn groups_follow_the_columns(rt: HostRuntime) -> Result<(), Fail> {
         row: 0,
         column: 0,
     };
-    assert_eq!(rt; place_of(&config, 8192), place);
-    assert_eq!(rt; address_of(&config, &place_of(&config, 8192)), 8192);
+    let found = place_of(&config, 8192);
+    assert_eq!(rt;
+        (
+            place_of(&config, 18446744073709551615),
+            found,
+            address_of(&config, &found),
+        ),
+        (last, next_group, 8192)
+    );
     Ok(())
 }

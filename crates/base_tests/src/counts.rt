@@ -27,10 +27,16 @@ fn joins_stretches_of_a_channel(rt: HostRuntime) {
         idle: 1,
         ..ChannelStats::new()
     };
-    let run = opening.joined(serving).joined(idling.times(16));
-    assert_eq!(rt; (run.act, run.rd, run.hits), (1, 2, 1));
-    assert_eq!(rt; (run.queued, run.queued_max, run.idle), (12, 2, 23));
-    assert_eq!(rt; run.draining, None);
+    let whole = ChannelStats {
+        act: 1,
+        rd: 2,
+        hits: 1,
+        queued: 12,
+        queued_max: 2,
+        idle: 23,
+        ..ChannelStats::new()
+    };
+    assert_eq!(rt; opening.joined(serving).joined(idling.times(16)), whole);
 }
 
 #[test]
@@ -44,9 +50,18 @@ fn adds_cycles_and_commands(rt: HostRuntime) {
     run.add_command(Kind::Act, false);
     run.add_command(Kind::Rd, true);
     run.add_cycles(4, 0, false, false);
-    assert_eq!(rt; (run.queued, run.queued_max, run.idle), (7, 2, 4));
-    assert_eq!(rt; (run.refreshing, run.draining), (3, Some(4)));
-    assert_eq!(rt; (run.act, run.rd, run.wr, run.hits), (1, 1, 0, 1));
+    let whole = ChannelStats {
+        act: 1,
+        rd: 1,
+        hits: 1,
+        queued: 7,
+        queued_max: 2,
+        idle: 4,
+        refreshing: 3,
+        draining: Some(4),
+        ..ChannelStats::new()
+    };
+    assert_eq!(rt; run, whole);
 }
 
 #[test]
@@ -74,15 +89,19 @@ fn joins_stretches_of_a_core(rt: HostRuntime) {
         stop_end: 1,
         ..CoreStats::new()
     };
-    let run = first.joined(second).joined(ended.times(15));
-    assert_eq!(rt;
-        (run.stop_memory, run.stop_credit, run.stop_end),
-        (1, 6, 25)
-    );
-    assert_eq!(rt;
-        (run.retired, run.read_latency, run.finish),
-        (2, 28, Some(20))
-    );
+    let whole = CoreStats {
+        issued: 2,
+        retired: 2,
+        reads: 2,
+        replies: 2,
+        read_latency: 28,
+        stop_memory: 1,
+        stop_credit: 6,
+        stop_end: 25,
+        finish: Some(20),
+        ..CoreStats::new()
+    };
+    assert_eq!(rt; first.joined(second).joined(ended.times(15)), whole);
 }
 
 #[test]
@@ -94,8 +113,13 @@ fn keeps_its_parts(rt: HostRuntime) -> Result<(), Fail> {
     };
     let channels = [busy, ChannelStats::new()];
     let stats = Stats::of_parts(rt.alloc(), 16, &cores, &channels)?;
-    assert_eq!(rt; stats.cycles, 16);
-    assert_eq!(rt; stats.cores.as_slice(), cores.as_slice());
-    assert_eq!(rt; stats.channels.as_slice(), channels.as_slice());
+    assert_eq!(rt;
+        (
+            stats.cycles,
+            stats.cores.as_slice(),
+            stats.channels.as_slice(),
+        ),
+        (16, cores.as_slice(), channels.as_slice())
+    );
     Ok(())
 }

@@ -4,51 +4,70 @@ use fixtures::small::{TWO_RANKS, small};
 use sim_base::command::{Command, Kind, Relation, Source};
 use sim_base::place::BankId;
 use std::alloc::Global;
+use std::process::Abort;
 use std::test::Fail;
 use timing::gap_table::GapTable;
 use timing::rules::relation;
 
-#[test]
-fn distances_in_a_rank(rt: HostRuntime) -> Result<(), Fail> {
-    let config = small(rt.alloc(), &[], "")?;
+// An earlier command, a later one and how they lie to one another; the distance that a rule asks for, or none where no rule binds
+// them.
+type Case = (Kind, Kind, Relation, Option<u64>);
+
+// Asserts that a machine with these changes has these distances. Where no rule binds, the distance is 0.
+fn assert_distances(
+    rt: &impl Abort,
+    alloc: Global,
+    changes: &[&str],
+    cases: &[Case],
+) -> Result<(), Fail> {
+    let config = small(alloc, changes, "")?;
     let table = GapTable::of(&config);
-    assert_eq!(rt; table.gap(Kind::Act, Kind::Rd, Relation::SameBank), 3);
-    assert_eq!(rt; table.gap(Kind::Wr, Kind::Rd, Relation::SameGroup), 9);
-    assert_eq!(rt; table.gap(Kind::Wr, Kind::Rd, Relation::OtherGroup), 8);
-    assert_eq!(rt; table.gap(Kind::Rd, Kind::Wr, Relation::OtherGroup), 7);
-    assert_eq!(rt; table.gap(Kind::Act, Kind::Act, Relation::SameBank), 11);
-    assert_eq!(rt; table.gap(Kind::Act, Kind::Act, Relation::SameGroup), 3);
-    assert_eq!(rt; table.gap(Kind::Act, Kind::Act, Relation::OtherGroup), 2);
-    assert_eq!(rt; table.gap(Kind::Pre, Kind::Ref, Relation::SameBank), 3);
-    assert_eq!(rt; table.gap(Kind::Ref, Kind::Act, Relation::SameBank), 20);
+    for (earlier, later, relation, want) in cases {
+        let gap = table.gap(*earlier, *later, *relation);
+        let binds = table.binds(*earlier, *later, *relation);
+        assert_eq!(rt;
+            (gap, binds),
+            (want.unwrap_or(0), want.is_some()),
+            "{earlier:?} {later:?} {relation:?}"
+        );
+    }
     Ok(())
 }
 
-/// No rule binds an ACT to a REF; a RD in another bank does not bind a PRE.
+// No rule binds an ACT to a REF; a RD in another bank does not bind a PRE.
+const IN_A_RANK: [Case; 11] = [
+    (Kind::Act, Kind::Rd, Relation::SameBank, Some(3)),
+    (Kind::Wr, Kind::Rd, Relation::SameGroup, Some(9)),
+    (Kind::Wr, Kind::Rd, Relation::OtherGroup, Some(8)),
+    (Kind::Rd, Kind::Wr, Relation::OtherGroup, Some(7)),
+    (Kind::Act, Kind::Act, Relation::SameBank, Some(11)),
+    (Kind::Act, Kind::Act, Relation::SameGroup, Some(3)),
+    (Kind::Act, Kind::Act, Relation::OtherGroup, Some(2)),
+    (Kind::Pre, Kind::Ref, Relation::SameBank, Some(3)),
+    (Kind::Ref, Kind::Act, Relation::SameBank, Some(20)),
+    (Kind::Act, Kind::Ref, Relation::SameBank, None),
+    (Kind::Rd, Kind::Pre, Relation::SameGroup, None),
+];
+
 #[test]
-fn unbound_commands_have_no_distance(rt: HostRuntime) -> Result<(), Fail> {
-    let config = small(rt.alloc(), &[], "")?;
-    let table = GapTable::of(&config);
-    assert_eq!(rt; table.gap(Kind::Act, Kind::Ref, Relation::SameBank), 0);
-    assert!(rt; !table.binds(Kind::Act, Kind::Ref, Relation::SameBank));
-    assert_eq!(rt; table.gap(Kind::Rd, Kind::Pre, Relation::SameGroup), 0);
-    assert!(rt; !table.binds(Kind::Rd, Kind::Pre, Relation::SameGroup));
-    Ok(())
+fn distances_in_a_rank(rt: HostRuntime) -> Result<(), Fail> {
+    assert_distances(&rt, rt.alloc(), &[], &IN_A_RANK)
 }
+
+const BETWEEN_RANKS: [Case; 4] = [
+    (Kind::Rd, Kind::Rd, Relation::OtherRank, Some(6)),
+    (Kind::Rd, Kind::Wr, Relation::OtherRank, Some(7)),
+    (Kind::Wr, Kind::Rd, Relation::OtherRank, Some(5)),
+    (Kind::Act, Kind::Act, Relation::OtherRank, None),
+];
 
 #[test]
 fn distances_between_ranks(rt: HostRuntime) -> Result<(), Fail> {
-    let config = small(rt.alloc(), &[TWO_RANKS], "")?;
-    let table = GapTable::of(&config);
-    assert_eq!(rt; table.gap(Kind::Rd, Kind::Rd, Relation::OtherRank), 6);
-    assert_eq!(rt; table.gap(Kind::Rd, Kind::Wr, Relation::OtherRank), 7);
-    assert_eq!(rt; table.gap(Kind::Wr, Kind::Rd, Relation::OtherRank), 5);
-    assert!(rt; !table.binds(Kind::Act, Kind::Act, Relation::OtherRank));
-    Ok(())
+    assert_distances(&rt, rt.alloc(), &[TWO_RANKS], &BETWEEN_RANKS)
 }
 
 #[test]
-fn precharge_of_a_rank_speaks_of_each_bank(rt: HostRuntime) -> Result<(), Fail> {
+fn precharge_of_a_rank_speaks_of_each_bank(rt: HostRuntime) {
     let source = Source { core: 0, entry: 0 };
     let bank = BankId {
         rank: 0,
@@ -60,13 +79,7 @@ fn precharge_of_a_rank_speaks_of_each_bank(rt: HostRuntime) -> Result<(), Fail> 
         row: 0,
         source,
     };
-    assert_eq!(rt;
-        relation(act, Command::Prea { rank: 0 }),
-        Relation::SameBank
-    );
-    assert_eq!(rt;
-        relation(act, Command::Prea { rank: 1 }),
-        Relation::OtherRank
-    );
-    Ok(())
+    let own = relation(act, Command::Prea { rank: 0 });
+    let other = relation(act, Command::Prea { rank: 1 });
+    assert_eq!(rt; (own, other), (Relation::SameBank, Relation::OtherRank));
 }

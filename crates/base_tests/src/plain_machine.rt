@@ -4,6 +4,8 @@ use cpu_trace::trace::Trace;
 use fixtures::small::small;
 use one_clock::machine::run_plain;
 use sim_base::trace::Entry;
+use statistics::channels::ChannelStats;
+use statistics::cores::CoreStats;
 use std::alloc::Global;
 use std::test::Fail;
 
@@ -12,29 +14,39 @@ use std::test::Fail;
 #[test]
 fn counts_one_read(rt: HostRuntime) -> Result<(), Fail> {
     let alloc = rt.alloc();
-    let s = small(alloc, &[], "")?;
-    assert_eq!(rt; s.cores, 1);
-    let trace = Trace::from_entries(alloc, &[Entry::Read(0)])?;
-    let traces = [trace];
-    let outcome = run_plain(alloc, &s, &traces, 16)?;
+    let config = small(alloc, &[], "")?;
+    assert_eq!(rt; config.cores, 1);
+    let traces = [Trace::from_entries(alloc, &[Entry::Read(0)])?];
+    let outcome = run_plain(alloc, &config, &traces, 16)?;
+    let core = CoreStats {
+        issued: 1,
+        retired: 1,
+        reads: 1,
+        replies: 1,
+        read_latency: 15,
+        stop_end: 16,
+        finish: Some(15),
+        ..CoreStats::new()
+    };
+    let channel = ChannelStats {
+        act: 1,
+        rd: 1,
+        queued: 4,
+        queued_max: 1,
+        idle: 12,
+        ..ChannelStats::new()
+    };
     let whole = &outcome;
-    let rows = whole.commands.len();
     let stats = &whole.stats;
-    let cycles = stats.cycles;
-    let flying = whole.last.in_flight.len();
-    assert_eq!(rt; (rows, cycles, flying), (2, 16, 0));
-    let units = (stats.cores.len(), stats.channels.len());
-    assert_eq!(rt; units, (1, 1));
-    let core = stats.cores[0];
-    assert_eq!(rt; (core.issued, core.retired, core.replies), (1, 1, 1));
-    assert_eq!(rt; (core.read_latency, core.stop_end), (15, 16));
-    assert_eq!(rt; core.finish, Some(15));
-    let channel = stats.channels[0];
-    assert_eq!(rt; (channel.act, channel.rd, channel.hits), (1, 1, 0));
+    let lengths = (whole.commands.len(), whole.last.in_flight.len());
     assert_eq!(rt;
-        (channel.queued, channel.queued_max, channel.idle),
-        (4, 1, 12)
+        (
+            lengths,
+            stats.cycles,
+            stats.cores.as_slice(),
+            stats.channels.as_slice(),
+        ),
+        ((2, 0), 16, [core].as_slice(), [channel].as_slice())
     );
-    assert_eq!(rt; channel.draining, None);
     Ok(())
 }

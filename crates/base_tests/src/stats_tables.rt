@@ -48,7 +48,7 @@ fn one_read(alloc: Global, cycles: u64) -> Result<Stats, AllocError> {
     Stats::of_parts(alloc, cycles, &cores, &channels)
 }
 
-const ONE_READ: &[u8] = b"scope,id,name,value
+const ONE_READ: &str = "scope,id,name,value
 run,0,cycles,16
 core,0,issued,1
 core,0,retired,1
@@ -75,21 +75,8 @@ channel,0,idle,12
 channel,0,refreshing,0
 ";
 
-#[test]
-fn writes_one_read(rt: HostRuntime) -> Result<(), Fail> {
-    let mut text = Vec::new(rt.alloc());
-    write_stats(rt.alloc(), &one_read(rt.alloc(), 16)?, &mut text)?;
-    assert!(rt; text.as_slice() == ONE_READ);
-    Ok(())
-}
-
-#[test]
-fn leaves_the_finish_empty(rt: HostRuntime) -> Result<(), Fail> {
-    let mut text = Vec::new(rt.alloc());
-    write_stats(rt.alloc(), &one_read(rt.alloc(), 15)?, &mut text)?;
-    assert!(rt;
-        text.as_slice()
-            == b"scope,id,name,value
+// The reply is still on its way, so the finish is empty.
+const UNFINISHED: &str = "scope,id,name,value
 run,0,cycles,15
 core,0,issued,1
 core,0,retired,0
@@ -114,19 +101,9 @@ channel,0,queued,4
 channel,0,queued_max,1
 channel,0,idle,11
 channel,0,refreshing,0
-"
-                .as_slice()
-    );
-    Ok(())
-}
+";
 
-#[test]
-fn writes_a_short_run(rt: HostRuntime) -> Result<(), Fail> {
-    let mut text = Vec::new(rt.alloc());
-    write_stats(rt.alloc(), &one_read(rt.alloc(), 3)?, &mut text)?;
-    assert!(rt;
-        text.as_slice()
-            == b"scope,id,name,value
+const SHORT: &str = "scope,id,name,value
 run,0,cycles,3
 core,0,issued,1
 core,0,retired,0
@@ -151,32 +128,29 @@ channel,0,queued,1
 channel,0,queued_max,1
 channel,0,idle,2
 channel,0,refreshing,0
-"
-                .as_slice()
-    );
+";
+
+// The table of some statistics.
+fn text_of(alloc: Global, stats: Result<Stats, AllocError>) -> Result<Vec<u8>, Fault> {
+    let mut text = Vec::new(alloc);
+    write_stats(alloc, &stats?, &mut text)?;
+    Ok(text)
+}
+
+#[test]
+fn writes_one_read(rt: HostRuntime) -> Result<(), Fail> {
+    for (cycles, want) in [(16, ONE_READ), (15, UNFINISHED), (3, SHORT)] {
+        let text = text_of(rt.alloc(), one_read(rt.alloc(), cycles))?;
+        assert_eq!(rt;
+            str::from_utf8(text.as_slice()),
+            Ok(want),
+            "after {cycles} cycles"
+        );
+    }
     Ok(())
 }
 
-// Two channels, of which the second may drain its writes, and counts past 64 bits.
-#[test]
-fn shows_drains_and_wide_counts(rt: HostRuntime) -> Result<(), Fail> {
-    let plain = ChannelStats {
-        queued: 1 << 64,
-        ..ChannelStats::new()
-    };
-    let drains = ChannelStats {
-        act: 2,
-        rd: 1,
-        wr: 1,
-        draining: Some(5),
-        ..ChannelStats::new()
-    };
-    let stats = Stats::of_parts(rt.alloc(), 64, &[], &[plain, drains])?;
-    let mut text = Vec::new(rt.alloc());
-    write_stats(rt.alloc(), &stats, &mut text)?;
-    assert!(rt;
-        text.as_slice()
-            == b"scope,id,name,value
+const DRAINED: &str = "scope,id,name,value
 run,0,cycles,64
 channel,0,act,0
 channel,0,rd,0
@@ -201,9 +175,25 @@ channel,1,queued_max,0
 channel,1,idle,0
 channel,1,refreshing,0
 channel,1,draining,5
-"
-                .as_slice()
-    );
+";
+
+// Two channels, of which the second may drain its writes, and counts past 64 bits.
+#[test]
+fn shows_drains_and_wide_counts(rt: HostRuntime) -> Result<(), Fail> {
+    let plain = ChannelStats {
+        queued: 1 << 64,
+        ..ChannelStats::new()
+    };
+    let drains = ChannelStats {
+        act: 2,
+        rd: 1,
+        wr: 1,
+        draining: Some(5),
+        ..ChannelStats::new()
+    };
+    let stats = Stats::of_parts(rt.alloc(), 64, &[], &[plain, drains]);
+    let text = text_of(rt.alloc(), stats)?;
+    assert_eq!(rt; str::from_utf8(text.as_slice()), Ok(DRAINED));
     Ok(())
 }
 
@@ -211,7 +201,7 @@ channel,1,draining,5
 fn writes_byte_by_byte(rt: HostRuntime) -> Result<(), Fail> {
     let mut slow = Slow::new(rt.alloc(), 600, 600, false)?;
     write_stats(rt.alloc(), &one_read(rt.alloc(), 16)?, &mut slow)?;
-    assert!(rt; slow.taken.as_slice() == ONE_READ);
+    assert_eq!(rt; str::from_utf8(slow.taken.as_slice()), Ok(ONE_READ));
     Ok(())
 }
 

@@ -4,41 +4,72 @@ use fixtures::small::{RANK_FIELD, TWO_RANKS, small};
 use rule_check::{Verdict, check};
 use sim_base::fault::Fault;
 use std::alloc::Global;
+use std::process::Abort;
 use std::test::Fail;
-
-const NO_REFRESH: [&str; 1] = [RANK_FIELD];
-
-const REFRESH: [&str; 2] = [RANK_FIELD, "nREFI = 100"];
-
-const TWO_RANKS_REFRESHED: [&str; 2] = [TWO_RANKS, "nREFI = 100"];
 
 const HEADER: &str = "cycle,channel,command,group,bank,row,column,core,entry\n";
 
 const HEADER_OF_RANKS: &str = "cycle,channel,command,rank,group,bank,row,column,core,entry\n";
 
-// The verdict on the bytes of a table.
-fn verdict_on(
+// What stands at the head of a table, and the machine that it is of.
+#[derive(Clone, Copy)]
+struct Layout {
+    header: &'static str,
+    changes: &'static [&'static str],
+}
+
+// Whole tables, with a header of their own.
+const WHOLE: Layout = Layout {
+    header: "",
+    changes: &[RANK_FIELD],
+};
+
+const NO_REFRESH: Layout = Layout {
+    header: HEADER,
+    changes: &[RANK_FIELD],
+};
+
+const REFRESH: Layout = Layout {
+    header: HEADER,
+    changes: &[RANK_FIELD, "nREFI = 100"],
+};
+
+const RANKS: Layout = Layout {
+    header: HEADER_OF_RANKS,
+    changes: &[TWO_RANKS],
+};
+
+const RANKS_REFRESHED: Layout = Layout {
+    header: HEADER_OF_RANKS,
+    changes: &[TWO_RANKS, "nREFI = 100"],
+};
+
+// The verdict on some rows and a last one, below the header.
+fn judged(
     alloc: Global,
-    changes: &[&str],
-    table: &[u8],
+    layout: Layout,
+    before: &str,
+    last: &str,
 ) -> Result<Result<Verdict, Fault>, Fail> {
+    let Layout { header, changes } = layout;
     let config = small(alloc, changes, "")?;
-    Ok(check(alloc, &config, table))
+    let table = format!(in alloc; "{header}{before}{last}")?;
+    Ok(check(alloc, &config, table.as_bytes()))
 }
 
-// The verdict on some rows, below the header.
-fn judged(alloc: Global, changes: &[&str], rows: &str) -> Result<Result<Verdict, Fault>, Fail> {
-    let table = format!(in alloc; "{HEADER}{rows}")?;
-    verdict_on(alloc, changes, table.as_bytes())
-}
-
-fn judged_of_ranks(
+// Asserts that these rows, each as a table, have this verdict.
+fn assert_verdicts(
+    rt: &impl Abort,
     alloc: Global,
-    changes: &[&str],
-    rows: &str,
-) -> Result<Result<Verdict, Fault>, Fail> {
-    let table = format!(in alloc; "{HEADER_OF_RANKS}{rows}")?;
-    verdict_on(alloc, changes, table.as_bytes())
+    layout: Layout,
+    tables: &[&str],
+    want: Result<Verdict, Fault>,
+) -> Result<(), Fail> {
+    for table in tables {
+        let found = judged(alloc, layout, "", table)?;
+        assert_eq!(rt; found, want, "of {table:?}");
+    }
+    Ok(())
 }
 
 // A row that comes a cycle too soon, and in time.
@@ -51,22 +82,24 @@ struct Case {
     exact: &'static str,
 }
 
-fn is_kept_exactly(alloc: Global, changes: &[&str], case: Case) -> Result<bool, Fail> {
-    let broken = format!(in alloc; "{}{}", case.before, case.early)?;
-    let kept = format!(in alloc; "{}{}", case.before, case.exact)?;
-    let found = judged(alloc, changes, broken.as_str())?;
-    let legal = judged(alloc, changes, kept.as_str())?;
-    let (row, rule) = (case.row, case.rule);
-    Ok(found == Ok(Verdict::Broken { row, rule }) && legal == Ok(Verdict::Legal))
-}
-
-fn is_kept_exactly_by_ranks(alloc: Global, changes: &[&str], case: Case) -> Result<bool, Fail> {
-    let broken = format!(in alloc; "{}{}", case.before, case.early)?;
-    let kept = format!(in alloc; "{}{}", case.before, case.exact)?;
-    let found = judged_of_ranks(alloc, changes, broken.as_str())?;
-    let legal = judged_of_ranks(alloc, changes, kept.as_str())?;
-    let (row, rule) = (case.row, case.rule);
-    Ok(found == Ok(Verdict::Broken { row, rule }) && legal == Ok(Verdict::Legal))
+// Asserts that the early row breaks just the rule, and that the exact one is legal.
+fn assert_kept_exactly(
+    rt: &impl Abort,
+    alloc: Global,
+    layout: Layout,
+    cases: &[Case],
+) -> Result<(), Fail> {
+    for case in cases {
+        let early = judged(alloc, layout, case.before, case.early)?;
+        let exact = judged(alloc, layout, case.before, case.exact)?;
+        let (row, rule) = (case.row, case.rule);
+        let broken = Verdict::Broken { row, rule };
+        assert_eq!(rt;
+            (rule, early, exact),
+            (rule, Ok(broken), Ok(Verdict::Legal))
+        );
+    }
+    Ok(())
 }
 
 // The rules that bind commands of a bank, and the order of rows.
@@ -131,10 +164,7 @@ const OF_A_BANK: [Case; 8] = [
 
 #[test]
 fn each_rule_of_a_bank(rt: HostRuntime) -> Result<(), Fail> {
-    for case in OF_A_BANK {
-        assert!(rt; is_kept_exactly(rt.alloc(), &NO_REFRESH, case)?);
-    }
-    Ok(())
+    assert_kept_exactly(&rt, rt.alloc(), NO_REFRESH, &OF_A_BANK)
 }
 
 // The rules that bind commands of a rank, by their groups.
@@ -206,18 +236,20 @@ const OF_GROUPS: [Case; 9] = [
 
 #[test]
 fn each_rule_of_groups(rt: HostRuntime) -> Result<(), Fail> {
-    for case in OF_GROUPS {
-        assert!(rt; is_kept_exactly(rt.alloc(), &NO_REFRESH, case)?);
-    }
-    let refresh = Case {
-        rule: 18,
-        row: 1,
-        before: "",
-        early: "115,0,ACT,0,0,0,,0,0\n",
-        exact: "114,0,ACT,0,0,0,,0,0\n",
-    };
-    assert!(rt; is_kept_exactly(rt.alloc(), &REFRESH, refresh)?);
-    Ok(())
+    assert_kept_exactly(&rt, rt.alloc(), NO_REFRESH, &OF_GROUPS)
+}
+
+const OF_REFRESHES: [Case; 1] = [Case {
+    rule: 18,
+    row: 1,
+    before: "",
+    early: "115,0,ACT,0,0,0,,0,0\n",
+    exact: "114,0,ACT,0,0,0,,0,0\n",
+}];
+
+#[test]
+fn refreshes_in_time(rt: HostRuntime) -> Result<(), Fail> {
+    assert_kept_exactly(&rt, rt.alloc(), REFRESH, &OF_REFRESHES)
 }
 
 // The rules that bind commands of two ranks.
@@ -247,18 +279,20 @@ const OF_RANKS: [Case; 3] = [
 
 #[test]
 fn each_rule_of_ranks(rt: HostRuntime) -> Result<(), Fail> {
-    for case in OF_RANKS {
-        assert!(rt; is_kept_exactly_by_ranks(rt.alloc(), &[TWO_RANKS], case)?);
-    }
-    let other = Case {
-        rule: 18,
-        row: 2,
-        before: "100,0,REF,0,,,,,,\n",
-        early: "119,0,ACT,1,0,0,0,,0,0\n",
-        exact: "118,0,ACT,1,0,0,0,,0,0\n",
-    };
-    assert!(rt; is_kept_exactly_by_ranks(rt.alloc(), &TWO_RANKS_REFRESHED, other)?);
-    Ok(())
+    assert_kept_exactly(&rt, rt.alloc(), RANKS, &OF_RANKS)
+}
+
+const OF_REFRESHES_OF_RANKS: [Case; 1] = [Case {
+    rule: 18,
+    row: 2,
+    before: "100,0,REF,0,,,,,,\n",
+    early: "119,0,ACT,1,0,0,0,,0,0\n",
+    exact: "118,0,ACT,1,0,0,0,,0,0\n",
+}];
+
+#[test]
+fn refreshes_of_ranks_in_time(rt: HostRuntime) -> Result<(), Fail> {
+    assert_kept_exactly(&rt, rt.alloc(), RANKS_REFRESHED, &OF_REFRESHES_OF_RANKS)
 }
 
 /// Not the last command alone counts: the write before the last is of the read's group.
@@ -266,9 +300,13 @@ fn each_rule_of_ranks(rt: HostRuntime) -> Result<(), Fail> {
 fn each_earlier_command_counts(rt: HostRuntime) -> Result<(), Fail> {
     let rows =
         "2,0,ACT,0,0,0,,0,0\n4,0,ACT,1,0,0,,0,0\n5,0,WR,0,0,0,0,0,0\n9,0,WR,1,0,0,0,0,0\n13,0,RD,0,0,0,0,0,0\n";
-    let found = judged(rt.alloc(), &NO_REFRESH, rows)?;
-    assert!(rt; found == Ok(Verdict::Broken { row: 5, rule: 13 }));
-    Ok(())
+    assert_verdicts(
+        &rt,
+        rt.alloc(),
+        NO_REFRESH,
+        &[rows],
+        Ok(Verdict::Broken { row: 5, rule: 13 }),
+    )
 }
 
 /// The window of four ACTs is one of a rank.
@@ -276,9 +314,7 @@ fn each_earlier_command_counts(rt: HostRuntime) -> Result<(), Fail> {
 fn five_acts_of_two_ranks_are_legal(rt: HostRuntime) -> Result<(), Fail> {
     let rows =
         "2,0,ACT,0,0,0,0,,0,0\n4,0,ACT,0,1,0,0,,0,0\n6,0,ACT,0,0,1,0,,0,0\n7,0,ACT,1,0,0,0,,0,0\n8,0,ACT,0,1,1,0,,0,0\n";
-    let found = judged_of_ranks(rt.alloc(), &[TWO_RANKS], rows)?;
-    assert!(rt; found == Ok(Verdict::Legal));
-    Ok(())
+    assert_verdicts(&rt, rt.alloc(), RANKS, &[rows], Ok(Verdict::Legal))
 }
 
 #[test]
@@ -293,11 +329,7 @@ fn malformed_rows(rt: HostRuntime) -> Result<(), Fail> {
         "2,0,ACT,0,0,0,,0,0x\n",
         "99999999999999999999999,0,ACT,0,0,0,,0,0\n",
     ];
-    for row in rows {
-        let found = judged(rt.alloc(), &NO_REFRESH, row)?;
-        assert!(rt; found == Err(Fault::CheckRow(1)));
-    }
-    Ok(())
+    assert_verdicts(&rt, rt.alloc(), NO_REFRESH, &rows, Err(Fault::CheckRow(1)))
 }
 
 #[test]
@@ -311,11 +343,7 @@ fn other_forms_of_text(rt: HostRuntime) -> Result<(), Fail> {
         "cycle,channel,command,group,bank,row,column,core,entry\r\n2,0,ACT,0,0,0,,0,0\r\n",
         "cycle,channel,command,group,bank,row,column,core,entry\r2,0,ACT,0,0,0,,0,0\r",
     ];
-    for table in tables {
-        let found = verdict_on(rt.alloc(), &NO_REFRESH, table.as_bytes())?;
-        assert!(rt; found == Ok(Verdict::Legal));
-    }
-    Ok(())
+    assert_verdicts(&rt, rt.alloc(), WHOLE, &tables, Ok(Verdict::Legal))
 }
 
 #[test]
@@ -327,9 +355,5 @@ fn wrong_headers(rt: HostRuntime) -> Result<(), Fail> {
         "cycle,channel,command,rank,group,bank,row,column,core,entry\n",
         " cycle,channel,command,group,bank,row,column,core,entry\n",
     ];
-    for table in tables {
-        let found = verdict_on(rt.alloc(), &NO_REFRESH, table.as_bytes())?;
-        assert!(rt; found == Err(Fault::CheckRow(0)));
-    }
-    Ok(())
+    assert_verdicts(&rt, rt.alloc(), WHOLE, &tables, Err(Fault::CheckRow(0)))
 }
