@@ -42,41 +42,76 @@ fn show_all<R: Alloc + Clock + Files + Print + Threads + Sync>(
     channel_times::show_each(rt, alloc, Effort::Little)
 }
 
-/// Measures what the words name, and says whether they name anything.
+/// What the words name.
+#[derive(Clone, Copy)]
+enum Measurement<'a> {
+    Lanes(Effort),
+    Trace(&'a str, Effort),
+    Links(Effort),
+    /// Of so many lines.
+    CoreLines(u64),
+    CoreBusy,
+    Channel(Effort),
+    ChannelShort,
+    ChannelLong,
+    ChannelIdle,
+    All(&'a str),
+}
+
+/// The measurement that the words name, if they name one.
+fn measurement_of<'a>(words: &[&'a str]) -> Option<Measurement<'a>> {
+    match words {
+        ["lanes"] => Some(Measurement::Lanes(Effort::Little)),
+        ["lanes", "time"] => Some(Measurement::Lanes(Effort::Timed)),
+        ["trace", path] => Some(Measurement::Trace(path, Effort::Little)),
+        ["trace", path, "time"] => Some(Measurement::Trace(path, Effort::Timed)),
+        ["links"] => Some(Measurement::Links(Effort::Little)),
+        ["links", "time"] => Some(Measurement::Links(Effort::Timed)),
+        ["core"] => Some(Measurement::CoreLines(core_times::FEW)),
+        ["core", "time"] => Some(Measurement::CoreLines(core_times::MANY)),
+        ["core", "span"] => Some(Measurement::CoreLines(core_times::MOST)),
+        ["core", "busy"] => Some(Measurement::CoreBusy),
+        ["channel"] => Some(Measurement::Channel(Effort::Little)),
+        ["channel", "time"] => Some(Measurement::Channel(Effort::Timed)),
+        ["channel", "short"] => Some(Measurement::ChannelShort),
+        ["channel", "long"] => Some(Measurement::ChannelLong),
+        ["channel", "idle"] => Some(Measurement::ChannelIdle),
+        ["all", path] => Some(Measurement::All(path)),
+        _ => None,
+    }
+}
+
 fn measure<R: Alloc + Clock + Files + Print + Threads + Sync>(
     rt: &R,
     alloc: Global,
-    words: &[&str],
-) -> Result<bool> {
-    match words {
-        ["lanes"] => lane_times::show(rt, Effort::Little)?,
-        ["lanes", "time"] => lane_times::show(rt, Effort::Timed)?,
-        ["trace", path] => trace_times::show(rt, alloc, path, Effort::Little)?,
-        ["trace", path, "time"] => trace_times::show(rt, alloc, path, Effort::Timed)?,
-        ["links"] => link_times::show(rt, alloc, Effort::Little)?,
-        ["links", "time"] => link_times::show(rt, alloc, Effort::Timed)?,
-        ["core"] => core_times::show_lines(rt, alloc, core_times::FEW)?,
-        ["core", "time"] => core_times::show_lines(rt, alloc, core_times::MANY)?,
-        ["core", "span"] => core_times::show_lines(rt, alloc, core_times::MOST)?,
-        ["core", "busy"] => core_times::show_busy(rt, alloc)?,
-        ["channel"] => channel_times::show_each(rt, alloc, Effort::Little)?,
-        ["channel", "time"] => channel_times::show_each(rt, alloc, Effort::Timed)?,
-        ["channel", "short"] => channel_times::show_short(rt, alloc, Effort::Timed)?,
-        ["channel", "long"] => channel_times::show_long(rt, alloc, Effort::Timed)?,
-        ["channel", "idle"] => channel_times::show_idle(rt, alloc, Effort::Timed)?,
-        ["all", path] => show_all(rt, alloc, path)?,
-        _ => return Ok(false),
+    measurement: Measurement<'_>,
+) -> Result<()> {
+    match measurement {
+        Measurement::Lanes(effort) => lane_times::show(rt, effort),
+        Measurement::Trace(path, effort) => trace_times::show(rt, alloc, path, effort),
+        Measurement::Links(effort) => link_times::show(rt, alloc, effort),
+        Measurement::CoreLines(lines) => core_times::show_lines(rt, alloc, lines),
+        Measurement::CoreBusy => core_times::show_busy(rt, alloc),
+        Measurement::Channel(effort) => channel_times::show_each(rt, alloc, effort),
+        Measurement::ChannelShort => channel_times::show_short(rt, alloc, Effort::Timed),
+        Measurement::ChannelLong => channel_times::show_long(rt, alloc, Effort::Timed),
+        Measurement::ChannelIdle => channel_times::show_idle(rt, alloc, Effort::Timed),
+        Measurement::All(path) => show_all(rt, alloc, path),
     }
-    Ok(true)
 }
 
 fn main(rt: HostRuntime) -> Result<ExitCode> {
     let alloc = rt.alloc();
     let arguments: Vec<String> = env::args(&rt)?.skip(1).collect(alloc)?;
     let words: Vec<&str> = arguments.iter().map(|word| word.as_str()).collect(alloc)?;
-    if measure(&rt, alloc, &words)? {
-        return Ok(ExitCode::SUCCESS);
+    match measurement_of(&words) {
+        Some(measurement) => {
+            measure(&rt, alloc, measurement)?;
+            Ok(ExitCode::SUCCESS)
+        }
+        None => {
+            eprintln!(rt; "{USAGE}")?;
+            Ok(ExitCode::from(UNKNOWN_WORDS))
+        }
     }
-    eprintln!(rt; "{USAGE}")?;
-    Ok(ExitCode::from(UNKNOWN_WORDS))
 }

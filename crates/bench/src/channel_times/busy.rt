@@ -4,8 +4,9 @@ use crate::channel_times::machine::Machine;
 use crate::channel_times::traffic::Traffic;
 use crate::clock::nanoseconds_since;
 use anyhow::Result;
-use channel_feed::fed::FedChannel;
-use sim_base::message::Cycle;
+use channel_feed::fed::{FedChannel, FedChannelDone};
+use sim_base::config::Config;
+use sim_base::message::{Cycle, Message};
 use statistics::channels::ChannelStats;
 use std::alloc::Global;
 use std::rt::Clock;
@@ -37,34 +38,91 @@ struct Ran {
     busy: Busy,
 }
 
-/// Runs a channel, span by span, until it has issued so many commands. At each span as many requests come as there is room for.
+/// A span that was run, and how long that took.
+#[derive(Drop)]
+struct Span {
+    done: FedChannelDone,
+    nanoseconds: u64,
+}
+
+/// Runs a channel up to a cycle.
+#[inline(never)]
+fn run_span(
+    rt: &impl Clock,
+    alloc: Global,
+    fed: FedChannel,
+    inbox: &[Message],
+    until: Cycle,
+) -> Result<Span> {
+    let start = Instant::now(rt)?;
+    let done = fed.run(alloc, inbox, until)?;
+    let nanoseconds = nanoseconds_since(rt, start)?;
+    Ok(Span { done, nanoseconds })
+}
+
+impl Ran {
+    /// A channel that has not run.
+    fn start(alloc: Global, config: &Config) -> Result<Self> {
+        let fed = FedChannel::start(alloc, config, 0)?;
+        let busy = Busy {
+            commands: 0,
+            cycles: fed.now(),
+            stats: fed.stats(),
+            nanoseconds: 0,
+        };
+        Ok(Ran { fed, busy })
+    }
+
+    /// The same after another span.
+    fn after(busy: Busy, span: Span) -> Self {
+        let done = span.done;
+        let commands = done.commands.len() as u64;
+        let fed = done.channel;
+        let busy = Busy {
+            commands: busy.commands.wrapping_add(commands),
+            cycles: fed.now(),
+            stats: fed.stats(),
+            nanoseconds: busy.nanoseconds.wrapping_add(span.nanoseconds),
+        };
+        Ran { fed, busy }
+    }
+
+    /// Runs it up to a cycle.
+    fn run(self, rt: &impl Clock, alloc: Global, inbox: &[Message], until: Cycle) -> Result<Self> {
+        let busy = self.busy;
+        let span = run_span(rt, alloc, self.fed, inbox, until)?;
+        Ok(Ran::after(busy, span))
+    }
+
+    /// Runs it for a span, at which as many requests come as there is room for.
+    fn run_full(
+        self,
+        rt: &impl Clock,
+        alloc: Global,
+        config: &Config,
+        traffic: &mut Traffic,
+        room: usize,
+    ) -> Result<Self> {
+        let waits = self.fed.channel().requests().len();
+        let count = room.saturating_sub(waits) as u64;
+        let now = self.fed.now();
+        let inbox = traffic.requests(alloc, config, now, count)?;
+        self.run(rt, alloc, &inbox, now.wrapping_add(SPAN))
+    }
+}
+
+/// Runs a channel, span by span, until it has issued so many commands.
 fn run_spans(rt: &impl Clock, alloc: Global, machine: Machine, commands: u64) -> Result<Ran> {
     let config = machine.config(alloc)?;
-    let mut fed = FedChannel::start(alloc, &config, 0)?;
+    let mut ran = Ran::start(alloc, &config)?;
     let mut traffic = Traffic::new();
-    let mut issued = 0u64;
-    let mut nanoseconds = 0u64;
     for _ in 0..commands {
-        if commands <= issued {
+        if commands <= ran.busy.commands {
             break;
         }
-        let waits = fed.channel().requests().len();
-        let count = machine.room().saturating_sub(waits) as u64;
-        let inbox = traffic.requests(alloc, &config, fed.now(), count)?;
-        let until = fed.now().wrapping_add(SPAN);
-        let start = Instant::now(rt)?;
-        let done = fed.run(alloc, &inbox, until)?;
-        nanoseconds = nanoseconds.wrapping_add(nanoseconds_since(rt, start)?);
-        issued = issued.wrapping_add(done.commands.len() as u64);
-        fed = done.channel;
+        ran = ran.run_full(rt, alloc, &config, &mut traffic, machine.room())?;
     }
-    let busy = Busy {
-        commands: issued,
-        cycles: fed.now(),
-        stats: fed.stats(),
-        nanoseconds,
-    };
-    Ok(Ran { fed, busy })
+    Ok(ran)
 }
 
 /// Runs a channel anew over all cycles that were run, in one span.
@@ -94,14 +152,6 @@ pub fn run_busy(rt: &impl Clock, alloc: Global, machine: Machine, commands: u64)
 /// Runs a channel to which nothing comes over so many cycles.
 pub fn run_idle(rt: &impl Clock, alloc: Global, machine: Machine, cycles: Cycle) -> Result<Busy> {
     let config = machine.config(alloc)?;
-    let fed = FedChannel::start(alloc, &config, 0)?;
-    let start = Instant::now(rt)?;
-    let done = fed.run(alloc, &[], cycles)?;
-    let nanoseconds = nanoseconds_since(rt, start)?;
-    Ok(Busy {
-        commands: done.commands.len() as u64,
-        cycles: done.channel.now(),
-        stats: done.channel.stats(),
-        nanoseconds,
-    })
+    let ran = Ran::start(alloc, &config)?.run(rt, alloc, &[], cycles)?;
+    Ok(ran.busy)
 }

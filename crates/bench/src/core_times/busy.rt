@@ -97,36 +97,66 @@ impl Pending {
     }
 }
 
-/// Runs a core over a random trace of so many lines.
-pub fn run_busy<R: Threads + Sync>(rt: &R, alloc: Global, lines: u64) -> Result<Busy> {
-    let config = ddr4_2400(alloc, MACHINE)?;
-    let trace = random_trace(rt, alloc, lines)?;
-    let len = trace.len();
-    let mut core = FedCore::start(alloc, &config, 0, trace)?;
+/// Moves a core on to a cycle before which nothing comes to it and it does nothing.
+fn skip(core: FedCore, until: Cycle) -> Result<FedCore> {
+    core.skip(until).ok().context("it can be skipped")
+}
+
+/// Runs a core up to a cycle, and answers its requests.
+fn run_span(
+    alloc: Global,
+    core: FedCore,
+    pending: &mut Pending,
+    config: &Config,
+    inbox: &[Message],
+    until: Cycle,
+) -> Result<FedCore> {
+    let done = core
+        .run(alloc, inbox, until)
+        .ok()
+        .context("a message is unfit")?;
+    pending.answer(config, &done.messages)?;
+    Ok(done.core)
+}
+
+/// Runs a core span by span until it has retired as many entries, for at most so many spans. Says for how many it was run.
+fn run_spans(
+    alloc: Global,
+    config: &Config,
+    start: FedCore,
+    most: u64,
+    len: u64,
+) -> Result<(FedCore, u64)> {
+    let mut core = start;
     let mut pending = Pending {
         messages: Vec::new(alloc),
         state: 7,
     };
     let mut spans = 0u64;
-    for span in 1..lines.wrapping_mul(1000) {
+    for span in 1..most {
         let until = span.wrapping_mul(SPAN);
         let inbox = pending.take(alloc, until)?;
         let acts = core.next_act().is_some_and(|act| act < until);
         if inbox.is_empty() && !acts {
-            core = core.skip(until).ok().context("it can be skipped")?;
+            core = skip(core, until)?;
             continue;
         }
         spans = spans.wrapping_add(1);
-        let done = core
-            .run(alloc, &inbox, until)
-            .ok()
-            .context("a message is unfit")?;
-        core = done.core;
-        pending.answer(&config, &done.messages)?;
+        core = run_span(alloc, core, &mut pending, config, &inbox, until)?;
         if core.stats().retired == len {
             break;
         }
     }
+    Ok((core, spans))
+}
+
+/// Runs a core over a random trace of so many lines.
+pub fn run_busy<R: Threads + Sync>(rt: &R, alloc: Global, lines: u64) -> Result<Busy> {
+    let config = ddr4_2400(alloc, MACHINE)?;
+    let trace = random_trace(rt, alloc, lines)?;
+    let len = trace.len();
+    let core = FedCore::start(alloc, &config, 0, trace)?;
+    let (core, spans) = run_spans(alloc, &config, core, lines.wrapping_mul(1000), len)?;
     let stats = core.stats();
     Ok(Busy {
         spans,

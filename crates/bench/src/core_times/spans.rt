@@ -113,12 +113,16 @@ fn start_core<R: Threads + Sync>(
     Ok(FedCore::start(alloc, config, 0, trace)?)
 }
 
-/// Runs a core until it has retired a trace of so many lines, span by span, and then one anew over all these cycles, in one span.
-pub fn run_lines<R: Clock + Threads + Sync>(rt: &R, alloc: Global, lines: u64) -> Result<Runs> {
-    let config = ddr4_2400(alloc, MACHINE)?;
-    let core = start_core(rt, alloc, &config, lines)?;
+/// Runs a core span by span until it has retired as many entries, and then one anew over all these cycles, in one span.
+fn run_both(
+    rt: &impl Clock,
+    alloc: Global,
+    config: &Config,
+    core: FedCore,
+    len: u64,
+) -> Result<Runs> {
     let start = Instant::now(rt)?;
-    let core = run_spans(alloc, &config, core, lines.wrapping_mul(1001))?;
+    let core = run_spans(alloc, config, core, len)?;
     let fed = Did {
         retired: core.stats().retired,
         cycles: core.now(),
@@ -126,4 +130,11 @@ pub fn run_lines<R: Clock + Threads + Sync>(rt: &R, alloc: Global, lines: u64) -
     };
     let at_once = run_at_once(rt, alloc, &core)?;
     Ok(Runs { fed, at_once })
+}
+
+/// Runs a core until it has retired a trace of so many lines, span by span, and then one anew over all these cycles, in one span.
+pub fn run_lines<R: Clock + Threads + Sync>(rt: &R, alloc: Global, lines: u64) -> Result<Runs> {
+    let config = ddr4_2400(alloc, MACHINE)?;
+    let core = start_core(rt, alloc, &config, lines)?;
+    run_both(rt, alloc, &config, core, lines.wrapping_mul(1001))
 }

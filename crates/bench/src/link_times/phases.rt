@@ -105,10 +105,46 @@ fn take_all(
     Ok(arrived)
 }
 
+impl Times {
+    /// Sends messages in a phase, and takes out what arrives in it, which is the same.
+    fn add_phase(
+        &mut self,
+        rt: &impl Clock,
+        links: &mut Links,
+        alloc: Global,
+        messages: &[Message],
+        now: Cycle,
+    ) -> Result<()> {
+        let start = Instant::now(rt)?;
+        let none = links.next_arrival();
+        self.idle = self.idle.wrapping_add(nanoseconds_since(rt, start)?);
+        let start = Instant::now(rt)?;
+        links.accept(messages)?;
+        self.accept = self.accept.wrapping_add(nanoseconds_since(rt, start)?);
+        let start = Instant::now(rt)?;
+        let some = links.next_arrival();
+        self.next_arrival = self
+            .next_arrival
+            .wrapping_add(nanoseconds_since(rt, start)?);
+        let start = Instant::now(rt)?;
+        if none.is_none() && some == Some(now) {
+            let arrived = take_all(alloc, links, now, now.wrapping_add(SPAN))?;
+            self.arrived = self.arrived.wrapping_add(arrived);
+        }
+        self.take_due = self.take_due.wrapping_add(nanoseconds_since(rt, start)?);
+        Ok(())
+    }
+}
+
+/// The links of the machine, with nothing in flight.
+fn start_links(alloc: Global) -> Result<Links> {
+    let config = read_config(alloc, MACHINE.as_bytes())?;
+    Ok(Links::start(alloc, &config)?)
+}
+
 /// Sends messages in so many phases, each of which takes out what the one before it sent.
 pub fn run_phases(rt: &impl Clock, alloc: Global, phases: u64) -> Result<Times> {
-    let config = read_config(alloc, MACHINE.as_bytes())?;
-    let mut links = Links::start(alloc, &config)?;
+    let mut links = start_links(alloc)?;
     let mut times = Times {
         arrived: 0,
         accept: 0,
@@ -119,23 +155,7 @@ pub fn run_phases(rt: &impl Clock, alloc: Global, phases: u64) -> Result<Times> 
     for phase in 0..phases {
         let now = phase.wrapping_mul(SPAN);
         let messages = messages_of(alloc, phase, now)?;
-        let start = Instant::now(rt)?;
-        let none = links.next_arrival();
-        times.idle = times.idle.wrapping_add(nanoseconds_since(rt, start)?);
-        let start = Instant::now(rt)?;
-        links.accept(&messages)?;
-        times.accept = times.accept.wrapping_add(nanoseconds_since(rt, start)?);
-        let start = Instant::now(rt)?;
-        let some = links.next_arrival();
-        times.next_arrival = times
-            .next_arrival
-            .wrapping_add(nanoseconds_since(rt, start)?);
-        let start = Instant::now(rt)?;
-        if none.is_none() && some == Some(now) {
-            let arrived = take_all(alloc, &mut links, now, now.wrapping_add(SPAN))?;
-            times.arrived = times.arrived.wrapping_add(arrived);
-        }
-        times.take_due = times.take_due.wrapping_add(nanoseconds_since(rt, start)?);
+        times.add_phase(rt, &mut links, alloc, &messages, now)?;
     }
     Ok(times)
 }
