@@ -119,6 +119,20 @@ fn earlier(a: Option<Cycle>, b: Option<Cycle>) -> Option<Cycle> {
     }
 }
 
+fn run_core(
+    alloc: Global,
+    core: FedCore,
+    inbox: &[Message],
+    until: Cycle,
+    sent: &mut Vec<Message>,
+) -> Result<FedCore, Fail> {
+    let Ok(done) = core.run(alloc, inbox, until) else {
+        return Err(Fail::from("a message does not fit a core"));
+    };
+    sent.extend_from_slice(&done.messages)?;
+    Ok(done.core)
+}
+
 fn run_cores(
     alloc: Global,
     cores: Vec<FedCore>,
@@ -131,14 +145,27 @@ fn run_cores(
     let mut id = 0;
     for core in cores {
         let inbox = links.take_due(alloc, Unit::Core(id), from, until)?;
-        let Ok(done) = core.run(alloc, &inbox, until) else {
-            return Err(Fail::from("a message does not fit a core"));
-        };
-        sent.extend_from_slice(&done.messages)?;
-        after.push(done.core)?;
+        after.push(run_core(alloc, core, &inbox, until, sent)?)?;
         id = id.wrapping_add(1);
     }
     Ok(after)
+}
+
+/// Runs a channel up to a cycle, and keeps what it sends and issues.
+pub(crate) fn run_channel(
+    alloc: Global,
+    channel: FedChannel,
+    inbox: &[Message],
+    until: Cycle,
+    sent: &mut Vec<Message>,
+    commands: &mut Vec<CommandRow>,
+) -> Result<FedChannel, Fail> {
+    let Ok(done) = channel.run(alloc, inbox, until) else {
+        return Err(Fail::from("a message does not fit a channel"));
+    };
+    sent.extend_from_slice(&done.messages)?;
+    commands.extend_from_slice(&done.commands)?;
+    Ok(done.channel)
 }
 
 fn run_channels(
@@ -154,12 +181,7 @@ fn run_channels(
     let mut number = 0;
     for channel in channels {
         let inbox = links.take_due(alloc, Unit::Channel(number), from, until)?;
-        let Ok(done) = channel.run(alloc, &inbox, until) else {
-            return Err(Fail::from("a message does not fit a channel"));
-        };
-        sent.extend_from_slice(&done.messages)?;
-        commands.extend_from_slice(&done.commands)?;
-        after.push(done.channel)?;
+        after.push(run_channel(alloc, channel, &inbox, until, sent, commands)?)?;
         number = number.wrapping_add(1);
     }
     Ok(after)

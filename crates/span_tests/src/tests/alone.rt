@@ -1,6 +1,7 @@
 //! A channel and a core of the small machine alone, with messages, commands and counts that were worked out by hand.
 
 use super::rows::summary;
+use crate::units::run_channel;
 use channel_feed::fed::FedChannel;
 use core_feed::fed::FedCore;
 use cpu_trace::trace::Trace;
@@ -55,10 +56,7 @@ fn two_reads(alloc: Global, ends: &[Cycle]) -> Result<(Vec<CommandRow>, Vec<Mess
     let mut messages = Vec::new(alloc);
     for (index, until) in ends.iter().enumerate() {
         let inbox = if index == 0 { reads.as_slice() } else { &[] };
-        let done = fed.run(alloc, inbox, *until)?;
-        commands.extend_from_slice(&done.commands)?;
-        messages.extend_from_slice(&done.messages)?;
-        fed = done.channel;
+        fed = run_channel(alloc, fed, inbox, *until, &mut messages, &mut commands)?;
     }
     Ok((commands, messages))
 }
@@ -66,21 +64,40 @@ fn two_reads(alloc: Global, ends: &[Cycle]) -> Result<(Vec<CommandRow>, Vec<Mess
 #[test]
 fn a_channel_alone_whole_and_cut(rt: HostRuntime) -> Result<(), Fail> {
     let alloc = rt.alloc();
-    let (whole, sent) = two_reads(alloc, &[16])?;
-    assert_eq!(rt; summary(alloc, &whole)?.as_str(), "ACT 2, RD 5, RD 10, ");
+    let whole = two_reads(alloc, &[16])?;
+    let cut = two_reads(alloc, &[5, 6, 16])?;
+    let text = summary(alloc, &whole.0)?;
+    let found = arrivals(alloc, &whole.1)?;
     let wanted: [(LinkId, Cycle); 4] = [(1, 15), (2, 7), (1, 20), (2, 12)];
-    assert_eq!(rt; arrivals(alloc, &sent)?.as_slice(), wanted.as_slice());
-    let (cut, sent_cut) = two_reads(alloc, &[5, 6, 16])?;
-    assert_eq!(rt; cut, whole);
-    assert_eq!(rt; sent_cut, sent);
+    assert_eq!(rt;
+        (text.as_str(), found.as_slice(), cut),
+        ("ACT 2, RD 5, RD 10, ", wanted.as_slice(), whole)
+    );
     Ok(())
+}
+
+/// A core with one credit, before it reads lines 0 and 1.
+fn core_of_two_reads(alloc: Global) -> Result<FedCore, Fail> {
+    let config = small(alloc, &["read_credits = 1"], "")?;
+    let trace = Trace::from_entries(alloc, &[Entry::Read(0), Entry::Read(64)])?;
+    Ok(FedCore::start(alloc, &config, 0, trace)?)
+}
+
+/// A core after a span up to a cycle, and on which links what it sent arrives, and when.
+fn run_core(
+    alloc: Global,
+    core: FedCore,
+    inbox: &[Message],
+    until: Cycle,
+) -> Result<(FedCore, Vec<(LinkId, Cycle)>), Fail> {
+    let done = core.run(alloc, inbox, until)?;
+    let sent = arrivals(alloc, &done.messages)?;
+    Ok((done.core, sent))
 }
 
 #[test]
 fn a_core_alone_with_one_credit(rt: HostRuntime) -> Result<(), Fail> {
     let alloc = rt.alloc();
-    let config = small(alloc, &["read_credits = 1"], "")?;
-    let trace = Trace::from_entries(alloc, &[Entry::Read(0), Entry::Read(64)])?;
     let credit = Message {
         link: 2,
         arrival: 7,
@@ -94,9 +111,9 @@ fn a_core_alone_with_one_credit(rt: HostRuntime) -> Result<(), Fail> {
         arrival: 15,
         load: Load::Reply(0),
     };
-    let core = FedCore::start(alloc, &config, 0, trace)?;
-    let first = core.run(alloc, &[], 7)?;
-    let second = first.core.run(alloc, &[credit, reply], 16)?;
+    let core = core_of_two_reads(alloc)?;
+    let (core, first) = run_core(alloc, core, &[], 7)?;
+    let (core, second) = run_core(alloc, core, &[credit, reply], 16)?;
     let did = CoreStats {
         issued: 2,
         retired: 1,
@@ -108,16 +125,9 @@ fn a_core_alone_with_one_credit(rt: HostRuntime) -> Result<(), Fail> {
         stop_credit: 6,
         ..CoreStats::new()
     };
-    assert_eq!(rt; second.core.stats(), did);
-    let requests: [(LinkId, Cycle); 1] = [(0, 2)];
     assert_eq!(rt;
-        arrivals(alloc, &first.messages)?.as_slice(),
-        requests.as_slice()
-    );
-    let later: [(LinkId, Cycle); 1] = [(0, 9)];
-    assert_eq!(rt;
-        arrivals(alloc, &second.messages)?.as_slice(),
-        later.as_slice()
+        (core.stats(), first.as_slice(), second.as_slice()),
+        (did, [(0, 2)].as_slice(), [(0, 9)].as_slice())
     );
     Ok(())
 }
