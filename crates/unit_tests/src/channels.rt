@@ -98,13 +98,19 @@ fn idle_span_is_skipped(rt: HostRuntime) -> Result<(), Fail> {
     let done = run_alone(rt.alloc(), &config, &[], 1_000_000_000_000)?;
     let channel = &done.channel;
     let stats = channel.stats();
-    assert_eq!(rt; channel.now(), 1_000_000_000_000);
     assert_eq!(rt;
-        (stats.idle, stats.queued, stats.refreshing),
-        (1_000_000_000_000, 0, 0)
+        (channel.now(), stats.idle, stats.queued, stats.refreshing),
+        (1_000_000_000_000, 1_000_000_000_000, 0, 0)
     );
-    assert_eq!(rt; (done.commands.len(), done.messages.len()), (0, 0));
-    assert_eq!(rt; (channel.due(0), channel.open_row(BANK)), (0, None));
+    assert_eq!(rt;
+        (
+            done.commands.len(),
+            done.messages.len(),
+            channel.due(0),
+            channel.open_row(BANK)
+        ),
+        (0, 0, 0, None)
+    );
     Ok(())
 }
 
@@ -114,12 +120,20 @@ fn idle_channel_is_refreshed(rt: HostRuntime) -> Result<(), Fail> {
     let config = config(rt.alloc(), "nREFI = 100")?;
     let done = run_alone(rt.alloc(), &config, &[], 250)?;
     let stats = done.channel.stats();
-    let rows = &done.commands;
-    assert_eq!(rt; rows.len(), 2);
-    let refresh = Command::Ref { rank: 0 };
-    assert_eq!(rt; (rows[0].cycle, rows[0].command), (100, refresh));
-    assert_eq!(rt; (rows[1].cycle, rows[1].command), (200, refresh));
-    assert_eq!(rt; (stats.refs, stats.refreshing, stats.idle), (2, 2, 250));
+    let rows = [100, 200].map(|cycle| CommandRow {
+        cycle,
+        channel: 0,
+        command: Command::Ref { rank: 0 },
+    });
+    assert_eq!(rt;
+        (
+            done.commands.as_slice(),
+            stats.refs,
+            stats.refreshing,
+            stats.idle
+        ),
+        (rows.as_slice(), 2, 2, 250)
+    );
     Ok(())
 }
 
@@ -131,16 +145,30 @@ fn one_read_is_served(rt: HostRuntime) -> Result<(), Fail> {
     let done = run_alone(rt.alloc(), &config, &inbox, 16)?;
     let channel = &done.channel;
     let stats = channel.stats();
-    let rows = &done.commands;
-    let sent = &done.messages;
-    assert_eq!(rt; channel.now(), 16);
-    assert_eq!(rt; rows.len(), 2);
-    assert_eq!(rt; (rows[0].cycle, rows[1].cycle), (2, 5));
-    assert_eq!(rt; sent.len(), 2);
-    assert_eq!(rt; (sent[0].arrival, sent[1].arrival), (15, 7));
-    assert_eq!(rt; (stats.queued, stats.queued_max, stats.idle), (4, 1, 12));
-    assert_eq!(rt; (stats.act, stats.rd, stats.hits), (1, 1, 0));
-    assert_eq!(rt; channel.open_row(BANK), Some(0));
-    assert_eq!(rt; channel.requests().len(), 0);
+    let cycles: Vec<Cycle> = done
+        .commands
+        .iter()
+        .map(|row| row.cycle)
+        .collect(rt.alloc())?;
+    let arrivals: Vec<Cycle> = done.messages.iter().map(|m| m.arrival).collect(rt.alloc())?;
+    assert_eq!(rt;
+        (channel.now(), cycles.as_slice(), arrivals.as_slice()),
+        (16, [2, 5].as_slice(), [15, 7].as_slice())
+    );
+    assert_eq!(rt;
+        (
+            stats.queued,
+            stats.queued_max,
+            stats.idle,
+            stats.act,
+            stats.rd,
+            stats.hits
+        ),
+        (4, 1, 12, 1, 1, 0)
+    );
+    assert_eq!(rt;
+        (channel.open_row(BANK), channel.requests().len()),
+        (Some(0), 0)
+    );
     Ok(())
 }

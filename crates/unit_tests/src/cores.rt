@@ -46,8 +46,7 @@ fn second_read_waits_for_the_only_credit(rt: HostRuntime) -> Result<(), Fail> {
         stop_credit: 6,
         ..CoreStats::new()
     };
-    assert_eq!(rt; core.stats(), did);
-    assert_eq!(rt; sent.len(), 1);
+    assert_eq!(rt; (core.stats(), sent.len()), (did, 1));
     Ok(())
 }
 
@@ -64,8 +63,7 @@ fn plain_entries_go_by_the_width(rt: HostRuntime) -> Result<(), Fail> {
         stop_width: 1,
         ..CoreStats::new()
     };
-    assert_eq!(rt; core.stats(), did);
-    assert_eq!(rt; sent.len(), 1);
+    assert_eq!(rt; (core.stats(), sent.len()), (did, 1));
     Ok(())
 }
 
@@ -74,8 +72,7 @@ fn window_of_one_entry_is_full(rt: HostRuntime) -> Result<(), Fail> {
     let config = small(rt.alloc(), &["window = 1"], "")?;
     let entries = [Entry::Read(0), Entry::Read(64)];
     let Alone { core, sent } = run_alone(rt.alloc(), &config, &entries, 15)?;
-    assert_eq!(rt; core.stats().stop_window, 15);
-    assert_eq!(rt; sent.len(), 1);
+    assert_eq!(rt; (core.stats().stop_window, sent.len()), (15, 1));
     Ok(())
 }
 
@@ -92,8 +89,7 @@ fn plain_entries_alone_finish(rt: HostRuntime) -> Result<(), Fail> {
         finish: Some(4),
         ..CoreStats::new()
     };
-    assert_eq!(rt; core.stats(), did);
-    assert_eq!(rt; sent.len(), 0);
+    assert_eq!(rt; (core.stats(), sent.len()), (did, 0));
     Ok(())
 }
 
@@ -110,9 +106,14 @@ fn plain_entries_fill_the_window_behind_a_read(rt: HostRuntime) -> Result<(), Fa
         stop_window: 13,
         ..CoreStats::new()
     };
-    assert_eq!(rt; core.stats(), did);
-    assert!(rt; core.is_awaited(0));
-    assert!(rt; !core.is_awaited(1));
-    assert_eq!(rt; sent.len(), 1);
+    assert_eq!(rt;
+        (
+            core.stats(),
+            core.is_awaited(0),
+            core.is_awaited(1),
+            sent.len()
+        ),
+        (did, true, false, 1)
+    );
     Ok(())
 }

@@ -148,10 +148,11 @@ fn a_run_whole_and_in_three_spans(rt: HostRuntime) -> Result<(), Fail> {
     let config = small(alloc, &[], "")?;
     for ends in [[64].as_slice(), [3, 6, 64].as_slice()] {
         let run = run_spans(alloc, &config, ends)?;
-        assert_eq!(rt; run.commands.as_slice(), opened_and_read().as_slice());
-        assert_eq!(rt; run.messages.as_slice(), replied().as_slice());
-        assert_eq!(rt; run.fed.stats(), counted());
-        assert_eq!(rt; run.fed.now(), 64);
+        assert_eq!(rt;
+            (run.commands.as_slice(), run.messages.as_slice()),
+            (opened_and_read().as_slice(), replied().as_slice())
+        );
+        assert_eq!(rt; (run.fed.stats(), run.fed.now()), (counted(), 64));
     }
     Ok(())
 }
@@ -193,64 +194,86 @@ fn messages_that_do_not_fit(rt: HostRuntime) -> Result<(), Fail> {
         assert!(rt; is_unfit(alloc, &config, &[message])?, "{message:?}");
     }
     let first = message(read(0, 2));
-    let out_of_order = [message(read(0, 3)), message(read(1, 2))];
-    assert!(rt; is_unfit(alloc, &config, &out_of_order)?);
-    let at_once = [first, message(read(1, 2))];
-    assert!(rt; is_unfit(alloc, &config, &at_once)?);
-    let twice = [first, message(read(0, 3))];
-    assert!(rt; is_unfit(alloc, &config, &twice)?);
-    let mut many = Vec::new(alloc);
-    for entry in 0..9u64 {
-        many.push(message(read(entry, 2 + entry)))?;
+    for (inbox, why) in [
+        ([message(read(0, 3)), message(read(1, 2))], "out of order"),
+        ([first, message(read(1, 2))], "two in a cycle of a link"),
+        ([first, message(read(0, 3))], "an entry twice"),
+    ] {
+        assert!(rt; is_unfit(alloc, &config, &inbox)?, "{why}");
     }
-    assert!(rt; is_unfit(alloc, &config, &many)?);
-    many.pop();
-    assert!(rt; !is_unfit(alloc, &config, &many)?);
     Ok(())
+}
+
+// Its one core has four credits of each kind, so that there is room for eight.
+#[test]
+fn more_messages_than_credits(rt: HostRuntime) -> Result<(), Fail> {
+    let alloc = rt.alloc();
+    let config = small(alloc, &[], "")?;
+    let many: Vec<Message> = (0..9u64)
+        .map(|entry| message(read(entry, 2 + entry)))
+        .collect(alloc)?;
+    for (count, unfit) in [(9usize, true), (8, false)] {
+        assert_eq!(rt;
+            (count, is_unfit(alloc, &config, &many[..count])?),
+            (count, unfit)
+        );
+    }
+    Ok(())
+}
+
+// Why a channel that was run up to cycle 6 does not run on over a span; none, where it does.
+fn refusal(alloc: Global, inbox: &[Message], until: Cycle) -> Result<Option<FeedFault>, Fail> {
+    let config = small(alloc, &[], "")?;
+    let fed = run_spans(alloc, &config, &[6])?.fed;
+    Ok(fed.run(alloc, inbox, until).err())
 }
 
 #[test]
 fn a_message_that_comes_too_late(rt: HostRuntime) -> Result<(), Fail> {
+    for (inbox, until, why) in [
+        (
+            [message(read(0, 10))].as_slice(),
+            64,
+            "the entry came already",
+        ),
+        (&[message(read(1, 5))], 64, "it arrives before now"),
+        (&[], 5, "the span ends before now"),
+    ] {
+        let refused = refusal(rt.alloc(), inbox, until)?;
+        assert_eq!(rt; refused, Some(FeedFault::Unfit), "{why}");
+    }
+    Ok(())
+}
+
+// In cycle 2 the Read arrives, in cycle 5 it is served.
+#[test]
+fn a_cycle_with_a_command_is_not_skipped(rt: HostRuntime) -> Result<(), Fail> {
     let alloc = rt.alloc();
     let config = small(alloc, &[], "")?;
-    let again = [message(read(0, 10))];
-    let fed = run_spans(alloc, &config, &[6])?.fed;
-    let refused = fed.run(alloc, &again, 64).err();
-    assert_eq!(rt; refused, Some(FeedFault::Unfit), "the entry came already");
-    let early = [message(read(1, 5))];
-    let fed = run_spans(alloc, &config, &[6])?.fed;
-    let refused = fed.run(alloc, &early, 64).err();
-    assert_eq!(rt; refused, Some(FeedFault::Unfit), "it arrives before now");
-    let fed = run_spans(alloc, &config, &[6])?.fed;
+    let mut fed = run_spans(alloc, &config, &[3])?.fed;
+    let next = fed.next_act();
     assert_eq!(rt;
-        fed.run(alloc, &[], 5).err(),
-        Some(FeedFault::Unfit),
-        "the span ends before now"
+        (next, fed.skip(6).err()),
+        (Some(5), Some(FeedFault::Unfit))
     );
     Ok(())
 }
 
-// In cycle 2 the Read arrives, in cycle 5 it is served, and then there is nothing to do.
+// After cycle 5 there is nothing to do.
 #[test]
 fn cycles_that_are_skipped(rt: HostRuntime) -> Result<(), Fail> {
     let alloc = rt.alloc();
     let config = small(alloc, &[], "")?;
-    let mut fed = run_spans(alloc, &config, &[3])?.fed;
-    assert_eq!(rt; fed.next_act(), Some(5));
-    assert_eq!(rt;
-        fed.skip(6).err(),
-        Some(FeedFault::Unfit),
-        "a command is skipped"
-    );
     let fed = run_spans(alloc, &config, &[3])?.fed.skip(5)?;
     let mut fed = fed.run(alloc, &[], 6)?.channel;
-    assert_eq!(rt; fed.next_act(), None);
+    let next = fed.next_act();
     let fed = fed.skip(64)?;
-    assert_eq!(rt; fed.stats(), counted());
+    let stats = fed.stats();
+    // It stands at cycle 64 already.
+    let back = fed.skip(63).err();
     assert_eq!(rt;
-        fed.skip(63).err(),
-        Some(FeedFault::Unfit),
-        "it stands there already"
+        (next, stats, back),
+        (None, counted(), Some(FeedFault::Unfit))
     );
     Ok(())
 }
@@ -284,11 +307,18 @@ fn a_replay_does_what_the_spans_did(rt: HostRuntime) -> Result<(), Fail> {
     } = hit_later(alloc, &config)?;
     let fed = fed.skip(64)?;
     let replay = fed.replay(alloc)?;
-    assert_eq!(rt; replay.commands.len(), 3);
-    assert_eq!(rt; replay.commands.as_slice(), commands.as_slice());
-    assert_eq!(rt; replay.messages.as_slice(), messages.as_slice());
-    assert_eq!(rt; replay.channel.stats(), fed.stats());
-    assert_eq!(rt; replay.channel.now(), 64);
+    assert_eq!(rt;
+        (replay.commands.as_slice(), replay.messages.as_slice()),
+        (commands.as_slice(), messages.as_slice())
+    );
+    assert_eq!(rt;
+        (
+            replay.commands.len(),
+            replay.channel.stats(),
+            replay.channel.now()
+        ),
+        (3, fed.stats(), 64)
+    );
     Ok(())
 }
 
@@ -297,8 +327,13 @@ fn a_replay_of_no_cycle(rt: HostRuntime) -> Result<(), Fail> {
     let alloc = rt.alloc();
     let config = small(alloc, &[], "")?;
     let replay = FedChannel::start(alloc, &config, 0)?.replay(alloc)?;
-    assert!(rt; replay.commands.is_empty());
-    assert!(rt; replay.messages.is_empty());
-    assert_eq!(rt; replay.channel.now(), 0);
+    assert_eq!(rt;
+        (
+            replay.commands.len(),
+            replay.messages.len(),
+            replay.channel.now()
+        ),
+        (0, 0, 0)
+    );
     Ok(())
 }

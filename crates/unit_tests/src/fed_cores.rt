@@ -82,19 +82,15 @@ fn counts_do_not_depend_on_the_cuts(rt: HostRuntime) -> Result<(), Fail> {
         finish: Some(20),
         ..CoreStats::new()
     };
-    let did_so = counted(rt.alloc(), &config, &entries, &mail, &[7, 32])?;
-    assert_eq!(rt; did_so, did);
-    let cut = counted(
-        rt.alloc(),
-        &config,
-        &entries,
-        &mail,
-        &[2, 12, 15, 16, 21, 32],
-    )?;
-    assert_eq!(rt; cut, did);
     let cycles: Vec<Cycle> = (0..33u64).collect(rt.alloc())?;
-    let by_cycle = counted(rt.alloc(), &config, &entries, &mail, &cycles)?;
-    assert_eq!(rt; by_cycle, did);
+    for cuts in [
+        [7, 32].as_slice(),
+        [2, 12, 15, 16, 21, 32].as_slice(),
+        cycles.as_slice(),
+    ] {
+        let did_so = counted(rt.alloc(), &config, &entries, &mail, cuts)?;
+        assert_eq!(rt; (cuts, did_so), (cuts, did));
+    }
     Ok(())
 }
 
@@ -192,11 +188,12 @@ fn a_replay_does_the_same_in_one_span(rt: HostRuntime) -> Result<(), Fail> {
     let start = FedCore::start(rt.alloc(), &config, 0, trace)?;
     let fed = fed_up_to(rt.alloc(), start, &mail, &[7, 8, 18, 32])?;
     let replay = fed.core.replay(rt.alloc())?;
-    assert_eq!(rt; fed.messages.len(), 2);
-    assert_eq!(rt; replay.messages, fed.messages);
-    assert_eq!(rt; replay.core.stats(), fed.core.stats());
-    assert_eq!(rt; replay.core.stats().finish, Some(20));
-    assert_eq!(rt; replay.core.now(), 32);
+    let stats = replay.core.stats();
+    assert_eq!(rt;
+        (replay.messages.as_slice(), stats, stats.finish),
+        (fed.messages.as_slice(), fed.core.stats(), Some(20))
+    );
+    assert_eq!(rt; (fed.messages.len(), replay.core.now()), (2, 32));
     Ok(())
 }
 
@@ -225,85 +222,59 @@ fn is_refused(alloc: Global, inbox: &[Message], until: Cycle) -> Result<bool, Fa
 #[test]
 fn fit_messages_are_taken(rt: HostRuntime) -> Result<(), Fail> {
     let mail = [credit(1, 7), credit(2, 7), reply(1, 14), reply(2, 14)];
-    assert!(rt; !is_refused(rt.alloc(), &mail, 32)?);
-    assert!(rt; !is_refused(rt.alloc(), &[], 2)?);
+    for (inbox, until) in [(mail.as_slice(), 32), (&[], 2)] {
+        assert!(rt; !is_refused(rt.alloc(), inbox, until)?, "up to {until}");
+    }
     Ok(())
 }
 
 #[test]
 fn replies_that_may_not_come(rt: HostRuntime) -> Result<(), Fail> {
-    assert!(rt;
-        is_refused(rt.alloc(), &[reply(1, 14), reply(1, 15)], 32)?,
-        "twice"
-    );
-    assert!(rt;
-        is_refused(rt.alloc(), &[reply(0, 14)], 32)?,
-        "of a Plain entry"
-    );
-    assert!(rt;
-        is_refused(rt.alloc(), &[reply(3, 2)], 32)?,
-        "of an entry not issued yet"
-    );
-    assert!(rt; is_refused(rt.alloc(), &[reply(9, 14)], 32)?, "of no entry");
+    for (inbox, why) in [
+        ([reply(1, 14), reply(1, 15)].as_slice(), "twice"),
+        (&[reply(0, 14)], "of a Plain entry"),
+        (&[reply(3, 2)], "of an entry not issued yet"),
+        (&[reply(9, 14)], "of no entry"),
+    ] {
+        assert!(rt; is_refused(rt.alloc(), inbox, 32)?, "{why}");
+    }
     Ok(())
+}
+
+/// A credit that may not come, as it stands in a good one's place.
+fn credit_with(link: u64, write: bool) -> Message {
+    Message {
+        link,
+        arrival: 7,
+        load: Load::Credit { write, entry: 1 },
+    }
 }
 
 #[test]
 fn credits_that_may_not_come(rt: HostRuntime) -> Result<(), Fail> {
     let three = [credit(1, 2), credit(2, 2), credit(3, 2)];
-    assert!(rt; is_refused(rt.alloc(), &three, 32)?, "one too many");
-    let write = Message {
-        load: Load::Credit {
-            write: true,
-            entry: 1,
-        },
-        ..credit(1, 7)
-    };
-    assert!(rt;
-        is_refused(rt.alloc(), &[write], 32)?,
-        "of a kind of which none is spent"
-    );
-    let elsewhere = Message {
-        link: 5,
-        ..credit(1, 7)
-    };
-    assert!(rt;
-        is_refused(rt.alloc(), &[elsewhere], 32)?,
-        "on another core's link"
-    );
-    let back = Message {
-        link: 1,
-        ..credit(1, 7)
-    };
-    assert!(rt;
-        is_refused(rt.alloc(), &[back], 32)?,
-        "on the link of replies"
-    );
+    for (inbox, why) in [
+        (three.as_slice(), "one too many"),
+        (&[credit_with(2, true)], "of a kind of which none is spent"),
+        (&[credit_with(5, false)], "on another core's link"),
+        (&[credit_with(1, false)], "on the link of replies"),
+    ] {
+        assert!(rt; is_refused(rt.alloc(), inbox, 32)?, "{why}");
+    }
     Ok(())
 }
 
 #[test]
 fn messages_at_a_wrong_time(rt: HostRuntime) -> Result<(), Fail> {
-    assert!(rt;
-        is_refused(rt.alloc(), &[reply(2, 15), reply(1, 14)], 32)?,
-        "out of order"
-    );
-    assert!(rt;
-        is_refused(rt.alloc(), &[reply(1, 1)], 32)?,
-        "before the span"
-    );
-    assert!(rt;
-        is_refused(rt.alloc(), &[reply(1, 32)], 32)?,
-        "after the span"
-    );
-    assert!(rt;
-        is_refused(rt.alloc(), &[], 1)?,
-        "a span that ends before it begins"
-    );
-    assert!(rt;
-        is_refused(rt.alloc(), &[], 1 << 62)?,
-        "a span that ends too late"
-    );
+    for (inbox, until, why) in [
+        ([reply(2, 15), reply(1, 14)].as_slice(), 32, "out of order"),
+        (&[reply(1, 1)], 32, "before the span"),
+        (&[reply(1, 32)], 32, "after the span"),
+        (&[], 1, "a span that ends before it begins"),
+        (&[], 1 << 62, "a span that ends too late"),
+    ] {
+        assert!(rt; is_refused(rt.alloc(), inbox, until)?, "{why}");
+    }
     Ok(())
 }
 
@@ -333,21 +304,27 @@ fn requests_do_not_come_to_a_core(rt: HostRuntime) -> Result<(), Fail> {
     Ok(())
 }
 
+/// A core with one Read, at cycle 0.
+fn core_with_a_read(alloc: Global) -> Result<FedCore, Fail> {
+    let config = small(alloc, &[], "")?;
+    let trace = trace_of(alloc, &[Entry::Read(0)])?;
+    Ok(FedCore::start(alloc, &config, 0, trace)?)
+}
+
 #[test]
 fn a_core_at_rest_skips(rt: HostRuntime) -> Result<(), Fail> {
-    let config = small(rt.alloc(), &[], "")?;
-    let trace = trace_of(rt.alloc(), &[Entry::Read(0)])?;
-    let core = FedCore::start(rt.alloc(), &config, 0, trace)?;
-    assert_eq!(rt; core.next_act(), Some(0));
+    let core = core_with_a_read(rt.alloc())?;
+    let first = core.next_act();
     let waits = core.run(rt.alloc(), &[], 1)?.core;
-    assert_eq!(rt; waits.next_act(), None);
+    let next = waits.next_act();
     let skipped = waits.skip(15)?;
-    assert_eq!(rt; skipped.now(), 15);
-    assert_eq!(rt; skipped.core().credits().len(), 1);
-    let answered = skipped
-        .run(rt.alloc(), &[credit(0, 15), reply(0, 15)], 16)?
-        .core;
-    assert_eq!(rt; answered.stats().finish, Some(15));
+    let stands = (skipped.now(), skipped.core().credits().len());
+    let mail = [credit(0, 15), reply(0, 15)];
+    let finish = skipped.run(rt.alloc(), &mail, 16)?.core.stats().finish;
+    assert_eq!(rt;
+        (first, next, stands, finish),
+        (Some(0), None, (15, 1), Some(15))
+    );
     Ok(())
 }
 
