@@ -204,7 +204,7 @@ fn messages_that_do_not_fit(rt: HostRuntime) -> Result<(), Fail> {
     Ok(())
 }
 
-// Its one core has four credits of each kind, so that there is room for eight.
+// The machine's one core has four credits of each kind, so that the channel has room for eight.
 #[test]
 fn more_messages_than_credits(rt: HostRuntime) -> Result<(), Fail> {
     let alloc = rt.alloc();
