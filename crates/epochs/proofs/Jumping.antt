@@ -1,27 +1,28 @@
 -- A machine goes on to a cycle that is not past any of its wake words: no unit is touched, and the links stay as they are.
-use Rattle.std.proofs.Common.{◌≡◌, ℕ, zero, suc, ◌+◌, ◌-◌, ◌^◌, ◌<◌, ◌≤◌, Bool, true, false, ltb, leb, ◌&&◌, List, [], ◌∷◌, ◌++◌, length, map, replicate, get_or, refl, sym, ap, ap₂, subst, ◌∙◌, add-zero, add-suc, arith}
+use Rattle.std.proofs.Common.{◌≡◌, ℕ, zero, suc, ◌+◌, ◌-◌, ◌^◌, ◌<◌, ◌≤◌, List, [], ◌∷◌, ◌++◌, length, replicate, get_or, ◌⊎◌, inl, inr, refl, sym, ap, ap₂, subst, ◌∙◌, add-zero, arith}
 use Rattle.std.specs.Prelude.{filter, flat_map, fold, All}
-use Rattle.std.proofs.lemmas.List.{length-map, length-replicate, get_or-map, get_or-replicate}
+use Rattle.std.proofs.lemmas.Bool.{cases_lt}
+use Rattle.std.proofs.lemmas.List.{length-replicate, get_or-replicate, get_or_append_left}
 use Rattle.std.proofs.lemmas.Option.{slice_get-get_or}
+use Rattle.std.proofs.Math.Seq.{get_or-append_seam}
+use Rattle.statistics.proofs.Lists.{length-push_suc}
 use Rattle.sim_base.specs.declared.config.Config.{Config}
 use Rattle.sim_base.specs.Counts.{in_flight}
-use Rattle.sim_base.specs.History.{below, insert_by_age, is_unit}
+use Rattle.sim_base.specs.History.{below, insert_by_age}
 use Rattle.sim_base.specs.Locality.{TravelsFor}
 use Rattle.sim_base.specs.Machine.{run}
 use Rattle.sim_base.specs.declared.message.Message.{Message}
-use Rattle.sim_base.specs.declared.message.Unit.{Unit as MachineUnit}
 use Rattle.sim_base.specs.declared.trace.Entry.{Entry}
 use Rattle.sim_base.proofs.Below.{flat_map_below_more}
 use Rattle.statistics.proofs.RunSteps.{travels}
-use Rattle.links.specs.InFlight.{InFlight, is_due, receiver_of}
-use Rattle.span_laws.specs.Mail.{mail_in}
+use Rattle.links.specs.InFlight.{InFlight, is_due}
 use Rattle.epochs.specs.Flight.{fresh, left}
-use Rattle.epochs.specs.Parts.{late, IsSim}
+use Rattle.epochs.specs.Parts.{late, IsPart, IsSim}
 use Rattle.epochs.specs.declared.part.Part.{Part}
 use Rattle.epochs.specs.Units.{unit_at, unit_count}
 use Rattle.epochs.proofs.Due.{due-mail, left-all, left-none, left-more, exists-at}
 use Rattle.epochs.proofs.Joining.{fresh-is, join-flight}
-use Rattle.epochs.specs.Wakes.{Waits, IsAsleep, HasGoneOn, slot_at, sleeper, sleeper_at}
+use Rattle.epochs.specs.Wakes.{IsAsleep, HasGoneOn, AreSlots, sleeper, sleeper_at}
 use Rattle.epochs.specs.declared.slot.Slot.{Slot}
 use Rattle.epochs.proofs.Standing.{same-default}
 use Rattle.epochs.proofs.Waiting.{awake-waits, none-first, none-taken, due-flight, untouched, untouched-none}
@@ -126,22 +127,46 @@ at-wake s traces now begin limit slots words links h l early within sleep since 
 
 -- all units stand where the machine does, and are asked in the next phase
 pub awake-sim : (s : Config) (traces : List (List Entry)) (now phase : ℕ) (parts : List Part) (links : InFlight) (slots : List Slot) (words : List ℕ) → IsSim s traces now phase parts links
-    → slots ≡ map (slot_at now) parts → words ≡ replicate (length parts) now → IsAsleep s traces now slots words links
+    → AreSlots now parts slots → words ≡ replicate (length parts) now → IsAsleep s traces now slots words links
 awake-sim s traces now phase parts links slots words h e f =
     record {
       early = h.early;
-      count = ap length e ∙ length-map parts (slot_at now) ∙ h.count;
+      count = e.count ∙ h.count;
       words_count = ap length f ∙ length-replicate (length parts) now ∙ h.count;
       wait = λ k d l.
-          let less : k < length parts = omega (arith, l, ap length e, length-map parts (slot_at now)) in
+          let less : k < length parts = omega (arith, l, e.count) in
           let p = some-part parts (omega (arith, less)) in
-          let slot : get_or slots k d ≡ slot_at now (get_or parts k p) = ap (λ z. get_or z k d) e ∙ get_or-map (slot_at now) parts k p d less in
           let word : get_or words k 0 ≡ now = ap (λ z. get_or z k 0) f ∙ get_or-replicate (length parts) k now 0 less in
-          subst (Waits s traces (unit_at s k) now) (sym (ap₂ sleeper slot word))
-          (awake-waits s traces (unit_at s k) now (sleeper (slot_at now (get_or parts k p)) now) (h.stand k (get_or parts k p) (slice_get-get_or parts k p less)) refl refl);
+          let stands = subst (IsPart s traces (unit_at s k) now) (sym (e.parts_are k d p less)) (h.stand k (get_or parts k p) (slice_get-get_or parts k p less)) in
+          awake-waits s traces (unit_at s k) now (sleeper (get_or slots k d) (get_or words k 0)) stands (e.stand k d less) word;
       flight = h.flight;
     }
   where
     some-part : (xs : List Part) → 0 < length xs → Part
     some-part [] l = absurd (omega (arith, l))
     some-part (x ∷ xs) l = x
+
+-- one unit more that stands at a cycle
+pub slots-push : (now : ℕ) (parts : List Part) (slots : List Slot) (p : Part) (slot : Slot) → AreSlots now parts slots → slot.part.value ≡ p → slot.at ≡ now → AreSlots now (parts ++ p ∷ []) (slots ++ slot ∷ [])
+slots-push now parts slots p slot h e f = record {
+  count = length-push_suc slots slot ∙ ap suc h.count ∙ sym (length-push_suc parts p);
+  parts_are = λ k d g l. part-at k d g (omega (arith, l, length-push_suc parts p)) (cases_lt k (length parts));
+  stand = λ k d l. at k d (omega (arith, l, length-push_suc parts p)) (cases_lt k (length parts));
+}
+  where
+    part-at : (k : ℕ) (d : Slot) (g : Part) → k < suc (length parts) → (k < length parts) ⊎ (length parts ≤ k) → (get_or (slots ++ slot ∷ []) k d).part.value ≡ get_or (parts ++ p ∷ []) k g
+    part-at k d g l (inl m) =
+        ap (λ (x : Slot). x.part.value) (get_or_append_left slots (slot ∷ []) d k (omega (arith, m, h.count))) ∙ h.parts_are k d g m ∙ sym (get_or_append_left parts (p ∷ []) g k m)
+    part-at k d g l (inr m) =
+        let last : k ≡ length parts = omega (arith, l, m) in
+        ap (λ n. (get_or (slots ++ slot ∷ []) n d).part.value) (last ∙ sym h.count) ∙ ap (λ (x : Slot). x.part.value) (get_or-append_seam slots slot [] d) ∙ e
+        ∙ sym (ap (λ n. get_or (parts ++ p ∷ []) n g) last ∙ get_or-append_seam parts p [] g)
+
+    at : (k : ℕ) (d : Slot) → k < suc (length parts) → (k < length parts) ⊎ (length parts ≤ k) → (get_or (slots ++ slot ∷ []) k d).at ≡ now
+    at k d l (inl m) = ap (λ (x : Slot). x.at) (get_or_append_left slots (slot ∷ []) d k (omega (arith, m, h.count))) ∙ h.stand k d m
+    at k d l (inr m) =
+        let last : k ≡ length parts = omega (arith, l, m) in
+        ap (λ n. (get_or (slots ++ slot ∷ []) n d).at) (last ∙ sym h.count) ∙ ap (λ (x : Slot). x.at) (get_or-append_seam slots slot [] d) ∙ f
+
+pub slots-none : (now : ℕ) (slots : List Slot) → slots ≡ [] → AreSlots now [] slots
+slots-none now slots e = record { count = ap length e; parts_are = λ k d g l. absurd (omega (arith, l)); stand = λ k d l. absurd (omega (arith, l)) }

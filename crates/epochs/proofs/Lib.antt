@@ -19,3 +19,4 @@ pub mod Waiting
 pub mod Lowering
 pub mod Jumping
 pub mod Going
+pub mod Calling

@@ -1,12 +1,12 @@
 -- Words that are lowered to what is sent in a phase.
-use Rattle.std.proofs.Common.{◌≡◌, ℕ, zero, suc, ◌+◌, ◌-◌, ◌<◌, ◌≤◌, Bool, true, false, cond, max, ltb, leb, not, ◌&&◌, List, [], ◌∷◌, length, get_or, refl, sym, ap, ap₂, subst, ◌∙◌, arith}
-use Rattle.std.specs.Prelude.{filter, flat_map, fold, slice_get, option_map, Some, None, All}
+use Rattle.std.proofs.Common.{◌≡◌, ℕ, zero, suc, ◌-◌, ◌<◌, ◌≤◌, Bool, true, false, cond, max, ltb, leb, not, ◌&&◌, List, [], ◌∷◌, length, get_or, refl, sym, ap, ap₂, subst, ◌∙◌, arith}
+use Rattle.std.specs.Prelude.{filter, slice_get, option_map, Some, None, All}
 use Rattle.std.specs.List.{AllByRecursion as Each}
 use Rattle.std.proofs.lemmas.Bool.Decides.{nat_tests}
 use Rattle.std.proofs.lemmas.List.Elements.{All-from_recursion, recursion_from_All}
 use Rattle.sim_base.specs.declared.config.Config.{Config}
 use Rattle.sim_base.specs.Counts.{in_flight}
-use Rattle.sim_base.specs.History.{below, insert_by_age, is_unit, messages, by_age}
+use Rattle.sim_base.specs.History.{is_unit, messages}
 use Rattle.sim_base.specs.Locality.{TravelsFor}
 use Rattle.sim_base.specs.Machine.{run}
 use Rattle.sim_base.specs.declared.message.Message.{Message}
@@ -24,7 +24,6 @@ use Rattle.epochs.specs.Parts.{late, IsPart}
 use Rattle.epochs.specs.Units.{unit_at, unit_count}
 use Rattle.epochs.specs.Wakes.{Sleeper, IsSilent, Waits, WaitAll, IsBetween, BetweenAll, AreLowered, sleeper_at, sent_in}
 use Rattle.epochs.specs.declared.slot.Slot.{Slot}
-use Rattle.epochs.proofs.Due.{left-more}
 use Rattle.epochs.proofs.Filters.{filter-filter, filter-same, implied}
 use Rattle.epochs.proofs.Joining.{join-flight, fresh-late}
 use Rattle.epochs.proofs.Waiting.{silent-sooner, none-stronger, none-first, none-due, due-flight, part-sooner}

@@ -1,7 +1,6 @@
 -- Units that are left alone.
-use Rattle.std.proofs.Common.{◌≡◌, ℕ, suc, ◌+◌, ◌-◌, ◌^◌, ◌<◌, ◌≤◌, not, length, get_or, Bool, true, false, cond, ltb, leb, min, ◌&&◌, List, [], ◌∷◌, ◌++◌, Option, Some, None, refl, sym, ap, ap₂, subst, ◌∙◌, arith}
+use Rattle.std.proofs.Common.{◌≡◌, ℕ, suc, ◌+◌, ◌-◌, ◌^◌, ◌<◌, ◌≤◌, not, length, get_or, Bool, true, false, cond, ltb, leb, ◌&&◌, List, [], ◌∷◌, ◌++◌, Option, Some, None, refl, sym, ap, ap₂, subst, ◌∙◌, arith}
 use Rattle.std.specs.Prelude.{filter, unwrap_or}
-use Rattle.std.specs.List.{AllByRecursion as Each}
 use Rattle.std.proofs.lemmas.Bool.Decides.{nat_tests}
 use Rattle.std.proofs.lemmas.List.{append-nil}
 use Rattle.sim_base.specs.declared.config.Config.{Config}
@@ -37,7 +36,7 @@ use Rattle.epochs.specs.Parts.{sent_of, IsPart, IsReadyFor, HasRun}
 use Rattle.epochs.specs.Quiet.{IsNextActOf}
 use Rattle.epochs.specs.declared.part.Part.TheVariants as part
 use Rattle.epochs.proofs.Resting.{core-rows_length, rests-in_none}
-use Rattle.epochs.specs.Wakes.{Sleeper, IsSilent, MayWait, Waits, IsBetween, HasGoneOn, sent_in}
+use Rattle.epochs.specs.Wakes.{Sleeper, IsSilent, Waits, HasGoneOn}
 
 -- who is silent in a span is silent in a shorter one
 pub silent-sooner : (s : Config) (traces : List (List Entry)) (from sooner until : ℕ) (u : MachineUnit) → sooner ≤ until → IsSilent s traces from until u → IsSilent s traces from sooner u

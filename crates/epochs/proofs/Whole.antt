@@ -1,19 +1,17 @@
 -- Results of a phase that are those of its jobs, each once: nothing is wrong with them.
-use Rattle.std.proofs.Common.{◌≡◌, ℕ, zero, suc, ◌+◌, ◌<◌, ◌≤◌, Bool, true, false, cond, not, ◌||◌, List, [], ◌∷◌, ◌++◌, map, Some, None, All, IsPermutation, ◌⊎◌, inl, inr, refl, sym, ap, ap₂, subst, ◌∙◌, append_assoc, arith}
+use Rattle.std.proofs.Common.{◌≡◌, ℕ, zero, suc, ◌+◌, ◌<◌, ◌≤◌, Bool, true, false, cond, not, ◌||◌, List, [], ◌∷◌, ◌++◌, map, None, IsPermutation, refl, sym, ap, ap₂, subst, ◌∙◌, append_assoc, arith}
 use Rattle.std.specs.Prelude.{find, option_map, sum_by}
 use Rattle.std.specs.List.{range_with_len}
 use Rattle.std.proofs.lemmas.Bool.{cond-false}
-use Rattle.std.proofs.lemmas.List.Elements.{All-map}
-use Rattle.std.proofs.lemmas.List.Sorted.{All-permutation, IsPermutation-map, list_any-IsPermutation, sum_by-IsPermutation}
+use Rattle.std.proofs.lemmas.List.Sorted.{IsPermutation-map, list_any-IsPermutation, sum_by-IsPermutation}
 use Rattle.std.proofs.lemmas.List.Sums.{sum_by-cons, sum_by-append}
 use Rattle.std.proofs.lemmas.Simd.{map-map}
 use Rattle.sim_base.specs.History.{below}
-use Rattle.epochs.specs.Merging.{same_name, is_among, names_of, first_of, first_fault, missing, merge_fault, IsOf}
+use Rattle.epochs.specs.Merging.{same_name, is_among, names_of, first_of, first_fault, missing, merge_fault}
 use Rattle.epochs.specs.Units.{unit_at, unit_count}
 use Rattle.epochs.specs.Views.{PhaseView, JobView, name_at, job_at, jobs_of}
 use Rattle.sim_base.specs.declared.job.JobName.{JobName}
-use Rattle.sim_base.specs.declared.fault.MergeFault.{MergeFault}
-use Rattle.sim_base.specs.declared.fault.MergeFault.TheVariants.{Missing, Memory}
+use Rattle.sim_base.specs.declared.fault.MergeFault.TheVariants.{Missing}
 use Rattle.epochs.proofs.Seating.{same_name-self, same_name-is, name-place, or-true, place-among, fault-none, first-none_yet, first-end}
 
 -- 1 for a name that is this one
@@ -116,14 +114,3 @@ whole-fits p results same =
     (λ n. subst (λ k. k ≤ 1) (sym (sum_by-IsPermutation (one n) (names_of p) names moved)) (once n (name_at p) (name-place p) 0 (unit_count p.machine)))
     (λ n e. alike n ∙ e))
     (no-missing p names (λ place l. sym (alike (name_at p place)) ∙ place-among p place l))
-
--- so that only memory can be refused
-pub only-refused : (p : PhaseView) (results : List JobView) (fault : MergeFault) → IsPermutation (jobs_of p) results
-    → (fault ≡ Memory) ⊎ (merge_fault p (map (λ (d : JobView). d.name) results) ≡ Some fault) → fault ≡ Memory
-only-refused p results fault same (inl e) = e
-only-refused p results fault same (inr e) = let f : None ≡ Some fault = sym (whole-fits p results same) ∙ e in cc
-
--- and they are of the phase's run
-pub whole-of : (p : PhaseView) (results : List JobView) → IsPermutation (jobs_of p) results → All (IsOf p) results
-whole-of p results same =
-    All-permutation (IsOf p) (jobs_of p) results same (All-map (IsOf p) (job_at p) (below (unit_count p.machine)) (λ _ _ _ _. (refl, refl)))

@@ -10,3 +10,5 @@ pub mod Tables
 pub mod Drained
 pub mod Quiet
 pub mod Wakes
+pub mod Shifts
+pub mod Steps

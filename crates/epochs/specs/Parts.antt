@@ -5,7 +5,7 @@
 --     IsReady part inbox from until      the same for some run and some unit of it
 --     HasRun s traces unit from until part messages      a unit stands at the end of a span, and these are its messages in it
 --     HasRunOnto s traces unit from until part held holds      the same, with a list behind which they are put
---     IsJob s traces name part inbox, IsDone s traces name part messages      the same, as the name of a job says
+--     IsJob s traces name part inbox      the first, as the name of a job says
 --     StandAt s traces now parts      units in their order stand for their parts
 --     late cycle mail      the messages that arrive no sooner than in a cycle
 --     IsSim s traces now phase parts links      what holds of a simulator
@@ -74,10 +74,6 @@ pub record HasRunOnto (s : Config) (traces : List (List Entry)) (unit : MachineU
 -- what holds of a job
 abbrev pub IsJob : Config → List (List Entry) → JobName → Part → List Message → Type 0
 IsJob s traces name part inbox = IsReadyFor s traces name.unit part inbox name.from name.until
-
--- what holds of its result
-abbrev pub IsDone : Config → List (List Entry) → JobName → Part → List Message → Type 0
-IsDone s traces name part messages = HasRun s traces name.unit name.from name.until part messages
 
 -- units in their order stand for their parts of a run
 abbrev pub StandAt : Config → List (List Entry) → ℕ → List Part → Type 0

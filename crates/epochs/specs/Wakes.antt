@@ -1,6 +1,9 @@
 -- A machine whose units stand at cycles of their own, so that a phase touches only those with something to do.
 --     Sleeper      a unit, the cycle where it stands, and its wake word
+--     AreSlots now parts slots      units that all stand at a cycle
 --     IsSilent s traces from until unit      alone, a unit would send nothing in a span, if nothing arrived in it
+--     IsDone s traces name part messages send      what holds of the result of a job
+--     HasRunAndTells s traces unit from until part held holds send      a unit has run over a span, and tells when it may send again
 --     MayWait s traces unit known at wake      as far as a run is known, a unit that stands at a cycle may be left alone up to another
 --     Waits s traces unit now slot      a unit stands somewhere up to a cycle of a run, and may be left alone up to its wake word
 --     WaitAll s traces now slots words      so do all units of a machine, in their order
@@ -14,6 +17,7 @@ use Rattle.sim_base.specs.declared.config.Config.{Config}
 use Rattle.sim_base.specs.Counts.{in_flight}
 use Rattle.sim_base.specs.History.{below, is_unit, trace_of, core_messages, channel_messages}
 use Rattle.sim_base.specs.Machine.{run, core_run, channel_run}
+use Rattle.sim_base.specs.declared.job.JobName.{JobName}
 use Rattle.sim_base.specs.declared.message.Message.{Message}
 use Rattle.sim_base.specs.declared.message.Unit.{Unit as MachineUnit}
 use Rattle.sim_base.specs.declared.message.Unit.TheVariants.{Core, Channel}
@@ -24,7 +28,7 @@ use Rattle.span_laws.specs.Cores.{core_rows_of}
 use Rattle.span_laws.specs.Mail.{mail_before, mail_in}
 use Rattle.epochs.specs.Flight.{fresh}
 use Rattle.epochs.specs.Units.{unit_at, unit_count}
-use Rattle.epochs.specs.Parts.{IsPart, sent_of}
+use Rattle.epochs.specs.Parts.{IsPart, HasRun, HasRunOnto, sent_of}
 use Rattle.epochs.specs.declared.part.Part.{Part}
 use Rattle.epochs.specs.declared.slot.Slot.{Slot}
 
@@ -34,13 +38,15 @@ pub record Sleeper : Type 0 where
   pub at : ℕ
   pub wake : ℕ
 
--- a unit that stands at a cycle
-abbrev pub slot_at : ℕ → Part → Slot
-slot_at now part = record { part = part; at = now }
+-- units in their order, each at the same cycle
+pub record AreSlots (now : ℕ) (parts : List Part) (slots : List Slot) : Type 0 where
+  pub count : length slots ≡ length parts
+  pub parts_are : (k : ℕ) (d : Slot) (e : Part) → k < length parts → (slice_index_or slots k d).part.value ≡ slice_index_or parts k e
+  pub stand : (k : ℕ) (d : Slot) → k < length parts → (slice_index_or slots k d).at ≡ now
 
 -- a slot with its word
 abbrev pub sleeper : Slot → ℕ → Sleeper
-sleeper slot word = record { part = slot.part; at = slot.at; wake = word }
+sleeper slot word = record { part = slot.part.value; at = slot.at; wake = word }
 
 -- the slot at a place with its word
 abbrev pub sleeper_at : List Slot → List ℕ → ℕ → Slot → Sleeper
@@ -57,6 +63,19 @@ IsSilent s traces from until (Channel channel) =
     (n : ℕ) → from + n ≤ until
     → channel_messages s channel (channel_run s channel (rows_of s traces from channel) (mail_before s traces from (Channel channel) from) n)
     ≡ channel_messages s channel (rows_of s traces from channel)
+
+-- A unit stands at the end of a span, and what it sends in it is put behind what a list held before. It sends nothing more before a cycle,
+-- if nothing arrives at it.
+pub record HasRunAndTells (s : Config) (traces : List (List Entry)) (unit : MachineUnit) (from until : ℕ) (part : Part) (held holds : List Message) (send : ℕ) : Type 0 where
+  pub onto : HasRunOnto s traces unit from until part held holds
+  pub since : until ≤ send
+  pub silent : IsSilent s traces until send unit
+
+-- A unit has run over the span of its job, sent these messages in it, and sends nothing more before a cycle, if nothing arrives at it.
+pub record IsDone (s : Config) (traces : List (List Entry)) (name : JobName) (part : Part) (messages : List Message) (send : ℕ) : Type 0 where
+  pub ran : HasRun s traces name.unit name.from name.until part messages
+  pub since : name.until ≤ send
+  pub silent : IsSilent s traces name.until send name.unit
 
 -- A unit that stands at a cycle may be left alone up to another: it would send nothing, and of what was sent in the first `known` cycles
 -- of the run nothing arrives at it. What is sent later may still arrive sooner, and the word is then lowered.

@@ -6,15 +6,13 @@ ghost use Rattle.sim_base.specs.History.{is_unit};
 ghost use Rattle.sim_base.specs.Locality.{TravelsFor};
 ghost use Rattle.sim_base.specs.Machine.{run};
 ghost use Rattle.links.specs.InFlight.{receiver_of};
-ghost use Rattle.epochs.specs.Ordered.{HasReached};
 ghost use Rattle.epochs.specs.Parts.{late, StandAt};
 ghost use Rattle.epochs.specs.Units.{unit_at, unit_count};
-ghost use Rattle.epochs.specs.Wakes.{WaitAll, BetweenAll, IsAsleep, AreLowered, sent_in, slot_at};
+ghost use Rattle.epochs.specs.Wakes.{WaitAll, BetweenAll, IsAsleep, AreLowered, sent_in, AreSlots};
 
 use crate::machine::Machine;
 use crate::part::Part;
 use crate::planning::end_of_phase;
-use crate::sim::Sim;
 use crate::slot::{Mail, Slot};
 use links::flight::Links;
 use sim_base::config::Config;
@@ -83,7 +81,7 @@ fn lower(config: &Config, words: &mut [Cycle], message: &Message)
 }
 
 /// Lowers the words to the arrivals of what was sent.
-fn lower_all(config: &Config, words: &mut [Cycle], sent: &[Message])
+pub(crate) fn lower_all(config: &Config, words: &mut [Cycle], sent: &[Message])
     requires { length words.old ≡ unit_count config.now }
     ensures { AreLowered config.now sent.now words.old words.new }
 {
@@ -93,7 +91,7 @@ fn lower_all(config: &Config, words: &mut [Cycle], sent: &[Message])
 }
 
 /// One phase of a machine: from a cycle on and before another, which is no further than the shortest latency.
-fn step(
+pub(crate) fn step(
     machine: &Machine,
     links: &mut Links,
     mail: &mut Mail,
@@ -116,7 +114,7 @@ fn step(
 }
 
 /// The least word, or a limit that comes sooner.
-fn next_wake(words: &[Cycle], limit: Cycle) -> Cycle
+pub(crate) fn next_wake(words: &[Cycle], limit: Cycle) -> Cycle
     ensures within { result ≤ limit }
     ensures sleep { All (λ word. result ≤ word) words.now }
     ensures since { (cycle : ℕ) → cycle ≤ limit → All (λ word. cycle ≤ word) words.now → cycle ≤ result }
@@ -129,7 +127,7 @@ fn next_wake(words: &[Cycle], limit: Cycle) -> Cycle
 }
 
 /// A machine up to a limit, phase by phase: each begins at the least word.
-fn run_to(
+pub(crate) fn run_to(
     machine: &Machine,
     links: &mut Links,
     mail: &mut Mail,
@@ -157,7 +155,7 @@ fn run_to(
 }
 
 /// All units, brought up to the cycle where the machine stands.
-fn bring_up(
+pub(crate) fn bring_up(
     alloc: Global,
     machine: &Machine,
     mail: &mut Mail,
@@ -181,47 +179,13 @@ fn bring_up(
 }
 
 /// Units, each where the machine stands.
-fn slots_of(alloc: Global, parts: Vec<Part>, now: Cycle) -> Result<Vec<Slot>, AllocError>
-    ensures { IfOk result (λ slots. slots.items ≡ map (slot_at now) parts.items) }
+pub(crate) fn slots_of(alloc: Global, parts: Vec<Part>, now: Cycle) -> Result<Vec<Slot>, AllocError>
+    ensures { IfOk result (λ slots. AreSlots now parts.items slots.items) }
 {
     let mut slots = Vec::with_capacity(alloc, parts.len())?;
     for part in parts {
+        let part = Box::new(alloc, part)?;
         slots.push(Slot { part, at: now })?;
     }
     Ok(slots)
-}
-
-impl Sim {
-    /// The simulator at a limit, at most 10^12 cycles, run by the caller alone. Units stay where they are, and only those that have
-    /// something to do in a phase are touched. Only memory can be refused; the simulator is then gone.
-    pub fn run_alone(self, alloc: Global, limit: Cycle) -> Result<Sim, AllocError>
-        requires not_past { self.now ≤ limit }
-        requires early { limit ≤ 10 ^ 12 }
-        ensures { IfOk result (HasReached self limit) }
-    {
-        let Sim {
-            machine,
-            now,
-            phase,
-            parts,
-            mut links,
-        } = self;
-        let mut words = vec![in alloc; now; parts.len()]?;
-        let mut slots = slots_of(alloc, parts, now)?;
-        let mut mail = Mail {
-            inbox: Vec::new(alloc),
-            sent: Vec::new(alloc),
-        };
-        run_to(
-            &machine, &mut links, &mut mail, &mut slots, &mut words, now, limit,
-        )?;
-        let parts = bring_up(alloc, &machine, &mut mail, slots, &words, limit)?;
-        Ok(Sim {
-            machine,
-            now: limit,
-            phase,
-            parts,
-            links,
-        })
-    }
 }

@@ -4,12 +4,13 @@ ghost use Rattle.std.specs.Prelude.{◌≡◌, ◌<◌, ◌≤◌, ◌^◌, IfOk
 ghost use Rattle.std.specs.Arc.{arc_value};
 ghost use Rattle.sim_base.specs.Locality.{TravelsFor};
 ghost use Rattle.epochs.specs.Views.{JobView};
-ghost use Rattle.epochs.specs.Parts.{IsPart, IsJob, IsDone};
+ghost use Rattle.epochs.specs.Parts.{IsPart, IsJob};
+ghost use Rattle.epochs.specs.Wakes.{IsDone};
 
 use crate::machine::Machine;
 use crate::part::Part;
 use sim_base::job::JobName;
-use sim_base::message::{Inbox, Message};
+use sim_base::message::{Cycle, Inbox, Message};
 use std::alloc::{AllocError, Global};
 use std::marker::Model;
 use std::sync::Arc;
@@ -19,7 +20,7 @@ use std::sync::Arc;
 pub struct Job {
     machine: Arc<Machine>,
     name: JobName,
-    part: Part,
+    part: Box<Part>,
     inbox: Inbox,
 }
 
@@ -38,16 +39,18 @@ impl Model for Job {
 
     ghost view = { λ j. record { machine = (arc_value j.machine).config; traces = (arc_value j.machine).traces.items; name = j.name } };
 
-    ghost invariant = { λ j. IsJob (arc_value j.machine).config (arc_value j.machine).traces.items j.name j.part j.inbox.items };
+    ghost invariant = { λ j. IsJob (arc_value j.machine).config (arc_value j.machine).traces.items j.name j.part.value j.inbox.items };
 }
 
-/// A unit at the end of the span of a job, with the messages that it sent in it.
+/// A unit at the end of the span of a job, with the messages that it sent in it, and a cycle before which it sends nothing more, if
+/// nothing arrives at it.
 #[derive(Drop)]
 pub struct Done {
     machine: Arc<Machine>,
     name: JobName,
-    part: Part,
+    part: Box<Part>,
     messages: Vec<Message>,
+    send: Cycle,
 }
 
 impl Model for Done {
@@ -61,24 +64,25 @@ impl Model for Done {
 
     ghost coded = { Prim.hlevel (codes, config.the_row.coded) };
 
-    ghost use Rattle.epochs.specs.Parts.{IsDone};
+    ghost use Rattle.epochs.specs.Wakes.{IsDone};
 
     ghost view = { λ d. record { machine = (arc_value d.machine).config; traces = (arc_value d.machine).traces.items; name = d.name } };
 
-    ghost invariant = { λ d. IsDone (arc_value d.machine).config (arc_value d.machine).traces.items d.name d.part d.messages.items };
+    ghost invariant = { λ d. IsDone (arc_value d.machine).config (arc_value d.machine).traces.items d.name d.part.value d.messages.items d.send };
 }
 
-/// A unit with the messages that it sent in a span.
+/// A unit with the messages that it sent in a span, and a cycle before which it sends nothing more.
 #[derive(Drop)]
 pub(crate) struct Sent {
-    pub part: Part,
+    pub part: Box<Part>,
     pub messages: Vec<Message>,
+    pub send: Cycle,
 }
 
 impl Job {
     /// A unit that is to run over a span.
-    pub(crate) fn new(machine: Arc<Machine>, name: JobName, part: Part, inbox: Inbox) -> Job
-        requires { IsJob (arc_value machine).config (arc_value machine).traces.items name part inbox.items }
+    pub(crate) fn new(machine: Arc<Machine>, name: JobName, part: Box<Part>, inbox: Inbox) -> Job
+        requires { IsJob (arc_value machine).config (arc_value machine).traces.items name part.value inbox.items }
         ensures { result ≡ record { machine = (arc_value machine).config; traces = (arc_value machine).traces.items; name = name } }
     {
         Job {
@@ -107,12 +111,13 @@ impl Job {
             inbox,
         } = self;
         let mut messages = Vec::new(alloc);
-        part.run(&inbox, name.from, name.until, &mut messages)?;
+        let send = part.run_and_tell(&inbox, name.from, name.until, &mut messages)?;
         Ok(Done {
             machine,
             name,
             part,
             messages,
+            send,
         })
     }
 }
@@ -127,9 +132,18 @@ impl Done {
 
     /// The unit, and what it sent.
     pub(crate) fn into_sent(self) -> Sent
-        ensures { IsDone self.machine self.traces self.name result.part result.messages.items }
+        ensures { IsDone self.machine self.traces self.name result.part.value result.messages.items result.send }
     {
-        let Done { part, messages, .. } = self;
-        Sent { part, messages }
+        let Done {
+            part,
+            messages,
+            send,
+            ..
+        } = self;
+        Sent {
+            part,
+            messages,
+            send,
+        }
     }
 }

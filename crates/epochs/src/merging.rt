@@ -44,9 +44,9 @@ fn parts_of(
 {
     let mut parts = Vec::new(alloc);
     for done in results {
-        let Sent { part, messages } = done.into_sent();
+        let Sent { part, messages, .. } = done.into_sent();
         links.accept(&messages)?;
-        parts.push(part)?;
+        parts.push(Box::into_inner(part))?;
     }
     Ok(parts)
 }
@@ -74,7 +74,7 @@ fn joined(phase: Phase, alloc: Global, results: Vec<Done>) -> Result<Sim, AllocE
 }
 
 /// The place of a unit, if the machine has it.
-fn place_of(config: &Config, unit: Unit) -> Option<usize>
+pub(crate) fn place_of(config: &Config, unit: Unit) -> Option<usize>
     ensures some { IfSome result (λ place. (place < unit_count config.now) × (unit_at config.now place ≡ unit)) }
     ensures none { IfNone result (Exists config.now unit → ⊥) }
 {
@@ -234,22 +234,5 @@ pub fn merge(phase: Phase, alloc: Global, results: Vec<Done>) -> Result<Sim, Mer
     match joined(phase, alloc, all) {
         Ok(sim) => Ok(sim),
         Err(_) => Err(MergeFault::Memory),
-    }
-}
-
-/// Puts the results of a phase together, of which there is one of each job, in whatever order they come: the simulator then
-/// stands at the end of the phase. Only memory can be refused.
-pub fn merge_whole(phase: Phase, alloc: Global, results: Vec<Done>) -> Result<Sim, AllocError>
-    requires all { IsPermutation (jobs_of phase) results.items }
-    ensures { IfOk result (λ sim. sim ≡ after phase) }
-{
-    match merge(phase, alloc, results) {
-        Ok(sim) => Ok(sim),
-        Err(fault) => match fault {
-            MergeFault::Memory => Err(AllocError),
-            MergeFault::Missing(_) | MergeFault::Double(_) | MergeFault::Stranger(_) => {
-                unreachable!()
-            }
-        },
     }
 }

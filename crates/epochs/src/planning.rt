@@ -64,6 +64,7 @@ fn job_for(
     ensures left { OnOk result (links.new ≡ record links.old { messages = filter (λ m. not (is_due links.old.channels name.unit name.from name.until m)) links.old.messages }) }
 {
     let inbox = links.take_due(alloc, name.unit, name.from, name.until)?;
+    let part = Box::new(alloc, part)?;
     Ok(Job::new(machine.clone()?, name, part, inbox))
 }
 

@@ -9,10 +9,10 @@ ghost use Rattle.sim_base.specs.declared.message.Unit.{Unit as MachineUnit};
 ghost use Rattle.sim_base.specs.declared.trace.Entry.{Entry};
 ghost use Rattle.links.specs.InFlight.{is_due};
 ghost use Rattle.epochs.specs.Flight.{left};
-ghost use Rattle.epochs.specs.Parts.{IsPart};
+ghost use Rattle.epochs.specs.Parts.{IsPart, IsReady, IsReadyFor};
 ghost use Rattle.epochs.specs.Quiet.{IsInSomeRun};
 ghost use Rattle.epochs.specs.Units.{unit_at, unit_count};
-ghost use Rattle.epochs.specs.Wakes.{IsSilent, Waits, AddsWhatItSent, sleeper};
+ghost use Rattle.epochs.specs.Wakes.{IsSilent, HasRunAndTells, Waits, AddsWhatItSent, sleeper};
 
 use crate::machine::{Machine, unit_at};
 use crate::part::Part;
@@ -23,7 +23,7 @@ use std::alloc::{AllocError, Global};
 /// A unit, and the cycle where it stands.
 #[derive(Drop)]
 pub(crate) struct Slot {
-    pub part: Part,
+    pub part: Box<Part>,
     pub at: Cycle,
 }
 
@@ -48,8 +48,27 @@ fn send_word(part: &mut Part, from: Cycle) -> Cycle
     }
 }
 
+impl Part {
+    /// Runs the unit over a span, in which these messages arrive at it, and puts what it sends behind what a list holds. Gives a cycle,
+    /// not before the end of the span, before which it sends nothing more, if nothing arrives at it.
+    pub(crate) fn run_and_tell(
+        &mut self,
+        inbox: &[Message],
+        from: Cycle,
+        until: Cycle,
+        sent: &mut Vec<Message>,
+    ) -> Result<Cycle, AllocError>
+        requires ready { IsReady self.old inbox.now from until }
+        ensures { (s : Config) (traces : List (List Entry)) (unit : MachineUnit) → IsReadyFor s traces unit self.old inbox.now from until
+            → IfOk result (HasRunAndTells s traces unit from until self.new sent.old.items sent.new.items) }
+    {
+        self.run(inbox, from, until, sent)?;
+        Ok(send_word(self, until))
+    }
+}
+
 /// The first cycle from `from` on in which a message in flight may arrive at a unit, or a cycle that comes sooner.
-fn arrival_word(links: &Links, unit: Unit, from: Cycle, send: Cycle) -> Cycle
+pub(crate) fn arrival_word(links: &Links, unit: Unit, from: Cycle, send: Cycle) -> Cycle
     requires { from ≤ send }
     ensures since { from ≤ result }
     ensures within { result ≤ send }
@@ -93,9 +112,8 @@ impl Slot {
         let Mail { inbox, sent } = mail;
         inbox.clear();
         links.take_due_into(unit, now, until, inbox)?;
-        self.part.run(inbox, self.at, until, sent)?;
+        let send = self.part.run_and_tell(inbox, self.at, until, sent)?;
         self.at = until;
-        let send = send_word(&mut self.part, until);
         Ok(arrival_word(links, unit, until, send))
     }
 
@@ -150,6 +168,6 @@ impl Slot {
         let Slot { mut part, at } = self;
         mail.inbox.clear();
         part.run(&mail.inbox, at, now, &mut mail.sent)?;
-        Ok(part)
+        Ok(Box::into_inner(part))
     }
 }

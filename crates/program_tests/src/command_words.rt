@@ -18,95 +18,106 @@ static RUN: [&str; 11] = [
     "t1",
 ];
 
-static CHECK: [&str; 4] = ["dramsim", "check", "c.toml", "commands.csv"];
-
-static MAP: [&str; 4] = ["dramsim", "map", "c.toml", "0x2000"];
-
-static HELP: [&str; 2] = ["dramsim", "--help"];
-
-static HELP_OF_RUN: [&str; 3] = ["dramsim", "help", "run"];
-
-static NO_COMMAND: [&str; 1] = ["dramsim"];
-
-static NO_TRACE: [&str; 9] = [
-    "dramsim",
-    "run",
-    "c.toml",
-    "--cycles",
-    "16",
-    "--workers",
-    "2",
-    "--out",
-    "tables",
-];
-
-static BAD_ADDRESS: [&str; 4] = ["dramsim", "map", "c.toml", "+8192"];
-
-static LARGE_ADDRESS: [&str; 4] = ["dramsim", "map", "c.toml", "18446744073709551616"];
+fn is_run(ask: &Ask<'_>) -> bool {
+    match ask {
+        Ask::Run {
+            config,
+            cycles,
+            workers,
+            out,
+            traces,
+        } => {
+            (*config, *cycles, *workers, *out) == ("c.toml", 16, 2, "tables")
+                && traces.as_slice() == ["t0", "t1"].as_slice()
+        }
+        _ => false,
+    }
+}
 
 #[test]
 fn reads_a_run(rt: HostRuntime) -> Result<(), Fail> {
-    let Ask::Run {
-        config,
-        cycles,
-        workers,
-        out,
-        traces,
-    } = read_words(rt.alloc(), &RUN)?
-    else {
-        return Err(Fail::from("no run"));
-    };
-    assert_eq!(rt; config, "c.toml");
-    assert_eq!(rt; cycles, 16);
-    assert_eq!(rt; workers, 2);
-    assert_eq!(rt; out, "tables");
-    assert!(rt; traces.as_slice() == ["t0", "t1"].as_slice());
+    let ask = read_words(rt.alloc(), &RUN)?;
+    assert!(rt; is_run(&ask), "{ask:?}");
     Ok(())
+}
+
+static CHECK: [&str; 4] = ["dramsim", "check", "c.toml", "commands.csv"];
+
+fn is_check(ask: &Ask<'_>) -> bool {
+    match ask {
+        Ask::Check { config, commands } => (*config, *commands) == ("c.toml", "commands.csv"),
+        _ => false,
+    }
 }
 
 #[test]
 fn reads_a_check(rt: HostRuntime) -> Result<(), Fail> {
-    let Ask::Check { config, commands } = read_words(rt.alloc(), &CHECK)? else {
-        return Err(Fail::from("no check"));
-    };
-    assert_eq!(rt; config, "c.toml");
-    assert_eq!(rt; commands, "commands.csv");
+    let ask = read_words(rt.alloc(), &CHECK)?;
+    assert!(rt; is_check(&ask), "{ask:?}");
     Ok(())
+}
+
+static MAP: [&str; 4] = ["dramsim", "map", "c.toml", "0x2000"];
+
+fn is_map(ask: &Ask<'_>) -> bool {
+    match ask {
+        Ask::Map { config, address } => (*config, *address) == ("c.toml", 8192),
+        _ => false,
+    }
 }
 
 #[test]
 fn reads_a_map(rt: HostRuntime) -> Result<(), Fail> {
-    let Ask::Map { config, address } = read_words(rt.alloc(), &MAP)? else {
-        return Err(Fail::from("no map"));
-    };
-    assert_eq!(rt; config, "c.toml");
-    assert_eq!(rt; address, 8192);
+    let ask = read_words(rt.alloc(), &MAP)?;
+    assert!(rt; is_map(&ask), "{ask:?}");
     Ok(())
+}
+
+static HELP: [&[&str]; 2] = [&["dramsim", "--help"], &["dramsim", "help", "run"]];
+
+fn is_help(ask: &Ask<'_>) -> bool {
+    match ask {
+        Ask::Help(text) => text.as_str().contains("Usage:"),
+        _ => false,
+    }
 }
 
 #[test]
 fn answers_calls_for_help(rt: HostRuntime) -> Result<(), Fail> {
-    for words in [HELP.as_slice(), HELP_OF_RUN.as_slice()] {
-        let Ask::Help(text) = read_words(rt.alloc(), words)? else {
-            return Err(Fail::from("no help"));
-        };
-        assert!(rt; text.as_str().contains("Usage:"));
+    for words in &HELP {
+        let ask = read_words(rt.alloc(), words)?;
+        assert!(rt; is_help(&ask), "{words:?}: {ask:?}");
     }
     Ok(())
 }
 
+static NO_WORDS: [(&str, &[&str]); 4] = [
+    ("no command", &["dramsim"]),
+    (
+        "no trace",
+        &[
+            "dramsim",
+            "run",
+            "c.toml",
+            "--cycles",
+            "16",
+            "--workers",
+            "2",
+            "--out",
+            "tables",
+        ],
+    ),
+    ("a bad address", &["dramsim", "map", "c.toml", "+8192"]),
+    (
+        "a large address",
+        &["dramsim", "map", "c.toml", "18446744073709551616"],
+    ),
+];
+
 #[test]
-fn refuses_other_words(rt: HostRuntime) -> Result<(), Fail> {
-    for words in [
-        NO_COMMAND.as_slice(),
-        NO_TRACE.as_slice(),
-        BAD_ADDRESS.as_slice(),
-        LARGE_ADDRESS.as_slice(),
-    ] {
-        match read_words(rt.alloc(), words) {
-            Err(fault) => assert_eq!(rt; fault, Fault::CommandLine),
-            Ok(_) => return Err(Fail::from("an answer")),
-        }
+fn refuses_other_words(rt: HostRuntime) {
+    for (name, words) in &NO_WORDS {
+        let refused = read_words(rt.alloc(), words).err();
+        assert_eq!(rt; refused, Some(Fault::CommandLine), "{name}");
     }
-    Ok(())
 }

@@ -1,37 +1,56 @@
 //! Tables that cannot be written.
 
 use crate::files_in_memory::{Failure, MemoryFiles};
-use crate::program_runs::run_over;
-use fixtures::small::SMALL;
+use crate::program_runs::{assert_text, said_to_run};
+use crate::worked_runs::ONE_READ;
+use std::process::Abort;
 use std::sync::Wait;
 use std::test::Fail;
 use std::thread::Threads;
 
-// The files that were opened by a run with a file that fails, where it is refused for that.
-fn opened_before<R: Threads + Wait + Sync + AllocGlobal>(
+// The tables, and the files that are opened where one of them fails.
+static OPENED: [(&str, &str); 3] = [
+    ("d/commands.csv", "d/commands.csv "),
+    ("d/stats.csv", "d/commands.csv d/stats.csv "),
+    ("d/final.csv", "d/commands.csv d/stats.csv d/final.csv "),
+];
+
+// Asserts that a run is refused where a table fails.
+fn assert_refused<R: Abort + Threads + Wait + Sync + AllocGlobal>(
     rt: &R,
     failure: Failure,
     path: &'static str,
-) -> Result<String, Fail> {
-    let alloc = rt.alloc();
-    let mut files = MemoryFiles::new(alloc);
+    opened: &str,
+) -> Result<(), Fail> {
+    let mut files = MemoryFiles::new(rt.alloc());
     files.failing = Some((failure, path));
-    let ended = run_over(rt, files, SMALL, &["0 0\n"], "16", "1")?;
-    if ended.status != 2 || ended.errors.as_slice() != b"fault 12: write\n".as_slice() {
-        return Err(Fail::from("the run was not refused"));
+    let said = said_to_run(rt, &mut files, &ONE_READ, "--cycles 16 --workers 1")?;
+    said.assert_is(rt, path, (2, "", "fault 12: write\n"));
+    assert_text(rt, path, files.opened.as_str(), opened);
+    Ok(())
+}
+
+fn assert_each_refused<R: Abort + Threads + Wait + Sync + AllocGlobal>(
+    rt: &R,
+    failure: Failure,
+) -> Result<(), Fail> {
+    for (path, opened) in &OPENED {
+        assert_refused(rt, failure, path, opened)?;
     }
-    Ok(String::from_str(alloc, ended.files.opened.as_str())?)
+    Ok(())
 }
 
 #[test]
-fn tells_of_files_that_fail(rt: HostRuntime) -> Result<(), Fail> {
-    for failure in [Failure::Opening, Failure::Writing, Failure::Closing] {
-        let first = opened_before(&rt, failure, "d/commands.csv")?;
-        assert!(rt; first.as_str() == "d/commands.csv ");
-        let second = opened_before(&rt, failure, "d/stats.csv")?;
-        assert!(rt; second.as_str() == "d/commands.csv d/stats.csv ");
-        let third = opened_before(&rt, failure, "d/final.csv")?;
-        assert!(rt; third.as_str() == "d/commands.csv d/stats.csv d/final.csv ");
-    }
-    Ok(())
+fn tells_of_tables_that_cannot_be_opened(rt: HostRuntime) -> Result<(), Fail> {
+    assert_each_refused(&rt, Failure::Opening)
+}
+
+#[test]
+fn tells_of_tables_that_cannot_be_written(rt: HostRuntime) -> Result<(), Fail> {
+    assert_each_refused(&rt, Failure::Writing)
+}
+
+#[test]
+fn tells_of_tables_that_cannot_be_closed(rt: HostRuntime) -> Result<(), Fail> {
+    assert_each_refused(&rt, Failure::Closing)
 }

@@ -5,7 +5,6 @@ use sim_base::fault::Fault;
 use std::alloc::{AllocError, Global};
 use std::io;
 use std::io::{ErrorKind, Write};
-use std::test::Fail;
 
 #[derive(Drop)]
 struct MemoryFile {
@@ -66,16 +65,19 @@ impl MemoryFiles {
         Ok(())
     }
 
-    pub(crate) fn text_at(&self, alloc: Global, path: &str) -> Result<String, Fail> {
+    // The bytes of a file that was added or written.
+    fn bytes_at(&self, path: &str) -> Option<&[u8]> {
         for file in &self.files {
             if file.path.as_str() == path {
-                let Ok(text) = str::from_utf8(&file.bytes) else {
-                    return Err(Fail::from("no text"));
-                };
-                return Ok(String::from_str(alloc, text)?);
+                return Some(file.bytes.as_slice());
             }
         }
-        Err(Fail::from("no such file"))
+        None
+    }
+
+    // Its text, if it is one.
+    pub(crate) fn text_at(&self, path: &str) -> Option<&str> {
+        str::from_utf8(self.bytes_at(path)?).ok()
     }
 
     fn fails(&self, failure: Failure, path: &str) -> bool {
@@ -90,12 +92,10 @@ impl FileSet for MemoryFiles {
     type Out = MemoryOut;
 
     fn read(&mut self, alloc: Global, path: &str) -> Result<Vec<u8>, Fault> {
-        for file in &self.files {
-            if file.path.as_str() == path {
-                return Ok(Vec::from_slice(alloc, &file.bytes)?);
-            }
+        match self.bytes_at(path) {
+            Some(bytes) => Ok(Vec::from_slice(alloc, bytes)?),
+            None => Err(Fault::Read),
         }
-        Err(Fault::Read)
     }
 
     fn create(&mut self, alloc: Global, path: &str) -> Result<MemoryOut, Fault> {
@@ -119,7 +119,6 @@ impl FileSet for MemoryFiles {
             path,
             bytes: out.bytes,
         };
-        self.files.push(file).map_err(|_| Fault::Memory)?;
-        Ok(())
+        self.files.push(file).map_err(|_| Fault::Memory)
     }
 }

@@ -1,4 +1,8 @@
 //! Runs whose workers pass a gate: that several of them are at work at once, and claim their jobs.
+//!
+//! No gate waits for ever. A phase is cut into as many groups as it has jobs, and into fewer only where that is still several for
+//! each worker. A worker whose job is held takes no other, and each worker takes groups until there is none; so as many workers
+//! come as the phase has jobs, or all of them.
 
 use crate::outcomes::{Tables, plain_tables};
 use fixtures::small::small_text;
@@ -8,12 +12,14 @@ use sim_base::message::Unit;
 use simulation::runs::simulate;
 use std::alloc::{AllocError, Global};
 use std::process::Abort;
+use std::sync::Wait;
 use std::sync::atomic::{AtomicU64, Ordering};
 use std::test::Fail;
 use std::thread;
+use std::thread::Threads;
 use workers::gate::Gate;
 
-/// How often a job that is held looks whether it may go on.
+/// How often a job that is held looks whether it may go on, where something is wrong.
 const TURNS: u64 = 1_000_000;
 
 /// How often a job was entered, and left.
@@ -32,13 +38,19 @@ impl Passes {
     }
 
     fn are(&self, count: u64) -> bool {
-        self.entered.load(Ordering::SeqCst) == count && self.left.load(Ordering::SeqCst) == count
+        self.entered() == count && self.left.load(Ordering::SeqCst) == count
+    }
+
+    fn entered(&self) -> u64 {
+        self.entered.load(Ordering::SeqCst)
     }
 }
 
 /// The jobs of a phase of two cores and one channel.
 #[derive(Drop)]
 struct PhasePasses {
+    /// How many jobs it has, as far as is known.
+    jobs: u64,
     all: Passes,
     first_core: Passes,
     second_core: Passes,
@@ -46,8 +58,9 @@ struct PhasePasses {
 }
 
 impl PhasePasses {
-    fn new() -> Self {
+    fn new(jobs: u64) -> Self {
         PhasePasses {
+            jobs,
             all: Passes::new(),
             first_core: Passes::new(),
             second_core: Passes::new(),
@@ -64,13 +77,14 @@ impl PhasePasses {
         }
     }
 
-    /// Whether each job was entered so often, and left so often.
-    fn are(&self, count: u64) -> bool {
-        self.first_core.are(count) && self.second_core.are(count) && self.channel.are(count)
+    /// Whether each of its jobs was entered once and left once.
+    fn are_whole(&self) -> bool {
+        let each = [&self.first_core, &self.second_core, &self.channel];
+        self.all.are(self.jobs) && each.iter().all(|passes| passes.are(0) || passes.are(1))
     }
 }
 
-/// Holds each job that enters until as many of its phase have entered as there are workers.
+/// Holds each job that enters until as many of its phase have entered as there are workers, or as it has jobs.
 #[derive(Drop)]
 struct Meeting {
     workers: u64,
@@ -80,15 +94,15 @@ struct Meeting {
 }
 
 impl Meeting {
-    /// A gate for at most so many phases.
-    fn new(alloc: Global, workers: u64, phases: u64) -> Result<Self, AllocError> {
-        let mut all = Vec::new(alloc);
-        for _ in 0..phases {
-            all.push(PhasePasses::new())?;
+    /// A gate for phases of so many jobs each.
+    fn new(alloc: Global, workers: u64, jobs: &[u64]) -> Result<Self, AllocError> {
+        let mut phases = Vec::new(alloc);
+        for count in jobs {
+            phases.push(PhasePasses::new(*count))?;
         }
         Ok(Meeting {
             workers,
-            phases: all,
+            phases,
             faults: AtomicU64::new(0),
         })
     }
@@ -99,7 +113,7 @@ impl Meeting {
 
     fn is_met(&self, phase: &PhasePasses) -> bool {
         for _ in 0..TURNS {
-            if phase.all.entered.load(Ordering::SeqCst) >= self.workers {
+            if phase.all.entered() >= self.workers.min(phase.jobs) {
                 return true;
             }
             thread::yield_now();
@@ -114,6 +128,20 @@ impl Meeting {
         phase.all.entered.fetch_add(1, Ordering::SeqCst);
         Some(self.is_met(phase))
     }
+
+    /// Whether a job is of a unit, and has left.
+    fn leaves(&self, job: JobName) -> Option<bool> {
+        let phase = self.phase_of(job)?;
+        phase.of(job.unit)?.left.fetch_add(1, Ordering::SeqCst);
+        phase.all.left.fetch_add(1, Ordering::SeqCst);
+        Some(true)
+    }
+
+    fn note(&self, passed: Option<bool>) {
+        if passed != Some(true) {
+            self.faults.fetch_add(1, Ordering::SeqCst);
+        }
+    }
 }
 
 impl Gate for Meeting {
@@ -122,29 +150,29 @@ impl Gate for Meeting {
     }
 
     fn enter(&self, _worker: usize, job: JobName) {
-        if self.enters(job) != Some(true) {
-            self.faults.fetch_add(1, Ordering::SeqCst);
-        }
+        self.note(self.enters(job));
     }
 
     fn leave(&self, _worker: usize, job: JobName) {
-        if let Some(phase) = self.phase_of(job) {
-            if let Some(passes) = phase.of(job.unit) {
-                passes.left.fetch_add(1, Ordering::SeqCst);
-            }
-        }
+        self.note(self.leaves(job));
     }
 }
 
-/// How many phases there were, where each job of each was entered once and left once.
-fn phases_of(rt: &impl Abort, gate: &Meeting) -> u64 {
-    let mut count = 0u64;
-    for passes in &gate.phases {
-        let ran = u64::from(passes.all.entered.load(Ordering::SeqCst) != 0);
-        assert!(rt; passes.are(ran), "phase {count}, {} workers", gate.workers);
-        count = count.wrapping_add(ran);
+/// How many jobs each phase of a run has, up to a number of phases. One worker runs them, and is held by nothing.
+fn jobs_of_phases<R: Abort + Threads + Wait + Sync + AllocGlobal>(
+    rt: &R,
+    config: &str,
+    texts: &[Vec<u8>],
+    phases: usize,
+) -> Result<Vec<u64>, Fail> {
+    let alloc = rt.alloc();
+    let gate = Meeting::new(alloc, 1, Vec::from_elem(alloc, 0, phases)?.as_slice())?;
+    simulate(rt, alloc, &gate, config.as_bytes(), texts, 32, 1)?;
+    let mut jobs = Vec::new(alloc);
+    for phase in &gate.phases {
+        jobs.push(phase.all.entered())?;
     }
-    count
+    Ok(jobs)
 }
 
 /// So many workers are at work at once in each phase, and each job is run once.
@@ -154,23 +182,24 @@ fn workers_meet_in_every_phase(rt: HostRuntime) -> Result<(), Fail> {
     let config = small_text(alloc, &["cores = 2"], "")?;
     let texts = texts_of(alloc, &["0 0\n", "0 64\n"])?;
     let plain = plain_tables(&rt, alloc, config.as_str(), &texts, 32)?;
+    let jobs = jobs_of_phases(&rt, config.as_str(), &texts, 32)?;
+    assert!(rt; jobs.iter().any(|count| *count == 3));
     for workers in [1, 2, 3] {
-        let gate = Meeting::new(alloc, workers, 32)?;
-        let bytes = config.as_bytes();
-        let outcome = simulate(&rt, alloc, &gate, bytes, &texts, 32, workers)?;
-        assert!(rt;
-            Tables::of(alloc, &outcome)?.is(&plain),
-            "{workers} workers"
-        );
+        let gate = Meeting::new(alloc, workers, jobs.as_slice())?;
+        let outcome = simulate(&rt, alloc, &gate, config.as_bytes(), &texts, 32, workers)?;
+        let tables = Tables::of(alloc, &outcome)?;
+        assert!(rt; tables.is(&plain), "{workers} workers");
         assert_eq!(rt; gate.faults.load(Ordering::SeqCst), 0);
-        assert!(rt; phases_of(&rt, &gate) > 0);
+        let whole = gate.phases.iter().all(|phase| phase.are_whole());
+        assert!(rt; whole, "{workers} workers");
     }
     Ok(())
 }
 
-/// Holds the first job of phase 0 until the five others have left.
+/// Holds the first job of phase 0 until so many others of it have left. Each job is a group of its own, so that none waits behind it.
 #[derive(Drop)]
 struct Holding {
+    others: u64,
     passes: Passes,
     released: AtomicU64,
 }
@@ -185,7 +214,7 @@ impl Gate for Holding {
             return;
         }
         for _ in 0..TURNS {
-            if self.passes.left.load(Ordering::SeqCst) == 5 {
+            if self.passes.left.load(Ordering::SeqCst) == self.others {
                 self.released.store(1, Ordering::SeqCst);
                 return;
             }
@@ -200,20 +229,35 @@ impl Gate for Holding {
     }
 }
 
-/// While one of two workers holds its first job, the other takes all others: jobs are not shared out in advance.
-#[test]
-fn workers_claim_their_jobs(rt: HostRuntime) -> Result<(), Fail> {
+/// What a gate saw that held the first job of a run of four cores and two channels. Its outcome is the plain machine's.
+fn held<R: Abort + Threads + Wait + Sync + AllocGlobal>(
+    rt: &R,
+    workers: u64,
+    others: u64,
+) -> Result<Holding, Fail> {
     let alloc = rt.alloc();
     let config = small_text(alloc, &["cores = 4", "channels = 2"], "")?;
     let texts = texts_of(alloc, &["0 0\n"; 4])?;
     let gate = Holding {
+        others,
         passes: Passes::new(),
         released: AtomicU64::new(0),
     };
-    let outcome = simulate(&rt, alloc, &gate, config.as_bytes(), &texts, 32, 2)?;
-    let plain = plain_tables(&rt, alloc, config.as_str(), &texts, 32)?;
+    let outcome = simulate(rt, alloc, &gate, config.as_bytes(), &texts, 32, workers)?;
+    let plain = plain_tables(rt, alloc, config.as_str(), &texts, 32)?;
     assert!(rt; Tables::of(alloc, &outcome)?.is(&plain));
-    assert_eq!(rt; gate.released.load(Ordering::SeqCst), 1);
-    assert!(rt; gate.passes.are(6));
+    Ok(gate)
+}
+
+/// While one of several workers holds its first job, the others take all others: jobs are not shared out in advance.
+#[test]
+fn workers_claim_their_jobs(rt: HostRuntime) -> Result<(), Fail> {
+    let jobs = held(&rt, 1, 0)?.passes.entered();
+    assert!(rt; jobs >= 4);
+    for workers in [2, 3] {
+        let gate = held(&rt, workers, jobs.saturating_sub(1))?;
+        assert_eq!(rt; gate.released.load(Ordering::SeqCst), 1);
+        assert!(rt; gate.passes.are(jobs));
+    }
     Ok(())
 }

@@ -8,6 +8,8 @@ mod command_words;
 #[cfg(test)]
 mod counts;
 #[cfg(test)]
+mod ends;
+#[cfg(test)]
 mod failing_files;
 #[cfg(test)]
 mod files_in_memory;
@@ -41,3 +43,5 @@ mod same;
 mod table_lines;
 #[cfg(test)]
 mod whole_tables;
+#[cfg(test)]
+mod worked_runs;

@@ -1,6 +1,7 @@
 //! A small run that is refused memory: it gives fault 10, or 11 where a worker did not start, or what it gives else. To be run
 //! with each allocation failing in turn; what these tests take of memory themselves counts too.
 
+use crate::outcomes::Watching;
 use fixtures::small::SMALL;
 use fixtures::texts::texts_of;
 use sim_base::command::Kind;
@@ -12,7 +13,6 @@ use statistics::outcome::Outcome;
 use std::alloc::Global;
 use std::sync::Wait;
 use std::thread::Threads;
-use workers::gate::Open;
 
 /// Whether these are the commands of one core that reads one line: an ACT in cycle 2 and an RD in cycle 5.
 fn has_commands(outcome: &Outcome) -> bool {
@@ -62,7 +62,7 @@ fn is_right_or_refused<R: Threads + Wait + Sync>(rt: &R, alloc: Global, workers:
     let Ok(texts) = texts_of(alloc, &["0 0\n"]) else {
         return true;
     };
-    match simulate(rt, alloc, &Open, SMALL.as_bytes(), &texts, 16, workers) {
+    match simulate(rt, alloc, &Watching, SMALL.as_bytes(), &texts, 16, workers) {
         Ok(outcome) => is_right(&outcome),
         Err(fault) => fault == Fault::Memory || workers > 1 && fault == Fault::WorkerStart,
     }

@@ -4,25 +4,23 @@ ghost use Rattle.std.specs.Prelude.{◌≡◌, ◌<◌, ◌∷◌, [], All, IfOk
 ghost use Rattle.sim_base.specs.declared.trace.Entry.TheVariants as entry;
 ghost use Rattle.epochs.specs.Views.{jobs_of};
 
+use crate::ends::{ends_of_commands, ends_of_messages};
 use crate::result_orders::{AsTheyCome, Leaves, Reversed, Turned, exchange};
 use cpu_trace::trace::Trace;
 use epochs::job::{Done, Job};
-use epochs::merging::{merge, merge_whole};
+use epochs::merging::merge;
 use epochs::ordered::{Order, RunFault, run_in_order};
 use epochs::phase::Phase;
 use epochs::planning::{Planned, plan};
 use epochs::sim::Sim;
 use fixtures::small::{RANK_FIELD, small};
-use sim_base::command::CommandRow;
 use sim_base::config::Config;
 use sim_base::fault::MergeFault;
-use sim_base::message::{Cycle, Message, Unit};
+use sim_base::message::{Cycle, Unit};
 use sim_base::trace::Entry;
-use statistics::cores::CoreStats;
-use statistics::final_state::FinalState;
 use statistics::outcome::Outcome;
-use statistics::stats::Stats;
 use std::alloc::{AllocError, Global};
+use std::process::Abort;
 use std::test::Fail;
 
 /// The small machine with two cores. `AllocError` stands for each fault.
@@ -46,28 +44,36 @@ fn results_of(alloc: Global, jobs: Vec<Job>) -> Result<Vec<Done>, AllocError>
     Ok(results)
 }
 
+static MERGE_FAULTS: [(MergeFault, &str); 4] = [
+    (MergeFault::Missing(Unit::Core(3)), "no result of core 3"),
+    (MergeFault::Double(5), "a second result at index 5"),
+    (MergeFault::Stranger(7), "a stranger at index 7"),
+    (MergeFault::Memory, "memory"),
+];
+
 #[test]
 fn faults_are_told(rt: HostRuntime) -> Result<(), Fail> {
-    let alloc = rt.alloc();
-    let faults = [
-        (MergeFault::Missing(Unit::Core(3)), "no result of core 3"),
-        (MergeFault::Double(5), "a second result at index 5"),
-        (MergeFault::Stranger(7), "a stranger at index 7"),
-        (MergeFault::Memory, "memory"),
-    ];
-    for (fault, text) in faults {
-        assert_eq!(rt; fault.to_string(alloc)?.as_str(), text);
+    for (fault, text) in &MERGE_FAULTS {
+        let told = fault.to_string(rt.alloc())?;
+        assert_eq!(rt; told.as_str(), *text);
     }
-    let merge = RunFault::Merge(MergeFault::Missing(Unit::Channel(0)));
-    let told = merge.to_string(alloc)?;
-    assert_eq!(rt;
-        told.as_str(),
-        "the results of a phase do not go together: no result of channel 0"
-    );
-    assert_eq!(rt;
-        RunFault::Memory.to_string(alloc)?.as_str(),
-        "there is no memory"
-    );
+    Ok(())
+}
+
+static RUN_FAULTS: [(RunFault, &str); 2] = [
+    (
+        RunFault::Merge(MergeFault::Missing(Unit::Channel(0))),
+        "the results of a phase do not go together: no result of channel 0",
+    ),
+    (RunFault::Memory, "there is no memory"),
+];
+
+#[test]
+fn faults_of_runs_are_told(rt: HostRuntime) -> Result<(), Fail> {
+    for (fault, text) in &RUN_FAULTS {
+        let told = fault.to_string(rt.alloc())?;
+        assert_eq!(rt; told.as_str(), *text);
+    }
     Ok(())
 }
 
@@ -152,47 +158,33 @@ fn told(
     Ok(merge(phase, alloc, results).err())
 }
 
-/// Results of a phase with two cores and a channel that are not one of each job.
+/// Pairs of results to exchange, how many to keep, and what is said of them.
+type Pick<'x> = (&'x [(usize, usize)], usize, Option<MergeFault>);
+
+/// Picks of a phase with two cores and a channel: results that are not one of each job, and then those that are.
+static PICKS: [Pick<'static>; 7] = [
+    // Two of core 0, and the channel's.
+    (&[(1, 3)], 3, Some(MergeFault::Double(1))),
+    // Core 0's, then one of the phase after it, then core 0's again.
+    (&[(1, 6), (2, 3)], 3, Some(MergeFault::Stranger(1))),
+    // Core 1's, core 0's, one of the phase after it, and core 1's again.
+    (&[(0, 1), (2, 6), (3, 4)], 4, Some(MergeFault::Stranger(2))),
+    // Core 0's and the channel's.
+    (&[(1, 2)], 2, Some(MergeFault::Missing(Unit::Core(1)))),
+    // None.
+    (&[], 0, Some(MergeFault::Missing(Unit::Core(0)))),
+    // Core 0's, and one of the phase after it: a stranger comes before what is missing.
+    (&[(1, 6)], 2, Some(MergeFault::Stranger(1))),
+    // All three.
+    (&[(0, 2)], 3, None),
+];
+
 #[test]
 fn faults_are_found(rt: HostRuntime) -> Result<(), Fail> {
-    let alloc = rt.alloc();
-    // Two of core 0, and the channel's.
-    let second = told(alloc, &[(1, 3)], 3);
-    assert_eq!(rt; second, Ok(Some(MergeFault::Double(1))));
-    // Core 0's, then one of the phase after it, then core 0's again.
-    let first_of_two = told(alloc, &[(1, 6), (2, 3)], 3);
-    assert_eq!(rt; first_of_two, Ok(Some(MergeFault::Stranger(1))));
-    // Core 1's, core 0's, one of the phase after it, and core 1's again.
-    let third = told(alloc, &[(0, 1), (2, 6), (3, 4)], 4);
-    assert_eq!(rt; third, Ok(Some(MergeFault::Stranger(2))));
-    // Core 0's and the channel's.
-    let no_second = told(alloc, &[(1, 2)], 2);
-    assert_eq!(rt; no_second, Ok(Some(MergeFault::Missing(Unit::Core(1)))));
-    // None.
-    let none = told(alloc, &[], 0);
-    assert_eq!(rt; none, Ok(Some(MergeFault::Missing(Unit::Core(0)))));
-    // Core 0's, and one of the phase after it: a stranger comes before what is missing.
-    let stranger = told(alloc, &[(1, 6)], 2);
-    assert_eq!(rt; stranger, Ok(Some(MergeFault::Stranger(1))));
-    // All three.
-    let whole = told(alloc, &[(0, 2)], 3);
-    assert_eq!(rt; whole, Ok(None));
-    Ok(())
-}
-
-/// One result of each job, from the last on. A phase takes as many cycles as the latencies, 2.
-#[test]
-fn whole_results_go_together(rt: HostRuntime) -> Result<(), Fail> {
-    let alloc = rt.alloc();
-    let config = cores_of(alloc)?;
-    let Ok(found) = phase_at(alloc, &config, 0) else {
-        assert!(rt; false);
-        return Ok(());
-    };
-    let Found { phase, mut results } = found;
-    results.reverse();
-    let sim = merge_whole(phase, alloc, results)?;
-    assert_eq!(rt; sim.now(), 2);
+    for (pairs, count, want) in &PICKS {
+        let fault = told(rt.alloc(), pairs, *count)?;
+        assert_eq!(rt; fault, *want, "{pairs:?}, {count}");
+    }
     Ok(())
 }
 
@@ -206,60 +198,67 @@ fn stopped(alloc: Global, left: usize) -> Result<Option<RunFault>, AllocError> {
 /// Core 0's result and the channel's are left, or none.
 #[test]
 fn lost_results_stop_a_run(rt: HostRuntime) -> Result<(), Fail> {
-    let second = RunFault::Merge(MergeFault::Missing(Unit::Core(1)));
-    assert_eq!(rt; stopped(rt.alloc(), 2)?, Some(second));
-    let first = RunFault::Merge(MergeFault::Missing(Unit::Core(0)));
-    assert_eq!(rt; stopped(rt.alloc(), 0)?, Some(first));
+    for (left, core) in [(2, 1), (0, 0)] {
+        let fault = stopped(rt.alloc(), left)?;
+        let missing = RunFault::Merge(MergeFault::Missing(Unit::Core(core)));
+        assert_eq!(rt; fault, Some(missing), "{left} are left");
+    }
     Ok(())
 }
 
-/// What a run did and left: its commands, what its cores counted, and its messages in flight.
-type Left = (Vec<CommandRow>, Vec<CoreStats>, Vec<Message>);
-
 /// What two cores that read one line each did and left before cycle 16.
-fn left_by<O: Order>(alloc: Global, order: &mut O) -> Result<Left, RunFault> {
+fn outcome_by<O: Order>(alloc: Global, order: &mut O) -> Result<Outcome, RunFault> {
     let config = cores_of(alloc)?;
     let sim = two_cores(alloc, &config)?;
     let sim = run_in_order(sim, alloc, 16, order)?;
-    let outcome = sim.outcome(alloc)?;
-    let Outcome {
-        commands,
-        stats,
-        last,
-        ..
-    } = outcome;
-    let Stats { cores, .. } = stats;
-    let FinalState { in_flight, .. } = last;
-    Ok((commands, cores, in_flight))
+    Ok(sim.outcome(alloc)?)
+}
+
+/// Two outcomes have the same commands, counts of cores, and messages in flight.
+fn assert_same(rt: &impl Abort, found: &Outcome, want: &Outcome) {
+    assert_eq!(rt;
+        (
+            found.commands.as_slice(),
+            found.stats.cores.as_slice(),
+            found.last.in_flight.as_slice()
+        ),
+        (
+            want.commands.as_slice(),
+            want.stats.cores.as_slice(),
+            want.last.in_flight.as_slice()
+        )
+    );
+}
+
+fn assert_order<O: Order>(
+    rt: &impl Abort,
+    alloc: Global,
+    order: &mut O,
+    want: &Outcome,
+) -> Result<(), Fail> {
+    let outcome = outcome_by(alloc, order)?;
+    assert_same(rt, &outcome, want);
+    Ok(())
 }
 
 /// ACT 2, RD 5, and RD 10, as a burst of the same group comes 5 cycles after another at the soonest. The replies arrive in the
 /// cycles 15 and 20.
+fn assert_worked(rt: &impl Abort, outcome: &Outcome) {
+    let commands = ends_of_commands(&outcome.commands);
+    let flight = ends_of_messages(&outcome.last.in_flight);
+    let retired = outcome.stats.cores.first().map(|core| core.retired);
+    assert_eq!(rt;
+        (commands, flight, retired),
+        ((3, Some(2), Some(10)), (1, Some(20), Some(20)), Some(1))
+    );
+}
+
 #[test]
 fn orders_do_not_matter(rt: HostRuntime) -> Result<(), Fail> {
     let alloc = rt.alloc();
-    let Ok((commands, cores, flight)) = left_by(alloc, &mut AsTheyCome) else {
-        assert!(rt; false);
-        return Ok(());
-    };
-    let cycles = (
-        commands.first().map(|row| row.cycle),
-        commands.last().map(|row| row.cycle),
-    );
-    let arrival = flight.first().map(|m| m.arrival);
-    let retired = cores.first().map(|core| core.retired);
-    assert_eq!(rt; (commands.len(), cycles), (3, (Some(2), Some(10))));
-    assert_eq!(rt; (flight.len(), arrival, retired), (1, Some(20), Some(1)));
-    let reversed = left_by(alloc, &mut Reversed);
-    let turned = left_by(alloc, &mut Turned);
-    for other in [reversed, turned] {
-        let Ok((other_commands, other_cores, other_flight)) = other else {
-            assert!(rt; false);
-            return Ok(());
-        };
-        assert!(rt; other_commands == commands);
-        assert!(rt; other_cores == cores);
-        assert!(rt; other_flight == flight);
-    }
-    Ok(())
+    let outcome = outcome_by(alloc, &mut AsTheyCome)?;
+    let whole = &outcome;
+    assert_worked(&rt, whole);
+    assert_order(&rt, alloc, &mut Reversed, whole)?;
+    assert_order(&rt, alloc, &mut Turned, whole)
 }

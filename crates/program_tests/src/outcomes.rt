@@ -2,6 +2,7 @@
 
 use reports::{write_commands, write_final, write_stats};
 use sim_base::fault::Fault;
+use sim_base::job::JobName;
 use sim_base::message::Cycle;
 use simulation::runs::{simulate, simulate_plain};
 use statistics::outcome::Outcome;
@@ -10,7 +11,20 @@ use std::process::Abort;
 use std::sync::Wait;
 use std::test::Fail;
 use std::thread::Threads;
-use workers::gate::Open;
+use workers::gate::{Gate, Open};
+
+/// A gate that watches and does nothing: each unit that wakes in a phase has a job, also in a machine that is too small to be worth it.
+pub(crate) struct Watching;
+
+impl Gate for Watching {
+    fn watches(&self) -> bool {
+        true
+    }
+
+    fn enter(&self, _worker: usize, _job: JobName) {}
+
+    fn leave(&self, _worker: usize, _job: JobName) {}
+}
 
 /// The bytes of a run's tables.
 #[derive(Drop)]
@@ -42,6 +56,14 @@ impl Tables {
     }
 }
 
+/// What is run.
+#[derive(Drop)]
+struct Run<'a> {
+    config: &'a str,
+    texts: &'a [Vec<u8>],
+    cycles: Cycle,
+}
+
 /// The tables of a run by the plain machine.
 pub(crate) fn plain_tables<R: Threads + Sync>(
     rt: &R,
@@ -54,7 +76,28 @@ pub(crate) fn plain_tables<R: Threads + Sync>(
     Tables::of(alloc, &outcome)
 }
 
-/// A run has the same tables by each of these numbers of workers as by the plain machine.
+/// The tables of a run by so many workers.
+fn tables_by<R: Threads + Wait + Sync, G: Gate + Sync>(
+    rt: &R,
+    alloc: Global,
+    gate: &G,
+    run: &Run<'_>,
+    workers: u64,
+) -> Result<Tables, Fault> {
+    let outcome = simulate(
+        rt,
+        alloc,
+        gate,
+        run.config.as_bytes(),
+        run.texts,
+        run.cycles,
+        workers,
+    )?;
+    Tables::of(alloc, &outcome)
+}
+
+/// A run has the same tables by each of these numbers of workers as by the plain machine, by jobs and as it is run where nothing
+/// watches.
 pub(crate) fn assert_same<R: Abort + Threads + Wait + Sync + AllocGlobal>(
     rt: &R,
     config: &str,
@@ -64,11 +107,17 @@ pub(crate) fn assert_same<R: Abort + Threads + Wait + Sync + AllocGlobal>(
 ) -> Result<(), Fail> {
     let alloc = rt.alloc();
     let plain = plain_tables(rt, alloc, config, texts, cycles)?;
+    let run = Run {
+        config,
+        texts,
+        cycles,
+    };
     for count in workers {
-        let outcome = simulate(rt, alloc, &Open, config.as_bytes(), texts, cycles, *count)?;
-        let tables = Tables::of(alloc, &outcome)?;
+        let by_jobs = tables_by(rt, alloc, &Watching, &run, *count)?;
+        let unwatched = tables_by(rt, alloc, &Open, &run, *count)?;
+        let are = [by_jobs.is(&plain), unwatched.is(&plain)];
         assert!(rt;
-            tables.is(&plain),
+            are == [true, true],
             "{count} workers, {cycles} cycles, {config}"
         );
     }

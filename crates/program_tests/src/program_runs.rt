@@ -1,8 +1,11 @@
-//! The whole program over files in memory, and what it leaves.
+//! The whole program over files in memory, and what it says and leaves.
 
 use crate::files_in_memory::MemoryFiles;
+use crate::worked_runs::Run;
+use fixtures::small::small_text;
 use program::perform::perform;
 use std::alloc::{AllocError, Global};
+use std::process::Abort;
 use std::sync::Wait;
 use std::test::Fail;
 use std::thread::Threads;
@@ -10,136 +13,112 @@ use std::thread::Threads;
 /// The header of a table of commands of one rank.
 pub(crate) const HEADER: &str = "cycle,channel,command,group,bank,row,column,core,entry\n";
 
-// What the program leaves: its status, its streams and its files.
+/// What the program says: its status, and what it writes on its two streams.
 #[derive(Drop)]
-pub(crate) struct Ended {
-    pub(crate) status: u8,
-    pub(crate) print: Vec<u8>,
-    pub(crate) errors: Vec<u8>,
-    pub(crate) files: MemoryFiles,
+pub(crate) struct Said {
+    status: u8,
+    print: Vec<u8>,
+    errors: Vec<u8>,
 }
 
-fn words_of_run<'x>(
-    alloc: Global,
-    cycles: &'x str,
-    workers: &'x str,
-) -> Result<Vec<String>, AllocError> {
-    let mut words = Vec::new(alloc);
-    let fixed: [&'x str; 9] = [
-        "dramsim",
-        "run",
-        "c.toml",
-        "--cycles",
-        cycles,
-        "--workers",
-        workers,
-        "--out",
-        "d",
-    ];
-    for word in fixed {
-        words.push(String::from_str(alloc, word)?)?;
+impl Said {
+    fn all(&self) -> (u8, &str, &str) {
+        (self.status, text_of(&self.print), text_of(&self.errors))
     }
-    Ok(words)
-}
 
-// A run over these files, and over a configuration and traces that are added to them.
-pub(crate) fn run_over<R: Threads + Wait + Sync + AllocGlobal>(
-    rt: &R,
-    mut files: MemoryFiles,
-    config: &str,
-    traces: &[&str],
-    cycles: &str,
-    workers: &str,
-) -> Result<Ended, Fail> {
-    let alloc = rt.alloc();
-    files.add(alloc, "c.toml", config)?;
-    let mut words = words_of_run(alloc, cycles, workers)?;
-    for trace in traces {
-        let name = format!(in alloc; "t{}", words.len())?;
-        files.add(alloc, name.as_str(), trace)?;
-        words.push(name)?;
+    /// Asserts the status, what is printed and what is told of errors, in a case with a name.
+    pub(crate) fn assert_is(&self, rt: &impl Abort, name: &str, want: (u8, &str, &str)) {
+        assert_eq!(rt; self.all(), want, "{name}");
     }
-    let named: Vec<&str> = words.iter().map(|word| word.as_str()).collect(alloc)?;
-    end_of(rt, &named, files)
 }
 
-pub(crate) fn run_program<R: Threads + Wait + Sync + AllocGlobal>(
-    rt: &R,
-    config: &str,
-    traces: &[&str],
-    cycles: &str,
-    workers: &str,
-) -> Result<Ended, Fail> {
-    run_over(
-        rt,
-        MemoryFiles::new(rt.alloc()),
-        config,
-        traces,
-        cycles,
-        workers,
-    )
+fn text_of(bytes: &[u8]) -> &str {
+    str::from_utf8(bytes).unwrap_or("no text")
 }
 
-pub(crate) fn end_of<R: Threads + Wait + Sync + AllocGlobal>(
+/// Asserts a text that the program leaves, in a case with a name.
+pub(crate) fn assert_text(rt: &impl Abort, name: &str, found: &str, want: &str) {
+    assert_eq!(rt; found, want, "{name}");
+}
+
+/// What the program says to a line of words.
+pub(crate) fn said_to<R: Threads + Wait + Sync + AllocGlobal>(
     rt: &R,
-    words: &[&str],
-    mut files: MemoryFiles,
-) -> Result<Ended, Fail> {
+    files: &mut MemoryFiles,
+    line: &str,
+) -> Result<Said, AllocError> {
     let alloc = rt.alloc();
+    let words: Vec<&str> = line.split(' ').collect(alloc)?;
     let mut print = Vec::new(alloc);
     let mut errors = Vec::new(alloc);
-    let status = perform(rt, alloc, words, &mut files, &mut print, &mut errors);
-    Ok(Ended {
+    let status = perform(rt, alloc, &words, files, &mut print, &mut errors);
+    Ok(Said {
         status,
         print,
         errors,
-        files,
     })
 }
 
-// The files of a run that succeeds and prints nothing.
-pub(crate) fn files_of<R: Threads + Wait + Sync + AllocGlobal>(
-    rt: &R,
-    config: &str,
+/// Adds the small machine, with other lines for some keys and more lines at its end.
+pub(crate) fn add_machine(
+    alloc: Global,
+    files: &mut MemoryFiles,
+    changes: &[&str],
+    more: &str,
+) -> Result<(), AllocError> {
+    let config = small_text(alloc, changes, more)?;
+    files.add(alloc, "c.toml", config.as_str())
+}
+
+/// Adds traces, and their names to a line of words.
+fn add_traces(
+    alloc: Global,
+    files: &mut MemoryFiles,
     traces: &[&str],
-    cycles: &str,
-) -> Result<MemoryFiles, Fail> {
-    let ended = run_program(rt, config, traces, cycles, "1")?;
-    if ended.status != 0 || !ended.print.is_empty() || !ended.errors.is_empty() {
-        return Err(Fail::from("the run was refused"));
+    line: &mut String,
+) -> Result<(), AllocError> {
+    for (core, trace) in traces.iter().enumerate() {
+        let name = format!(in alloc; " t{core}")?;
+        line.push_str(name.as_str())?;
+        files.add(alloc, name.as_str().trim_start(), trace)?;
     }
-    Ok(ended.files)
+    Ok(())
 }
 
-// Its table of commands.
-pub(crate) fn table_of<R: Threads + Wait + Sync + AllocGlobal>(
+/// What the program says to a run, whose limit and number of workers are told by words.
+pub(crate) fn said_to_run<R: Threads + Wait + Sync + AllocGlobal>(
     rt: &R,
-    config: &str,
-    traces: &[&str],
-    cycles: &str,
-) -> Result<String, Fail> {
-    files_of(rt, config, traces, cycles)?.text_at(rt.alloc(), "d/commands.csv")
-}
-
-// The kinds of a table's commands, with their cycles.
-fn summary_of(alloc: Global, table: &str) -> Result<String, AllocError> {
-    let mut text = String::new(alloc);
-    for line in table.lines().skip(1) {
-        let fields: Vec<&str> = line.split(',').collect(alloc)?;
-        if let [cycle, _, kind, ..] = fields.as_slice() {
-            text.push_str(format!(in alloc; "{kind} {cycle}, ")?.as_str())?;
-        }
-    }
-    Ok(text)
-}
-
-pub(crate) fn commands_of<R: Threads + Wait + Sync + AllocGlobal>(
-    rt: &R,
-    config: &str,
-    traces: &[&str],
-    cycles: &str,
-) -> Result<String, Fail> {
+    files: &mut MemoryFiles,
+    run: &Run,
+    words: &str,
+) -> Result<Said, AllocError> {
     let alloc = rt.alloc();
-    let table = table_of(rt, config, traces, cycles)?;
-    Ok(summary_of(alloc, table.as_str())?)
+    let mut line = format!(in alloc; "dramsim run c.toml {words} --out d")?;
+    add_machine(alloc, files, run.changes, run.more)?;
+    add_traces(alloc, files, run.traces, &mut line)?;
+    said_to(rt, files, line.as_str())
+}
+
+/// Asserts that a run by so many workers succeeds and says nothing.
+fn assert_quiet<R: Abort + Threads + Wait + Sync + AllocGlobal>(
+    rt: &R,
+    files: &mut MemoryFiles,
+    run: &Run,
+    workers: u64,
+) -> Result<(), Fail> {
+    let words = format!(in rt.alloc(); "--cycles {} --workers {workers}", run.cycles)?;
+    let said = said_to_run(rt, files, run, words.as_str())?;
+    said.assert_is(rt, run.name, (0, "", ""));
+    Ok(())
+}
+
+/// The files of a run by so many workers, which succeeds and says nothing.
+pub(crate) fn files_by<R: Abort + Threads + Wait + Sync + AllocGlobal>(
+    rt: &R,
+    run: &Run,
+    workers: u64,
+) -> Result<MemoryFiles, Fail> {
+    let mut files = MemoryFiles::new(rt.alloc());
+    assert_quiet(rt, &mut files, run, workers)?;
+    Ok(files)
 }

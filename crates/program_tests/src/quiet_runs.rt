@@ -2,15 +2,20 @@
 
 ghost use Rattle.std.specs.Prelude.{◌≡◌, ◌≤◌, ◌^◌, length, IfOk};
 
+use crate::ends::{Ends, ends_of_commands, ends_of_messages};
 use crate::result_orders::{AsTheyCome, Noting};
 use cpu_trace::trace::Trace;
-use epochs::ordered::run_in_order;
+use epochs::ordered::{Order, run_in_order};
 use epochs::sim::Sim;
 use fixtures::small::{RANK_FIELD, small};
 use sim_base::config::Config;
 use sim_base::message::Cycle;
 use sim_base::trace::Entry;
+use statistics::final_state::FinalState;
+use statistics::outcome::Outcome;
+use statistics::stats::Stats;
 use std::alloc::{AllocError, Global};
+use std::process::Abort;
 use std::test::Fail;
 
 /// The small machine, with other lines for some keys.
@@ -18,231 +23,265 @@ fn one_core(alloc: Global, changes: &[&str]) -> Result<Config, Fail>
     ensures { IfOk result (λ config. config.cores ≡ 1) }
 {
     let config = small(alloc, changes, "")?;
-    if config.cores != 1 {
-        return Err(Fail::from("more cores"));
+    if config.cores == 1 {
+        Ok(config)
+    } else {
+        Err(Fail::from("more cores"))
     }
-    Ok(config)
+}
+
+/// A machine of one core with these entries, before its first cycle.
+fn started(alloc: Global, config: &Config, entries: &[Entry]) -> Result<Sim, AllocError>
+    requires cores { config.now.cores ≡ 1 }
+    requires long { length entries.now ≤ 2 ^ 62 }
+    ensures { IfOk result (λ sim. sim.now ≡ 0) }
+{
+    let trace = Trace::from_entries(alloc, entries)?;
+    let traces = Vec::from_array(alloc, [trace])?;
+    Sim::start(alloc, config, traces)
+}
+
+/// The small machine with other lines for some keys, and with these entries, at a cycle.
+fn run_to<O: Order>(
+    alloc: Global,
+    changes: &[&str],
+    entries: &[Entry],
+    cycle: Cycle,
+    order: &mut O,
+) -> Result<Sim, Fail>
+    requires long { length entries.now ≤ 2 ^ 62 }
+    requires early { cycle ≤ 10 ^ 12 }
+{
+    let config = one_core(alloc, changes)?;
+    let sim = started(alloc, &config, entries)?;
+    Ok(run_in_order(sim, alloc, cycle, order)?)
+}
+
+/// How many cycles are counted, and the ACTs, RDs and hits of the first channel.
+type Counts = (Cycle, Option<(u64, u64, u64)>);
+
+fn counts_of(alloc: Global, sim: &Sim) -> Result<Counts, AllocError> {
+    let stats = sim.stats(alloc)?;
+    let counts = stats.channels.first().map(|c| (c.act, c.rd, c.hits));
+    Ok((stats.cycles, counts))
+}
+
+fn commands_of(alloc: Global, sim: Sim) -> Result<Ends, AllocError> {
+    let outcome = sim.outcome(alloc)?;
+    Ok(ends_of_commands(&outcome.commands))
+}
+
+/// Where a run stands, what it counted, and its commands.
+type Did = (Cycle, Counts, Ends);
+
+fn read_up_to_16(alloc: Global) -> Result<Did, Fail> {
+    let read = [Entry::Read(0)];
+    let sim = run_to(alloc, &[RANK_FIELD], &read, 16, &mut AsTheyCome)?;
+    let now = sim.now();
+    let counts = counts_of(alloc, &sim)?;
+    Ok((now, counts, commands_of(alloc, sim)?))
 }
 
 /// One read, which is sent in cycle 0 and in the queue from cycle 2 on: ACT 2, RD 5.
 #[test]
 fn one_line_is_read(rt: HostRuntime) -> Result<(), Fail> {
-    let config = one_core(rt.alloc(), &[RANK_FIELD])?;
-    let trace = Trace::from_entries(rt.alloc(), &[Entry::Read(0)])?;
-    let traces = Vec::from_array(rt.alloc(), [trace])?;
-    let sim = Sim::start(rt.alloc(), &config, traces)?;
-    let Ok(sim) = run_in_order(sim, rt.alloc(), 16, &mut AsTheyCome) else {
-        assert!(rt; false);
-        return Ok(());
-    };
-    let stats = sim.stats(rt.alloc())?;
-    let counts = stats.channels.first().map(|c| (c.act, c.rd, c.hits));
-    assert_eq!(rt; (sim.now(), stats.cycles), (16, 16));
-    assert_eq!(rt; counts, Some((1, 1, 0)));
-    let outcome = sim.outcome(rt.alloc())?;
-    let rows = &outcome.commands;
-    let cycles = (
-        rows.first().map(|row| row.cycle),
-        rows.last().map(|row| row.cycle),
-    );
-    assert_eq!(rt; (rows.len(), cycles), (2, (Some(2), Some(5))));
+    let did = read_up_to_16(rt.alloc())?;
+    let counts = (16, Some((1, 1, 0)));
+    assert_eq!(rt; did, (16, counts, (2, Some(2), Some(5))));
     Ok(())
+}
+
+/// The entries that the first core issued and retired, and the open rows and the requests of the first channel.
+type Units = (Option<(u64, u64)>, Option<(usize, usize)>);
+
+fn units_of(last: &FinalState) -> Units {
+    let core = last.cores.first().map(|c| (c.issued, c.retired));
+    let channel = last
+        .channels
+        .first()
+        .map(|c| (c.open_rows.len(), c.queue.len()));
+    (core, channel)
+}
+
+/// What a run did and left: its cycles and its ranks, its commands, its messages in flight, and its units.
+type Left = (Cycle, u32, Ends, Ends, Units);
+
+fn left_by(outcome: &Outcome) -> Left {
+    let commands = ends_of_commands(&outcome.commands);
+    let flight = ends_of_messages(&outcome.last.in_flight);
+    let units = units_of(&outcome.last);
+    (outcome.stats.cycles, outcome.ranks, commands, flight, units)
+}
+
+fn read_up_to_6(alloc: Global) -> Result<Left, Fail> {
+    let read = [Entry::Read(0)];
+    let sim = run_to(alloc, &[RANK_FIELD], &read, 6, &mut AsTheyCome)?;
+    let outcome = sim.outcome(alloc)?;
+    let whole = &outcome;
+    Ok(left_by(whole))
 }
 
 /// The same read, up to cycle 6: its row is open, its reply and its credit are in flight, and the credit comes first.
 #[test]
 fn one_line_is_left(rt: HostRuntime) -> Result<(), Fail> {
-    let config = one_core(rt.alloc(), &[RANK_FIELD])?;
-    let trace = Trace::from_entries(rt.alloc(), &[Entry::Read(0)])?;
-    let traces = Vec::from_array(rt.alloc(), [trace])?;
-    let sim = Sim::start(rt.alloc(), &config, traces)?;
-    let Ok(sim) = run_in_order(sim, rt.alloc(), 6, &mut AsTheyCome) else {
-        assert!(rt; false);
-        return Ok(());
-    };
-    let outcome = sim.outcome(rt.alloc())?;
-    let plain = &outcome;
-    let rows = &plain.commands;
-    let cycles = (
-        rows.first().map(|row| row.cycle),
-        rows.last().map(|row| row.cycle),
-    );
-    let last = &plain.last;
-    let flight = &last.in_flight;
-    let arrivals = (
-        flight.first().map(|m| m.arrival),
-        flight.last().map(|m| m.arrival),
-    );
-    let open = last
-        .channels
-        .first()
-        .map(|c| (c.open_rows.len(), c.queue.len()));
-    let core = last.cores.first().map(|c| (c.issued, c.retired));
-    assert_eq!(rt; (rows.len(), plain.stats.cycles, plain.ranks), (2, 6, 1));
-    assert_eq!(rt; cycles, (Some(2), Some(5)));
-    assert_eq!(rt; (flight.len(), arrivals), (2, (Some(7), Some(15))));
-    assert_eq!(rt; open, Some((1, 0)));
-    assert_eq!(rt; core, Some((1, 0)));
+    let left = read_up_to_6(rt.alloc())?;
+    let (commands, flight) = ((2, Some(2), Some(5)), (2, Some(7), Some(15)));
+    let units = (Some((1, 0)), Some((1, 0)));
+    assert_eq!(rt; left, (6, 1, commands, flight, units));
     Ok(())
 }
 
-/// Whether the run of a core with these entries is over before a cycle, and the cycle up to which it surely goes on, where it
-/// is not.
-fn seen_at(
+/// Whether a run is over, and else the cycle before the limit up to which it surely goes on.
+type End = (bool, Option<Cycle>);
+
+fn end_of(sim: &Sim, limit: Cycle) -> End {
+    if sim.is_over() {
+        (true, None)
+    } else if sim.now() < limit {
+        (false, Some(sim.surely_until(limit)))
+    } else {
+        (false, None)
+    }
+}
+
+/// What is said of the end of the run of a core with these entries, before a cycle.
+fn end_at(alloc: Global, entries: &[Entry], cycle: u32, limit: Cycle) -> Result<End, Fail>
+    requires long { length entries.now ≤ 2 ^ 62 }
+{
+    let cycle = Cycle::from(cycle);
+    let sim = run_to(alloc, &[RANK_FIELD], entries, cycle, &mut AsTheyCome)?;
+    Ok(end_of(&sim, limit))
+}
+
+/// Asserts what is said of it before each of these cycles, with a limit.
+fn assert_ends(
+    rt: &impl Abort,
     alloc: Global,
     entries: &[Entry],
-    cycle: Cycle,
-    limit: Cycle,
-) -> Result<(bool, Option<Cycle>), Fail>
+    cases: &[(u32, Cycle, End)],
+) -> Result<(), Fail>
     requires long { length entries.now ≤ 2 ^ 62 }
-    requires early { cycle ≤ 10 ^ 12 }
 {
-    let config = one_core(alloc, &[RANK_FIELD])?;
-    let trace = Trace::from_entries(alloc, entries)?;
-    let traces = Vec::from_array(alloc, [trace])?;
-    let sim = Sim::start(alloc, &config, traces)?;
-    let Ok(sim) = run_in_order(sim, alloc, cycle, &mut AsTheyCome) else {
-        return Ok((false, None));
-    };
-    if sim.is_over() {
-        return Ok((true, None));
+    for (cycle, limit, want) in cases {
+        let end = end_at(alloc, entries, *cycle, *limit)?;
+        assert_eq!(rt; end, *want, "before cycle {cycle}, with limit {limit}");
     }
-    if sim.now() < limit {
-        Ok((false, Some(sim.surely_until(limit))))
-    } else {
-        Ok((false, None))
-    }
+    Ok(())
 }
 
 /// The same read: the credit arrives in cycle 7 and the reply in cycle 15, in which the read retires.
 #[test]
 fn one_line_ends(rt: HostRuntime) -> Result<(), Fail> {
-    let read = [Entry::Read(0)];
-    let first = seen_at(rt.alloc(), &read, 0, 100)?;
-    assert_eq!(rt; first, (false, Some(1)));
-    let credit = seen_at(rt.alloc(), &read, 6, 100)?;
-    assert_eq!(rt; credit, (false, Some(8)));
-    let limited = seen_at(rt.alloc(), &read, 6, 7)?;
-    assert_eq!(rt; limited, (false, Some(7)));
-    let reply = seen_at(rt.alloc(), &read, 15, 100)?;
-    assert_eq!(rt; reply, (false, Some(16)));
-    let end = seen_at(rt.alloc(), &read, 16, 100)?;
-    assert_eq!(rt; end, (true, None));
-    Ok(())
+    let ends = [
+        (0, 100, (false, Some(1))),
+        (6, 100, (false, Some(8))),
+        (6, 7, (false, Some(7))),
+        (15, 100, (false, Some(16))),
+        (16, 100, (true, None)),
+    ];
+    assert_ends(&rt, rt.alloc(), &[Entry::Read(0)], &ends)
 }
 
 /// Nine entries that need no memory are issued in the cycles from 0 to 4, and each retires in the cycle after.
 #[test]
 fn plain_entries_end(rt: HostRuntime) -> Result<(), Fail> {
-    let plain = [Entry::Plain; 9];
-    let first = seen_at(rt.alloc(), &plain, 0, 100)?;
-    assert_eq!(rt; first, (false, Some(5)));
-    let last = seen_at(rt.alloc(), &plain, 5, 100)?;
-    assert_eq!(rt; last, (false, Some(6)));
-    let end = seen_at(rt.alloc(), &plain, 6, 100)?;
-    assert_eq!(rt; end, (true, None));
-    Ok(())
+    let ends = [
+        (0, 100, (false, Some(5))),
+        (5, 100, (false, Some(6))),
+        (6, 100, (true, None)),
+    ];
+    assert_ends(&rt, rt.alloc(), &[Entry::Plain; 9], &ends)
 }
 
-/// The simulator of a machine of one core with these entries, at a cycle, with the spans of its phases.
-fn noted(
-    alloc: Global,
-    config: &Config,
-    entries: &[Entry],
-    cycle: Cycle,
-) -> Result<(Option<Sim>, Noting), AllocError>
-    requires cores { config.now.cores ≡ 1 }
+/// The cycle at which a run stands, how many phases it took, and the spans of the first eight.
+type Noted = (Cycle, u64, [(Cycle, Cycle); 8]);
+
+fn noted(alloc: Global, changes: &[&str], entries: &[Entry], cycle: Cycle) -> Result<Noted, Fail>
     requires long { length entries.now ≤ 2 ^ 62 }
     requires early { cycle ≤ 10 ^ 12 }
 {
-    let mut noting = Noting {
-        phases: 0,
-        spans: [(0, 0); 8],
-    };
-    let trace = Trace::from_entries(alloc, entries)?;
-    let traces = Vec::from_array(alloc, [trace])?;
-    let sim = Sim::start(alloc, config, traces)?;
-    let sim = run_in_order(sim, alloc, cycle, &mut noting).ok();
-    Ok((sim, noting))
+    let mut noting = Noting::new();
+    let sim = run_to(alloc, changes, entries, cycle, &mut noting)?;
+    let spans = noting.spans;
+    Ok((sim.now(), noting.phases, spans))
 }
+
+/// The span of no phase.
+const NONE: (Cycle, Cycle) = (0, 0);
 
 /// The same read, up to cycle 40. It is sent in cycle 0 and comes in 2, where its row is opened; the row is ready in 5, and the
 /// line is read. The credit comes in 7 and the reply in 15. In the other cycles nothing happens.
 #[test]
 fn a_read_takes_five_phases(rt: HostRuntime) -> Result<(), Fail> {
-    let config = one_core(rt.alloc(), &[RANK_FIELD])?;
-    let (sim, noting) = noted(rt.alloc(), &config, &[Entry::Read(0)], 40)?;
-    assert_eq!(rt; sim.map(|s| s.now()), Some(40));
-    assert_eq!(rt; noting.phases, 5);
-    assert_eq!(rt;
-        (noting.spans[0], noting.spans[1], noting.spans[2]),
-        ((0, 2), (2, 4), (5, 7))
-    );
-    assert_eq!(rt;
-        (noting.spans[3], noting.spans[4], noting.spans[5]),
-        ((7, 9), (15, 17), (0, 0))
-    );
+    let found = noted(rt.alloc(), &[RANK_FIELD], &[Entry::Read(0)], 40)?;
+    let spans = [(0, 2), (2, 4), (5, 7), (7, 9), (15, 17), NONE, NONE, NONE];
+    assert_eq!(rt; found, (40, 5, spans));
     Ok(())
 }
 
 /// Without a trace there are only refreshes, due in the cycles 100 and 200.
 #[test]
 fn two_refreshes_take_two_phases(rt: HostRuntime) -> Result<(), Fail> {
-    let config = one_core(rt.alloc(), &[RANK_FIELD, "nREFI = 100"])?;
-    let (sim, noting) = noted(rt.alloc(), &config, &[], 250)?;
-    assert_eq!(rt; sim.map(|s| s.now()), Some(250));
-    assert_eq!(rt; noting.phases, 2);
-    assert_eq!(rt;
-        (noting.spans[0], noting.spans[1], noting.spans[2]),
-        ((100, 102), (200, 202), (0, 0))
-    );
+    let found = noted(rt.alloc(), &[RANK_FIELD, "nREFI = 100"], &[], 250)?;
+    let (first, second) = ((100, 102), (200, 202));
+    let spans = [first, second, NONE, NONE, NONE, NONE, NONE, NONE];
+    assert_eq!(rt; found, (250, 2, spans));
     Ok(())
 }
 
-/// The same read over links of a million cycles, up to cycle 10^12: it comes in cycle 1,000,000 and is read in 1,000,003, the
-/// credit comes in 2,000,003, and the reply in 2,000,011, in the same phase. The core has no more entries from cycle 0 on, and the
-/// queue is empty but for four cycles.
+/// The limit of the longest run.
+const LONGEST: Cycle = 1_000_000_000_000;
+
+/// Links of a million cycles.
+static SLOW_LINKS: [&str; 4] = [
+    RANK_FIELD,
+    "request_latency = 1000000",
+    "reply_latency = 1000000",
+    "credit_latency = 1000000",
+];
+
+/// The same read over slow links, up to the last cycle: it comes in cycle 1,000,000 and is read in 1,000,003, the credit comes in
+/// 2,000,003, and the reply in 2,000,011, in the same phase.
 #[test]
 fn a_slow_read_takes_three_phases(rt: HostRuntime) -> Result<(), Fail> {
-    let slow_links = [
-        RANK_FIELD,
-        "request_latency = 1000000",
-        "reply_latency = 1000000",
-        "credit_latency = 1000000",
-    ];
-    let config = one_core(rt.alloc(), &slow_links)?;
-    let (sim, noting) = noted(rt.alloc(), &config, &[Entry::Read(0)], 1_000_000_000_000)?;
-    let Some(sim) = sim else {
-        assert!(rt; false);
-        return Ok(());
-    };
-    assert_eq!(rt; noting.phases, 3);
-    assert_eq!(rt;
-        (noting.spans[0], noting.spans[1], noting.spans[2]),
-        (
-            (0, 1_000_000),
-            (1_000_000, 2_000_000),
-            (2_000_003, 3_000_003)
-        )
-    );
-    let outcome = sim.outcome(rt.alloc())?;
-    let slow = &outcome;
-    let cycles = (
-        slow.commands.first().map(|row| row.cycle),
-        slow.commands.last().map(|row| row.cycle),
-    );
-    assert_eq!(rt;
-        (slow.commands.len(), slow.stats.cycles),
-        (2, 1_000_000_000_000)
-    );
-    assert_eq!(rt; cycles, (Some(1_000_000), Some(1_000_003)));
-    let core = slow
-        .stats
+    let found = noted(rt.alloc(), &SLOW_LINKS, &[Entry::Read(0)], LONGEST)?;
+    let (first, second) = ((0, 1_000_000), (1_000_000, 2_000_000));
+    let third = (2_000_003, 3_000_003);
+    let spans = [first, second, third, NONE, NONE, NONE, NONE, NONE];
+    assert_eq!(rt; found, (LONGEST, 3, spans));
+    Ok(())
+}
+
+/// When the first core finished, how long its reads took and how long it was at its end, and how long the first channel was
+/// idle.
+type Waits = (Option<(Option<Cycle>, u128, u64)>, Option<u64>);
+
+fn waits_of(stats: &Stats) -> Waits {
+    let core = stats
         .cores
         .first()
         .map(|c| (c.finish, c.read_latency, c.stop_end));
-    assert_eq!(rt; core, Some((Some(2_000_011), 2_000_011, 1_000_000_000_000)));
-    let idle = slow.stats.channels.first().map(|c| c.idle);
-    assert_eq!(rt; idle, Some(999_999_999_996));
+    let channel = stats.channels.first().map(|c| c.idle);
+    (core, channel)
+}
+
+/// The cycles of the slow read's run, its commands, and what it waited for.
+fn slow_read(alloc: Global) -> Result<(Cycle, Ends, Waits), Fail> {
+    let read = [Entry::Read(0)];
+    let sim = run_to(alloc, &SLOW_LINKS, &read, LONGEST, &mut AsTheyCome)?;
+    let outcome = sim.outcome(alloc)?;
+    let whole = &outcome;
+    let commands = ends_of_commands(&whole.commands);
+    Ok((whole.stats.cycles, commands, waits_of(&whole.stats)))
+}
+
+/// The core has no more entries from cycle 0 on, and the queue is empty but for four cycles.
+#[test]
+fn a_slow_read_is_counted(rt: HostRuntime) -> Result<(), Fail> {
+    let found = slow_read(rt.alloc())?;
+    let core = (Some(2_000_011), 2_000_011, LONGEST);
+    let commands = (2, Some(1_000_000), Some(1_000_003));
+    let waits = (Some(core), Some(999_999_999_996));
+    assert_eq!(rt; found, (LONGEST, commands, waits));
     Ok(())
 }

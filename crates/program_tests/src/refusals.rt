@@ -1,114 +1,214 @@
 //! What the program refuses, and places of addresses.
 
 use crate::files_in_memory::MemoryFiles;
-use crate::program_runs::{Ended, end_of, run_program};
-use fixtures::small::{SMALL, small_text};
-use std::alloc::Global;
+use crate::program_runs::{Said, add_machine, assert_text, files_by, said_to, said_to_run};
+use crate::worked_runs::{ONE_READ, Run};
+use std::alloc::AllocError;
+use std::process::Abort;
 use std::sync::Wait;
 use std::test::Fail;
 use std::thread::Threads;
 
-fn refusal_of<R: Threads + Wait + Sync + AllocGlobal>(
+// A run, the words for its limit and its workers, and what is told of errors.
+type Refused<'x> = (Run, &'x str, &'x str);
+
+// Asserts that a run is refused, before a file is opened.
+fn assert_refused<R: Abort + Threads + Wait + Sync + AllocGlobal>(
     rt: &R,
-    config: &str,
-    traces: &[&str],
-    cycles: &str,
-    workers: &str,
-) -> Result<String, Fail> {
-    let alloc = rt.alloc();
-    let ended = run_program(rt, config, traces, cycles, workers)?;
-    if ended.status != 2 || !ended.print.is_empty() {
-        return Err(Fail::from("the run was not refused"));
-    }
-    if !ended.files.opened.is_empty() {
-        return Err(Fail::from("a file was opened"));
-    }
-    let Ok(text) = str::from_utf8(&ended.errors) else {
-        return Err(Fail::from("no text"));
-    };
-    Ok(String::from_str(alloc, text)?)
+    refused: &Refused<'_>,
+) -> Result<(), Fail> {
+    let (run, words, told) = *refused;
+    let mut files = MemoryFiles::new(rt.alloc());
+    let said = said_to_run(rt, &mut files, &run, words)?;
+    said.assert_is(rt, run.name, (2, "", told));
+    assert_text(rt, run.name, files.opened.as_str(), "");
+    Ok(())
 }
+
+fn assert_all_refused<R: Abort + Threads + Wait + Sync + AllocGlobal>(
+    rt: &R,
+    cases: &[Refused<'_>],
+) -> Result<(), Fail> {
+    for refused in cases {
+        assert_refused(rt, refused)?;
+    }
+    Ok(())
+}
+
+const ONE_WORKER: &str = "--cycles 64 --workers 1";
+
+static TRACES: [Refused<'static>; 4] = [
+    (
+        Run {
+            name: "too few numbers",
+            traces: &["3\n"],
+            ..ONE_READ
+        },
+        ONE_WORKER,
+        "fault 5: trace 0 line 1 too-few\n",
+    ),
+    (
+        Run {
+            name: "too many numbers",
+            traces: &["1 2 3 4\n"],
+            ..ONE_READ
+        },
+        ONE_WORKER,
+        "fault 5: trace 0 line 1 too-many\n",
+    ),
+    (
+        Run {
+            name: "a word",
+            traces: &["1 x\n"],
+            ..ONE_READ
+        },
+        ONE_WORKER,
+        "fault 5: trace 0 line 1 not-a-number\n",
+    ),
+    (
+        Run {
+            name: "a large number",
+            traces: &["0 18446744073709551616\n"],
+            ..ONE_READ
+        },
+        ONE_WORKER,
+        "fault 5: trace 0 line 1 too-large\n",
+    ),
+];
 
 #[test]
 fn refuses_traces(rt: HostRuntime) -> Result<(), Fail> {
-    let few = refusal_of(&rt, SMALL, &["3\n"], "64", "1")?;
-    assert!(rt; few.as_str() == "fault 5: trace 0 line 1 too-few\n");
-    let many = refusal_of(&rt, SMALL, &["1 2 3 4\n"], "64", "1")?;
-    assert!(rt; many.as_str() == "fault 5: trace 0 line 1 too-many\n");
-    let word = refusal_of(&rt, SMALL, &["1 x\n"], "64", "1")?;
-    assert!(rt; word.as_str() == "fault 5: trace 0 line 1 not-a-number\n");
-    let large = refusal_of(&rt, SMALL, &["0 18446744073709551616\n"], "64", "1")?;
-    assert!(rt; large.as_str() == "fault 5: trace 0 line 1 too-large\n");
-    Ok(())
+    assert_all_refused(&rt, &TRACES)
 }
+
+static CONFIGURATIONS: [Refused<'static>; 3] = [
+    (
+        Run {
+            name: "a trace for two cores",
+            changes: &["cores = 2"],
+            ..ONE_READ
+        },
+        ONE_WORKER,
+        "fault 7: trace count\n",
+    ),
+    (
+        Run {
+            name: "no latency",
+            changes: &["request_latency = 0"],
+            ..ONE_READ
+        },
+        ONE_WORKER,
+        "fault 3: configuration range request_latency\n",
+    ),
+    (
+        Run {
+            name: "refreshes too often",
+            changes: &["nREFI = 34"],
+            ..ONE_READ
+        },
+        ONE_WORKER,
+        "fault 4: configuration relation 6\n",
+    ),
+];
 
 #[test]
 fn refuses_configurations(rt: HostRuntime) -> Result<(), Fail> {
-    let alloc = rt.alloc();
-    let two = small_text(alloc, &["cores = 2"], "")?;
-    let count = refusal_of(&rt, two.as_str(), &["0 0\n"], "64", "1")?;
-    assert!(rt; count.as_str() == "fault 7: trace count\n");
-    let zero = small_text(alloc, &["request_latency = 0"], "")?;
-    let range = refusal_of(&rt, zero.as_str(), &["0 0\n"], "64", "1")?;
-    assert!(rt; range.as_str() == "fault 3: configuration range request_latency\n");
-    let often = small_text(alloc, &["nREFI = 34"], "")?;
-    let relation = refusal_of(&rt, often.as_str(), &["0 0\n"], "64", "1")?;
-    assert!(rt; relation.as_str() == "fault 4: configuration relation 6\n");
-    let enough = small_text(alloc, &["nREFI = 35"], "")?;
-    assert_eq!(rt;
-        run_program(&rt, enough.as_str(), &["0 0\n"], "64", "1")?.status,
-        0
-    );
+    assert_all_refused(&rt, &CONFIGURATIONS)
+}
+
+// As often as they may come.
+static REFRESHES: Run = Run {
+    name: "refreshes often",
+    changes: &["nREFI = 35"],
+    cycles: 64,
+    ..ONE_READ
+};
+
+#[test]
+fn takes_refreshes_as_often_as_they_may_come(rt: HostRuntime) -> Result<(), Fail> {
+    let _files = files_by(&rt, &REFRESHES, 1)?;
     Ok(())
 }
+
+static LIMITS_AND_WORDS: [Refused<'static>; 5] = [
+    (
+        Run {
+            name: "no worker",
+            ..ONE_READ
+        },
+        "--cycles 64 --workers 0",
+        "fault 8: workers\n",
+    ),
+    (
+        Run {
+            name: "65 workers",
+            ..ONE_READ
+        },
+        "--cycles 64 --workers 65",
+        "fault 8: workers\n",
+    ),
+    (
+        Run {
+            name: "a late limit",
+            ..ONE_READ
+        },
+        "--cycles 1000000000001 --workers 1",
+        "fault 9: cycles\n",
+    ),
+    (
+        Run {
+            name: "a word for a limit",
+            ..ONE_READ
+        },
+        "--cycles ten --workers 1",
+        "fault 14: command line\n",
+    ),
+    (
+        Run {
+            name: "no trace",
+            traces: &[],
+            ..ONE_READ
+        },
+        ONE_WORKER,
+        "fault 14: command line\n",
+    ),
+];
 
 #[test]
 fn refuses_limits_and_words(rt: HostRuntime) -> Result<(), Fail> {
-    let none = refusal_of(&rt, SMALL, &["0 0\n"], "64", "0")?;
-    assert!(rt; none.as_str() == "fault 8: workers\n");
-    let many = refusal_of(&rt, SMALL, &["0 0\n"], "64", "65")?;
-    assert!(rt; many.as_str() == "fault 8: workers\n");
-    let long = refusal_of(&rt, SMALL, &["0 0\n"], "1000000000001", "1")?;
-    assert!(rt; long.as_str() == "fault 9: cycles\n");
-    let words = refusal_of(&rt, SMALL, &["0 0\n"], "ten", "1")?;
-    assert!(rt; words.as_str() == "fault 14: command line\n");
-    let missing = refusal_of(&rt, SMALL, &[], "64", "1")?;
-    assert!(rt; missing.as_str() == "fault 14: command line\n");
-    Ok(())
+    assert_all_refused(&rt, &LIMITS_AND_WORDS)
 }
 
-fn map_of<R: Threads + Wait + Sync + AllocGlobal>(
-    rt: &R,
-    config: &str,
-    address: &str,
-) -> Result<Ended, Fail> {
-    let alloc = rt.alloc();
-    let mut files = MemoryFiles::new(alloc);
-    files.add(alloc, "c.toml", config)?;
-    end_of(rt, &["dramsim", "map", "c.toml", address], files)
+// What the program says to a line of words beside the small machine.
+fn said_of<R: Threads + Wait + Sync + AllocGlobal>(rt: &R, line: &str) -> Result<Said, AllocError> {
+    let mut files = MemoryFiles::new(rt.alloc());
+    add_machine(rt.alloc(), &mut files, &[], "")?;
+    said_to(rt, &mut files, line)
 }
 
-#[test]
-fn maps_addresses(rt: HostRuntime) -> Result<(), Fail> {
-    let last = map_of(&rt, SMALL, "18446744073709551615")?;
-    assert_eq!(rt; last.status, 0);
-    assert!(rt;
-        last.print.as_slice() == b"channel 0 group 1 bank 3 row 65535 column 127\n".as_slice()
-    );
-    let other = map_of(&rt, SMALL, "8192")?;
-    assert!(rt; other.print.as_slice() == b"channel 0 group 1 bank 0 row 0 column 0\n".as_slice());
-    let word = map_of(&rt, SMALL, "8k")?;
-    assert_eq!(rt; word.status, 2);
-    assert!(rt; word.errors.as_slice() == b"fault 14: command line\n".as_slice());
-    Ok(())
-}
+// The places of addresses, and files that are not there.
+static LINES: [(&str, (u8, &str, &str)); 5] = [
+    (
+        "dramsim map c.toml 18446744073709551615",
+        (0, "channel 0 group 1 bank 3 row 65535 column 127\n", ""),
+    ),
+    (
+        "dramsim map c.toml 8192",
+        (0, "channel 0 group 1 bank 0 row 0 column 0\n", ""),
+    ),
+    ("dramsim map c.toml 8k", (2, "", "fault 14: command line\n")),
+    ("dramsim map gone.toml 0", (2, "", "fault 13: read\n")),
+    (
+        "dramsim check gone.toml gone.csv",
+        (2, "", "fault 13: read\n"),
+    ),
+];
 
 #[test]
-fn refuses_a_file_that_is_not_there(rt: HostRuntime) -> Result<(), Fail> {
-    let alloc = rt.alloc();
-    let files = MemoryFiles::new(alloc);
-    let gone = end_of(&rt, &["dramsim", "map", "c.toml", "0"], files)?;
-    assert_eq!(rt; gone.status, 2);
-    assert!(rt; gone.errors.as_slice() == b"fault 13: read\n".as_slice());
+fn answers_lines(rt: HostRuntime) -> Result<(), Fail> {
+    for (line, want) in &LINES {
+        let said = said_of(&rt, line)?;
+        said.assert_is(&rt, line, *want);
+    }
     Ok(())
 }

@@ -23,6 +23,15 @@ pub(crate) struct Noting {
     pub(crate) spans: [(Cycle, Cycle); 8],
 }
 
+impl Noting {
+    pub(crate) fn new() -> Self {
+        Noting {
+            phases: 0,
+            spans: [(0, 0); 8],
+        }
+    }
+}
+
 impl Order for Noting {
     fn arrange(&mut self, phase: u64, results: Vec<Done>) -> Vec<Done> {
         if let Some(done) = results.first() {

@@ -2,140 +2,119 @@
 //! faster than the others, so that phases are of one cycle.
 
 use crate::outcomes::assert_same;
-use fixtures::small::{TWO_RANKS, small_text};
+use crate::worked_runs::{
+    CONFLICT, DRAIN_AT_FOUR, DRAIN_AT_ONE, DRAIN_AT_TWO, DRAINED_LATE, DRAINED_LINE, DRAINED_READ,
+    DRAINED_REFRESHES, DRAINED_SLOW_CREDIT, EIGHT_CREDITS, FAST_LINK, GROUPS, HIGH, HITS,
+    NARROW_WINDOW, NOTHING, ONE_CREDIT, PLAIN, RANK_READS, RANK_REFRESHES, RANK_WRITE,
+    READ_IN_FLIGHT, REFRESH_LATE, REFRESH_OPEN, REFRESHES, Run, SAME_LINE, SLOW_REQUESTS,
+    TWO_CHANNELS, TWO_CORES, WRITE,
+};
+use fixtures::small::small_text;
 use fixtures::texts::texts_of;
+use std::alloc::{AllocError, Global};
 use std::process::Abort;
 use std::sync::Wait;
 use std::test::Fail;
 use std::thread::Threads;
 
-const DRAINED: &str = "end = \"drained\"\n";
+/// The configuration of a run, with one more link.
+fn config_of(alloc: Global, run: &Run, link: &str) -> Result<String, AllocError> {
+    let mut config = small_text(alloc, run.changes, run.more)?;
+    config.push_str(link)?;
+    Ok(config)
+}
 
-const FAST_LINK: &str = "[[link]]\nid = 2\nlatency = 1\n";
-
-/// A row under a configuration, up to its own limit and to two others.
+/// A run under a configuration, up to its own limit and to two others.
 fn assert_limits<R: Abort + Threads + Wait + Sync + AllocGlobal>(
     rt: &R,
     config: &str,
-    traces: &[&str],
-    limit: u64,
+    run: &Run,
 ) -> Result<(), Fail> {
-    let texts = texts_of(rt.alloc(), traces)?;
-    for cycles in [limit, 3, 16] {
+    let texts = texts_of(rt.alloc(), run.traces)?;
+    for cycles in [run.cycles, 3, 16] {
         assert_same(rt, config, &texts, cycles, &[1, 2, 7, 64])?;
     }
     Ok(())
 }
 
-/// A row of the small machine with other lines for some keys, and more lines at its end; also with a fast link.
-fn assert_row<R: Abort + Threads + Wait + Sync + AllocGlobal>(
+fn assert_run<R: Abort + Threads + Wait + Sync + AllocGlobal>(
     rt: &R,
-    changes: &[&str],
-    more: &str,
-    traces: &[&str],
-    limit: u64,
+    run: &Run,
+    link: &str,
 ) -> Result<(), Fail> {
-    let alloc = rt.alloc();
-    let config = small_text(alloc, changes, more)?;
-    assert_limits(rt, config.as_str(), traces, limit)?;
-    let more = format!(in alloc; "{more}{FAST_LINK}")?;
-    let config = small_text(alloc, changes, more.as_str())?;
-    assert_limits(rt, config.as_str(), traces, limit)
+    let config = config_of(rt.alloc(), run, link)?;
+    assert_limits(rt, config.as_str(), run)
 }
+
+/// Runs, each as it is and with a fast link.
+fn assert_runs<R: Abort + Threads + Wait + Sync + AllocGlobal>(
+    rt: &R,
+    runs: &[Run],
+) -> Result<(), Fail> {
+    for run in runs {
+        assert_run(rt, run, "")?;
+        assert_run(rt, run, FAST_LINK)?;
+    }
+    Ok(())
+}
+
+static READS: [Run; 4] = [READ_IN_FLIGHT, HITS, GROUPS, HIGH];
 
 #[test]
 fn rows_of_reads(rt: HostRuntime) -> Result<(), Fail> {
-    let rows = [
-        ("0 0\n", 15),
-        ("0 0\n0 64\n", 32),
-        ("0 0\n0 8192\n", 64),
-        ("0 0\n0 4294967296\n", 64),
-    ];
-    for (trace, limit) in rows {
-        assert_row(&rt, &[], "", &[trace], limit)?;
-    }
-    Ok(())
+    assert_runs(&rt, &READS)
 }
+
+static CONFLICTS_WRITES_AND_PLAIN_ENTRIES: [Run; 5] = [CONFLICT, WRITE, SAME_LINE, NOTHING, PLAIN];
 
 #[test]
 fn rows_with_conflicts_writes_and_plain_entries(rt: HostRuntime) -> Result<(), Fail> {
-    let rows = [
-        ("0 0\n0 65536\n0 64\n0 128\n", 64),
-        ("0 0 8192\n", 64),
-        ("0 0 64\n0 64\n", 64),
-        ("", 0),
-        ("3 0\n", 64),
-    ];
-    for (trace, limit) in rows {
-        assert_row(&rt, &[], "", &[trace], limit)?;
-    }
-    Ok(())
+    assert_runs(&rt, &CONFLICTS_WRITES_AND_PLAIN_ENTRIES)
 }
+
+static OTHER_NUMBERS: [Run; 3] = [EIGHT_CREDITS, ONE_CREDIT, NARROW_WINDOW];
 
 #[test]
 fn rows_with_other_numbers(rt: HostRuntime) -> Result<(), Fail> {
-    let banks = "0 0\n0 8192\n0 16384\n0 24576\n0 32768\n";
-    assert_row(&rt, &["read_credits = 8"], "", &[banks], 64)?;
-    assert_row(&rt, &["read_credits = 1"], "", &["0 0\n0 64\n"], 32)?;
-    assert_row(&rt, &["window = 1"], "", &["0 0\n0 64\n"], 64)
+    assert_runs(&rt, &OTHER_NUMBERS)
 }
+
+static REFRESHED: [Run; 3] = [REFRESHES, REFRESH_OPEN, REFRESH_LATE];
 
 #[test]
 fn rows_with_refresh(rt: HostRuntime) -> Result<(), Fail> {
-    let often = ["nREFI = 100"];
-    assert_row(&rt, &often, "", &[""], 250)?;
-    assert_row(&rt, &often, "", &["0 0\n"], 150)?;
-    assert_row(&rt, &often, "", &["192 0\n"], 150)
+    assert_runs(&rt, &REFRESHED)
 }
+
+static SEVERAL_UNITS: [Run; 3] = [TWO_CORES, SLOW_REQUESTS, TWO_CHANNELS];
 
 #[test]
 fn rows_of_several_units(rt: HostRuntime) -> Result<(), Fail> {
-    let two = ["0 0\n", "0 64\n"];
-    assert_row(&rt, &["cores = 2"], "", &two, 64)?;
-    let slow = "[[link]]\nid = 0\nlatency = 4\n";
-    assert_row(&rt, &["cores = 2"], slow, &two, 64)?;
-    assert_row(&rt, &["channels = 2"], "", &["0 0\n0 64\n"], 64)
+    assert_runs(&rt, &SEVERAL_UNITS)
 }
+
+static TWO_RANKS: [Run; 3] = [RANK_READS, RANK_WRITE, RANK_REFRESHES];
 
 #[test]
 fn rows_of_two_ranks(rt: HostRuntime) -> Result<(), Fail> {
-    assert_row(&rt, &[TWO_RANKS], "", &["0 0\n0 8192\n"], 64)?;
-    assert_row(&rt, &[TWO_RANKS], "", &["0 0 8192\n"], 64)?;
-    let often = [TWO_RANKS, "nREFI = 100"];
-    assert_row(&rt, &often, "", &["0 0\n0 8192\n"], 150)
+    assert_runs(&rt, &TWO_RANKS)
 }
+
+static DRAINS: [Run; 3] = [DRAIN_AT_TWO, DRAIN_AT_ONE, DRAIN_AT_FOUR];
 
 #[test]
 fn rows_with_a_drain(rt: HostRuntime) -> Result<(), Fail> {
-    let rows = [
-        ("write_high = 2\nwrite_low = 0\n", "0 0 8192\n"),
-        ("write_high = 1\nwrite_low = 0\n", "0 0 8192\n"),
-        ("write_high = 4\nwrite_low = 0\n", "0 0 64\n0 64\n"),
-    ];
-    for (drain, trace) in rows {
-        assert_row(&rt, &[], drain, &[trace], 64)?;
-    }
-    Ok(())
+    assert_runs(&rt, &DRAINS)
 }
+
+static DRAINED: [Run; 4] = [DRAINED_READ, DRAINED_LINE, DRAINED_REFRESHES, DRAINED_LATE];
 
 #[test]
 fn rows_that_end_drained(rt: HostRuntime) -> Result<(), Fail> {
-    assert_row(&rt, &[], DRAINED, &["0 0\n"], 1_000)?;
-    assert_row(&rt, &[], DRAINED, &["0 0 64\n0 64\n"], 1_000)?;
-    assert_row(&rt, &["nREFI = 100"], DRAINED, &[""], 250)?;
-    let slow = [
-        "request_latency = 10",
-        "reply_latency = 10",
-        "credit_latency = 10",
-        "nREFI = 40",
-    ];
-    assert_row(&rt, &slow, DRAINED, &["16 0\n"], 200)
+    assert_runs(&rt, &DRAINED)
 }
 
 #[test]
 fn rows_that_end_drained_with_a_slow_link(rt: HostRuntime) -> Result<(), Fail> {
-    let alloc = rt.alloc();
-    let link = format!(in alloc; "{DRAINED}[[link]]\nid = 2\nlatency = 30\n")?;
-    let slow = small_text(alloc, &[], link.as_str())?;
-    assert_limits(&rt, slow.as_str(), &["0 0\n"], 64)
+    assert_run(&rt, &DRAINED_SLOW_CREDIT, "")
 }

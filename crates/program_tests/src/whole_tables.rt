@@ -1,9 +1,12 @@
 //! Whole tables of short runs, found by hand.
 
 use crate::files_in_memory::MemoryFiles;
-use crate::program_runs::{files_of, run_program};
-use crate::table_lines::{has_lines, has_tables, stats_of};
-use fixtures::small::{SMALL, small_text};
+use crate::program_runs::{assert_text, files_by};
+use crate::table_lines::{Tables, tables_of};
+use crate::worked_runs::{
+    DRAINED_CUT, DRAINED_READ, NOTHING, ONE_READ, READ_CUT, READ_IN_FLIGHT, Run,
+};
+use std::process::Abort;
 use std::sync::Wait;
 use std::test::Fail;
 use std::thread::Threads;
@@ -13,7 +16,9 @@ const COMMANDS_OF_ONE_READ: &str = "cycle,channel,command,group,bank,row,column,
 5,0,RD,0,0,0,0,0,0
 ";
 
-const STATS_OF_ONE_READ: &str = "scope,id,name,value
+const OF_ONE_READ: Tables<'static> = Tables {
+    commands: COMMANDS_OF_ONE_READ,
+    stats: "scope,id,name,value
 run,0,cycles,16
 core,0,issued,1
 core,0,retired,1
@@ -38,22 +43,22 @@ channel,0,queued,4
 channel,0,queued_max,1
 channel,0,idle,12
 channel,0,refreshing,0
-";
-
-const END_OF_ONE_READ: &str = "item,core,channel,group,bank,entry,cycle,value
+",
+    last: "item,core,channel,group,bank,entry,cycle,value
 issued,0,,,,,,1
 retired,0,,,,,,1
 credit_read,0,0,,,,,4
 credit_write,0,0,,,,,4
 due,,0,,,,,0
 open,,0,0,0,,,0
-";
+",
+};
 
-const COMMANDS_OF_THREE_CYCLES: &str = "cycle,channel,command,group,bank,row,column,core,entry
+const OF_THREE_CYCLES: Tables<'static> = Tables {
+    commands: "cycle,channel,command,group,bank,row,column,core,entry
 2,0,ACT,0,0,0,,0,0
-";
-
-const STATS_OF_THREE_CYCLES: &str = "scope,id,name,value
+",
+    stats: "scope,id,name,value
 run,0,cycles,3
 core,0,issued,1
 core,0,retired,0
@@ -78,9 +83,8 @@ channel,0,queued,1
 channel,0,queued_max,1
 channel,0,idle,2
 channel,0,refreshing,0
-";
-
-const END_OF_THREE_CYCLES: &str = "item,core,channel,group,bank,entry,cycle,value
+",
+    last: "item,core,channel,group,bank,entry,cycle,value
 issued,0,,,,,,1
 retired,0,,,,,,0
 credit_read,0,0,,,,,3
@@ -88,40 +92,12 @@ credit_write,0,0,,,,,4
 due,,0,,,,,0
 open,,0,0,0,,,0
 queued_read,0,0,0,0,0,2,0
-";
+",
+};
 
-#[test]
-fn one_read(rt: HostRuntime) -> Result<(), Fail> {
-    let alloc = rt.alloc();
-    let whole = files_of(&rt, SMALL, &["0 0\n"], "16")?;
-    assert!(rt; whole.opened.as_str() == "d/commands.csv d/stats.csv d/final.csv ");
-    assert!(rt;
-        has_tables(
-            alloc,
-            &whole,
-            COMMANDS_OF_ONE_READ,
-            STATS_OF_ONE_READ,
-            END_OF_ONE_READ
-        )?
-    );
-    let short = files_of(&rt, SMALL, &["0 0\n"], "3")?;
-    assert!(rt;
-        has_tables(
-            alloc,
-            &short,
-            COMMANDS_OF_THREE_CYCLES,
-            STATS_OF_THREE_CYCLES,
-            END_OF_THREE_CYCLES
-        )?
-    );
-    Ok(())
-}
-
-#[test]
-fn a_reply_in_flight(rt: HostRuntime) -> Result<(), Fail> {
-    let alloc = rt.alloc();
-    let files = files_of(&rt, SMALL, &["0 0\n"], "15")?;
-    let stats = "scope,id,name,value
+const OF_A_REPLY_IN_FLIGHT: Tables<'static> = Tables {
+    commands: COMMANDS_OF_ONE_READ,
+    stats: "scope,id,name,value
 run,0,cycles,15
 core,0,issued,1
 core,0,retired,0
@@ -146,8 +122,8 @@ channel,0,queued,4
 channel,0,queued_max,1
 channel,0,idle,11
 channel,0,refreshing,0
-";
-    let last = "item,core,channel,group,bank,entry,cycle,value
+",
+    last: "item,core,channel,group,bank,entry,cycle,value
 issued,0,,,,,,1
 retired,0,,,,,,0
 credit_read,0,0,,,,,4
@@ -155,17 +131,13 @@ credit_write,0,0,,,,,4
 due,,0,,,,,0
 open,,0,0,0,,,0
 flight_reply,0,0,,,0,15,1
-";
-    assert!(rt; has_tables(alloc, &files, COMMANDS_OF_ONE_READ, stats, last)?);
-    Ok(())
-}
+",
+};
 
-#[test]
-fn no_cycle(rt: HostRuntime) -> Result<(), Fail> {
-    let alloc = rt.alloc();
-    let files = files_of(&rt, SMALL, &[""], "0")?;
-    let commands = "cycle,channel,command,group,bank,row,column,core,entry\n";
-    let stats = "scope,id,name,value
+const OF_NO_CYCLE: Tables<'static> = Tables {
+    commands: "cycle,channel,command,group,bank,row,column,core,entry
+",
+    stats: "scope,id,name,value
 run,0,cycles,0
 core,0,issued,0
 core,0,retired,0
@@ -190,88 +162,93 @@ channel,0,queued,0
 channel,0,queued_max,0
 channel,0,idle,0
 channel,0,refreshing,0
-";
-    let last = "item,core,channel,group,bank,entry,cycle,value
+",
+    last: "item,core,channel,group,bank,entry,cycle,value
 issued,0,,,,,,0
 retired,0,,,,,,0
 credit_read,0,0,,,,,4
 credit_write,0,0,,,,,4
 due,,0,,,,,0
-";
-    assert!(rt; has_tables(alloc, &files, commands, stats, last)?);
-    Ok(())
+",
+};
+
+// Asserts the tables of a run, and that they are opened one after the other.
+fn assert_tables(rt: &impl Abort, files: &MemoryFiles, name: &str, want: &Tables<'_>) {
+    let opened = "d/commands.csv d/stats.csv d/final.csv ";
+    assert_text(rt, name, files.opened.as_str(), opened);
+    for (path, text) in [
+        ("d/commands.csv", want.commands),
+        ("d/stats.csv", want.stats),
+        ("d/final.csv", want.last),
+    ] {
+        assert_text(rt, name, files.text_at(path).unwrap_or("no table"), text);
+    }
 }
+
+static OF_SHORT_RUNS: [(Run, Tables<'static>); 6] = [
+    (ONE_READ, OF_ONE_READ),
+    (READ_CUT, OF_THREE_CYCLES),
+    (READ_IN_FLIGHT, OF_A_REPLY_IN_FLIGHT),
+    (NOTHING, OF_NO_CYCLE),
+    (DRAINED_READ, OF_ONE_READ),
+    (DRAINED_CUT, OF_THREE_CYCLES),
+];
 
 #[test]
-fn ends_drained(rt: HostRuntime) -> Result<(), Fail> {
-    let alloc = rt.alloc();
-    let drained = small_text(alloc, &[], "end = \"drained\"\n")?;
-    let read = files_of(&rt, drained.as_str(), &["0 0\n"], "1000")?;
-    assert!(rt;
-        has_tables(
-            alloc,
-            &read,
-            COMMANDS_OF_ONE_READ,
-            STATS_OF_ONE_READ,
-            END_OF_ONE_READ
-        )?
-    );
-    let short = files_of(&rt, drained.as_str(), &["0 0\n"], "3")?;
-    assert!(rt;
-        has_tables(
-            alloc,
-            &short,
-            COMMANDS_OF_THREE_CYCLES,
-            STATS_OF_THREE_CYCLES,
-            END_OF_THREE_CYCLES
-        )?
-    );
-    let line = stats_of(&rt, drained.as_str(), &["0 0 64\n0 64\n"], "1000")?;
-    assert!(rt; has_lines(line.as_str(), &["run,0,cycles,32"]));
-    let refresh = small_text(alloc, &["nREFI = 100"], "end = \"drained\"\n")?;
-    let none = stats_of(&rt, refresh.as_str(), &[""], "250")?;
-    assert!(rt; has_lines(none.as_str(), &["run,0,cycles,0", "channel,0,ref,0"]));
-    let link = "end = \"drained\"\n[[link]]\nid = 2\nlatency = 30\n";
-    let slow = small_text(alloc, &[], link)?;
-    let credit = stats_of(&rt, slow.as_str(), &["0 0\n"], "64")?;
-    assert!(rt;
-        has_lines(
-            credit.as_str(),
-            &["run,0,cycles,36", "core,0,finish,15", "core,0,stop_end,36"]
-        )
-    );
+fn tables_of_short_runs(rt: HostRuntime) -> Result<(), Fail> {
+    for (run, want) in &OF_SHORT_RUNS {
+        let files = files_by(&rt, run, 1)?;
+        assert_tables(&rt, &files, run.name, want);
+    }
     Ok(())
 }
 
-// The tables of a run by so many workers.
-fn files_by<R: Threads + Wait + Sync + AllocGlobal>(
+const EIGHT_CORES: Run = Run {
+    name: "eight cores and two channels",
+    changes: &["cores = 8", "channels = 2"],
+    traces: &["0 0 64\n0 8192\n2 65536\n1 64 128\n"; 8],
+    cycles: 400,
+    ..ONE_READ
+};
+
+static OF_EIGHT_CORES: [Run; 2] = [
+    EIGHT_CORES,
+    Run {
+        name: "eight cores and two channels, drained",
+        more: "end = \"drained\"\n",
+        ..EIGHT_CORES
+    },
+];
+
+// Asserts that a run by so many workers has these tables.
+fn assert_same<R: Abort + Threads + Wait + Sync + AllocGlobal>(
     rt: &R,
-    config: &str,
-    workers: &str,
-) -> Result<MemoryFiles, Fail> {
-    let traces = ["0 0 64\n0 8192\n2 65536\n1 64 128\n"; 8];
-    let ended = run_program(rt, config, &traces, "400", workers)?;
-    if ended.status != 0 {
-        return Err(Fail::from("the run was refused"));
-    }
-    Ok(ended.files)
+    run: &Run,
+    workers: u64,
+    by_one: &Tables<'_>,
+) -> Result<(), Fail> {
+    let name = format!(in rt.alloc(); "{}, {workers} workers", run.name)?;
+    let files = files_by(rt, run, workers)?;
+    assert_tables(rt, &files, name.as_str(), by_one);
+    Ok(())
 }
 
-// Eight cores and two channels: the same bytes come of one worker, of two and of five, up to the limit and drained.
+// By two workers and by five, a run has the tables that it has by one.
+fn assert_alike<R: Abort + Threads + Wait + Sync + AllocGlobal>(
+    rt: &R,
+    run: &Run,
+) -> Result<(), Fail> {
+    let files = files_by(rt, run, 1)?;
+    let by_one = tables_of(&files).ok_or("no tables")?;
+    assert_same(rt, run, 2, &by_one)?;
+    assert_same(rt, run, 5, &by_one)
+}
+
+// The same bytes come up to the limit and drained.
 #[test]
 fn tables_do_not_show_the_workers(rt: HostRuntime) -> Result<(), Fail> {
-    let alloc = rt.alloc();
-    for end in ["", "end = \"drained\"\n"] {
-        let config = small_text(alloc, &["cores = 8", "channels = 2"], end)?;
-        let by_one = files_by(&rt, config.as_str(), "1")?;
-        let commands = by_one.text_at(alloc, "d/commands.csv")?;
-        let stats = by_one.text_at(alloc, "d/stats.csv")?;
-        let last = by_one.text_at(alloc, "d/final.csv")?;
-        for workers in ["2", "5"] {
-            let more = files_by(&rt, config.as_str(), workers)?;
-            let (commands, stats, last) = (commands.as_str(), stats.as_str(), last.as_str());
-            assert!(rt; has_tables(alloc, &more, commands, stats, last)?);
-        }
+    for run in &OF_EIGHT_CORES {
+        assert_alike(&rt, run)?;
     }
     Ok(())
 }

@@ -1,7 +1,3 @@
-pub mod Rule
-pub mod Seats
-pub mod Missing
-pub mod Runs
-pub mod Phase
-pub mod Shares
 pub mod Ends
+pub mod Groups
+pub mod Runs

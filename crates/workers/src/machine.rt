@@ -1,50 +1,92 @@
 //! A whole machine, run by workers.
 
-ghost use Rattle.std.specs.Prelude.{◌≡◌, ◌<◌, ◌≤◌, ◌^◌, true, length, IfOk, IfErr, IfSome, IfNone};
+ghost use Rattle.std.specs.Prelude.{◌≡◌, ◌<◌, ◌≤◌, ◌^◌, ◌*◌, true, length, IfOk, IfErr, IfSome, IfNone};
 ghost use Rattle.sim_base.specs.Machine.{cycles_run};
 ghost use Rattle.statistics.specs.Runs.{outcome_of};
 ghost use Rattle.span_laws.specs.Ends.{ends_before};
-ghost use Rattle.epochs.specs.Ordered.{IsFurther};
+ghost use Rattle.epochs.specs.Ordered.{HasReached, IsFurther};
 ghost use Rattle.workers.specs.Ends.{NotEnded};
-ghost use Rattle.workers.specs.Runs.{IsOfHost};
+ghost use Rattle.workers.specs.Runs.{IsRefusedTo};
 
-use crate::claims::Claims;
 use crate::gate::Gate;
+use crate::group::{AtGate, Group, Results};
+use crate::runner::{Claims, Runner, Serial};
 use cpu_trace::trace::Trace;
-use epochs::merging::merge_whole;
-use epochs::planning::{Planned, plan};
+use crew::bell::Patience;
+use crew::caller::Phases;
+use crew::run::{Course, Refused, with_crew};
+use epochs::rested::{Rested, Step};
 use epochs::sim::Sim;
 use sim_base::config::Config;
 use sim_base::fault::Fault;
 use sim_base::message::Cycle;
 use statistics::outcome::Outcome;
-use std::alloc::Global;
+use std::alloc::{AllocError, Global};
 use std::sync::Wait;
 use std::thread::Threads;
 
-/// A simulator further on by workers, by a phase; or up to the limit, run in place by the caller alone.
-fn further<R: Threads + Wait + Sync, G: Gate + Sync>(
+/// How many groups there are for each worker, at most. Several, so that those who are done early find more.
+const GROUPS_A_WORKER: usize = 4;
+
+/// How long a worker looks for the next phase before it sleeps.
+const PATIENCE: Patience = Patience {
+    spins: 2_000,
+    yields: 0,
+};
+
+/// Where no more units wake in a phase, the caller runs it, and a machine of no more units as a whole: it costs less than to wake other
+/// threads.
+const FEW: usize = 16;
+
+/// How the phases of a run are run.
+#[derive(Clone, Copy)]
+enum Way {
+    /// All by the caller, in place.
+    Alone,
+    /// By a runner, where more than so many units wake in a phase; else by the caller.
+    Together { few: usize },
+}
+
+/// A simulator further on: by a phase of the units that wake in it, which the runner runs, or the caller where they are few.
+fn one_step<N: Runner>(
+    rested: Rested,
+    alloc: Global,
+    limit: Cycle,
+    few: usize,
+    runner: &mut N,
+) -> Result<Rested, Fault>
+    requires before { rested.now < limit }
+    requires early { limit ≤ 10 ^ 12 }
+    ensures ok { IfOk result (IsFurther rested limit) }
+    ensures refused { IfErr result (λ fault. fault ≡ Fault.Memory) }
+{
+    match rested.further(alloc, limit, few)? {
+        Step::Alone(after) => Ok(after),
+        Step::Together(shift, jobs) => {
+            let results = runner.run_phase(jobs)?;
+            Ok(shift.end(alloc, results)?)
+        }
+    }
+}
+
+/// A simulator at a limit, step by step.
+fn run_steps<N: Runner>(
     sim: Sim,
     alloc: Global,
     limit: Cycle,
-    is_alone: bool,
-    claims: &Claims<R, G>,
+    few: usize,
+    runner: &mut N,
 ) -> Result<Sim, Fault>
-    requires before { sim.now < limit }
+    requires not_past { sim.now ≤ limit }
     requires early { limit ≤ 10 ^ 12 }
-    ensures ok { IfOk result (IsFurther sim limit) }
-    ensures refused { IfErr result IsOfHost }
+    ensures ok { IfOk result (HasReached sim limit) }
+    ensures refused { IfErr result (λ fault. fault ≡ Fault.Memory) }
 {
-    if is_alone {
-        return Ok(sim.run_alone(alloc, limit)?);
+    let mut rested = sim.rested(alloc)?;
+    while rested.now() < limit {
+        rested = one_step(rested, alloc, limit, few, runner)?;
     }
-    match plan(sim, alloc, limit)? {
-        Planned::Quiet(after) => Ok(after),
-        Planned::Work(phase, jobs) => {
-            let results = claims.run_phase(jobs)?;
-            Ok(merge_whole(phase, alloc, results)?)
-        }
-    }
+    Ok(rested.brought_up(alloc)?)
 }
 
 /// A later cycle up to which the run can be taken, as it surely does not end before the last cycle up to there. None where the
@@ -68,11 +110,121 @@ fn next_stop(config: &Config, sim: &Sim, limit: Cycle) -> Option<Cycle>
     Some(sim.surely_until(limit))
 }
 
+/// Runs a machine to its end: by phases, or in place by the caller alone. Only memory can be refused.
+fn run_by<N: Runner>(
+    alloc: Global,
+    config: &Config,
+    traces: Vec<Trace>,
+    cycles: Cycle,
+    way: Way,
+    runner: &mut N,
+) -> Result<Outcome, Fault>
+    requires one_trace_a_core { length traces.items ≡ config.now.cores }
+    requires limit { cycles ≤ 10 ^ 12 }
+    ensures outcome { IfOk result (λ o. o ≡ outcome_of config.now traces.items (cycles_run config.now traces.items cycles)) }
+    ensures refused { IfErr result (λ fault. fault ≡ Fault.Memory) }
+{
+    let mut sim = Sim::start(alloc, config, traces)?;
+    while let Some(stop) = next_stop(config, &sim, cycles) {
+        sim = match way {
+            Way::Alone => sim.run_alone(alloc, stop)?,
+            Way::Together { few } => run_steps(sim, alloc, stop, few, runner)?,
+        };
+    }
+    let outcome = sim.outcome(alloc)?;
+    Ok(outcome)
+}
+
+/// The phases of a machine that so many workers run.
+#[derive(Drop)]
+struct Voyage<'a> {
+    config: &'a Config,
+    traces: Vec<Trace>,
+    cycles: Cycle,
+    most: usize,
+    way: Way,
+    ghost one_trace_a_core: { length traces.items ≡ config.now.cores },
+    ghost limit: { cycles ≤ 10 ^ 12 },
+    ghost some: { 0 < most },
+}
+
+impl<'a> Course<Group, Results, Outcome> for Voyage<'a> {
+    ghost use Rattle.std.specs.Prelude.{◌≡◌};
+    ghost use Rattle.sim_base.specs.Machine.{cycles_run};
+    ghost use Rattle.statistics.specs.Runs.{outcome_of};
+
+    ghost leads = { λ v o. o ≡ outcome_of v.config.now v.traces.items (cycles_run v.config.now v.traces.items v.cycles) };
+
+    fn run<P: Phases<Group, Results>>(
+        self,
+        alloc: Global,
+        crew: &mut P,
+    ) -> Result<Outcome, AllocError> {
+        let Voyage {
+            config,
+            traces,
+            cycles,
+            most,
+            way,
+        } = self;
+        let mut claims = Claims::new(alloc, crew, most);
+        match run_by(alloc, config, traces, cycles, way, &mut claims) {
+            Ok(outcome) => Ok(outcome),
+            Err(_) => Err(AllocError),
+        }
+    }
+}
+
+/// So many workers, and no more than the machine has units: no phase has more jobs.
+fn useful(workers: usize, config: &Config) -> usize
+    requires { 2 ≤ workers }
+    ensures { (2 ≤ result) × (result ≤ workers) }
+{
+    let units = usize::from(config.cores) + usize::from(config.channels);
+    workers.min(units)
+}
+
+/// Runs a machine by several workers.
+fn run_together<R: Threads + Wait + Sync, G: Gate + Sync>(
+    rt: &R,
+    alloc: Global,
+    gate: &G,
+    workers: usize,
+    config: &Config,
+    traces: Vec<Trace>,
+    cycles: Cycle,
+) -> Result<Outcome, Fault>
+    requires one_trace_a_core { length traces.items ≡ config.now.cores }
+    requires some { 2 ≤ workers }
+    requires few { workers ≤ 64 }
+    requires limit { cycles ≤ 10 ^ 12 }
+    ensures outcome { IfOk result (λ o. o ≡ outcome_of config.now traces.items (cycles_run config.now traces.items cycles)) }
+    ensures refused { IfErr result (IsRefusedTo workers) }
+{
+    let useful = useful(workers, config);
+    let most = GROUPS_A_WORKER * useful;
+    let few = if gate.watches() { 0 } else { FEW };
+    let voyage = Voyage {
+        config,
+        traces,
+        cycles,
+        most,
+        way: Way::Together { few },
+    };
+    let work = AtGate { gate };
+    match with_crew(rt, alloc, &work, most, useful, PATIENCE, voyage) {
+        Ok(outcome) => Ok(outcome),
+        Err(Refused::Memory) => Err(Fault::Memory),
+        Err(Refused::Start) => Err(Fault::WorkerStart),
+    }
+}
+
 /// Runs a machine over one trace a core, up to a limit of at most 10^12 cycles or, where the configuration ends it drained, until
 /// all is done, and gives its commands, its statistics and the state in which it ends. Each phase is run by so many workers at
-/// most, 1 to 64, each in a thread of its own; with one worker, in the thread of the caller, and in place where the gate does not watch. What comes out depends on neither
-/// them nor the order in which they end: it is what the one-clock machine does. Only the host can refuse: memory (fault 10), or
-/// a worker's start (fault 11). All workers have ended when this returns.
+/// most, 1 to 64: the caller, and threads that are started once. With one worker it is run in the thread of the caller, and in
+/// place where the gate does not watch. What comes out depends on neither them nor the order in which they end: it is what the
+/// one-clock machine does. Only the host can refuse: memory (fault 10), or, where there are several workers, a worker's start
+/// (fault 11). All workers have ended when this returns.
 pub fn run_machine<R: Threads + Wait + Sync, G: Gate + Sync>(
     rt: &R,
     alloc: Global,
@@ -87,14 +239,18 @@ pub fn run_machine<R: Threads + Wait + Sync, G: Gate + Sync>(
     requires few { workers ≤ 64 }
     requires limit { cycles ≤ 10 ^ 12 }
     ensures outcome { IfOk result (λ o. o ≡ outcome_of config.now traces.items (cycles_run config.now traces.items cycles)) }
-    ensures refused { IfErr result IsOfHost }
+    ensures refused { IfErr result (IsRefusedTo workers) }
 {
-    let is_alone = workers == 1 && !gate.watches();
-    let claims = Claims::new(rt, alloc, gate, workers);
-    let mut sim = Sim::start(alloc, config, traces)?;
-    while let Some(stop) = next_stop(config, &sim, cycles) {
-        sim = further(sim, alloc, stop, is_alone, &claims)?;
+    let units = usize::from(config.cores) + usize::from(config.channels);
+    let is_small = units <= FEW && !gate.watches();
+    if workers > 1 && !is_small {
+        return run_together(rt, alloc, gate, workers, config, traces, cycles);
     }
-    let outcome = sim.outcome(alloc)?;
-    Ok(outcome)
+    let way = if gate.watches() {
+        Way::Together { few: 0 }
+    } else {
+        Way::Alone
+    };
+    let mut serial = Serial::new(alloc, gate);
+    run_by(alloc, config, traces, cycles, way, &mut serial)
 }

@@ -1,4 +1,4 @@
-use Rattle.std.proofs.Common.{rules, ◌≡◌, ◌∷◌, [], ◌++◌, ℕ, suc, length, sym, ap, subst, ◌∙◌, append_assoc, arith}
+use Rattle.std.proofs.Common.{rules, ◌≡◌, ◌∷◌, [], ◌++◌, suc, length, sym, ap, subst, ◌∙◌, append_assoc, arith}
 use Rattle.statistics.proofs.Lists.{length-push_suc}
 use Rattle.epochs.specs.Units.{unit_at}
 use Rattle.epochs.specs.Parts.{IsPart, StandAt}

@@ -1,5 +1,5 @@
 -- The least word so far.
-use Rattle.std.proofs.Common.{◌≡◌, ◌<◌, ◌≤◌, ℕ, get_or}
+use Rattle.std.proofs.Common.{◌<◌, ◌≤◌, ℕ, get_or}
 use Rattle.std.specs.Prelude.{All}
 use Rattle.epochs.proofs.alone.next_wake.Given as goal
 

@@ -1,8 +1,6 @@
-use Rattle.std.proofs.Common.{◌≡◌, ◌≤◌, sym, ap, ap₂, subst, ◌∙◌, arith}
+use Rattle.std.proofs.Common.{◌≤◌, ap, ap₂, subst, ◌∙◌, arith}
 use Rattle.std.specs.Prelude.{fold}
-use Rattle.sim_base.specs.Counts.{in_flight}
 use Rattle.sim_base.specs.History.{insert_by_age}
-use Rattle.sim_base.specs.Machine.{run}
 use Rattle.links.specs.InFlight.{InFlight}
 use Rattle.epochs.specs.Wakes.{AreLowered}
 use Rattle.epochs.proofs.Joining.{join-flight}

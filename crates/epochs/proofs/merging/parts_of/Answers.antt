@@ -24,13 +24,13 @@ loop-done-preserved c =
     let until = c.args.until in
     let p : PhaseView = record { machine = s; traces = traces; number = c.args.number; from = from; until = until } in
     let steps = c.in-Some.ensures.steps in
-    let part = c.into_sent-part.result.part in
+    let part = c.into_sent-part.result.part.value in
     let ms = c.into_sent-part.result.messages.items in
     let whole = ap (λ z. at.yielded ++ z) (sym steps.0) ∙ at.invariant.0 ∙ c.into_iter-done-iterator.ensures.into_iter_gives.0 ∙ c.requires.all in
     let is = seam-is (job_at p) (unit_count s) at.yielded _ x whole in
-    let has = subst (λ (d : JobView). HasRun d.machine d.traces d.name.unit d.name.from d.name.until part ms) is c.into_sent-part.ensures in
+    let has = subst (λ (d : JobView). HasRun d.machine d.traces d.name.unit d.name.from d.name.until part ms) is c.into_sent-part.ensures.ran in
     let acc = c.args.links.now.messages in
-    let items = c.in_ok-push.ensures.items in
+    let items = c.in_ok-push.ensures.items ∙ ap (λ e. at.parts.items ++ e ∷ []) c.into_inner.ensures in
     let grown = length-push_suc at.yielded x in (
       append_assoc at.yielded (x ∷ []) _ ∙ ap (λ z. at.yielded ++ z) (sym steps.0) ∙ at.invariant.0,
       let was = at.invariant.1 in

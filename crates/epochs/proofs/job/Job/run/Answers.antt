@@ -1,16 +1,32 @@
-use Rattle.std.proofs.Common.{subst, sym}
+use Rattle.std.proofs.Common.{◌++◌, ◌∙◌, ap, sym, subst}
 use Rattle.std.specs.Arc.{arc_value}
-use Rattle.epochs.specs.Parts.{IsJob}
+use Rattle.epochs.specs.Parts.{IsJob, HasRun}
 use Rattle.epochs.proofs.job.Job.run.Goals as goal
 
-pub run-requires : goal.run-requires
-run-requires c =
+pub run_and_tell-requires : goal.run_and_tell-requires
+run_and_tell-requires c =
     let j = c.self.inside in
+    let s = (arc_value j.machine).config in
+    let traces = (arc_value j.machine).traces.items in
     record {
       ready = record {
-        s = (arc_value j.machine).config;
-        traces = (arc_value j.machine).traces.items;
+        s = s;
+        traces = traces;
         unit = j.name.unit;
-        ready = subst (λ m. IsJob (arc_value j.machine).config (arc_value j.machine).traces.items j.name j.part m) (sym c.deref.ensures.value) c.self.invariant;
+        ready = subst (λ p. IsJob s traces j.name p c.deref.result.now) (sym c.deref_mut.ensures.value) (subst (IsJob s traces j.name j.part.value) (sym c.deref.ensures.value) c.self.invariant);
       };
+    }
+
+pub invariant_of-result : goal.invariant_of-result
+invariant_of-result c =
+    let j = c.self.inside in
+    let s = (arc_value j.machine).config in
+    let traces = (arc_value j.machine).traces.items in
+    let ready = subst (λ p. IsJob s traces j.name p c.deref.result.now) (sym c.deref_mut.ensures.value) (subst (IsJob s traces j.name j.part.value) (sym c.deref.ensures.value) c.self.invariant) in
+    let told = c.in_ok-send.ensures {u = tt} s traces j.name.unit ready in
+    let onto = HasRun s traces j.name.unit j.name.from j.name.until in
+    record {
+      ran = subst (onto c.run_and_tell.new.self) (sym (told.onto.behind ∙ ap (λ z. z ++ told.onto.messages) c.new-messages.ensures.items)) told.onto.ran;
+      since = told.since;
+      silent = told.silent;
     }

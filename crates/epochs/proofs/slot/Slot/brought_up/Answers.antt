@@ -1,4 +1,5 @@
-use Rattle.std.proofs.Common.{◌∙◌}
+use Rattle.std.proofs.Common.{◌∙◌, sym, subst}
+use Rattle.epochs.specs.Parts.{IsPart, IsReadyFor}
 use Rattle.epochs.specs.Units.{unit_at}
 use Rattle.epochs.specs.Wakes.{sleeper}
 use Rattle.epochs.proofs.Due.{exists-at}
@@ -11,12 +12,13 @@ run-requires c =
     let traces = c.args.machine.now.traces.items in
     let r = c.requires in
     let u = unit_at s c.args.place in
+    let before = waits-ready s traces u c.args.now (sleeper c.args.self c.args.word) c.deref.result.now (exists-at s c.args.place r.place) r.early r.waits (c.deref.ensures.value ∙ c.clear.ensures.items) in
     record {
       ready = record {
         s = s;
         traces = traces;
         unit = u;
-        ready = waits-ready s traces u c.args.now (sleeper c.args.self c.args.word) c.deref.result.now (exists-at s c.args.place r.place) r.early r.waits (c.deref.ensures.value ∙ c.clear.ensures.items);
+        ready = subst (λ p. IsReadyFor s traces u p c.deref.result.now c.args.self.at c.args.now) (sym c.deref_mut.ensures.value) before;
       };
     }
 
@@ -26,5 +28,6 @@ returns c =
     let traces = c.args.machine.now.traces.items in
     let r = c.requires in
     let u = unit_at s c.args.place in
-    let ready = waits-ready s traces u c.args.now (sleeper c.args.self c.args.word) c.deref.result.now (exists-at s c.args.place r.place) r.early r.waits (c.deref.ensures.value ∙ c.clear.ensures.items) in
-    (c.in_ok-run.ensures {u = tt} s traces u ready).ran.stands
+    let before = waits-ready s traces u c.args.now (sleeper c.args.self c.args.word) c.deref.result.now (exists-at s c.args.place r.place) r.early r.waits (c.deref.ensures.value ∙ c.clear.ensures.items) in
+    let ready = subst (λ p. IsReadyFor s traces u p c.deref.result.now c.args.self.at c.args.now) (sym c.deref_mut.ensures.value) before in
+    subst (IsPart s traces u c.args.now) (sym c.into_inner.ensures) (c.in_ok-run.ensures {u = tt} s traces u ready).ran.stands

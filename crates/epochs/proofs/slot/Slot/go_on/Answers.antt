@@ -1,5 +1,4 @@
-use Rattle.std.proofs.Common.{◌≡◌, suc, not, [], sym, ap, subst, ◌∙◌, append-nil, add-one, arith}
-use Rattle.std.specs.Prelude.{filter}
+use Rattle.std.proofs.Common.{[], sym, ap, ◌∙◌, append-nil, add-one, arith}
 use Rattle.links.specs.InFlight.{InFlight}
 use Rattle.epochs.specs.Units.{unit_at}
 use Rattle.epochs.specs.Wakes.{sleeper}

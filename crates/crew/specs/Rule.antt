@@ -1,0 +1,67 @@
+-- What a board keeps, whatever its threads do.
+--     weigh h xs      h of each item, added up
+--     view_of parts put taken      what a pass of the queue knows
+--     spent      what a pass knows that has nothing
+--     Kept items views      the rule
+--     Moment items v      at one moment the queue held these, and the rule held
+--     PutView      what a contract sees of the seat that puts
+--     BlankView      what a contract sees of a board that has no name yet
+--     WasFront taken task, WasEmpty taken      what a seat that takes finds
+--     no_table      the name of no board
+use Rattle.std.specs.Prelude.{◌≡◌, ℕ, ◌+◌, List, [], ◌∷◌}
+use mathlib.Core.Option.{some}
+use lib.ListN.{get_elem?}
+use Rattle.atomic_table.specs.Seated.{TableId}
+use Rattle.crew.specs.declared.rule.View.{View}
+
+-- h of each item, added up
+abbrev pub weigh : {X : Type 0} → (X → ℕ) → List X → ℕ
+weigh h [] = 0
+weigh h (x ∷ xs) = h x + weigh h xs
+
+module _ {X : Type 0} where
+  -- what a pass knows
+  abbrev pub view_of : ℕ → List X → List X → View X
+  view_of parts put taken = record { parts = parts; put = put; taken = taken }
+
+  -- what a pass knows that has nothing
+  abbrev pub spent : View X
+  spent = view_of 0 [] []
+
+  -- One pass may put. What was put is what was taken and what the queue holds, each once, however the tasks are weighed. The other
+  -- passes have put nothing.
+  abbrev pub Kept : List X → List (View X) → Type 0
+  Kept items views =
+      (weigh (λ v. v.parts) views ≡ 1)
+      × ((h : X → ℕ) → weigh (λ v. weigh h v.put) views ≡ weigh (λ v. weigh h v.taken) views + weigh h items)
+      × ((i : ℕ) (v : View X) → get_elem? views i ≡ some v → v.parts ≡ 0 → v.put ≡ [])
+
+  -- At one moment the queue held these, in this order, and the rule held of them and of what all passes knew, this one among them.
+  abbrev pub Moment : List X → View X → Type 0
+  Moment items v = (views : List (View X)) × (i : ℕ) × (get_elem? views i ≡ some v) × Kept items views
+
+-- what was put since the board was cleared last, and what came home
+pub record PutView (X : Type 0) : Type 0 where
+  pub put : List X
+  pub home : List X
+
+-- a board that has no name yet: what tells its queue from all others, and how many tasks it has room for
+pub record BlankView : Type 0 where
+  pub name : TableId
+  pub room : ℕ
+
+-- what was put, and what came home
+abbrev pub put_view : {X : Type 0} → List X → List X → PutView X
+put_view put home = record { put = put; home = home }
+
+-- a seat that had taken these found a task in front
+abbrev pub WasFront : {X : Type 0} → List X → X → Type 0
+WasFront {X} taken task = (rest : List X) × Moment (task ∷ rest) (view_of 0 [] taken)
+
+-- a seat that had taken these found the board empty
+abbrev pub WasEmpty : {X : Type 0} → List X → Type 0
+WasEmpty {X} taken = Moment {X = X} [] (view_of 0 [] taken)
+
+-- the name of no board
+abbrev pub no_table : TableId
+no_table = record { words = 0; slots = 0; views_name = 0; atom = 0; block = 0; offset = 0; slot_names = [] }

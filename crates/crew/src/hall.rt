@@ -1,0 +1,133 @@
+//! Where tasks wait for threads, and what came of them for the caller; and what a thread does there.
+
+ghost use Rattle.std.specs.Prelude.{◌≡◌, ◌≤◌, ◌<◌, [], OnOk, IfOk};
+
+use crate::bell::{Bell, Patience};
+use crate::load::Load;
+use crate::rule::Room;
+use crate::seats::{Board, TakeSeat};
+use crate::work::{DoneOf, Work};
+use crossbeam_queue::ArrayQueue;
+use std::alloc::{AllocError, Global};
+use std::sync::Wait;
+use std::sync::atomic::{AtomicBool, Ordering};
+use std::thread;
+
+/// What comes home from a thread: what it did, or that it met refused memory.
+pub type Parcel<T, D, B> = Result<Load<T, D, B>, AllocError>;
+
+/// A board, the parcels that are on their way home, and the bells for both.
+#[derive(Drop)]
+pub struct Hall<T: Drop, D: DoneOf<T> + Drop, B: Room> {
+    pub board: Board<T, B>,
+    pub homes: ArrayQueue<Parcel<T, D, B>>,
+    pub work: Bell,
+    pub home: Bell,
+    pub over: AtomicBool,
+    pub patience: Patience,
+}
+
+impl<T: Drop, D: DoneOf<T> + Drop, B: Room> Hall<T, D, B> {
+    /// A hall with this board, for so many threads. Only memory can be refused.
+    pub fn new(
+        alloc: Global,
+        board: Board<T, B>,
+        threads: usize,
+        patience: Patience,
+    ) -> Result<Hall<T, D, B>, AllocError>
+        ensures { IfOk result (λ h. h.board ≡ board) }
+    {
+        let room = board.room().saturating_add(threads).saturating_add(1);
+        let homes = ArrayQueue::new(alloc, room)?;
+        Ok(Hall {
+            board,
+            homes,
+            work: Bell::new(),
+            home: Bell::new(),
+            over: AtomicBool::new(false),
+            patience,
+        })
+    }
+
+    /// Takes tasks and runs them until the board is empty at one moment. Only memory can be refused.
+    pub fn claim<W: Work<T, D>, R: Wait>(
+        &self,
+        rt: &R,
+        alloc: Global,
+        work: &W,
+        worker: usize,
+        seat: &mut TakeSeat<T, B>,
+    ) -> Result<Load<T, D, B>, AllocError>
+        requires { seat.old ≡ [] }
+        ensures { OnOk result (seat.new ≡ []) }
+    {
+        let mut dones = Vec::new(alloc);
+        for _ in rt.forever() {
+            let Some(task) = self.board.take(rt, seat) else {
+                let theirs = self.board.cut(seat);
+                return Ok(Load {
+                    seat: theirs,
+                    dones,
+                });
+            };
+            dones.push(work.run(alloc, worker, task)?)?;
+        }
+        unreachable!()
+    }
+
+    // Sends a parcel home. There is room for each, so it goes at once.
+    fn send<R: Wait>(&self, rt: &R, parcel: Parcel<T, D, B>) {
+        let mut parcel = parcel;
+        for _ in rt.forever() {
+            match self.homes.push(rt, parcel) {
+                Ok(()) => break,
+                Err(back) => parcel = back,
+            }
+            thread::yield_now();
+        }
+        self.home.ring();
+    }
+
+    fn is_over(&self) -> bool {
+        self.over.load(Ordering::SeqCst)
+    }
+
+    /// What a thread does until the hall is closed: it runs tasks, sends home what came of them, and waits for more. Where
+    /// memory is refused, it says so and goes.
+    pub fn serve<W: Work<T, D>, R: Wait>(
+        &self,
+        rt: &R,
+        alloc: Global,
+        work: &W,
+        worker: usize,
+        seat: TakeSeat<T, B>,
+    )
+        requires { seat ≡ [] }
+    {
+        let mut seat = seat;
+        for _ in rt.forever() {
+            let seen = self.work.rings();
+            match self.claim(rt, alloc, work, worker, &mut seat) {
+                Ok(load) => {
+                    if !load.dones.is_empty() {
+                        self.send(rt, Ok(load));
+                    } else if self.is_over() {
+                        return;
+                    } else {
+                        self.work.wait_past(rt, self.patience, seen);
+                    }
+                }
+                Err(AllocError) => {
+                    self.send(rt, Err(AllocError));
+                    return;
+                }
+            }
+        }
+    }
+
+    /// Tells the threads that there will be no more tasks.
+    pub fn close(&self) {
+        self.over.store(true, Ordering::SeqCst);
+        self.work.ring();
+    }
+}

@@ -1,0 +1,12 @@
+//! Threads that stay for a whole run, and claim the tasks of one phase after another from a board.
+#![tactic(auto)]
+
+pub mod bell;
+pub mod caller;
+mod hall;
+mod load;
+pub mod open;
+pub mod rule;
+pub mod run;
+pub mod seats;
+pub mod work;

@@ -1,0 +1,15 @@
+//! What a thread brings home.
+
+ghost use Rattle.std.specs.Prelude.{◌≡◌, map};
+
+use crate::rule::Room;
+use crate::seats::TakeSeat;
+use crate::work::DoneOf;
+
+/// What came of tasks, and a seat of this board that took just these, in this order.
+#[derive(Drop)]
+pub struct Load<T, D: DoneOf<T>, B: Room> {
+    pub seat: TakeSeat<T, B>,
+    pub dones: Vec<D>,
+    ghost same: { seat ≡ map D.task dones.items },
+}

@@ -1,0 +1,56 @@
+//! How a board is opened.
+
+ghost use Rattle.std.specs.Prelude.{◌≡◌, ◌<◌, [], IfOk};
+ghost use Rattle.crew.specs.Rule.{put_view};
+
+use crate::rule::{Queue, Room, Seat};
+use crate::seats::{Board, PutSeat};
+use std::alloc::{AllocError, Global};
+use std::marker::{Model, PhantomData};
+
+/// A board that has no name yet. To a contract it is its name to be, and how many tasks it has room for.
+#[derive(Drop)]
+pub struct Blank<T: Drop> {
+    queue: Queue<T>,
+    pass: Seat<T>,
+}
+
+impl<T: Drop> Model for Blank<T> {
+    ghost use Rattle.std.specs.Prelude.{◌≡◌, []};
+    ghost use Rattle.crossbeam_queue.specs.Passes.{IsPassOf, ruled_capacity};
+    ghost use Rattle.crew.specs.Rule.{view_of, BlankView};
+
+    ghost Value = { BlankView };
+
+    ghost view = { λ b. record { name = b.queue.table.shared.table_id; room = ruled_capacity b.queue } };
+
+    ghost invariant = { λ b. IsPassOf b.queue b.pass × (b.pass.me.0.client ≡ view_of 1 [] []) };
+}
+
+impl<T: Drop> Blank<T> {
+    /// A board with room for so many tasks. Only memory can be refused.
+    pub fn open(alloc: Global, room: usize) -> Result<Blank<T>, AllocError>
+        requires { 0 < room }
+        ensures { IfOk result (λ b. b.room ≡ room) }
+    {
+        let (queue, pass) = Queue::ruled(alloc, room)?;
+        Ok(Blank { queue, pass })
+    }
+
+    /// The board under its name, and the seat that puts. Nothing was put.
+    pub fn named<B: Room>(self) -> (Board<T, B>, PutSeat<T, B>)
+        requires { self.name ≡ B.table }
+        ensures { (result.0 ≡ self.room) × (result.1 ≡ put_view [] []) }
+    {
+        let Blank { queue, pass } = self;
+        let board = Board {
+            queue,
+            room: PhantomData,
+        };
+        let seat = PutSeat {
+            pass,
+            room: PhantomData,
+        };
+        (board, seat)
+    }
+}

@@ -1,0 +1,113 @@
+//! The rule of a board: what the queue holds, and what each pass of it knows.
+
+ghost use Rattle.std.specs.Prelude.{◌≡◌, ℕ, ◌≤◌, List, [], ◌∷◌, ◌++◌, length};
+ghost use Rattle.atomic_table.specs.Seated.{TableId};
+ghost use Rattle.crew.specs.Rule.{view_of, spent, weigh, no_table, Moment};
+
+use crossbeam_queue::protocol::{Join, Lesson, Outcome, Protocol, Split};
+use crossbeam_queue::{Pass, RuledArrayQueue};
+use std::collections::LinkedList;
+use std::marker::Brand;
+
+/// What a pass knows: whether it may put (1 or 0), what it has put since the board was cleared last, and what it has taken and
+/// not sent home. No value of it is made.
+pub struct View<T> {
+    pub parts: u64,
+    pub put: LinkedList<T>,
+    pub taken: LinkedList<T>,
+}
+
+/// The rule of a board.
+pub struct Claimed;
+
+/// The queue of a board.
+pub type Queue<T> = RuledArrayQueue<T, View<T>, Claimed>;
+
+/// What a seat has of the queue.
+pub type Seat<T> = Pass<T, View<T>>;
+
+impl<T> Protocol<T, View<T>> for Claimed {
+    ghost use Rattle.crew.specs.Rule.{Kept, view_of};
+
+    ghost holds = { Kept };
+
+    ghost first = { view_of 1 [] [] };
+}
+
+/// The next task is put.
+pub struct Puts;
+
+impl<T> Outcome<T, View<T>> for Puts {
+    ghost then = { λ v x w. w ≡ view_of v.parts (v.put ++ x ∷ []) v.taken };
+}
+
+impl<T> Lesson<T, View<T>> for Puts {
+    ghost fact = { λ v items. length items ≤ length v.put };
+}
+
+/// The task in front is taken.
+pub struct Takes;
+
+impl<T> Outcome<T, View<T>> for Takes {
+    ghost then = { λ v x w. (w ≡ view_of v.parts v.put (v.taken ++ x ∷ [])) × (rest : List T) × Moment (x ∷ rest) v };
+}
+
+impl<T> Lesson<T, View<T>> for Takes {
+    ghost fact = { λ v items. Moment items v };
+}
+
+/// What came home is no more than was put; where it is as much, it is what was put.
+pub struct Settles;
+
+impl<T> Lesson<T, View<T>> for Settles {
+    ghost fact = { λ v items. (length v.taken ≤ length v.put) × (length v.put ≤ length v.taken → (h : T → ℕ) → weigh h v.taken ≡ weigh h v.put) };
+}
+
+/// A pass that has nothing is made.
+pub struct Deal;
+
+impl<T> Split<View<T>> for Deal {
+    ghost left = { λ v. v };
+
+    ghost right = { λ v. spent };
+}
+
+/// What a pass took is cut off it, to be sent home.
+pub struct Cut;
+
+impl<T> Split<View<T>> for Cut {
+    ghost left = { λ v. view_of v.parts v.put [] };
+
+    ghost right = { λ v. view_of 0 [] v.taken };
+}
+
+/// What another took comes home.
+pub struct Home;
+
+impl<T> Join<View<T>> for Home {
+    ghost both = { λ v w. view_of v.parts v.put (v.taken ++ w.taken) };
+
+    ghost spent = { spent };
+}
+
+/// All came home, and the board is cleared.
+pub struct Clear;
+
+impl<T> Split<View<T>> for Clear {
+    ghost left = { λ v. view_of v.parts [] [] };
+
+    ghost right = { λ v. spent };
+}
+
+/// Names one board. The call that opens it picks the name.
+pub trait Room {
+    ghost use Rattle.atomic_table.specs.Seated.{TableId};
+
+    ghost table: { TableId };
+}
+
+impl Room for Brand {
+    ghost use Rattle.crew.specs.Rule.{no_table};
+
+    ghost table = { no_table };
+}

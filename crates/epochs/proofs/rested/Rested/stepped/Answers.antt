@@ -1,0 +1,31 @@
+use Rattle.std.proofs.Common.{sym, ap, subst, ◌∙◌, arith}
+use Rattle.std.specs.Arc.{arc_value}
+use Rattle.std.specs.Vec.{with_items}
+use Rattle.std.proofs.lemmas.List.{with_items_is}
+use Rattle.epochs.specs.Views.{SimView}
+use Rattle.epochs.specs.Wakes.{IsAsleep}
+use Rattle.epochs.specs.declared.machine.Machine.{Machine}
+use Rattle.epochs.proofs.rested.Rested.stepped.Goals as goal
+
+pub step-requires-clause-asleep : goal.step-requires-clause-asleep
+step-requires-clause-asleep c =
+    let f = c.self.inside in
+    let m = arc_value f.machine in
+    let now = f.now in
+    subst (λ (x : Machine). IsAsleep x.config x.traces.items now c.deref_mut.result.now c.deref_mut-2.result.now f.links) (sym c.deref.ensures)
+    (subst (λ z. IsAsleep m.config m.traces.items now z c.deref_mut-2.result.now f.links) (sym c.deref_mut.ensures.value)
+    (subst (λ z. IsAsleep m.config m.traces.items now f.slots.items z f.links) (sym c.deref_mut-2.ensures.value) c.self.invariant.asleep))
+
+pub invariant_of-result : goal.invariant_of-result
+invariant_of-result c =
+    let f = c.self.inside in
+    let m = arc_value f.machine in
+    let before = c.self.invariant.asleep in
+    let after : IsAsleep m.config m.traces.items c.args.until c.step.new.slots c.step.new.words c.step.new.links =
+    subst (λ (x : Machine). IsAsleep x.config x.traces.items c.args.until c.step.new.slots c.step.new.words c.step.new.links) c.deref.ensures (c.in_ok-step.ensures {u = tt}) in
+    let slots = with_items_is f.slots c.step.new.slots (after.count ∙ sym before.count ∙ sym f.slots.ok.0) in
+    let words = with_items_is f.words c.step.new.words (after.words_count ∙ sym before.words_count ∙ sym f.words.ok.0) in
+    record {
+      counted = let now = ap (λ (v : SimView). v.now) c.self.view_is in let l = c.requires.order in omega (arith, c.self.invariant.counted);
+      asleep = subst (λ z. IsAsleep m.config m.traces.items c.args.until z (with_items f.words c.step.new.words).items c.step.new.links) (sym slots) (subst (λ z. IsAsleep m.config m.traces.items c.args.until c.step.new.slots z c.step.new.links) (sym words) after);
+    }

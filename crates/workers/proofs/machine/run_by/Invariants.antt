@@ -1,0 +1,12 @@
+-- The run is the same, not past the limit, and did not end; in each turn it comes nearer to the limit.
+use Rattle.std.proofs.Common.{◌≡◌, ◌≤◌, ◌-◌}
+use Rattle.workers.specs.Ends.{NotEnded}
+use Rattle.workers.proofs.machine.run_by.Given as goal
+
+abbrev pub invariant-loop-stop : goal.invariant-loop-stop
+invariant-loop-stop g l =
+    (l.sim.machine ≡ l.config) × (l.sim.traces ≡ l.fn.traces.items) × (l.sim.now ≤ l.cycles)
+    × NotEnded l.config l.fn.traces.items 0 l.sim.now
+
+abbrev pub decreases-loop-stop : goal.decreases-loop-stop
+decreases-loop-stop g l = l.cycles - l.sim.now
