@@ -1,10 +1,13 @@
 //! The table of a few commands, to writers that take all, little or nothing.
 
 use crate::slow::Slow;
+use crate::expect::{expect, expect_at};
 use reports::write_commands;
 use sim_base::command::{Command, CommandRow, Source};
 use sim_base::fault::Fault;
 use sim_base::place::BankId;
+use std::alloc::{AllocError, Global};
+use std::process::Abort;
 use std::test::Fail;
 
 const FIRST: BankId = BankId {
@@ -19,130 +22,172 @@ const OTHER_RANK: BankId = BankId {
     bank: 0,
 };
 
-fn act(cycle: u64, bank: BankId, entry: u64) -> CommandRow {
-    let source = Source { core: 0, entry };
-    let command = Command::Act {
-        bank,
-        row: 0,
-        source,
-    };
-    CommandRow {
-        cycle,
-        channel: 0,
-        command,
-    }
-}
-
-fn rd(cycle: u64, bank: BankId, entry: u64) -> CommandRow {
-    let source = Source { core: 0, entry };
-    let command = Command::Rd {
-        bank,
-        row: 0,
-        column: 0,
-        source,
-    };
-    CommandRow {
-        cycle,
-        channel: 0,
-        command,
-    }
-}
-
-fn of_rank(cycle: u64, command: Command) -> CommandRow {
-    CommandRow {
-        cycle,
-        channel: 0,
-        command,
-    }
-}
-
 // The commands of one read of the first line.
-fn one_read() -> [CommandRow; 2] {
-    [act(2, FIRST, 0), rd(5, FIRST, 0)]
-}
+const OF_ONE_READ: [CommandRow; 2] = [
+    CommandRow {
+        cycle: 2,
+        channel: 0,
+        command: Command::Act {
+            bank: FIRST,
+            row: 0,
+            source: Source { core: 0, entry: 0 },
+        },
+    },
+    CommandRow {
+        cycle: 5,
+        channel: 0,
+        command: Command::Rd {
+            bank: FIRST,
+            row: 0,
+            column: 0,
+            source: Source { core: 0, entry: 0 },
+        },
+    },
+];
 
-const ONE_READ: &[u8] = b"cycle,channel,command,group,bank,row,column,core,entry
+const ONE_READ: &str = "cycle,channel,command,group,bank,row,column,core,entry
 2,0,ACT,0,0,0,,0,0
 5,0,RD,0,0,0,0,0,0
 ";
 
-#[test]
-fn writes_one_read(rt: HostRuntime) -> Result<(), Fail> {
-    let mut text = Vec::new(rt.alloc());
-    write_commands(rt.alloc(), 1, &one_read(), &mut text)?;
-    assert!(rt; text.as_slice() == ONE_READ);
-    Ok(())
-}
+// Commands that leave fields empty.
+const WITHOUT_FIELDS: [CommandRow; 3] = [
+    CommandRow {
+        cycle: 17,
+        channel: 0,
+        command: Command::Pre {
+            bank: FIRST,
+            source: Source { core: 0, entry: 1 },
+        },
+    },
+    CommandRow {
+        cycle: 100,
+        channel: 0,
+        command: Command::Prea { rank: 0 },
+    },
+    CommandRow {
+        cycle: 103,
+        channel: 0,
+        command: Command::Ref { rank: 0 },
+    },
+];
 
-#[test]
-fn leaves_fields_empty(rt: HostRuntime) -> Result<(), Fail> {
-    let source = Source { core: 0, entry: 1 };
-    let pre = Command::Pre {
-        bank: FIRST,
-        source,
-    };
-    let rows = [
-        of_rank(17, pre),
-        of_rank(100, Command::Prea { rank: 0 }),
-        of_rank(103, Command::Ref { rank: 0 }),
-    ];
-    let mut text = Vec::new(rt.alloc());
-    write_commands(rt.alloc(), 1, &rows, &mut text)?;
-    assert!(rt;
-        text.as_slice()
-            == b"cycle,channel,command,group,bank,row,column,core,entry
+const OF_RANKS: [CommandRow; 6] = [
+    CommandRow {
+        cycle: 2,
+        channel: 0,
+        command: Command::Act {
+            bank: FIRST,
+            row: 0,
+            source: Source { core: 0, entry: 0 },
+        },
+    },
+    CommandRow {
+        cycle: 3,
+        channel: 0,
+        command: Command::Act {
+            bank: OTHER_RANK,
+            row: 0,
+            source: Source { core: 0, entry: 1 },
+        },
+    },
+    CommandRow {
+        cycle: 5,
+        channel: 0,
+        command: Command::Rd {
+            bank: FIRST,
+            row: 0,
+            column: 0,
+            source: Source { core: 0, entry: 0 },
+        },
+    },
+    CommandRow {
+        cycle: 11,
+        channel: 0,
+        command: Command::Rd {
+            bank: OTHER_RANK,
+            row: 0,
+            column: 0,
+            source: Source { core: 0, entry: 1 },
+        },
+    },
+    CommandRow {
+        cycle: 104,
+        channel: 0,
+        command: Command::Prea { rank: 1 },
+    },
+    CommandRow {
+        cycle: 107,
+        channel: 0,
+        command: Command::Ref { rank: 1 },
+    },
+];
+
+// A number of ranks, commands, and their table.
+static TABLES: [(u32, &[CommandRow], &str); 3] = [
+    (1, &OF_ONE_READ, ONE_READ),
+    (
+        1,
+        &WITHOUT_FIELDS,
+        "cycle,channel,command,group,bank,row,column,core,entry
 17,0,PRE,0,0,,,0,1
 100,0,PREA,,,,,,
 103,0,REF,,,,,,
-"
-                .as_slice()
-    );
-    Ok(())
-}
-
-#[test]
-fn shows_ranks(rt: HostRuntime) -> Result<(), Fail> {
-    let rows = [
-        act(2, FIRST, 0),
-        act(3, OTHER_RANK, 1),
-        rd(5, FIRST, 0),
-        rd(11, OTHER_RANK, 1),
-        of_rank(104, Command::Prea { rank: 1 }),
-        of_rank(107, Command::Ref { rank: 1 }),
-    ];
-    let mut text = Vec::new(rt.alloc());
-    write_commands(rt.alloc(), 2, &rows, &mut text)?;
-    assert!(rt;
-        text.as_slice()
-            == b"cycle,channel,command,rank,group,bank,row,column,core,entry
+",
+    ),
+    (
+        2,
+        &OF_RANKS,
+        "cycle,channel,command,rank,group,bank,row,column,core,entry
 2,0,ACT,0,0,0,0,,0,0
 3,0,ACT,1,0,0,0,,0,1
 5,0,RD,0,0,0,0,0,0,0
 11,0,RD,1,0,0,0,0,0,1
 104,0,PREA,1,,,,,,
 107,0,REF,1,,,,,,
-"
-                .as_slice()
-    );
+",
+    ),
+];
+
+#[test]
+fn writes_commands(rt: HostRuntime) -> Result<(), Fail> {
+    for (ranks, rows, want) in &TABLES {
+        let mut text = Vec::new(rt.alloc());
+        write_commands(rt.alloc(), *ranks, rows, &mut text)?;
+        expect(&rt, &str::from_utf8(text.as_slice()), &Ok(*want));
+    }
+    Ok(())
+}
+
+// What is written of one read by a writer that takes a byte a call, in so many calls, and how that ends.
+fn slowly(
+    alloc: Global,
+    calls: usize,
+    fails: bool,
+) -> Result<(Vec<u8>, Result<(), Fault>), AllocError> {
+    let mut slow = Slow::new(alloc, 200, calls, fails)?;
+    let ended = write_commands(alloc, 1, &OF_ONE_READ, &mut slow);
+    Ok((slow.taken, ended))
+}
+
+fn assert_refused(rt: &impl Abort, alloc: Global, calls: usize) -> Result<(), Fail> {
+    for fails in [false, true] {
+        let (_, ended) = slowly(alloc, calls, fails)?;
+        expect_at(rt, &("after calls", calls), &ended, &Err(Fault::Write));
+    }
     Ok(())
 }
 
 #[test]
 fn writes_byte_by_byte(rt: HostRuntime) -> Result<(), Fail> {
-    let mut slow = Slow::new(rt.alloc(), 200, 200, false)?;
-    write_commands(rt.alloc(), 1, &one_read(), &mut slow)?;
-    assert!(rt; slow.taken.as_slice() == ONE_READ);
-    Ok(())
-}
-
-#[test]
-fn tells_of_failed_writes(rt: HostRuntime) -> Result<(), Fail> {
+    let (text, ended) = slowly(rt.alloc(), 200, false)?;
+    expect(
+        &rt,
+        &(str::from_utf8(text.as_slice()), ended),
+        &(Ok(ONE_READ), Ok(())),
+    );
     for calls in 0..ONE_READ.len() {
-        for fails in [false, true] {
-            let mut slow = Slow::new(rt.alloc(), 200, calls, fails)?;
-            let refused = write_commands(rt.alloc(), 1, &one_read(), &mut slow);
-            assert_eq!(rt; refused, Err(Fault::Write), "after {calls} calls");
-        }
+        assert_refused(&rt, rt.alloc(), calls)?;
     }
     Ok(())
 }

@@ -1,9 +1,11 @@
 //! Statistics of small runs, cut into stretches by hand: two reads of one row, of which the second finds the row open.
 
+use crate::expect::expect;
 use sim_base::command::Kind;
 use statistics::channels::ChannelStats;
 use statistics::cores::CoreStats;
 use statistics::stats::Stats;
+use std::process::Abort;
 use std::test::Fail;
 
 #[test]
@@ -36,7 +38,11 @@ fn joins_stretches_of_a_channel(rt: HostRuntime) {
         idle: 23,
         ..ChannelStats::new()
     };
-    assert_eq!(rt; opening.joined(serving).joined(idling.times(16)), whole);
+    expect(
+        &rt,
+        &opening.joined(serving).joined(idling.times(16)),
+        &whole,
+    );
 }
 
 #[test]
@@ -61,7 +67,7 @@ fn adds_cycles_and_commands(rt: HostRuntime) {
         draining: Some(4),
         ..ChannelStats::new()
     };
-    assert_eq!(rt; run, whole);
+    expect(&rt, &run, &whole);
 }
 
 #[test]
@@ -101,7 +107,19 @@ fn joins_stretches_of_a_core(rt: HostRuntime) {
         finish: Some(20),
         ..CoreStats::new()
     };
-    assert_eq!(rt; first.joined(second).joined(ended.times(15)), whole);
+    expect(&rt, &first.joined(second).joined(ended.times(15)), &whole);
+}
+
+fn assert_parts(rt: &impl Abort, stats: &Stats, cores: &[CoreStats], channels: &[ChannelStats]) {
+    expect(
+        rt,
+        &(
+            stats.cycles,
+            stats.cores.as_slice(),
+            stats.channels.as_slice(),
+        ),
+        &(16, cores, channels),
+    );
 }
 
 #[test]
@@ -113,13 +131,6 @@ fn keeps_its_parts(rt: HostRuntime) -> Result<(), Fail> {
     };
     let channels = [busy, ChannelStats::new()];
     let stats = Stats::of_parts(rt.alloc(), 16, &cores, &channels)?;
-    assert_eq!(rt;
-        (
-            stats.cycles,
-            stats.cores.as_slice(),
-            stats.channels.as_slice(),
-        ),
-        (16, cores.as_slice(), channels.as_slice())
-    );
+    assert_parts(&rt, &stats, &cores, &channels);
     Ok(())
 }

@@ -1,7 +1,9 @@
 //! Distances of one profile, added up by hand from its numbers.
 
+use crate::expect::{expect, expect_at};
 use fixtures::small::{TWO_RANKS, small};
 use sim_base::command::{Command, Kind, Relation, Source};
+use sim_base::fault::Fault;
 use sim_base::place::BankId;
 use std::alloc::Global;
 use std::process::Abort;
@@ -13,29 +15,35 @@ use timing::rules::relation;
 // them.
 type Case = (Kind, Kind, Relation, Option<u64>);
 
-// Asserts that a machine with these changes has these distances. Where no rule binds, the distance is 0.
+// Where no rule binds, the distance is 0.
+fn assert_gaps(rt: &impl Abort, table: &GapTable, cases: &[Case]) {
+    for (earlier, later, relation, want) in cases {
+        let gap = table.gap(*earlier, *later, *relation);
+        let binds = table.binds(*earlier, *later, *relation);
+        expect_at(
+            rt,
+            &(earlier, later, relation),
+            &(gap, binds),
+            &(want.unwrap_or(0), want.is_some()),
+        );
+    }
+}
+
+// Asserts that a machine with these changes has these distances.
 fn assert_distances(
     rt: &impl Abort,
     alloc: Global,
     changes: &[&str],
     cases: &[Case],
-) -> Result<(), Fail> {
+) -> Result<(), Fault> {
     let config = small(alloc, changes, "")?;
     let table = GapTable::of(&config);
-    for (earlier, later, relation, want) in cases {
-        let gap = table.gap(*earlier, *later, *relation);
-        let binds = table.binds(*earlier, *later, *relation);
-        assert_eq!(rt;
-            (gap, binds),
-            (want.unwrap_or(0), want.is_some()),
-            "{earlier:?} {later:?} {relation:?}"
-        );
-    }
+    assert_gaps(rt, &table, cases);
     Ok(())
 }
 
 // No rule binds an ACT to a REF; a RD in another bank does not bind a PRE.
-const IN_A_RANK: [Case; 11] = [
+static IN_A_RANK: [Case; 11] = [
     (Kind::Act, Kind::Rd, Relation::SameBank, Some(3)),
     (Kind::Wr, Kind::Rd, Relation::SameGroup, Some(9)),
     (Kind::Wr, Kind::Rd, Relation::OtherGroup, Some(8)),
@@ -49,12 +57,7 @@ const IN_A_RANK: [Case; 11] = [
     (Kind::Rd, Kind::Pre, Relation::SameGroup, None),
 ];
 
-#[test]
-fn distances_in_a_rank(rt: HostRuntime) -> Result<(), Fail> {
-    assert_distances(&rt, rt.alloc(), &[], &IN_A_RANK)
-}
-
-const BETWEEN_RANKS: [Case; 4] = [
+static BETWEEN_RANKS: [Case; 4] = [
     (Kind::Rd, Kind::Rd, Relation::OtherRank, Some(6)),
     (Kind::Rd, Kind::Wr, Relation::OtherRank, Some(7)),
     (Kind::Wr, Kind::Rd, Relation::OtherRank, Some(5)),
@@ -62,8 +65,10 @@ const BETWEEN_RANKS: [Case; 4] = [
 ];
 
 #[test]
-fn distances_between_ranks(rt: HostRuntime) -> Result<(), Fail> {
-    assert_distances(&rt, rt.alloc(), &[TWO_RANKS], &BETWEEN_RANKS)
+fn distances_of_commands(rt: HostRuntime) -> Result<(), Fail> {
+    assert_distances(&rt, rt.alloc(), &[], &IN_A_RANK)?;
+    assert_distances(&rt, rt.alloc(), &[TWO_RANKS], &BETWEEN_RANKS)?;
+    Ok(())
 }
 
 #[test]
@@ -81,5 +86,9 @@ fn precharge_of_a_rank_speaks_of_each_bank(rt: HostRuntime) {
     };
     let own = relation(act, Command::Prea { rank: 0 });
     let other = relation(act, Command::Prea { rank: 1 });
-    assert_eq!(rt; (own, other), (Relation::SameBank, Relation::OtherRank));
+    expect(
+        &rt,
+        &(own, other),
+        &(Relation::SameBank, Relation::OtherRank),
+    );
 }

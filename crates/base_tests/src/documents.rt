@@ -1,6 +1,7 @@
 //! Configurations that are read or refused, and why.
 
 use config_reader::read_config;
+use crate::expect::{expect, expect_at};
 use fixtures::small::SMALL;
 use sim_base::config::Config;
 use sim_base::fault::Fault;
@@ -10,7 +11,7 @@ use std::alloc::{AllocError, Global};
 use std::process::Abort;
 use std::test::Fail;
 
-const TIMING: Timing = Timing {
+static TIMING: Timing = Timing {
     n_rcd: 3,
     n_rp: 3,
     n_ras: 8,
@@ -59,19 +60,39 @@ fn read_changed(alloc: Global, edits: &[Edit]) -> Result<Config, Fault> {
     read_config(alloc, document.as_bytes())
 }
 
+/// What the reader says of the small machine with some of its lines replaced.
+fn answer_to(alloc: Global, edits: &[Edit]) -> Result<String, AllocError> {
+    let document = changed(alloc, edits)?;
+    answer(alloc, document.as_bytes())
+}
+
+fn assert_said(rt: &impl Abort, edits: &[Edit], said: &str, want: &str) {
+    expect_at(rt, &edits, &said, &want);
+}
+
 /// Asserts what the reader says of the small machine with some of its lines replaced, case by case.
-fn assert_answers(rt: &impl Abort, alloc: Global, cases: &[(&[Edit], &str)]) -> Result<(), Fail> {
+fn assert_answers(
+    rt: &impl Abort,
+    alloc: Global,
+    cases: &[(&[Edit], &str)],
+) -> Result<(), AllocError> {
     for (edits, want) in cases {
-        let document = changed(alloc, edits)?;
-        let said = answer(alloc, document.as_bytes())?;
-        assert_eq!(rt; said.as_str(), *want, "at {edits:?}");
+        let said = answer_to(alloc, edits)?;
+        assert_said(rt, edits, said.as_str(), want);
     }
     Ok(())
 }
 
-#[test]
-fn reads_each_key(rt: HostRuntime) -> Result<(), Fail> {
-    let config = read_config(rt.alloc(), SMALL.as_bytes())?;
+static ORDER: [Field; 5] = [
+    Field::Channel,
+    Field::Column,
+    Field::Group,
+    Field::Bank,
+    Field::Row,
+];
+
+/// Asserts the numbers of the small machine.
+fn assert_small(rt: &impl Abort, config: &Config) {
     let core = (
         config.cores,
         config.window,
@@ -91,33 +112,33 @@ fn reads_each_key(rt: HostRuntime) -> Result<(), Fail> {
         config.reply_latency,
         config.credit_latency,
     );
-    let order = [
-        Field::Channel,
-        Field::Column,
-        Field::Group,
-        Field::Bank,
-        Field::Row,
-    ];
     let drain = (config.write_high, config.write_low, config.ends_drained);
     let overrides = config.overrides.as_slice().len();
-    assert_eq!(rt;
-        (
+    expect(
+        rt,
+        &(
             (core, memory, latencies),
             config.fields.as_slice(),
             config.timing,
             (drain, overrides),
         ),
-        (
+        &(
             ((1, 8, 2, 4, 4), (1, 1, 2, 128, 65536), (2, 2, 2)),
-            order.as_slice(),
+            ORDER.as_slice(),
             TIMING,
             ((0, 0, false), 0),
-        )
+        ),
     );
+}
+
+#[test]
+fn reads_each_key(rt: HostRuntime) -> Result<(), Fail> {
+    let config = read_config(rt.alloc(), SMALL.as_bytes())?;
+    assert_small(&rt, &config);
     Ok(())
 }
 
-const OF_KEYS: [(&[Edit], &str); 11] = [
+static OF_KEYS: [(&[Edit], &str); 11] = [
     (
         &[("cores = 1\n", "cores = \"1\"\n")],
         "fault 2: configuration key cores",
@@ -161,7 +182,7 @@ const OF_KEYS: [(&[Edit], &str); 11] = [
     ),
 ];
 
-const OF_RELATIONS: [(&[Edit], &str); 7] = [
+static OF_RELATIONS: [(&[Edit], &str); 7] = [
     (
         &[("nRTW = 7\n", "nRTW = 4\n")],
         "fault 4: configuration relation 1",
@@ -186,7 +207,7 @@ const OF_RELATIONS: [(&[Edit], &str); 7] = [
     ),
 ];
 
-const OF_LINKS: [(&[Edit], &str); 4] = [
+static OF_LINKS: [(&[Edit], &str); 4] = [
     (
         &[("nREFI = 0\n", "nREFI = 0\n[[link]]\nid = 3\nlatency = 1\n")],
         "fault 4: configuration relation 8",
@@ -214,21 +235,6 @@ const OF_LINKS: [(&[Edit], &str); 4] = [
     ),
 ];
 
-#[test]
-fn refuses_keys(rt: HostRuntime) -> Result<(), Fail> {
-    assert_answers(&rt, rt.alloc(), &OF_KEYS)
-}
-
-#[test]
-fn refuses_relations(rt: HostRuntime) -> Result<(), Fail> {
-    assert_answers(&rt, rt.alloc(), &OF_RELATIONS)
-}
-
-#[test]
-fn refuses_links(rt: HostRuntime) -> Result<(), Fail> {
-    assert_answers(&rt, rt.alloc(), &OF_LINKS)
-}
-
 const RANKS: Edit = ("groups = 2\n", "groups = 2\nranks = 2\n");
 
 const RANK_FIELD: Edit = ("\"column\", \"group\"", "\"column\", \"rank\", \"group\"");
@@ -245,65 +251,86 @@ const MORE_READS: Edit = ("read_credits = 4\n", "read_credits = 17\n");
 
 const WRITES: Edit = ("write_credits = 4\n", "write_credits = 16\n");
 
-#[test]
-fn refuses_large_machines(rt: HostRuntime) -> Result<(), Fail> {
-    assert_answers(
-        &rt,
-        rt.alloc(),
-        &[
-            (
-                &[RANKS, RANK_FIELD, TOO_EARLY],
-                "fault 4: configuration relation 6",
-            ),
-            (
-                &[MANY_CORES, MORE_READS, WRITES],
-                "fault 4: configuration relation 7",
-            ),
-        ],
-    )
-}
+static LARGE_MACHINES: [(&[Edit], &str); 2] = [
+    (
+        &[RANKS, RANK_FIELD, TOO_EARLY],
+        "fault 4: configuration relation 6",
+    ),
+    (
+        &[MANY_CORES, MORE_READS, WRITES],
+        "fault 4: configuration relation 7",
+    ),
+];
 
 #[test]
-fn reads_ranks(rt: HostRuntime) -> Result<(), Fail> {
-    let config = read_changed(rt.alloc(), &[RANKS, RANK_FIELD, IN_TIME])?;
-    let order = [
-        Field::Channel,
-        Field::Column,
-        Field::Rank,
-        Field::Group,
-        Field::Bank,
-        Field::Row,
-    ];
-    assert_eq!(rt;
-        (
+fn refuses_documents(rt: HostRuntime) -> Result<(), Fail> {
+    for cases in [
+        OF_KEYS.as_slice(),
+        &OF_RELATIONS,
+        &OF_LINKS,
+        &LARGE_MACHINES,
+    ] {
+        assert_answers(&rt, rt.alloc(), cases)?;
+    }
+    Ok(())
+}
+
+static ORDER_WITH_RANKS: [Field; 6] = [
+    Field::Channel,
+    Field::Column,
+    Field::Rank,
+    Field::Group,
+    Field::Bank,
+    Field::Row,
+];
+
+/// Asserts the numbers of the machine with two ranks.
+fn assert_ranks(rt: &impl Abort, config: &Config) {
+    expect(
+        rt,
+        &(
             config.ranks,
             config.timing.n_rtrs,
             config.timing.n_refi,
             config.ends_drained,
             config.fields.as_slice(),
         ),
-        (2, 2, 39, true, order.as_slice())
+        &(2, 2, 39, true, ORDER_WITH_RANKS.as_slice()),
     );
+}
+
+#[test]
+fn reads_ranks(rt: HostRuntime) -> Result<(), Fail> {
+    let config = read_changed(rt.alloc(), &[RANKS, RANK_FIELD, IN_TIME])?;
+    assert_ranks(&rt, &config);
     Ok(())
 }
 
 #[test]
 fn reads_many_cores(rt: HostRuntime) -> Result<(), Fail> {
-    let config = read_changed(rt.alloc(), &[MANY_CORES, READS, WRITES])?;
-    assert_eq!(rt; config.cores, 256);
+    let cores = read_changed(rt.alloc(), &[MANY_CORES, READS, WRITES])?.cores;
+    expect(&rt, &cores, &256);
     Ok(())
 }
 
 const OWN_LINK: Edit = ("nREFI = 0\n", "nREFI = 0\n[[link]]\nid = 2\nlatency = 1\n");
 
-/// A link that has a latency of its own, also in a copy.
+/// Asserts that link 2 of a machine has a latency of its own, also in a copy.
+fn assert_own_link(rt: &impl Abort, config: &Config, copy: &Config) {
+    let overrides = config.overrides.as_slice().len();
+    let latencies = (config.latency(1), config.latency(2), copy.latency(2));
+    expect(
+        rt,
+        &(overrides, latencies, copy.timing),
+        &(1, (2, 1, 1), TIMING),
+    );
+}
+
 #[test]
 fn reads_links_and_copies(rt: HostRuntime) -> Result<(), Fail> {
     let config = read_changed(rt.alloc(), &[OWN_LINK])?;
     let copy = config.copy(rt.alloc())?;
-    let overrides = config.overrides.as_slice().len();
-    let latencies = (config.latency(1), config.latency(2), copy.latency(2));
-    assert_eq!(rt; (overrides, latencies, copy.timing), (1, (2, 1, 1), TIMING));
+    assert_own_link(&rt, &config, &copy);
     Ok(())
 }
 
@@ -333,19 +360,16 @@ fn first_accepted(alloc: Global, document: &[u8]) -> Option<usize> {
 /// Only the last line's end may be cut off.
 #[test]
 fn refuses_what_is_cut(rt: HostRuntime) -> Result<(), Fail> {
-    let alloc = rt.alloc();
     let (line, end) = SMALL.as_bytes().split_at(SMALL.len().saturating_sub(1));
-    let cut = first_accepted(alloc, line);
-    let cores = read_config(alloc, line)?.cores;
-    let said = answer(alloc, b"cores = \xff\n")?;
-    assert_eq!(rt;
-        (cut, end, cores, said.as_str()),
-        (
-            None,
-            b"\n".as_slice(),
-            1,
-            "fault 1: configuration is not TOML",
-        )
-    );
+    let cut = first_accepted(rt.alloc(), line);
+    let cores = read_config(rt.alloc(), line)?.cores;
+    expect(&rt, &(cut, end, cores), &(None, b"\n".as_slice(), 1));
+    Ok(())
+}
+
+#[test]
+fn refuses_what_is_no_text(rt: HostRuntime) -> Result<(), Fail> {
+    let said = answer(rt.alloc(), b"cores = \xff\n")?;
+    expect(&rt, &said.as_str(), &"fault 1: configuration is not TOML");
     Ok(())
 }

@@ -1,12 +1,14 @@
 //! The states in which small runs end, found by hand.
 
 use crate::slow::Slow;
+use crate::expect::{expect, expect_at};
 use reports::write_final;
 use sim_base::fault::Fault;
 use sim_base::message::{Load, Message, Request};
 use sim_base::place::{BankId, Place};
 use statistics::final_state::{ChannelState, CoreState, Credits, FinalState, OpenRow};
 use std::alloc::{AllocError, Global};
+use std::process::Abort;
 use std::test::Fail;
 
 const FIRST: BankId = BankId {
@@ -38,136 +40,6 @@ const READ: Request = Request {
     link: 0,
 };
 
-fn core(
-    alloc: Global,
-    issued: u64,
-    retired: u64,
-    credits: &[Credits],
-) -> Result<CoreState, AllocError> {
-    Ok(CoreState {
-        issued,
-        retired,
-        credits: credits.to_vec(alloc)?,
-    })
-}
-
-fn channel(
-    alloc: Global,
-    due: &[u64],
-    open_rows: &[OpenRow],
-    queue: &[Request],
-) -> Result<ChannelState, AllocError> {
-    Ok(ChannelState {
-        due: due.to_vec(alloc)?,
-        open_rows: open_rows.to_vec(alloc)?,
-        queue: queue.to_vec(alloc)?,
-    })
-}
-
-// One core and one channel, whose first row is open.
-fn small(
-    alloc: Global,
-    retired: u64,
-    read_credits: u64,
-    queue: &[Request],
-    in_flight: &[Message],
-) -> Result<FinalState, Fail> {
-    let credits = Credits {
-        read: read_credits,
-        write: 4,
-    };
-    let mut cores = Vec::new(alloc);
-    cores.push(core(alloc, 1, retired, &[credits])?)?;
-    let opened = OpenRow {
-        bank: FIRST,
-        row: 0,
-    };
-    let mut channels = Vec::new(alloc);
-    channels.push(channel(alloc, &[0], &[opened], queue)?)?;
-    Ok(FinalState {
-        cores,
-        channels,
-        in_flight: in_flight.to_vec(alloc)?,
-    })
-}
-
-const ONE_READ: &[u8] = b"item,core,channel,group,bank,entry,cycle,value
-issued,0,,,,,,1
-retired,0,,,,,,1
-credit_read,0,0,,,,,4
-credit_write,0,0,,,,,4
-due,,0,,,,,0
-open,,0,0,0,,,0
-";
-
-#[test]
-fn writes_one_read(rt: HostRuntime) -> Result<(), Fail> {
-    let mut text = Vec::new(rt.alloc());
-    write_final(
-        rt.alloc(),
-        &small(rt.alloc(), 1, 4, &[], &[])?,
-        1,
-        &mut text,
-    )?;
-    assert!(rt; text.as_slice() == ONE_READ);
-    Ok(())
-}
-
-#[test]
-fn shows_a_reply_in_flight(rt: HostRuntime) -> Result<(), Fail> {
-    let reply = Message {
-        link: 1,
-        arrival: 15,
-        load: Load::Reply(0),
-    };
-    let mut text = Vec::new(rt.alloc());
-    write_final(
-        rt.alloc(),
-        &small(rt.alloc(), 0, 4, &[], &[reply])?,
-        1,
-        &mut text,
-    )?;
-    assert!(rt;
-        text.as_slice()
-            == b"item,core,channel,group,bank,entry,cycle,value
-issued,0,,,,,,1
-retired,0,,,,,,0
-credit_read,0,0,,,,,4
-credit_write,0,0,,,,,4
-due,,0,,,,,0
-open,,0,0,0,,,0
-flight_reply,0,0,,,0,15,1
-"
-                .as_slice()
-    );
-    Ok(())
-}
-
-#[test]
-fn shows_a_queue(rt: HostRuntime) -> Result<(), Fail> {
-    let mut text = Vec::new(rt.alloc());
-    write_final(
-        rt.alloc(),
-        &small(rt.alloc(), 0, 3, &[READ], &[])?,
-        1,
-        &mut text,
-    )?;
-    assert!(rt;
-        text.as_slice()
-            == b"item,core,channel,group,bank,entry,cycle,value
-issued,0,,,,,,1
-retired,0,,,,,,0
-credit_read,0,0,,,,,3
-credit_write,0,0,,,,,4
-due,,0,,,,,0
-open,,0,0,0,,,0
-queued_read,0,0,0,0,0,2,0
-"
-                .as_slice()
-    );
-    Ok(())
-}
-
 // A write of the last line of all.
 const WRITE: Request = Request {
     core: 1,
@@ -186,65 +58,177 @@ const WRITE: Request = Request {
     link: 9,
 };
 
-// Credits of both kinds, and a request.
-const IN_FLIGHT: [Message; 3] = [
-    Message {
-        link: 5,
-        arrival: 50,
-        load: Load::Credit {
-            write: false,
-            entry: 3,
-        },
-    },
-    Message {
-        link: 9,
-        arrival: 50,
-        load: Load::Request(WRITE),
-    },
-    Message {
-        link: 8,
-        arrival: 51,
-        load: Load::Credit {
-            write: true,
-            entry: 4,
-        },
-    },
-];
+// What a core issued and retired, and its credits.
+type CoreRow<'x> = (u64, u64, &'x [Credits]);
 
-// Two cores, two channels of two ranks, and messages of all kinds. Core c and channel k have the links from 3(2c + k) on.
-fn large(alloc: Global) -> Result<FinalState, Fail> {
-    let some = Credits { read: 3, write: 4 };
-    let all = Credits { read: 4, write: 2 };
+fn cores(alloc: Global, rows: &[CoreRow<'_>]) -> Result<Vec<CoreState>, AllocError> {
     let mut cores = Vec::new(alloc);
-    cores.push(core(alloc, 5, 2, &[some, all])?)?;
-    cores.push(core(alloc, 1, 0, &[all, some])?)?;
-    let opened = [
-        OpenRow {
-            bank: FIRST,
-            row: 7,
-        },
-        OpenRow {
-            bank: OTHER,
-            row: 65535,
-        },
-    ];
-    let mut channels = Vec::new(alloc);
-    channels.push(channel(alloc, &[0, 1], &opened, &[])?)?;
-    channels.push(channel(alloc, &[2, 0], &[], &[READ, WRITE])?)?;
-    Ok(FinalState {
-        cores,
-        channels,
-        in_flight: IN_FLIGHT.to_vec(alloc)?,
+    for (issued, retired, credits) in rows {
+        cores.push(CoreState {
+            issued: *issued,
+            retired: *retired,
+            credits: credits.to_vec(alloc)?,
+        })?;
+    }
+    Ok(cores)
+}
+
+// The refreshes that are due of a channel, its open rows and its queue.
+type ChannelRow<'x> = (&'x [u64], &'x [OpenRow], &'x [Request]);
+
+fn channel(alloc: Global, row: &ChannelRow<'_>) -> Result<ChannelState, AllocError> {
+    let (due, open_rows, queue) = *row;
+    Ok(ChannelState {
+        due: due.to_vec(alloc)?,
+        open_rows: open_rows.to_vec(alloc)?,
+        queue: queue.to_vec(alloc)?,
     })
 }
 
-#[test]
-fn shows_ranks(rt: HostRuntime) -> Result<(), Fail> {
-    let mut text = Vec::new(rt.alloc());
-    write_final(rt.alloc(), &large(rt.alloc())?, 2, &mut text)?;
-    assert!(rt;
-        text.as_slice()
-            == b"item,core,channel,rank,group,bank,entry,cycle,value
+fn channels(alloc: Global, rows: &[ChannelRow<'_>]) -> Result<Vec<ChannelState>, AllocError> {
+    let mut channels = Vec::new(alloc);
+    for row in rows {
+        channels.push(channel(alloc, row)?)?;
+    }
+    Ok(channels)
+}
+
+// A state, the number of its ranks, and its table.
+struct Case<'x> {
+    cores: &'x [CoreRow<'x>],
+    channels: &'x [ChannelRow<'x>],
+    in_flight: &'x [Message],
+    ranks: u32,
+    table: &'x str,
+}
+
+fn state_of(alloc: Global, case: &Case<'_>) -> Result<FinalState, AllocError> {
+    Ok(FinalState {
+        cores: cores(alloc, case.cores)?,
+        channels: channels(alloc, case.channels)?,
+        in_flight: case.in_flight.to_vec(alloc)?,
+    })
+}
+
+fn text_of(alloc: Global, case: &Case<'_>) -> Result<Vec<u8>, Fault> {
+    let state = state_of(alloc, case)?;
+    let mut text = Vec::new(alloc);
+    write_final(alloc, &state, case.ranks, &mut text)?;
+    Ok(text)
+}
+
+// All credits of one core and one channel, and all but a read's.
+const ALL: Credits = Credits { read: 4, write: 4 };
+
+const FEWER: Credits = Credits { read: 3, write: 4 };
+
+// A channel whose first row is open.
+const OPENED: OpenRow = OpenRow {
+    bank: FIRST,
+    row: 0,
+};
+
+// One core and one channel, after a read.
+const ONE_READ: Case<'static> = Case {
+    cores: &[(1, 1, &[ALL])],
+    channels: &[(&[0], &[OPENED], &[])],
+    in_flight: &[],
+    ranks: 1,
+    table: "item,core,channel,group,bank,entry,cycle,value
+issued,0,,,,,,1
+retired,0,,,,,,1
+credit_read,0,0,,,,,4
+credit_write,0,0,,,,,4
+due,,0,,,,,0
+open,,0,0,0,,,0
+",
+};
+
+// The same, before its reply has arrived.
+const A_REPLY: Case<'static> = Case {
+    cores: &[(1, 0, &[ALL])],
+    in_flight: &[Message {
+        link: 1,
+        arrival: 15,
+        load: Load::Reply(0),
+    }],
+    table: "item,core,channel,group,bank,entry,cycle,value
+issued,0,,,,,,1
+retired,0,,,,,,0
+credit_read,0,0,,,,,4
+credit_write,0,0,,,,,4
+due,,0,,,,,0
+open,,0,0,0,,,0
+flight_reply,0,0,,,0,15,1
+",
+    ..ONE_READ
+};
+
+// The same, before it is served.
+const A_QUEUE: Case<'static> = Case {
+    cores: &[(1, 0, &[FEWER])],
+    channels: &[(&[0], &[OPENED], &[READ])],
+    table: "item,core,channel,group,bank,entry,cycle,value
+issued,0,,,,,,1
+retired,0,,,,,,0
+credit_read,0,0,,,,,3
+credit_write,0,0,,,,,4
+due,,0,,,,,0
+open,,0,0,0,,,0
+queued_read,0,0,0,0,0,2,0
+",
+    ..ONE_READ
+};
+
+const SOME: Credits = Credits { read: 3, write: 4 };
+
+const OTHERS: Credits = Credits { read: 4, write: 2 };
+
+// Two cores, two channels of two ranks, and messages of all kinds. Core c and channel k have the links from 3(2c + k) on.
+const RANKS: Case<'static> = Case {
+    cores: &[(5, 2, &[SOME, OTHERS]), (1, 0, &[OTHERS, SOME])],
+    channels: &[
+        (
+            &[0, 1],
+            &[
+                OpenRow {
+                    bank: FIRST,
+                    row: 7,
+                },
+                OpenRow {
+                    bank: OTHER,
+                    row: 65535,
+                },
+            ],
+            &[],
+        ),
+        (&[2, 0], &[], &[READ, WRITE]),
+    ],
+    in_flight: &[
+        Message {
+            link: 5,
+            arrival: 50,
+            load: Load::Credit {
+                write: false,
+                entry: 3,
+            },
+        },
+        Message {
+            link: 9,
+            arrival: 50,
+            load: Load::Request(WRITE),
+        },
+        Message {
+            link: 8,
+            arrival: 51,
+            load: Load::Credit {
+                write: true,
+                entry: 4,
+            },
+        },
+    ],
+    ranks: 2,
+    table: "item,core,channel,rank,group,bank,entry,cycle,value
 issued,0,,,,,,,5
 retired,0,,,,,,,2
 issued,1,,,,,,,1
@@ -268,34 +252,62 @@ queued_write,1,1,1,1,3,9,40,18446744073709551615
 flight_credit_read,0,1,,,,3,50,5
 flight_request,1,1,,,,9,50,9
 flight_credit_write,1,0,,,,4,51,8
-"
-                .as_slice()
-    );
+",
+};
+
+static CASES: [Case<'static>; 4] = [ONE_READ, A_REPLY, A_QUEUE, RANKS];
+
+#[test]
+fn writes_states(rt: HostRuntime) -> Result<(), Fail> {
+    for case in &CASES {
+        let text = text_of(rt.alloc(), case)?;
+        expect(&rt, &str::from_utf8(text.as_slice()), &Ok(case.table));
+    }
     Ok(())
 }
+
+// What is written of a state by a writer that takes a byte a call, in so many calls, and how that ends.
+fn slowly(
+    alloc: Global,
+    state: &FinalState,
+    calls: usize,
+    fails: bool,
+) -> Result<(Vec<u8>, Result<(), Fault>), AllocError> {
+    let mut slow = Slow::new(alloc, 600, calls, fails)?;
+    let ended = write_final(alloc, state, 1, &mut slow);
+    Ok((slow.taken, ended))
+}
+
+fn assert_refused(
+    rt: &impl Abort,
+    alloc: Global,
+    state: &FinalState,
+    calls: usize,
+) -> Result<(), Fail> {
+    for fails in [false, true] {
+        let (_, ended) = slowly(alloc, state, calls, fails)?;
+        expect_at(rt, &("after calls", calls), &ended, &Err(Fault::Write));
+    }
+    Ok(())
+}
+
+fn assert_slow(rt: &impl Abort, alloc: Global, state: &FinalState, want: &str) -> Result<(), Fail> {
+    let (text, ended) = slowly(alloc, state, 600, false)?;
+    expect(
+        rt,
+        &(str::from_utf8(text.as_slice()), ended),
+        &(Ok(want), Ok(())),
+    );
+    for calls in 0..want.len() {
+        assert_refused(rt, alloc, state, calls)?;
+    }
+    Ok(())
+}
+
+static WRITTEN: Case<'static> = ONE_READ;
 
 #[test]
 fn writes_byte_by_byte(rt: HostRuntime) -> Result<(), Fail> {
-    let mut slow = Slow::new(rt.alloc(), 600, 600, false)?;
-    write_final(
-        rt.alloc(),
-        &small(rt.alloc(), 1, 4, &[], &[])?,
-        1,
-        &mut slow,
-    )?;
-    assert!(rt; slow.taken.as_slice() == ONE_READ);
-    Ok(())
-}
-
-#[test]
-fn tells_of_failed_writes(rt: HostRuntime) -> Result<(), Fail> {
-    let state = small(rt.alloc(), 1, 4, &[], &[])?;
-    for calls in 0..ONE_READ.len() {
-        for fails in [false, true] {
-            let mut slow = Slow::new(rt.alloc(), 600, calls, fails)?;
-            let refused = write_final(rt.alloc(), &state, 1, &mut slow);
-            assert_eq!(rt; refused, Err(Fault::Write), "after {calls} calls");
-        }
-    }
-    Ok(())
+    let state = state_of(rt.alloc(), &WRITTEN)?;
+    assert_slow(&rt, rt.alloc(), &state, WRITTEN.table)
 }

@@ -12,6 +12,8 @@ mod distances;
 #[cfg(test)]
 mod documents;
 #[cfg(test)]
+mod expect;
+#[cfg(test)]
 mod faults;
 #[cfg(test)]
 mod final_tables;

@@ -1,52 +1,44 @@
 //! A run of one core, with each number as counted by hand.
 
 use cpu_trace::trace::Trace;
+use crate::expect::expect;
+use fixtures::one_read::{CHANNELS, CORES};
 use fixtures::small::small;
 use one_clock::machine::run_plain;
 use sim_base::trace::Entry;
-use statistics::channels::ChannelStats;
-use statistics::cores::CoreStats;
+use statistics::outcome::Outcome;
 use std::alloc::Global;
+use std::process::Abort;
 use std::test::Fail;
 
-/// One Read: it leaves in cycle 0 and is in the queue from cycle 2 on, an ACT comes in cycle 2 and a RD in cycle 5; its data is
-/// there in cycle 15.
-#[test]
-fn counts_one_read(rt: HostRuntime) -> Result<(), Fail> {
-    let alloc = rt.alloc();
+/// The plain machine's run of one Read, up to cycle 16.
+fn run_one_read(alloc: Global) -> Result<Outcome, Fail> {
     let config = small(alloc, &[], "")?;
-    assert_eq!(rt; config.cores, 1);
+    if config.cores != 1 {
+        return Err(Fail::from("other cores"));
+    }
     let traces = [Trace::from_entries(alloc, &[Entry::Read(0)])?];
-    let outcome = run_plain(alloc, &config, &traces, 16)?;
-    let core = CoreStats {
-        issued: 1,
-        retired: 1,
-        reads: 1,
-        replies: 1,
-        read_latency: 15,
-        stop_end: 16,
-        finish: Some(15),
-        ..CoreStats::new()
-    };
-    let channel = ChannelStats {
-        act: 1,
-        rd: 1,
-        queued: 4,
-        queued_max: 1,
-        idle: 12,
-        ..ChannelStats::new()
-    };
-    let whole = &outcome;
+    Ok(run_plain(alloc, &config, &traces, 16)?)
+}
+
+fn assert_counts(rt: &impl Abort, whole: &Outcome) {
     let stats = &whole.stats;
     let lengths = (whole.commands.len(), whole.last.in_flight.len());
-    assert_eq!(rt;
-        (
+    expect(
+        rt,
+        &(
             lengths,
             stats.cycles,
             stats.cores.as_slice(),
             stats.channels.as_slice(),
         ),
-        ((2, 0), 16, [core].as_slice(), [channel].as_slice())
+        &((2, 0), 16, CORES.as_slice(), CHANNELS.as_slice()),
     );
+}
+
+#[test]
+fn counts_one_read(rt: HostRuntime) -> Result<(), Fail> {
+    let outcome = run_one_read(rt.alloc())?;
+    assert_counts(&rt, &outcome);
     Ok(())
 }

@@ -4,6 +4,7 @@ use cpu_trace::entries::MemoryEntry;
 use cpu_trace::number::read_number;
 use cpu_trace::reader::{read_trace, read_trace_in_pieces};
 use cpu_trace::trace::Trace;
+use crate::expect::{expect, expect_at};
 use sim_base::fault::{Fault, LineCause};
 use sim_base::trace::Entry;
 use std::alloc::{AllocError, Global};
@@ -35,23 +36,48 @@ fn contents(alloc: Global, answer: &Result<Trace, Fault>) -> Result<Contents, Al
     }
 }
 
+// What core 0's trace has that is read in pieces of a size.
+fn contents_in_pieces(
+    rt: &(impl Threads + Sync),
+    alloc: Global,
+    text: &[u8],
+    size: usize,
+) -> Result<Contents, AllocError> {
+    let trace = read_trace_in_pieces(rt, alloc, 0, text, size);
+    contents(alloc, &trace)
+}
+
+// Asserts that core 0's trace is the same whatever the size of the pieces.
+fn assert_pieces<R: Abort + Threads + Sync>(
+    rt: &R,
+    alloc: Global,
+    text: &[u8],
+    whole: &Result<Trace, Fault>,
+) -> Result<(), AllocError> {
+    let wanted = contents(alloc, whole)?;
+    for size in [0, 1, 2, 3, 7, 15] {
+        let found = contents_in_pieces(rt, alloc, text, size)?;
+        expect_at(rt, &("in pieces of", size), &found, &wanted);
+    }
+    Ok(())
+}
+
 // Core 0's trace, which is the same whatever the size of the pieces.
 fn read<R: Abort + Threads + Sync>(rt: &R, alloc: Global, text: &[u8]) -> Result<Trace, Fault> {
     let whole = read_trace(rt, alloc, 0, text);
-    let wanted = contents(alloc, &whole)?;
-    for size in [0, 1, 2, 3, 7, 15] {
-        let other = read_trace_in_pieces(rt, alloc, 0, text, size);
-        let found = contents(alloc, &other)?;
-        assert_eq!(rt; found, wanted, "in pieces of {size}");
-    }
+    assert_pieces(rt, alloc, text, &whole)?;
     whole
 }
 
 // The line of the fault by which a trace of core 0 is refused.
-fn fault<R: Abort + Threads + Sync>(rt: &R, alloc: Global, text: &[u8]) -> Result<String, Fail> {
+fn fault<R: Abort + Threads + Sync>(
+    rt: &R,
+    alloc: Global,
+    text: &[u8],
+) -> Result<String, AllocError> {
     match read(rt, alloc, text) {
-        Ok(_) => Err(Fail::from("no fault")),
-        Err(fault) => Ok(fault.to_string(alloc)?),
+        Ok(_) => String::from_str(alloc, "no fault"),
+        Err(fault) => fault.to_string(alloc),
     }
 }
 
@@ -73,13 +99,26 @@ fn entry(trace: &Trace, number: u64) -> Option<Entry> {
     }
 }
 
+// The number of the first of these entries that a trace has not in its place, with what stands there.
+fn first_other(trace: &Trace, wanted: &[Entry]) -> Option<(u64, Option<Entry>)> {
+    let mut number = 0u64;
+    for want in wanted {
+        let found = entry(trace, number);
+        if found != Some(*want) {
+            return Some((number, found));
+        }
+        number = number.wrapping_add(1);
+    }
+    None
+}
+
 // Asserts that a trace has these entries.
 fn assert_entries(rt: &impl Abort, trace: &Trace, wanted: &[Entry]) {
-    let size = (trace.len(), trace.is_empty());
-    assert_eq!(rt; size, (wanted.len() as u64, wanted.is_empty()));
-    for (number, want) in (0..trace.len()).zip(wanted) {
-        assert_eq!(rt; entry(trace, number), Some(*want), "at {number}");
-    }
+    expect(
+        rt,
+        &(trace.len(), trace.is_empty(), first_other(trace, wanted)),
+        &(wanted.len() as u64, wanted.is_empty(), None),
+    );
 }
 
 // Asserts which entries these texts mean.
@@ -87,11 +126,17 @@ fn assert_traces<R: Abort + Threads + Sync>(
     rt: &R,
     alloc: Global,
     cases: &[(&[u8], &[Entry])],
-) -> Result<(), Fail> {
+) -> Result<(), Fault> {
     for (text, wanted) in cases {
-        assert_entries(rt, &read(rt, alloc, text)?, wanted);
+        let trace = read(rt, alloc, text)?;
+        assert_entries(rt, &trace, wanted);
     }
     Ok(())
+}
+
+// Asserts what is said of a text.
+fn assert_said(rt: &impl Abort, text: &[u8], said: &str, want: &str) {
+    expect_at(rt, &text, &said, &want);
 }
 
 // Asserts by which faults these texts are refused.
@@ -99,9 +144,10 @@ fn assert_faults<R: Abort + Threads + Sync>(
     rt: &R,
     alloc: Global,
     cases: &[(&[u8], &str)],
-) -> Result<(), Fail> {
+) -> Result<(), AllocError> {
     for (text, want) in cases {
-        assert_eq!(rt; fault(rt, alloc, text)?.as_str(), *want, "at {text:?}");
+        let said = fault(rt, alloc, text)?;
+        assert_said(rt, text, said.as_str(), want);
     }
     Ok(())
 }
@@ -109,7 +155,7 @@ fn assert_faults<R: Abort + Threads + Sync>(
 // A trace of three lines, of which the second is blank and the last has no end.
 const THREE_LINES: &[u8] = b"0\t0x40\r\n\n 1  128";
 
-const LINES: [(&[u8], &[Entry]); 3] = [
+static LINES: [(&[u8], &[Entry]); 3] = [
     (
         THREE_LINES,
         &[Entry::Read(64), Entry::Plain, Entry::Read(128)],
@@ -121,31 +167,36 @@ const LINES: [(&[u8], &[Entry]); 3] = [
     ),
 ];
 
-#[test]
-fn entries_of_lines(rt: HostRuntime) -> Result<(), Fail> {
-    assert_traces(&rt, rt.alloc(), &LINES)
+// Their entries.
+static OF_THREE_LINES: [Entry; 3] = [Entry::Read(64), Entry::Plain, Entry::Read(128)];
+
+// Asserts that a trace of the three lines and its copy have their entries.
+fn assert_copy(rt: &impl Abort, trace: &Trace) -> Result<(), AllocError> {
+    let last = MemoryEntry {
+        number: 2,
+        entry: Entry::Read(128),
+    };
+    expect(
+        rt,
+        &(trace.next_memory(1), trace.next_memory(3)),
+        &(Some(last), None),
+    );
+    let copy = trace.copy()?;
+    assert_entries(rt, &copy, &OF_THREE_LINES);
+    Ok(())
 }
 
 // Traces that are not read but made have the same entries.
 #[test]
 fn entries_of_copies(rt: HostRuntime) -> Result<(), Fail> {
-    let alloc = rt.alloc();
-    let wanted = [Entry::Read(64), Entry::Plain, Entry::Read(128)];
-    assert_entries(&rt, &Trace::from_entries(alloc, &wanted)?, &wanted);
-    let trace = read(&rt, alloc, THREE_LINES)?;
-    assert_entries(&rt, &trace.copy()?, &wanted);
-    let last = MemoryEntry {
-        number: 2,
-        entry: Entry::Read(128),
-    };
-    assert_eq!(rt;
-        (trace.next_memory(1), trace.next_memory(3)),
-        (Some(last), None)
-    );
+    let trace = read(&rt, rt.alloc(), THREE_LINES)?;
+    assert_copy(&rt, &trace)?;
+    let made = Trace::from_entries(rt.alloc(), &OF_THREE_LINES)?;
+    assert_entries(&rt, &made, &OF_THREE_LINES);
     Ok(())
 }
 
-const BAD_LINES: [(&[u8], &str); 10] = [
+static BAD_LINES: [(&[u8], &str); 10] = [
     (b"3", "fault 5: trace 0 line 1 too-few"),
     (b"1 2 3 4", "fault 5: trace 0 line 1 too-many"),
     (b"1 x", "fault 5: trace 0 line 1 not-a-number"),
@@ -164,13 +215,8 @@ const BAD_LINES: [(&[u8], &str); 10] = [
     ),
 ];
 
-#[test]
-fn faults_of_lines(rt: HostRuntime) -> Result<(), Fail> {
-    assert_faults(&rt, rt.alloc(), &BAD_LINES)
-}
-
 // The beginnings of the three lines that are a trace, and those that are none.
-const GOOD_BEGINNINGS: [(&[u8], &[Entry]); 11] = [
+static GOOD_BEGINNINGS: [(&[u8], &[Entry]); 11] = [
     (b"", &[]),
     (b"0\t0", &[Entry::Read(0)]),
     (b"0\t0x4", &[Entry::Read(4)]),
@@ -193,7 +239,7 @@ const GOOD_BEGINNINGS: [(&[u8], &[Entry]); 11] = [
     ),
 ];
 
-const BAD_BEGINNINGS: [(&[u8], &str); 6] = [
+static BAD_BEGINNINGS: [(&[u8], &str); 6] = [
     (b"0", "fault 5: trace 0 line 1 too-few"),
     (b"0\t", "fault 5: trace 0 line 1 too-few"),
     (b"0\t0x", "fault 5: trace 0 line 1 not-a-number"),
@@ -213,21 +259,11 @@ fn is_bad(text: &[u8]) -> bool {
 // The two tables have each of the 17 beginnings once.
 #[test]
 fn beginnings_of_each_length(rt: HostRuntime) {
-    assert_eq!(rt; THREE_LINES.len(), 16);
+    expect(&rt, &THREE_LINES.len(), &16);
     for len in 0..=16 {
         let cut = THREE_LINES.get(..len).unwrap_or(b"none");
-        assert!(rt; is_good(cut) != is_bad(cut), "at {len}");
+        expect_at(&rt, &len, &(is_good(cut) != is_bad(cut)), &true);
     }
-}
-
-#[test]
-fn good_beginnings_of_a_trace(rt: HostRuntime) -> Result<(), Fail> {
-    assert_traces(&rt, rt.alloc(), &GOOD_BEGINNINGS)
-}
-
-#[test]
-fn bad_beginnings_of_a_trace(rt: HostRuntime) -> Result<(), Fail> {
-    assert_faults(&rt, rt.alloc(), &BAD_BEGINNINGS)
 }
 
 // Many bytes of one kind between a beginning and an end.
@@ -258,14 +294,22 @@ fn read_long(
     read_trace(rt, alloc, 0, &line)
 }
 
+fn assert_long_line(
+    rt: &(impl Abort + Threads + Sync),
+    alloc: Global,
+    first: &[u8],
+    byte: u8,
+    last: &[u8],
+) -> Result<(), Fault> {
+    let trace = read_long(rt, alloc, first, byte, last)?;
+    assert_entries(rt, &trace, &[Entry::Plain, Entry::Read(2), Entry::Write(3)]);
+    Ok(())
+}
+
 #[test]
 fn long_lines(rt: HostRuntime) -> Result<(), Fail> {
-    let alloc = rt.alloc();
-    let wanted = [Entry::Plain, Entry::Read(2), Entry::Write(3)];
-    let gap = read_long(&rt, alloc, b"1", b' ', b"2 3\r\n")?;
-    assert_entries(&rt, &gap, &wanted);
-    let zeros = read_long(&rt, alloc, b"1 0x", b'0', b"2 3")?;
-    assert_entries(&rt, &zeros, &wanted);
+    assert_long_line(&rt, rt.alloc(), b"1", b' ', b"2 3\r\n")?;
+    assert_long_line(&rt, rt.alloc(), b"1 0x", b'0', b"2 3")?;
     Ok(())
 }
 
@@ -275,10 +319,10 @@ fn faults_of_long_lines(rt: HostRuntime) {
     let bad = read_long(&rt, rt.alloc(), b"\n1 ", b'9', b"x 3").err();
     let too_large = at_line(2, LineCause::TooLarge);
     let no_number = at_line(2, LineCause::NotANumber);
-    assert_eq!(rt; (large, bad), (Some(too_large), Some(no_number)));
+    expect(&rt, &(large, bad), &(Some(too_large), Some(no_number)));
 }
 
-const NUMBERS: [(&[u8], Result<u64, LineCause>); 10] = [
+static NUMBERS: [(&[u8], Result<u64, LineCause>); 10] = [
     (b"18446744073709551615", Ok(u64::MAX)),
     (b"0xFFFFffffFFFFffff", Ok(u64::MAX)),
     (b"0XaBcD", Ok(43981)),
@@ -293,39 +337,63 @@ const NUMBERS: [(&[u8], Result<u64, LineCause>); 10] = [
 
 #[test]
 fn numbers_of_tokens(rt: HostRuntime) {
-    for (token, want) in NUMBERS {
-        assert_eq!(rt; read_number(token), want, "at {token:?}");
+    for (token, want) in &NUMBERS {
+        expect_at(&rt, &token, &read_number(token), want);
     }
+}
+
+// The number of a token of many zeros.
+fn long_number(
+    alloc: Global,
+    first: &[u8],
+    last: &[u8],
+) -> Result<Result<u64, LineCause>, AllocError> {
+    let token = long_line(alloc, first, b'0', 10_000, last)?;
+    Ok(read_number(&token))
 }
 
 #[test]
 fn numbers_of_long_tokens(rt: HostRuntime) -> Result<(), Fail> {
-    let decimal = long_line(rt.alloc(), b"", b'0', 10_000, b"7")?;
-    let hexadecimal = long_line(rt.alloc(), b"0X", b'0', 10_000, b"fF")?;
-    assert_eq!(rt;
-        (read_number(&decimal), read_number(&hexadecimal)),
-        (Ok(7), Ok(255))
-    );
+    let decimal = long_number(rt.alloc(), b"", b"7")?;
+    let hexadecimal = long_number(rt.alloc(), b"0X", b"fF")?;
+    expect(&rt, &(decimal, hexadecimal), &(Ok(7), Ok(255)));
     Ok(())
+}
+
+// How long a trace is, and its entries of these numbers.
+type Ends = (u64, [Option<Entry>; 3]);
+
+fn ends_of(trace: &Trace, numbers: [u64; 3]) -> Ends {
+    let [first, second, third] = numbers;
+    let ends = [
+        entry(trace, first),
+        entry(trace, second),
+        entry(trace, third),
+    ];
+    (trace.len(), ends)
+}
+
+fn read_ends<R: Abort + Threads + Sync>(
+    rt: &R,
+    alloc: Global,
+    text: &[u8],
+    numbers: [u64; 3],
+) -> Result<Ends, Fault> {
+    let trace = read(rt, alloc, text)?;
+    Ok(ends_of(&trace, numbers))
 }
 
 #[test]
 fn runs_are_counts(rt: HostRuntime) -> Result<(), Fail> {
-    let trace = read(&rt, rt.alloc(), b"4000000000 0")?;
-    let last = (entry(&trace, 3_999_999_999), entry(&trace, 4_000_000_000));
-    let most = read(&rt, rt.alloc(), b"4611686018427387903 0")?;
-    assert_eq!(rt;
-        (trace.len(), last, most.len()),
-        (
-            4_000_000_001,
-            (Some(Entry::Plain), Some(Entry::Read(0))),
-            1 << 62,
-        )
-    );
+    let numbers = [0, 3_999_999_999, 4_000_000_000];
+    let long = read_ends(&rt, rt.alloc(), b"4000000000 0", numbers)?;
+    let (most, _) = read_ends(&rt, rt.alloc(), b"4611686018427387903 0", numbers)?;
+    let entries = [Some(Entry::Plain), Some(Entry::Plain), Some(Entry::Read(0))];
+    expect(&rt, &(long, most), &((4_000_000_001, entries), 1 << 62));
     Ok(())
 }
 
-const LONG_RUNS: [(&[u8], &str); 4] = [
+static LONG_RUNS: [(&[u8], &str); 4] = [
     (b"4611686018427387903 0\n0 0", "fault 6: trace 0 too long"),
     (b"4611686018427387902 0 0\n0 0", "fault 6: trace 0 too long"),
     (
@@ -337,11 +405,6 @@ const LONG_RUNS: [(&[u8], &str); 4] = [
         "fault 5: trace 0 line 3 too-few",
     ),
 ];
-
-#[test]
-fn faults_of_long_runs(rt: HostRuntime) -> Result<(), Fail> {
-    assert_faults(&rt, rt.alloc(), &LONG_RUNS)
-}
 
 // A text of 100,000 lines, of which the numbered ones are bad.
 fn long_text(alloc: Global, bad: bool) -> Result<Vec<u8>, AllocError> {
@@ -357,22 +420,37 @@ fn long_text(alloc: Global, bad: bool) -> Result<Vec<u8>, AllocError> {
     Ok(text)
 }
 
+// Core 0's trace of a long text, in pieces of 4096 bytes.
+fn read_long_text(rt: &(impl Threads + Sync), alloc: Global) -> Result<Trace, Fault> {
+    let text = long_text(alloc, false)?;
+    read_trace_in_pieces(rt, alloc, 0, &text, 4096)
+}
+
 #[test]
 fn long_texts(rt: HostRuntime) -> Result<(), Fail> {
-    let text = long_text(rt.alloc(), false)?;
-    let trace = read_trace_in_pieces(&rt, rt.alloc(), 0, &text, 4096)?;
     let wanted = vec![in rt.alloc(); Entry::Read(64); 100_000]?;
+    let trace = read_long_text(&rt, rt.alloc())?;
     assert_entries(&rt, &trace, &wanted);
     Ok(())
+}
+
+// The faults of a text that is read whole, and in pieces of 4096 bytes.
+fn both_faults(
+    rt: &(impl Threads + Sync),
+    alloc: Global,
+    text: &[u8],
+) -> (Option<Fault>, Option<Fault>) {
+    let whole = read_trace(rt, alloc, 0, text).err();
+    let pieces = read_trace_in_pieces(rt, alloc, 0, text, 4096).err();
+    (whole, pieces)
 }
 
 #[test]
 fn faults_of_long_texts(rt: HostRuntime) -> Result<(), Fail> {
     let bad = long_text(rt.alloc(), true)?;
-    let whole = read_trace(&rt, rt.alloc(), 0, &bad).err();
-    let pieces = read_trace_in_pieces(&rt, rt.alloc(), 0, &bad, 4096).err();
+    let found = both_faults(&rt, rt.alloc(), &bad);
     let first = Some(at_line(70_001, LineCause::NotANumber));
-    assert_eq!(rt; (whole, pieces), (first, first));
+    expect(&rt, &found, &(first, first));
     Ok(())
 }
 
@@ -386,29 +464,29 @@ fn usual_text(alloc: Global, last: &[u8]) -> Result<Vec<u8>, AllocError> {
     Ok(text)
 }
 
-#[test]
-fn usual_pieces(rt: HostRuntime) -> Result<(), Fail> {
-    let text = usual_text(rt.alloc(), b"")?;
-    let trace = read_trace(&rt, rt.alloc(), 0, &text)?;
-    let last = (
-        entry(&trace, 59_997),
-        entry(&trace, 59_998),
-        entry(&trace, 59_999),
-    );
-    let wanted = (
-        Some(Entry::Plain),
-        Some(Entry::Read(64)),
-        Some(Entry::Write(128)),
-    );
-    assert_eq!(rt; (text.len(), trace.len(), last), (480_000, 60_000, wanted));
-    Ok(())
+// The last three entries of a text of usual pieces, and the fault of what follows them.
+fn usual_ends(
+    rt: &(impl Threads + Sync),
+    alloc: Global,
+    last: &[u8],
+) -> Result<(usize, Result<Ends, Fault>), AllocError> {
+    let text = usual_text(alloc, last)?;
+    let read = read_trace(rt, alloc, 0, &text);
+    let ends = read.map(|trace| ends_of(&trace, [59_997, 59_998, 59_999]));
+    Ok((text.len(), ends))
 }
 
 #[test]
-fn fault_behind_usual_pieces(rt: HostRuntime) -> Result<(), Fail> {
-    let text = usual_text(rt.alloc(), b"\n\n7")?;
-    let last = at_line(20_003, LineCause::TooFew);
-    assert_eq!(rt; read_trace(&rt, rt.alloc(), 0, &text).err(), Some(last));
+fn usual_pieces(rt: HostRuntime) -> Result<(), Fail> {
+    let whole = usual_ends(&rt, rt.alloc(), b"")?;
+    let entries = [
+        Some(Entry::Plain),
+        Some(Entry::Read(64)),
+        Some(Entry::Write(128)),
+    ];
+    expect(&rt, &whole, &(480_000, Ok((60_000, entries))));
+    let (_, behind) = usual_ends(&rt, rt.alloc(), b"\n\n7")?;
+    expect(&rt, &behind, &Err(at_line(20_003, LineCause::TooFew)));
     Ok(())
 }
 
@@ -419,7 +497,7 @@ const TWO_LINES: &[Entry] = &[
     Entry::Write(3),
 ];
 
-const GOOD_CUTS: [(&[u8], &[Entry]); 5] = [
+static GOOD_CUTS: [(&[u8], &[Entry]); 5] = [
     (b"0 1\n1 2 3", TWO_LINES),
     (b"0 1\n1 2 3\n", TWO_LINES),
     (b"0 1\r\n1 2 3\r\n", TWO_LINES),
@@ -427,18 +505,24 @@ const GOOD_CUTS: [(&[u8], &[Entry]); 5] = [
     (b"\r\n0 1\r\n\r\n \t\r\n1 2 3", TWO_LINES),
 ];
 
-const BAD_CUTS: [(&[u8], &str); 2] = [
+static BAD_CUTS: [(&[u8], &str); 2] = [
     (b"\n\n1\n\n2\n", "fault 5: trace 0 line 3 too-few"),
     (b"0 1\n0 2\n0 3\n4", "fault 5: trace 0 line 4 too-few"),
 ];
 
-// Blank lines, line ends of two bytes and no last line end, at any cut.
+// The traces of good texts; the cuts have blank lines, line ends of two bytes and no last line end.
 #[test]
-fn cuts_of_a_trace(rt: HostRuntime) -> Result<(), Fail> {
-    assert_traces(&rt, rt.alloc(), &GOOD_CUTS)
+fn entries_of_texts(rt: HostRuntime) -> Result<(), Fail> {
+    assert_traces(&rt, rt.alloc(), &LINES)?;
+    assert_traces(&rt, rt.alloc(), &GOOD_BEGINNINGS)?;
+    assert_traces(&rt, rt.alloc(), &GOOD_CUTS)?;
+    Ok(())
 }
 
 #[test]
-fn faults_at_cuts(rt: HostRuntime) -> Result<(), Fail> {
-    assert_faults(&rt, rt.alloc(), &BAD_CUTS)
+fn faults_of_texts(rt: HostRuntime) -> Result<(), Fail> {
+    for cases in [BAD_LINES.as_slice(), &BAD_BEGINNINGS, &LONG_RUNS, &BAD_CUTS] {
+        assert_faults(&rt, rt.alloc(), cases)?;
+    }
+    Ok(())
 }

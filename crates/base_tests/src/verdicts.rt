@@ -1,5 +1,6 @@
 //! Small tables, whose verdicts were found by hand from the distances of one profile.
 
+use crate::expect::{expect, expect_at};
 use fixtures::small::{RANK_FIELD, TWO_RANKS, small};
 use rule_check::{Verdict, check};
 use sim_base::fault::Fault;
@@ -47,11 +48,11 @@ const RANKS_REFRESHED: Layout = Layout {
 // The verdict on some rows and a last one, below the header.
 fn judged(
     alloc: Global,
-    layout: Layout,
+    layout: &Layout,
     before: &str,
     last: &str,
-) -> Result<Result<Verdict, Fault>, Fail> {
-    let Layout { header, changes } = layout;
+) -> Result<Result<Verdict, Fault>, Fault> {
+    let Layout { header, changes } = *layout;
     let config = small(alloc, changes, "")?;
     let table = format!(in alloc; "{header}{before}{last}")?;
     Ok(check(alloc, &config, table.as_bytes()))
@@ -61,13 +62,13 @@ fn judged(
 fn assert_verdicts(
     rt: &impl Abort,
     alloc: Global,
-    layout: Layout,
+    layout: &Layout,
     tables: &[&str],
     want: Result<Verdict, Fault>,
-) -> Result<(), Fail> {
+) -> Result<(), Fault> {
     for table in tables {
         let found = judged(alloc, layout, "", table)?;
-        assert_eq!(rt; found, want, "of {table:?}");
+        expect_at(rt, &table, &found, &want);
     }
     Ok(())
 }
@@ -86,17 +87,18 @@ struct Case {
 fn assert_kept_exactly(
     rt: &impl Abort,
     alloc: Global,
-    layout: Layout,
+    layout: &Layout,
     cases: &[Case],
-) -> Result<(), Fail> {
+) -> Result<(), Fault> {
     for case in cases {
         let early = judged(alloc, layout, case.before, case.early)?;
         let exact = judged(alloc, layout, case.before, case.exact)?;
         let (row, rule) = (case.row, case.rule);
         let broken = Verdict::Broken { row, rule };
-        assert_eq!(rt;
-            (rule, early, exact),
-            (rule, Ok(broken), Ok(Verdict::Legal))
+        expect(
+            rt,
+            &(rule, early, exact),
+            &(rule, Ok(broken), Ok(Verdict::Legal)),
         );
     }
     Ok(())
@@ -161,11 +163,6 @@ const OF_A_BANK: [Case; 8] = [
         exact: "16,0,PRE,0,0,,,0,0\n",
     },
 ];
-
-#[test]
-fn each_rule_of_a_bank(rt: HostRuntime) -> Result<(), Fail> {
-    assert_kept_exactly(&rt, rt.alloc(), NO_REFRESH, &OF_A_BANK)
-}
 
 // The rules that bind commands of a rank, by their groups.
 const OF_GROUPS: [Case; 9] = [
@@ -234,11 +231,6 @@ const OF_GROUPS: [Case; 9] = [
     },
 ];
 
-#[test]
-fn each_rule_of_groups(rt: HostRuntime) -> Result<(), Fail> {
-    assert_kept_exactly(&rt, rt.alloc(), NO_REFRESH, &OF_GROUPS)
-}
-
 const OF_REFRESHES: [Case; 1] = [Case {
     rule: 18,
     row: 1,
@@ -246,11 +238,6 @@ const OF_REFRESHES: [Case; 1] = [Case {
     early: "115,0,ACT,0,0,0,,0,0\n",
     exact: "114,0,ACT,0,0,0,,0,0\n",
 }];
-
-#[test]
-fn refreshes_in_time(rt: HostRuntime) -> Result<(), Fail> {
-    assert_kept_exactly(&rt, rt.alloc(), REFRESH, &OF_REFRESHES)
-}
 
 // The rules that bind commands of two ranks.
 const OF_RANKS: [Case; 3] = [
@@ -277,11 +264,6 @@ const OF_RANKS: [Case; 3] = [
     },
 ];
 
-#[test]
-fn each_rule_of_ranks(rt: HostRuntime) -> Result<(), Fail> {
-    assert_kept_exactly(&rt, rt.alloc(), RANKS, &OF_RANKS)
-}
-
 const OF_REFRESHES_OF_RANKS: [Case; 1] = [Case {
     rule: 18,
     row: 2,
@@ -290,70 +272,77 @@ const OF_REFRESHES_OF_RANKS: [Case; 1] = [Case {
     exact: "118,0,ACT,1,0,0,0,,0,0\n",
 }];
 
+static RULES: [(Layout, &[Case]); 5] = [
+    (NO_REFRESH, &OF_A_BANK),
+    (NO_REFRESH, &OF_GROUPS),
+    (REFRESH, &OF_REFRESHES),
+    (RANKS, &OF_RANKS),
+    (RANKS_REFRESHED, &OF_REFRESHES_OF_RANKS),
+];
+
 #[test]
-fn refreshes_of_ranks_in_time(rt: HostRuntime) -> Result<(), Fail> {
-    assert_kept_exactly(&rt, rt.alloc(), RANKS_REFRESHED, &OF_REFRESHES_OF_RANKS)
+fn each_rule_is_kept_exactly(rt: HostRuntime) -> Result<(), Fail> {
+    for (layout, cases) in &RULES {
+        assert_kept_exactly(&rt, rt.alloc(), layout, cases)?;
+    }
+    Ok(())
 }
 
 /// Not the last command alone counts: the write before the last is of the read's group.
-#[test]
-fn each_earlier_command_counts(rt: HostRuntime) -> Result<(), Fail> {
-    let rows =
-        "2,0,ACT,0,0,0,,0,0\n4,0,ACT,1,0,0,,0,0\n5,0,WR,0,0,0,0,0,0\n9,0,WR,1,0,0,0,0,0\n13,0,RD,0,0,0,0,0,0\n";
-    assert_verdicts(
-        &rt,
-        rt.alloc(),
-        NO_REFRESH,
-        &[rows],
-        Ok(Verdict::Broken { row: 5, rule: 13 }),
-    )
-}
+const EARLIER_COMMANDS: &[&str] = &[
+    "2,0,ACT,0,0,0,,0,0\n4,0,ACT,1,0,0,,0,0\n5,0,WR,0,0,0,0,0,0\n9,0,WR,1,0,0,0,0,0\n13,0,RD,0,0,0,0,0,0\n",
+];
 
 /// The window of four ACTs is one of a rank.
-#[test]
-fn five_acts_of_two_ranks_are_legal(rt: HostRuntime) -> Result<(), Fail> {
-    let rows =
-        "2,0,ACT,0,0,0,0,,0,0\n4,0,ACT,0,1,0,0,,0,0\n6,0,ACT,0,0,1,0,,0,0\n7,0,ACT,1,0,0,0,,0,0\n8,0,ACT,0,1,1,0,,0,0\n";
-    assert_verdicts(&rt, rt.alloc(), RANKS, &[rows], Ok(Verdict::Legal))
-}
+const FIVE_ACTS: &[&str] = &[
+    "2,0,ACT,0,0,0,0,,0,0\n4,0,ACT,0,1,0,0,,0,0\n6,0,ACT,0,0,1,0,,0,0\n7,0,ACT,1,0,0,0,,0,0\n8,0,ACT,0,1,1,0,,0,0\n",
+];
+
+const MALFORMED_ROWS: &[&str] = &[
+    "2,0,ACT,2,0,0,,0,0\n",
+    "2,0,PRE,0,0,0,,0,0\n",
+    "4611686018427387904,0,ACT,0,0,0,,0,0\n",
+    "2,0,ACT,0,0,0,,0\n",
+    "2,0,act,0,0,0,,0,0\n",
+    "2,0,ACT,0,0,,,0,0\n",
+    "2,0,ACT,0,0,0,,0,0x\n",
+    "99999999999999999999999,0,ACT,0,0,0,,0,0\n",
+];
+
+const OTHER_FORMS: &[&str] = &[
+    "cycle,channel,command,group,bank,row,column,core,entry\n",
+    "cycle,channel,command,group,bank,row,column,core,entry",
+    "cycle,channel,command,group,bank,row,column,core,entry\n002,0,ACT,0,0,0,,0,0\n",
+    "cycle,channel,\"command\",group,bank,row,column,core,entry\n\"2\",0,\"ACT\",0,0,0,,0,0\n",
+    "\n\ncycle,channel,command,group,bank,row,column,core,entry\n\n2,0,ACT,0,0,0,,0,0\n\n",
+    "cycle,channel,command,group,bank,row,column,core,entry\r\n2,0,ACT,0,0,0,,0,0\r\n",
+    "cycle,channel,command,group,bank,row,column,core,entry\r2,0,ACT,0,0,0,,0,0\r",
+];
+
+const WRONG_HEADERS: &[&str] = &[
+    "",
+    "2,0,ACT,0,0,0,,0,0\n",
+    "cycle,channel,command,group,bank,row,column,core\n",
+    "cycle,channel,command,rank,group,bank,row,column,core,entry\n",
+    " cycle,channel,command,group,bank,row,column,core,entry\n",
+];
+
+static VERDICTS: [(Layout, &[&str], Result<Verdict, Fault>); 5] = [
+    (
+        NO_REFRESH,
+        EARLIER_COMMANDS,
+        Ok(Verdict::Broken { row: 5, rule: 13 }),
+    ),
+    (RANKS, FIVE_ACTS, Ok(Verdict::Legal)),
+    (NO_REFRESH, MALFORMED_ROWS, Err(Fault::CheckRow(1))),
+    (WHOLE, OTHER_FORMS, Ok(Verdict::Legal)),
+    (WHOLE, WRONG_HEADERS, Err(Fault::CheckRow(0))),
+];
 
 #[test]
-fn malformed_rows(rt: HostRuntime) -> Result<(), Fail> {
-    let rows = [
-        "2,0,ACT,2,0,0,,0,0\n",
-        "2,0,PRE,0,0,0,,0,0\n",
-        "4611686018427387904,0,ACT,0,0,0,,0,0\n",
-        "2,0,ACT,0,0,0,,0\n",
-        "2,0,act,0,0,0,,0,0\n",
-        "2,0,ACT,0,0,,,0,0\n",
-        "2,0,ACT,0,0,0,,0,0x\n",
-        "99999999999999999999999,0,ACT,0,0,0,,0,0\n",
-    ];
-    assert_verdicts(&rt, rt.alloc(), NO_REFRESH, &rows, Err(Fault::CheckRow(1)))
-}
-
-#[test]
-fn other_forms_of_text(rt: HostRuntime) -> Result<(), Fail> {
-    let tables = [
-        "cycle,channel,command,group,bank,row,column,core,entry\n",
-        "cycle,channel,command,group,bank,row,column,core,entry",
-        "cycle,channel,command,group,bank,row,column,core,entry\n002,0,ACT,0,0,0,,0,0\n",
-        "cycle,channel,\"command\",group,bank,row,column,core,entry\n\"2\",0,\"ACT\",0,0,0,,0,0\n",
-        "\n\ncycle,channel,command,group,bank,row,column,core,entry\n\n2,0,ACT,0,0,0,,0,0\n\n",
-        "cycle,channel,command,group,bank,row,column,core,entry\r\n2,0,ACT,0,0,0,,0,0\r\n",
-        "cycle,channel,command,group,bank,row,column,core,entry\r2,0,ACT,0,0,0,,0,0\r",
-    ];
-    assert_verdicts(&rt, rt.alloc(), WHOLE, &tables, Ok(Verdict::Legal))
-}
-
-#[test]
-fn wrong_headers(rt: HostRuntime) -> Result<(), Fail> {
-    let tables = [
-        "",
-        "2,0,ACT,0,0,0,,0,0\n",
-        "cycle,channel,command,group,bank,row,column,core\n",
-        "cycle,channel,command,rank,group,bank,row,column,core,entry\n",
-        " cycle,channel,command,group,bank,row,column,core,entry\n",
-    ];
-    assert_verdicts(&rt, rt.alloc(), WHOLE, &tables, Err(Fault::CheckRow(0)))
+fn each_table_has_its_verdict(rt: HostRuntime) -> Result<(), Fail> {
+    for (layout, tables, want) in &VERDICTS {
+        assert_verdicts(&rt, rt.alloc(), layout, tables, *want)?;
+    }
+    Ok(())
 }

@@ -35,7 +35,7 @@ pub struct Crew<'a, T: Drop, D: DoneOf<T> + Drop, W: Work<T, D>, B: Room, R: Wai
 
 impl<'a, T: Drop, D: DoneOf<T> + Drop, W: Work<T, D>, B: Room, R: Wait> Crew<'a, T, D, W, B, R> {
     /// A crew in this hall, by the seat that puts there.
-    pub fn new(
+    pub(crate) fn new(
         rt: &'a R,
         alloc: Global,
         work: &'a W,

@@ -14,22 +14,22 @@ use std::sync::atomic::{AtomicBool, Ordering};
 use std::thread;
 
 /// What comes home from a thread: what it did, or that it met refused memory.
-pub type Parcel<T, D, B> = Result<Load<T, D, B>, AllocError>;
+pub(crate) type Parcel<T, D, B> = Result<Load<T, D, B>, AllocError>;
 
 /// A board, the parcels that are on their way home, and the bells for both.
 #[derive(Drop)]
-pub struct Hall<T: Drop, D: DoneOf<T> + Drop, B: Room> {
-    pub board: Board<T, B>,
-    pub homes: ArrayQueue<Parcel<T, D, B>>,
-    pub work: Bell,
-    pub home: Bell,
-    pub over: AtomicBool,
-    pub patience: Patience,
+pub(crate) struct Hall<T: Drop, D: DoneOf<T> + Drop, B: Room> {
+    pub(crate) board: Board<T, B>,
+    pub(crate) homes: ArrayQueue<Parcel<T, D, B>>,
+    pub(crate) work: Bell,
+    pub(crate) home: Bell,
+    pub(crate) over: AtomicBool,
+    pub(crate) patience: Patience,
 }
 
 impl<T: Drop, D: DoneOf<T> + Drop, B: Room> Hall<T, D, B> {
     /// A hall with this board, for so many threads. Only memory can be refused.
-    pub fn new(
+    pub(crate) fn new(
         alloc: Global,
         board: Board<T, B>,
         threads: usize,
@@ -50,7 +50,7 @@ impl<T: Drop, D: DoneOf<T> + Drop, B: Room> Hall<T, D, B> {
     }
 
     /// Takes tasks and runs them until the board is empty at one moment. Only memory can be refused.
-    pub fn claim<W: Work<T, D>, R: Wait>(
+    pub(crate) fn claim<W: Work<T, D>, R: Wait>(
         &self,
         rt: &R,
         alloc: Global,
@@ -94,7 +94,7 @@ impl<T: Drop, D: DoneOf<T> + Drop, B: Room> Hall<T, D, B> {
 
     /// What a thread does until the hall is closed: it runs tasks, sends home what came of them, and waits for more. Where
     /// memory is refused, it says so and goes.
-    pub fn serve<W: Work<T, D>, R: Wait>(
+    pub(crate) fn serve<W: Work<T, D>, R: Wait>(
         &self,
         rt: &R,
         alloc: Global,
@@ -126,7 +126,7 @@ impl<T: Drop, D: DoneOf<T> + Drop, B: Room> Hall<T, D, B> {
     }
 
     /// Tells the threads that there will be no more tasks.
-    pub fn close(&self) {
+    pub(crate) fn close(&self) {
         self.over.store(true, Ordering::SeqCst);
         self.work.ring();
     }

@@ -8,8 +8,8 @@ use crate::work::DoneOf;
 
 /// What came of tasks, and a seat of this board that took just these, in this order.
 #[derive(Drop)]
-pub struct Load<T, D: DoneOf<T>, B: Room> {
-    pub seat: TakeSeat<T, B>,
-    pub dones: Vec<D>,
+pub(crate) struct Load<T, D: DoneOf<T>, B: Room> {
+    pub(crate) seat: TakeSeat<T, B>,
+    pub(crate) dones: Vec<D>,
     ghost same: { seat ≡ map D.task dones.items },
 }

@@ -108,8 +108,8 @@ pub(crate) fn step(
 {
     mail.sent.clear();
     go_all(machine, links, mail, slots, words, now, until)?;
-    links.accept(&mail.sent)?;
     lower_all(&machine.config, words, &mail.sent);
+    links.accept(&mut mail.sent)?;
     Ok(())
 }
 
@@ -185,7 +185,12 @@ pub(crate) fn slots_of(alloc: Global, parts: Vec<Part>, now: Cycle) -> Result<Ve
     let mut slots = Vec::with_capacity(alloc, parts.len())?;
     for part in parts {
         let part = Box::new(alloc, part)?;
-        slots.push(Slot { part, at: now })?;
+        let mail = Mail::new(alloc);
+        slots.push(Slot {
+            part,
+            at: now,
+            mail,
+        })?;
     }
     Ok(slots)
 }

@@ -9,19 +9,20 @@ ghost use Rattle.epochs.specs.Wakes.{IsDone};
 
 use crate::machine::Machine;
 use crate::part::Part;
+use crate::slot::Mail;
 use sim_base::job::JobName;
-use sim_base::message::{Cycle, Inbox, Message};
+use sim_base::message::Cycle;
 use std::alloc::{AllocError, Global};
 use std::marker::Model;
 use std::sync::Arc;
 
-/// A unit of a machine at the beginning of a span of cycles, with the messages that arrive at it in them.
+/// A unit of a machine at the beginning of a span of cycles, with the messages that arrive at it in them, and a list for those that it sends.
 #[derive(Drop)]
 pub struct Job {
     machine: Arc<Machine>,
     name: JobName,
     part: Box<Part>,
-    inbox: Inbox,
+    mail: Mail,
 }
 
 impl Model for Job {
@@ -39,7 +40,7 @@ impl Model for Job {
 
     ghost view = { λ j. record { machine = (arc_value j.machine).config; traces = (arc_value j.machine).traces.items; name = j.name } };
 
-    ghost invariant = { λ j. IsJob (arc_value j.machine).config (arc_value j.machine).traces.items j.name j.part.value j.inbox.items };
+    ghost invariant = { λ j. IsJob (arc_value j.machine).config (arc_value j.machine).traces.items j.name j.part.value j.mail.inbox.items };
 }
 
 /// A unit at the end of the span of a job, with the messages that it sent in it, and a cycle before which it sends nothing more, if
@@ -49,7 +50,7 @@ pub struct Done {
     machine: Arc<Machine>,
     name: JobName,
     part: Box<Part>,
-    messages: Vec<Message>,
+    mail: Mail,
     send: Cycle,
 }
 
@@ -68,28 +69,28 @@ impl Model for Done {
 
     ghost view = { λ d. record { machine = (arc_value d.machine).config; traces = (arc_value d.machine).traces.items; name = d.name } };
 
-    ghost invariant = { λ d. IsDone (arc_value d.machine).config (arc_value d.machine).traces.items d.name d.part.value d.messages.items d.send };
+    ghost invariant = { λ d. IsDone (arc_value d.machine).config (arc_value d.machine).traces.items d.name d.part.value d.mail.sent.items d.send };
 }
 
-/// A unit with the messages that it sent in a span, and a cycle before which it sends nothing more.
+/// A unit with its lists, of which one holds what it sent in a span, and a cycle before which it sends nothing more.
 #[derive(Drop)]
 pub(crate) struct Sent {
     pub part: Box<Part>,
-    pub messages: Vec<Message>,
+    pub mail: Mail,
     pub send: Cycle,
 }
 
 impl Job {
     /// A unit that is to run over a span.
-    pub(crate) fn new(machine: Arc<Machine>, name: JobName, part: Box<Part>, inbox: Inbox) -> Job
-        requires { IsJob (arc_value machine).config (arc_value machine).traces.items name part.value inbox.items }
+    pub(crate) fn new(machine: Arc<Machine>, name: JobName, part: Box<Part>, mail: Mail) -> Job
+        requires { IsJob (arc_value machine).config (arc_value machine).traces.items name part.value mail.inbox.items }
         ensures { result ≡ record { machine = (arc_value machine).config; traces = (arc_value machine).traces.items; name = name } }
     {
         Job {
             machine,
             name,
             part,
-            inbox,
+            mail,
         }
     }
 
@@ -101,22 +102,22 @@ impl Job {
     }
 
     /// Runs the unit over the span. Only memory can be refused; the unit is then gone.
-    pub fn run(self, alloc: Global) -> Result<Done, AllocError>
+    pub fn run(self) -> Result<Done, AllocError>
         ensures { IfOk result (λ done. done ≡ self) }
     {
         let Job {
             machine,
             name,
             mut part,
-            inbox,
+            mail: Mail { inbox, mut sent },
         } = self;
-        let mut messages = Vec::new(alloc);
-        let send = part.run_and_tell(&inbox, name.from, name.until, &mut messages)?;
+        sent.clear();
+        let send = part.run_and_tell(&inbox, name.from, name.until, &mut sent)?;
         Ok(Done {
             machine,
             name,
             part,
-            messages,
+            mail: Mail { inbox, sent },
             send,
         })
     }
@@ -130,20 +131,16 @@ impl Done {
         self.name
     }
 
-    /// The unit, and what it sent.
+    /// The unit, with what it sent.
     pub(crate) fn into_sent(self) -> Sent
-        ensures { IsDone self.machine self.traces self.name result.part.value result.messages.items result.send }
+        ensures { IsDone self.machine self.traces self.name result.part.value result.mail.sent.items result.send }
     {
         let Done {
             part,
-            messages,
+            mail,
             send,
             ..
         } = self;
-        Sent {
-            part,
-            messages,
-            send,
-        }
+        Sent { part, mail, send }
     }
 }

@@ -44,8 +44,8 @@ fn parts_of(
 {
     let mut parts = Vec::new(alloc);
     for done in results {
-        let Sent { part, messages, .. } = done.into_sent();
-        links.accept(&messages)?;
+        let Sent { part, mut mail, .. } = done.into_sent();
+        links.accept(&mut mail.sent)?;
         parts.push(Box::into_inner(part))?;
     }
     Ok(parts)

@@ -77,7 +77,7 @@ pub(crate) fn results_of(alloc: Global, jobs: Vec<Job>) -> Result<Vec<Done>, All
 {
     let mut results = Vec::new(alloc);
     for job in jobs {
-        results.push(job.run(alloc)?)?;
+        results.push(job.run()?)?;
     }
     Ok(results)
 }

@@ -18,6 +18,7 @@ use crate::machine::{Machine, unit_at};
 use crate::part::Part;
 use crate::phase::Phase;
 use crate::sim::Sim;
+use crate::slot::Mail;
 use links::flight::Links;
 use links::latency::shortest;
 use sim_base::config::Config;
@@ -63,9 +64,10 @@ fn job_for(
     ensures job { IfOk result (λ job. job ≡ record { machine = (arc_value machine.now).config; traces = (arc_value machine.now).traces.items; name = name }) }
     ensures left { OnOk result (links.new ≡ record links.old { messages = filter (λ m. not (is_due links.old.channels name.unit name.from name.until m)) links.old.messages }) }
 {
-    let inbox = links.take_due(alloc, name.unit, name.from, name.until)?;
+    let mut mail = Mail::new(alloc);
+    links.take_due_into(name.unit, name.from, name.until, &mut mail.inbox)?;
     let part = Box::new(alloc, part)?;
-    Ok(Job::new(machine.clone()?, name, part, inbox))
+    Ok(Job::new(machine.clone()?, name, part, mail))
 }
 
 /// The jobs of all units, which take what arrives at them out of the links.

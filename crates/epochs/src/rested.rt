@@ -79,10 +79,7 @@ impl Sim {
         } = self;
         let words = vec![in alloc; now; parts.len()]?;
         let slots = slots_of(alloc, parts, now)?;
-        let mail = Mail {
-            inbox: Vec::new(alloc),
-            sent: Vec::new(alloc),
-        };
+        let mail = Mail::new(alloc);
         Ok(Rested {
             machine,
             now,

@@ -44,7 +44,6 @@ impl Slot {
     /// The job of the unit at a place, which takes what arrives at it in a phase out of the links.
     fn job(
         self,
-        alloc: Global,
         machine: &Arc<Machine>,
         links: &mut Links,
         word: Cycle,
@@ -58,23 +57,23 @@ impl Slot {
           messages = left (arc_value machine.now).config span.from span.until (place + 1) (in_flight (arc_value machine.now).config (arc_value machine.now).traces.items (run (arc_value machine.now).config (arc_value machine.now).traces.items span.from));
         }) }
     {
-        let Slot { part, at } = self;
+        let Slot { part, at, mut mail } = self;
         let unit = unit_at(&machine.config, place);
-        let inbox = links.take_due(alloc, unit, span.from, span.until)?;
+        mail.inbox.clear();
+        links.take_due_into(unit, span.from, span.until, &mut mail.inbox)?;
         let name = JobName {
             phase: span.number,
             unit,
             from: at,
             until: span.until,
         };
-        Ok(Job::new(machine.clone()?, name, part, inbox))
+        Ok(Job::new(machine.clone()?, name, part, mail))
     }
 
     /// Calls the unit at a place into a phase. One whose word is before its end puts its job behind a list, another stays in its
     /// place.
     fn called(
         self,
-        alloc: Global,
         machine: &Arc<Machine>,
         links: &mut Links,
         jobs: &mut Vec<Job>,
@@ -91,7 +90,7 @@ impl Slot {
         }) }
     {
         if word < span.until {
-            jobs.push(self.job(alloc, machine, links, word, place, span)?)?;
+            jobs.push(self.job(machine, links, word, place, span)?)?;
             return Ok(Seat::Out);
         }
         Ok(Seat::Left(self))
@@ -121,7 +120,7 @@ pub(crate) fn call_all(
     let mut jobs = Vec::new(alloc);
     for slot in slots {
         let place = seats.len();
-        let seat = slot.called(alloc, machine, links, &mut jobs, words[place], place, span)?;
+        let seat = slot.called(machine, links, &mut jobs, words[place], place, span)?;
         seats.push(seat)?;
     }
     Ok((seats, jobs))
@@ -176,15 +175,16 @@ impl Seat {
             Seat::Back(done) => {
                 let Sent {
                     part,
-                    mut messages,
+                    mut mail,
                     send,
                 } = done.into_sent();
-                sent.append(&mut messages)?;
+                sent.append(&mut mail.sent)?;
                 let unit = unit_at(&machine.config, place);
                 *word = arrival_word(links, unit, span.until, send);
                 Ok(Slot {
                     part,
                     at: span.until,
+                    mail,
                 })
             }
         }

@@ -73,8 +73,8 @@ impl Shift {
             &mut mail.sent,
             span,
         )?;
-        links.accept(&mail.sent)?;
         lower_all(&machine.config, &mut words, &mail.sent);
+        links.accept(&mut mail.sent)?;
         Ok(Rested {
             machine,
             now: span.until,

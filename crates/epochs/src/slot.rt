@@ -20,18 +20,31 @@ use links::flight::Links;
 use sim_base::message::{Cycle, Message, Unit};
 use std::alloc::{AllocError, Global};
 
-/// A unit, and the cycle where it stands.
-#[derive(Drop)]
-pub(crate) struct Slot {
-    pub part: Box<Part>,
-    pub at: Cycle,
-}
-
-/// Lists that a phase uses again: what arrives at a unit, and what all units send.
+/// Lists that each phase uses again, and whose room it keeps: what arrives at a unit, and what is sent.
 #[derive(Drop)]
 pub(crate) struct Mail {
     pub inbox: Vec<Message>,
     pub sent: Vec<Message>,
+}
+
+impl Mail {
+    /// Lists that hold nothing, and have no room.
+    pub(crate) fn new(alloc: Global) -> Mail
+        ensures { (result.inbox.items ≡ []) × (result.sent.items ≡ []) }
+    {
+        Mail {
+            inbox: Vec::new(alloc),
+            sent: Vec::new(alloc),
+        }
+    }
+}
+
+/// A unit, the cycle where it stands, and the lists that go along with its jobs, so that no thread gives back the memory of another.
+#[derive(Drop)]
+pub(crate) struct Slot {
+    pub part: Box<Part>,
+    pub at: Cycle,
+    pub mail: Mail,
 }
 
 /// A cycle, not before `from`, where the unit stands, before which it sends nothing, if nothing arrives at it; the last of all words,
@@ -165,7 +178,7 @@ impl Slot {
         requires waits { Waits machine.now.config machine.now.traces.items (unit_at machine.now.config place) now (sleeper self word) }
         ensures { IfOk result (λ part. IsPart machine.now.config machine.now.traces.items (unit_at machine.now.config place) now part) }
     {
-        let Slot { mut part, at } = self;
+        let Slot { mut part, at, .. } = self;
         mail.inbox.clear();
         part.run(&mail.inbox, at, now, &mut mail.sent)?;
         Ok(Box::into_inner(part))

@@ -35,7 +35,7 @@ put-before m n (x ∷ xs) e =
     (λ g. cond-true _ _ _ g ∙ sym (cond-false _ _ _ (before_asym m n e) ∙ ap (λ y. m ∷ y) (cond-false _ _ _ f)))
     (λ g. cond-false _ _ _ g ∙ ap (λ y. x ∷ y) (put-before m n xs e) ∙ sym (cond-false _ _ _ f)))
 
-put-put : (m n : Message) (ns : List Message) → is_tie m n ≡ false → put m (put n ns) ≡ put n (put m ns)
+pub put-put : (m n : Message) (ns : List Message) → is_tie m n ≡ false → put m (put n ns) ≡ put n (put m ns)
 put-put m n ns h = by (is_before m n) refl
   where
     by : (b : Bool) → is_before m n ≡ b → put m (put n ns) ≡ put n (put m ns)

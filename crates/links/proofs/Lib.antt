@@ -1,4 +1,5 @@
 pub mod Ages
+pub mod Sorting
 pub mod Steps
 pub mod Held
 pub mod Both

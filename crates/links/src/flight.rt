@@ -1,7 +1,8 @@
 //! The messages in flight.
 
-ghost use Rattle.std.specs.Prelude.{◌≡◌, ◌+◌, ◌<◌, ◌^◌, ◌≤◌, [], length, filter, fold, not, ◌==◌, slice_get, false, All, Any, ◌↔◌, IsTrue, IsNone, IfSome, IfOk, OnOk, OnErr, IsOkAnd};
+ghost use Rattle.std.specs.Prelude.{◌≡◌, ◌+◌, ◌<◌, ◌^◌, ◌≤◌, [], length, filter, fold, List, not, ◌==◌, slice_get, false, All, Any, ◌↔◌, IsTrue, IsNone, IfSome, IfOk, OnOk, OnErr, IsOkAnd};
 ghost use Rattle.std.specs.List.{list_all};
+ghost use Rattle.std.specs.List.Sorted.{IsPermutation};
 ghost use Rattle.std.specs.Option.{option_map};
 ghost use Rattle.sim_base.specs.History.{is_unit, insert_by_age, by_age};
 ghost use Rattle.links.specs.InFlight.{receiver_of, arrives_within, is_due};
@@ -17,6 +18,9 @@ use sim_base::config::Config;
 use sim_base::message::{Cycle, Inbox, LinkId, Message, Unit};
 use std::alloc::{AllocError, Global};
 use std::marker::Model;
+
+/// So many messages are put into their rings one after the other; more are worth a sort.
+const FEW_MESSAGES: usize = 64;
 
 /// The messages in flight on the links of a machine.
 ///
@@ -177,6 +181,15 @@ fn put_all(rings: &mut Vec<Ring>, channels: u16, messages: &[Message])
         let number = ring_of_link(channels, message.link);
         put_by_age(&mut rings[number], message);
     }
+}
+
+/// Puts messages in order of arrival, in which nearly every one joins its ring at the back. Those that arrive together stay in order, and
+/// so all come to stand in the rings as they would have.
+fn sort_by_arrival(alloc: Global, messages: &mut [Message]) -> Result<(), AllocError>
+    ensures same { IsPermutation messages.old messages.new }
+    ensures puts { (ms : List Message) → fold insert_by_age ms messages.new ≡ fold insert_by_age ms messages.old }
+{
+    messages.sort_by_key(alloc, |message| message.arrival)
 }
 
 /// Takes what arrives within a span out of a ring, into an empty list. Where memory is refused, the rings stay as they were.
@@ -349,14 +362,18 @@ impl Links {
         })
     }
 
-    /// Takes messages up. Where memory is refused, the links stay as they were.
-    pub fn accept(&mut self, messages: &[Message]) -> Result<(), AllocError>
-        ensures ok { OnOk result (self.new ≡ record self.old { messages = fold insert_by_age self.old.messages messages.now }) }
+    /// Takes messages up; they may change places. Where memory is refused, the links stay as they were.
+    pub fn accept(&mut self, messages: &mut [Message]) -> Result<(), AllocError>
+        ensures same { IsPermutation messages.old messages.new }
+        ensures ok { OnOk result (self.new ≡ record self.old { messages = fold insert_by_age self.old.messages messages.old }) }
         ensures err { OnErr result (self.new ≡ self.old) }
     {
         if let [message] = messages {
             put_one(self.alloc, &mut self.rings, self.channels, message)?;
             return Ok(());
+        }
+        if messages.len() > FEW_MESSAGES {
+            sort_by_arrival(self.alloc, messages)?;
         }
         make_room_for(self.alloc, &mut self.rings, self.channels, messages)?;
         put_all(&mut self.rings, self.channels, messages);

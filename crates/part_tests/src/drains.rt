@@ -2,6 +2,7 @@
 
 ghost use Rattle.std.specs.Prelude.{◌≡◌, true};
 
+use crate::expect::expect;
 use queue::Queue;
 use sim_base::message::Request;
 use sim_base::place::Place;
@@ -35,22 +36,33 @@ fn drains_from_three_writes_down_to_one(rt: HostRuntime) -> Result<(), Fail> {
     queue.arrive(write(0));
     queue.arrive(write(1));
     queue.settle();
-    assert!(rt; !queue.draining());
+    let of_two = queue.draining();
     queue.arrive(write(2));
     queue.settle();
-    assert!(rt; queue.draining());
+    let of_three = queue.draining();
     queue.serve(0);
     queue.settle();
-    assert!(rt; queue.draining());
+    let then_of_two = queue.draining();
     queue.serve(0);
     queue.arrive(write(3));
     queue.settle();
-    assert!(rt; queue.draining());
+    let of_two_still = queue.draining();
     queue.serve(0);
     queue.settle();
-    assert!(rt; !queue.draining());
+    let of_one = queue.draining();
     queue.arrive(write(4));
     queue.settle();
-    assert!(rt; !queue.draining());
+    expect(
+        &rt,
+        &[
+            of_two,
+            of_three,
+            then_of_two,
+            of_two_still,
+            of_one,
+            queue.draining(),
+        ],
+        &[false, true, true, true, false, false],
+    );
     Ok(())
 }

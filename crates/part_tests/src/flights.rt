@@ -1,10 +1,14 @@
 //! Messages whose order and arrival are known from the numbers of links.
 
+use crate::expect::expect;
 use fixtures::small::small;
 use links::flight::Links;
 use links::latency::shortest;
-use sim_base::message::{Cycle, LinkId, Load, Message, Unit};
+use sim_base::config::Config;
+use sim_base::fault::Fault;
+use sim_base::message::{CoreId, Cycle, LinkId, Load, Message, Unit};
 use std::alloc::{AllocError, Global};
+use std::process::Abort;
 use std::test::Fail;
 
 // A reply for an entry.
@@ -17,7 +21,7 @@ fn message(link: LinkId, arrival: Cycle, entry: u64) -> Message {
 }
 
 // Takes messages up, and once more where memory was refused.
-fn accept_again(links: &mut Links, messages: &[Message]) -> Result<(), AllocError> {
+fn accept_again(links: &mut Links, messages: &mut [Message]) -> Result<(), AllocError> {
     match links.accept(messages) {
         Ok(()) => Ok(()),
         Err(_) => links.accept(messages),
@@ -43,83 +47,182 @@ fn links_of(alloc: Global, inbox: &[Message]) -> Result<Vec<LinkId>, AllocError>
     inbox.iter().map(|message| message.link).collect(alloc)
 }
 
-#[test]
-fn many_links_of_one_arrival(rt: HostRuntime) -> Result<(), Fail> {
-    let alloc = rt.alloc();
-    let config = small(alloc, &["cores = 64", "channels = 16"], "")?;
-    let mut links = Links::start(alloc, &config)?;
+// On which links the messages come that are due.
+fn links_due(
+    alloc: Global,
+    links: &mut Links,
+    unit: Unit,
+    from: Cycle,
+    until: Cycle,
+) -> Result<Vec<LinkId>, AllocError> {
+    let inbox = take_again(alloc, links, unit, from, until)?;
+    links_of(alloc, &inbox)
+}
+
+// A message on each link of 64 cores and 16 channels, of one arrival.
+fn sent_on_all(alloc: Global) -> Result<Vec<Message>, AllocError> {
     let mut sent = Vec::new(alloc);
     for link in (0..3072).rev() {
         sent.push(message(link, 7, link))?;
     }
-    accept_again(&mut links, &sent)?;
-    assert_eq!(rt; links.next_arrival(), Some(7));
-    let core = take_again(alloc, &mut links, Unit::Core(5), 7, 8)?;
+    Ok(sent)
+}
+
+// The links of replies and credits to core 5.
+fn links_to_core(alloc: Global) -> Result<Vec<LinkId>, AllocError> {
     let mut wanted = Vec::new(alloc);
     for channel in 0..16u64 {
         wanted.push(3 * (5 * 16 + channel) + 1)?;
         wanted.push(3 * (5 * 16 + channel) + 2)?;
     }
-    assert_eq!(rt; links_of(alloc, &core)?, wanted);
-    let channel = take_again(alloc, &mut links, Unit::Channel(3), 0, 100)?;
+    Ok(wanted)
+}
+
+// The links of requests to channel 3.
+fn links_to_channel(alloc: Global) -> Result<Vec<LinkId>, AllocError> {
     let mut wanted = Vec::new(alloc);
     for core in 0..64u64 {
         wanted.push(3 * (core * 16 + 3))?;
     }
-    assert_eq!(rt; links_of(alloc, &channel)?, wanted);
-    assert_eq!(rt; links.next_arrival(), Some(7));
+    Ok(wanted)
+}
+
+// Whether what is due of core 5 and of channel 3 comes by its links.
+fn come_by_link(alloc: Global, links: &mut Links) -> Result<[bool; 2], AllocError> {
+    let core = links_due(alloc, links, Unit::Core(5), 7, 8)? == links_to_core(alloc)?;
+    let channel = links_due(alloc, links, Unit::Channel(3), 0, 100)? == links_to_channel(alloc)?;
+    Ok([core, channel])
+}
+
+// The links of a machine, with a message on each.
+fn filled(alloc: Global) -> Result<Links, Fault> {
+    let config = small(alloc, &["cores = 64", "channels = 16"], "")?;
+    let mut links = Links::start(alloc, &config)?;
+    let mut sent = sent_on_all(alloc)?;
+    accept_again(&mut links, &mut sent)?;
+    Ok(links)
+}
+
+#[test]
+fn many_links_of_one_arrival(rt: HostRuntime) -> Result<(), Fail> {
+    let mut links = filled(rt.alloc())?;
+    let before = links.next_arrival();
+    let come = come_by_link(rt.alloc(), &mut links)?;
+    expect(
+        &rt,
+        &(before, come, links.next_arrival()),
+        &(Some(7), [true, true], Some(7)),
+    );
     Ok(())
+}
+
+// The links of the small machine, of which one is slow and one is fast.
+fn uneven(alloc: Global) -> Result<Config, Fault> {
+    let own = "[[link]]\nid = 1\nlatency = 9\n[[link]]\nid = 2\nlatency = 1\n";
+    small(alloc, &[], own)
+}
+
+// Sends a reply in cycle 10, and a credit and a request in cycle 11.
+fn send_three(links: &mut Links, sent: &[Message; 3]) -> Result<(), AllocError> {
+    let [reply, credit, request] = *sent;
+    accept_again(links, &mut [reply])?;
+    accept_again(links, &mut [credit, request])
+}
+
+// Whether no message is in flight, and when the next arrives.
+fn state_of(links: &Links) -> (bool, Option<Cycle>) {
+    (links.is_empty(), links.next_arrival())
+}
+
+// The states before and after the three, and whether core 0 gets the credit and the reply, and channel 0 the request.
+fn overtaken(
+    alloc: Global,
+    links: &mut Links,
+    sent: &[Message; 3],
+) -> Result<([(bool, Option<Cycle>); 4], [bool; 2]), AllocError> {
+    let [reply, credit, request] = *sent;
+    let before = state_of(links);
+    send_three(links, sent)?;
+    let all = state_of(links);
+    let both = take_again(alloc, links, Unit::Core(0), 0, 20)?;
+    let is_both = both.as_slice() == [credit, reply].as_slice();
+    let one = state_of(links);
+    let last = take_again(alloc, links, Unit::Channel(0), 13, 14)?;
+    let is_last = last.as_slice() == [request].as_slice();
+    Ok(([before, all, one, state_of(links)], [is_both, is_last]))
+}
+
+// The reply and the credit that are sent in cycles 10 and 11, and a request.
+fn three(config: &Config) -> [Message; 3] {
+    let reply = message(1, 10 + u64::from(config.latency(1)), 0);
+    let credit = message(2, 11 + u64::from(config.latency(2)), 1);
+    let request = message(0, 11 + u64::from(config.latency(0)), 2);
+    [reply, credit, request]
 }
 
 #[test]
 fn short_links_overtake(rt: HostRuntime) -> Result<(), Fail> {
-    let alloc = rt.alloc();
-    let own = "[[link]]\nid = 1\nlatency = 9\n[[link]]\nid = 2\nlatency = 1\n";
-    let config = small(alloc, &[], own)?;
-    assert_eq!(rt; shortest(&config), 1);
-    let mut links = Links::start(alloc, &config)?;
-    assert!(rt; links.is_empty());
-    assert_eq!(rt; links.next_arrival(), None);
-    // Sent in cycles 10 and 11.
-    let reply = message(1, 10 + u64::from(config.latency(1)), 0);
-    let credit = message(2, 11 + u64::from(config.latency(2)), 1);
-    let request = message(0, 11 + u64::from(config.latency(0)), 2);
-    accept_again(&mut links, &[reply])?;
-    accept_again(&mut links, &[credit, request])?;
-    assert_eq!(rt; links.next_arrival(), Some(12));
-    let both = take_again(alloc, &mut links, Unit::Core(0), 0, 20)?;
-    assert_eq!(rt; both.as_slice(), [credit, reply].as_slice());
-    assert_eq!(rt; reply.arrival, 19);
-    assert!(rt; !links.is_empty());
-    assert_eq!(rt; links.next_arrival(), Some(13));
-    let last = take_again(alloc, &mut links, Unit::Channel(0), 13, 14)?;
-    assert_eq!(rt; last.as_slice(), [request].as_slice());
-    assert!(rt; links.is_empty());
-    assert_eq!(rt; links.next_arrival(), None);
+    let config = uneven(rt.alloc())?;
+    let mut links = Links::start(rt.alloc(), &config)?;
+    let sent = three(&config);
+    let (states, are) = overtaken(rt.alloc(), &mut links, &sent)?;
+    let wanted = [
+        (true, None),
+        (false, Some(12)),
+        (false, Some(13)),
+        (true, None),
+    ];
+    expect(
+        &rt,
+        &(shortest(&config), sent[0].arrival, states, are),
+        &(1, 19, wanted, [true, true]),
+    );
+    Ok(())
+}
+
+const EARLY: Message = Message {
+    link: 4,
+    arrival: 5,
+    load: Load::Reply(0),
+};
+
+const LATE: Message = Message {
+    link: 4,
+    arrival: 6,
+    load: Load::Reply(1),
+};
+
+const OTHER: Message = Message {
+    link: 1,
+    arrival: 5,
+    load: Load::Reply(2),
+};
+
+// A core and the ends of a span, and what is due in it, one after the other.
+static SPANS: [(CoreId, Cycle, Cycle, &[Message]); 7] = [
+    (1, 5, 5, &[]),
+    (1, 7, 5, &[]),
+    (1, 0, 5, &[]),
+    (1, 5, 6, &[EARLY]),
+    (1, 0, u64::MAX, &[LATE]),
+    (1, 0, u64::MAX, &[]),
+    (0, 5, 6, &[OTHER]),
+];
+
+fn assert_spans(rt: &impl Abort, alloc: Global, links: &mut Links) -> Result<(), AllocError> {
+    for (core, from, until, wanted) in &SPANS {
+        let inbox = take_again(alloc, links, Unit::Core(*core), *from, *until)?;
+        expect(rt, &inbox.as_slice(), wanted);
+    }
     Ok(())
 }
 
 #[test]
 fn spans_have_no_last_cycle(rt: HostRuntime) -> Result<(), Fail> {
-    let alloc = rt.alloc();
-    let config = small(alloc, &["cores = 2"], "")?;
-    assert_eq!(rt; shortest(&config), 2);
-    let mut links = Links::start(alloc, &config)?;
-    let early = message(4, 5, 0);
-    let late = message(4, 6, 1);
-    let other = message(1, 5, 2);
-    accept_again(&mut links, &[late, other, early])?;
-    for (core, from, until, wanted) in [
-        (1, 5, 5, [].as_slice()),
-        (1, 7, 5, &[]),
-        (1, 0, 5, &[]),
-        (1, 5, 6, &[early]),
-        (1, 0, u64::MAX, &[late]),
-        (1, 0, u64::MAX, &[]),
-        (0, 5, 6, &[other]),
-    ] {
-        let inbox = take_again(alloc, &mut links, Unit::Core(core), from, until)?;
-        assert_eq!(rt; inbox.as_slice(), wanted);
-    }
+    let config = small(rt.alloc(), &["cores = 2"], "")?;
+    expect(&rt, &shortest(&config), &2);
+    let mut links = Links::start(rt.alloc(), &config)?;
+    accept_again(&mut links, &mut [LATE, OTHER, EARLY])?;
+    assert_spans(&rt, rt.alloc(), &mut links)?;
     Ok(())
 }

@@ -2,6 +2,7 @@
 
 ghost use Rattle.std.specs.Prelude.{◌≡◌, length, vec_len, IfOk};
 
+use crate::expect::expect;
 use lane_scan::{
     and_mask, and_not_mask, equal_mask, first_marked, first_matching, least_marked, ready_mask,
 };
@@ -28,53 +29,96 @@ fn column(
     Ok(words)
 }
 
-fn expect_words(rt: &impl Abort, found: &[u64], wanted: &[u64]) {
-    assert_eq!(rt; found, wanted);
+/// The word at the one place, and the words elsewhere.
+type Words = (u64, u64);
+
+const HERE: Words = (1, 0);
+
+const UNLIKE: Words = (1, u64::MAX);
+
+const ELSEWHERE: Words = (0, 1);
+
+const ALL: Words = (1, 1);
+
+const NONE: Words = (0, 0);
+
+#[derive(Clone, Copy)]
+enum Kernel {
+    Equal,
+    And,
+    AndNot,
 }
 
-fn expect_place(rt: &impl Abort, found: Option<usize>, wanted: Option<usize>) {
-    assert_eq!(rt; found, wanted);
+/// The mask that a kernel makes of two columns.
+fn fill_mask(kernel: Kernel, a: &[u64], b: &[u64], out: &mut [u64])
+    requires same_length { length a.now ≡ length b.now }
+    requires room { length out.old ≡ length a.now }
+{
+    match kernel {
+        Kernel::Equal => equal_mask(a, b, out),
+        Kernel::And => and_mask(a, b, out),
+        Kernel::AndNot => and_not_mask(a, b, out),
+    }
 }
 
-fn expect_time(rt: &impl Abort, found: Option<u64>, wanted: Option<u64>) {
-    assert_eq!(rt; found, wanted);
-}
+/// A kernel, two columns, and their mask: one of them has a mark at the place, or everywhere else.
+static PAIRS: [(Kernel, Words, Words, Words); 6] = [
+    (Kernel::Equal, HERE, NONE, ELSEWHERE),
+    (Kernel::Equal, HERE, UNLIKE, HERE),
+    (Kernel::And, UNLIKE, ALL, HERE),
+    (Kernel::And, ELSEWHERE, UNLIKE, NONE),
+    (Kernel::AndNot, ALL, UNLIKE, ELSEWHERE),
+    (Kernel::AndNot, UNLIKE, ELSEWHERE, HERE),
+];
 
-/// The masks of two columns where one of them has a mark at a place, and where it has them everywhere else.
-fn check_pairs(rt: &impl Abort, alloc: Global, len: usize, place: usize) -> Result<(), AllocError> {
-    let here = column(alloc, len, place, 1, 0)?;
-    let unlike = column(alloc, len, place, 1, u64::MAX)?;
-    let elsewhere = column(alloc, len, place, 0, 1)?;
-    let all = column(alloc, len, place, 1, 1)?;
-    let none = column(alloc, len, place, 0, 0)?;
+/// The mask of two columns.
+fn mask_of(
+    alloc: Global,
+    kernel: Kernel,
+    (len, place): (usize, usize),
+    a: Words,
+    b: Words,
+) -> Result<Vec<u64>, AllocError> {
+    let first = column(alloc, len, place, a.0, a.1)?;
+    let second = column(alloc, len, place, b.0, b.1)?;
     let mut out = column(alloc, len, place, 5, 5)?;
-    equal_mask(&here, &none, &mut out);
-    expect_words(rt, &out, &elsewhere);
-    equal_mask(&here, &unlike, &mut out);
-    expect_words(rt, &out, &here);
-    and_mask(&unlike, &all, &mut out);
-    expect_words(rt, &out, &here);
-    and_mask(&elsewhere, &unlike, &mut out);
-    expect_words(rt, &out, &none);
-    and_not_mask(&all, &unlike, &mut out);
-    expect_words(rt, &out, &elsewhere);
-    and_not_mask(&unlike, &elsewhere, &mut out);
-    expect_words(rt, &out, &here);
+    fill_mask(kernel, &first, &second, &mut out);
+    Ok(out)
+}
+
+fn check_pairs(rt: &impl Abort, alloc: Global, len: usize, place: usize) -> Result<(), AllocError> {
+    for (kernel, a, b, want) in &PAIRS {
+        let found = mask_of(alloc, *kernel, (len, place), *a, *b)?;
+        let wanted = column(alloc, len, place, want.0, want.1)?;
+        expect(rt, &found, &wanted);
+    }
     Ok(())
 }
+
+/// Which times of a column have come.
+fn ready_of(
+    alloc: Global,
+    (len, place): (usize, usize),
+    times: Words,
+) -> Result<Vec<u64>, AllocError> {
+    let times = column(alloc, len, place, times.0, times.1)?;
+    let mut out = column(alloc, len, place, 5, 5)?;
+    ready_mask(&times, NOW, &mut out);
+    Ok(out)
+}
+
+/// A time that has come, and one that has not.
+static TIMES: [(u64, u64); 4] = [(0, NOW + 1), (NOW, u64::MAX), (0, u64::MAX), (NOW, NOW + 1)];
 
 /// Which times have come, where one is of another kind than the others.
 fn check_ready(rt: &impl Abort, alloc: Global, len: usize, place: usize) -> Result<(), AllocError> {
     let here = column(alloc, len, place, 1, 0)?;
     let elsewhere = column(alloc, len, place, 0, 1)?;
-    let mut out = column(alloc, len, place, 5, 5)?;
-    for (come, late) in [(0, NOW + 1), (NOW, u64::MAX), (0, u64::MAX), (NOW, NOW + 1)] {
-        let times = column(alloc, len, place, come, late)?;
-        ready_mask(&times, NOW, &mut out);
-        expect_words(rt, &out, &here);
-        let times = column(alloc, len, place, late, come)?;
-        ready_mask(&times, NOW, &mut out);
-        expect_words(rt, &out, &elsewhere);
+    for (come, late) in &TIMES {
+        let found = ready_of(alloc, (len, place), (*come, *late))?;
+        expect(rt, &found, &here);
+        let found = ready_of(alloc, (len, place), (*late, *come))?;
+        expect(rt, &found, &elsewhere);
     }
     Ok(())
 }
@@ -89,8 +133,8 @@ fn check_searches(
     let found = if place < len { Some(place) } else { None };
     let here = column(alloc, len, place, 1, 0)?;
     let unlike = column(alloc, len, place, 1, 2)?;
-    expect_place(rt, first_marked(&here), found);
-    expect_place(rt, first_marked(&unlike), found);
+    expect(rt, &first_marked(&here), &found);
+    expect(rt, &first_marked(&unlike), &found);
     for (time, other) in [
         (NOW, 0),
         (NOW, u64::MAX),
@@ -98,8 +142,8 @@ fn check_searches(
         (u64::MAX, u64::MAX),
     ] {
         let times = column(alloc, len, place, time, other)?;
-        expect_time(rt, least_marked(&times, &here), found.and(Some(time)));
-        expect_time(rt, least_marked(&times, &unlike), found.and(Some(time)));
+        expect(rt, &least_marked(&times, &here), &found.and(Some(time)));
+        expect(rt, &least_marked(&times, &unlike), &found.and(Some(time)));
     }
     Ok(())
 }
@@ -113,10 +157,10 @@ fn check_all_marked(
 ) -> Result<(), AllocError> {
     let all = column(alloc, len, place, 1, 1)?;
     let first = if 0 < len { Some(0) } else { None };
-    expect_place(rt, first_marked(&all), first);
+    expect(rt, &first_marked(&all), &first);
     let times = column(alloc, len, place, NOW, NOW + 1)?;
     let least = if place < len { NOW } else { NOW + 1 };
-    expect_time(rt, least_marked(&times, &all), first.and(Some(least)));
+    expect(rt, &least_marked(&times, &all), &first.and(Some(least)));
     Ok(())
 }
 
@@ -138,9 +182,9 @@ fn check_matching(
         (u64::MAX >> 1, u64::MAX, u64::MAX, u64::MAX >> 1),
     ] {
         let words = column(alloc, len, place, there, elsewhere)?;
-        expect_place(rt, first_matching(&words, mask, want), found);
-        expect_place(rt, first_matching(&words, 0, 0), first);
-        expect_place(rt, first_matching(&words, 0, 1), None);
+        expect(rt, &first_matching(&words, mask, want), &found);
+        expect(rt, &first_matching(&words, 0, 0), &first);
+        expect(rt, &first_matching(&words, 0, 1), &None);
     }
     Ok(())
 }

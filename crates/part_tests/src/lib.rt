@@ -2,8 +2,9 @@
 #![tactic(auto)]
 
 #[cfg(test)]
-#[cfg(test)]
 mod drains;
+#[cfg(test)]
+mod expect;
 #[cfg(test)]
 mod flights;
 #[cfg(test)]

@@ -5,21 +5,23 @@ ghost use Rattle.bank_ready.specs.Stands.{rank_count};
 ghost use Rattle.bank_ready.specs.Words.{names_bank};
 
 use bank_ready::banks::Banks;
+use crate::expect::expect;
 use fixtures::small::{RANK_FIELD, small};
 use sim_base::command::{Command, Kind, Source};
 use sim_base::config::Config;
+use sim_base::fault::Fault;
 use sim_base::message::Cycle;
 use sim_base::place::BankId;
 use std::alloc::Global;
 use std::test::Fail;
 
 /// Two ranks, which take turns without a pause.
-fn config(alloc: Global, n_cwl: &str) -> Result<Config, Fail>
+fn config(alloc: Global, n_cwl: &str) -> Result<Config, Fault>
     ensures { IfOk result (λ config. config.ranks ≡ 2) }
 {
     let config = small(alloc, &[RANK_FIELD, n_cwl], "ranks = 2\n")?;
     if config.ranks != 2 {
-        return Err(Fail::from("other ranks"));
+        return Err(Fault::TraceCount);
     }
     Ok(config)
 }
@@ -56,13 +58,20 @@ fn act_holds_back_its_bank_group_and_rank(rt: HostRuntime) -> Result<(), Fail> {
     let config = config(rt.alloc(), "nCWL = 3")?;
     let mut banks = Banks::new(rt.alloc(), &config)?;
     banks.note(act(bank(0, 0, 0)), 2);
-    assert_eq!(rt; earliest(&banks, Kind::Rd, bank(0, 0, 0)), 5);
-    assert_eq!(rt; earliest(&banks, Kind::Pre, bank(0, 0, 0)), 10);
-    assert_eq!(rt; earliest(&banks, Kind::Act, bank(0, 0, 0)), 13);
-    assert_eq!(rt; earliest(&banks, Kind::Act, bank(0, 0, 1)), 5);
-    assert_eq!(rt; earliest(&banks, Kind::Act, bank(0, 1, 0)), 4);
-    assert_eq!(rt; banks.earliest_all(Kind::Prea, 0), 10);
-    assert_eq!(rt; banks.earliest_all(Kind::Ref, 0), 0);
+    let own = [
+        earliest(&banks, Kind::Rd, bank(0, 0, 0)),
+        earliest(&banks, Kind::Pre, bank(0, 0, 0)),
+        earliest(&banks, Kind::Act, bank(0, 0, 0)),
+    ];
+    let others = [
+        earliest(&banks, Kind::Act, bank(0, 0, 1)),
+        earliest(&banks, Kind::Act, bank(0, 1, 0)),
+    ];
+    let all = [
+        banks.earliest_all(Kind::Prea, 0),
+        banks.earliest_all(Kind::Ref, 0),
+    ];
+    expect(&rt, &(own, others, all), &([5, 10, 13], [5, 4], [10, 0]));
     Ok(())
 }
 
@@ -74,10 +83,11 @@ fn fifth_act_waits_for_the_window(rt: HostRuntime) -> Result<(), Fail> {
     banks.note(act(bank(0, 0, 0)), 2);
     banks.note(act(bank(0, 1, 0)), 4);
     banks.note(act(bank(0, 0, 1)), 6);
-    assert_eq!(rt; earliest(&banks, Kind::Act, bank(0, 1, 1)), 8);
+    let fourth = earliest(&banks, Kind::Act, bank(0, 1, 1));
     banks.note(act(bank(0, 1, 1)), 8);
-    assert_eq!(rt; earliest(&banks, Kind::Act, bank(0, 0, 2)), 14);
-    assert_eq!(rt; earliest(&banks, Kind::Act, bank(1, 0, 2)), 0);
+    let fifth = earliest(&banks, Kind::Act, bank(0, 0, 2));
+    let other = earliest(&banks, Kind::Act, bank(1, 0, 2));
+    expect(&rt, &(fourth, fifth, other), &(8, 14, 0));
     Ok(())
 }
 
@@ -87,9 +97,9 @@ fn fifth_act_waits_for_the_window(rt: HostRuntime) -> Result<(), Fail> {
 fn floors_are_the_least_of_all_banks(rt: HostRuntime) -> Result<(), Fail> {
     let config = config(rt.alloc(), "nCWL = 3")?;
     let mut banks = Banks::new(rt.alloc(), &config)?;
-    assert_eq!(rt; banks.data_floor(Kind::Rd), 0);
+    let at_first = banks.data_floor(Kind::Rd);
     banks.note(act(bank(0, 0, 0)), 2);
-    assert_eq!(rt; banks.data_floor(Kind::Rd), 0);
+    let opened = banks.data_floor(Kind::Rd);
     let read = Command::Rd {
         bank: bank(0, 0, 0),
         row: 0,
@@ -97,11 +107,14 @@ fn floors_are_the_least_of_all_banks(rt: HostRuntime) -> Result<(), Fail> {
         source: Source { core: 0, entry: 0 },
     };
     banks.note(read, 50);
-    assert_eq!(rt; banks.data_floor(Kind::Rd), 54);
-    assert_eq!(rt; banks.data_floor(Kind::Wr), 55);
+    let done = (banks.data_floor(Kind::Rd), banks.data_floor(Kind::Wr));
     banks.note(Command::Ref { rank: 1 }, 52);
-    assert_eq!(rt; banks.data_floor(Kind::Rd), 54);
-    assert_eq!(rt; banks.data_floor(Kind::Wr), 55);
+    let refreshed = (banks.data_floor(Kind::Rd), banks.data_floor(Kind::Wr));
+    expect(
+        &rt,
+        &(at_first, opened, done, refreshed),
+        &(0, 0, (54, 55), (54, 55)),
+    );
     Ok(())
 }
 
@@ -118,6 +131,6 @@ fn distance_of_no_cycles_holds_back_too(rt: HostRuntime) -> Result<(), Fail> {
         source: Source { core: 0, entry: 0 },
     };
     banks.note(read, 50);
-    assert_eq!(rt; earliest(&banks, Kind::Wr, bank(1, 0, 0)), 50);
+    expect(&rt, &earliest(&banks, Kind::Wr, bank(1, 0, 0)), &50);
     Ok(())
 }

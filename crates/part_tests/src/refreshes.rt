@@ -1,40 +1,45 @@
 //! Short runs, as they are worked out by hand.
 
+use crate::expect::expect;
 use refresh::Refresh;
 
 /// A refresh every 100 cycles, of one rank.
 #[test]
 fn refreshes_one_rank(rt: HostRuntime) {
     let mut refresh = Refresh::new(100, 1);
-    assert_eq!(rt; refresh.next_due(0), Some(100));
-    assert_eq!(rt; refresh.lowest_due(99), None);
-    assert!(rt; !refresh.is_due_by(99));
-    assert!(rt; refresh.is_due_by(100));
-    assert_eq!(rt; refresh.lowest_due(100), Some(0));
+    let first = (refresh.next_due(0), refresh.lowest_due(99));
+    let by = (refresh.is_due_by(99), refresh.is_due_by(100));
+    let lowest = refresh.lowest_due(100);
     refresh.note_ref(103, 0);
-    assert_eq!(rt; refresh.due(150, 0), 0);
-    assert_eq!(rt; refresh.next_due(104), Some(200));
-    assert_eq!(rt; refresh.due(200, 0), 1);
+    let due = (refresh.due(150, 0), refresh.due(200, 0));
+    expect(
+        &rt,
+        &(first, by, lowest, due, refresh.next_due(104)),
+        &((Some(100), None), (false, true), Some(0), (0, 1), Some(200)),
+    );
 }
 
 /// Two ranks, of which the lower is refreshed first.
 #[test]
 fn refreshes_two_ranks(rt: HostRuntime) {
     let mut refresh = Refresh::new(100, 2);
-    assert_eq!(rt; refresh.lowest_due(100), Some(0));
+    let lowest = refresh.lowest_due(100);
     refresh.note_ref(103, 0);
-    assert_eq!(rt; refresh.lowest_due(104), Some(1));
-    assert_eq!(rt; refresh.next_due(104), Some(104));
+    let other = (refresh.lowest_due(104), refresh.next_due(104));
     refresh.note_ref(107, 1);
-    assert_eq!(rt; refresh.lowest_due(108), None);
-    assert_eq!(rt; refresh.next_due(108), Some(200));
+    let none = (refresh.lowest_due(108), refresh.next_due(108));
+    expect(
+        &rt,
+        &(lowest, other, none),
+        &(Some(0), (Some(1), Some(104)), (None, Some(200))),
+    );
 }
 
 #[test]
 fn refreshes_never(rt: HostRuntime) {
     let refresh = Refresh::new(0, 4);
-    assert_eq!(rt; refresh.due(1_000_000_000_000, 3), 0);
-    assert_eq!(rt; refresh.lowest_due(1_000_000_000_000), None);
-    assert_eq!(rt; refresh.next_due(5), None);
-    assert!(rt; !refresh.is_due_by(u64::MAX));
+    let late = 1_000_000_000_000;
+    let due = (refresh.due(late, 3), refresh.lowest_due(late));
+    let next = (refresh.next_due(5), refresh.is_due_by(u64::MAX));
+    expect(&rt, &(due, next), &((0, None), (None, false)));
 }

@@ -48,43 +48,51 @@ fn assert_said<R: Abort + Threads + Wait + Sync + AllocGlobal>(
     Ok(())
 }
 
-static TABLES: [Case<'static>; 4] = [
-    ("", (0, "legal\n", "")),
+// Changes of the machine, a header, and cases below it.
+type Group<'x> = (&'x [&'x str], &'x str, &'x [Case<'x>]);
+
+static TABLES: [Group<'static>; 3] = [
     (
-        "2,0,ACT,0,0,0,,0,0\n4,0,RD,0,0,0,0,0,0\n",
-        (1, "broken row 2 rule 3\n", ""),
+        &[],
+        HEADER,
+        &[
+            ("", (0, "legal\n", "")),
+            (
+                "2,0,ACT,0,0,0,,0,0\n4,0,RD,0,0,0,0,0,0\n",
+                (1, "broken row 2 rule 3\n", ""),
+            ),
+            (
+                "2,0,ACT,0,0,0,,0,0\n5,0,WR,0,0,0,0,0,0\n14,0,RD,0,0,0,0,0,1\n",
+                (0, "legal\n", ""),
+            ),
+            ("002,0,\"ACT\",0,0,0,,0,0\n", (0, "legal\n", "")),
+        ],
     ),
     (
-        "2,0,ACT,0,0,0,,0,0\n5,0,WR,0,0,0,0,0,0\n14,0,RD,0,0,0,0,0,1\n",
-        (0, "legal\n", ""),
+        &["nREFI = 100"],
+        HEADER,
+        &[
+            ("115,0,ACT,0,0,0,,0,0\n", (1, "broken row 1 rule 18\n", "")),
+            ("114,0,ACT,0,0,0,,0,0\n", (0, "legal\n", "")),
+        ],
     ),
-    ("002,0,\"ACT\",0,0,0,,0,0\n", (0, "legal\n", "")),
+    (
+        &[],
+        "",
+        &[
+            ("", (2, "", "fault 15: check row 0\n")),
+            (
+                "cycle,channel,command,group,bank,row,column,core,entry\n2,0,act,0,0,0,,0,0\n",
+                (2, "", "fault 15: check row 1\n"),
+            ),
+        ],
+    ),
 ];
 
 #[test]
 fn judges_tables(rt: HostRuntime) -> Result<(), Fail> {
-    assert_said(&rt, &[], HEADER, &TABLES)
-}
-
-static REFRESHES: [Case<'static>; 2] = [
-    ("115,0,ACT,0,0,0,,0,0\n", (1, "broken row 1 rule 18\n", "")),
-    ("114,0,ACT,0,0,0,,0,0\n", (0, "legal\n", "")),
-];
-
-#[test]
-fn judges_refreshes(rt: HostRuntime) -> Result<(), Fail> {
-    assert_said(&rt, &["nREFI = 100"], HEADER, &REFRESHES)
-}
-
-static NO_TABLES: [Case<'static>; 2] = [
-    ("", (2, "", "fault 15: check row 0\n")),
-    (
-        "cycle,channel,command,group,bank,row,column,core,entry\n2,0,act,0,0,0,,0,0\n",
-        (2, "", "fault 15: check row 1\n"),
-    ),
-];
-
-#[test]
-fn refuses_tables(rt: HostRuntime) -> Result<(), Fail> {
-    assert_said(&rt, &[], "", &NO_TABLES)
+    for (changes, header, cases) in &TABLES {
+        assert_said(&rt, changes, header, cases)?;
+    }
+    Ok(())
 }

@@ -1,5 +1,6 @@
 //! Words of each command, calls for help, and words that are none.
 
+use crate::expect::expect_at;
 use program::words::{Ask, read_words};
 use sim_base::fault::Fault;
 use std::test::Fail;
@@ -37,7 +38,7 @@ fn is_run(ask: &Ask<'_>) -> bool {
 #[test]
 fn reads_a_run(rt: HostRuntime) -> Result<(), Fail> {
     let ask = read_words(rt.alloc(), &RUN)?;
-    assert!(rt; is_run(&ask), "{ask:?}");
+    expect_at(&rt, &ask, &is_run(&ask), &true);
     Ok(())
 }
 
@@ -53,7 +54,7 @@ fn is_check(ask: &Ask<'_>) -> bool {
 #[test]
 fn reads_a_check(rt: HostRuntime) -> Result<(), Fail> {
     let ask = read_words(rt.alloc(), &CHECK)?;
-    assert!(rt; is_check(&ask), "{ask:?}");
+    expect_at(&rt, &ask, &is_check(&ask), &true);
     Ok(())
 }
 
@@ -69,7 +70,7 @@ fn is_map(ask: &Ask<'_>) -> bool {
 #[test]
 fn reads_a_map(rt: HostRuntime) -> Result<(), Fail> {
     let ask = read_words(rt.alloc(), &MAP)?;
-    assert!(rt; is_map(&ask), "{ask:?}");
+    expect_at(&rt, &ask, &is_map(&ask), &true);
     Ok(())
 }
 
@@ -86,7 +87,7 @@ fn is_help(ask: &Ask<'_>) -> bool {
 fn answers_calls_for_help(rt: HostRuntime) -> Result<(), Fail> {
     for words in &HELP {
         let ask = read_words(rt.alloc(), words)?;
-        assert!(rt; is_help(&ask), "{words:?}: {ask:?}");
+        expect_at(&rt, &(words, &ask), &is_help(&ask), &true);
     }
     Ok(())
 }
@@ -118,6 +119,6 @@ static NO_WORDS: [(&str, &[&str]); 4] = [
 fn refuses_other_words(rt: HostRuntime) {
     for (name, words) in &NO_WORDS {
         let refused = read_words(rt.alloc(), words).err();
-        assert_eq!(rt; refused, Some(Fault::CommandLine), "{name}");
+        expect_at(&rt, &name, &refused, &Some(Fault::CommandLine));
     }
 }

@@ -35,7 +35,7 @@ fn assert_counts<R: Abort + Threads + Wait + Sync + AllocGlobal>(
     Ok(())
 }
 
-static OF_ONE_CORE: [Counts<'static>; 5] = [
+static COUNTS: [Counts<'static>; 17] = [
     (
         HITS,
         &[
@@ -57,14 +57,6 @@ static OF_ONE_CORE: [Counts<'static>; 5] = [
         &["core,0,stop_window,15", "core,0,finish,27"],
         &[],
     ),
-];
-
-#[test]
-fn counts_of_one_core(rt: HostRuntime) -> Result<(), Fail> {
-    assert_counts(&rt, &OF_ONE_CORE)
-}
-
-static FOR_WANT_OF_CREDITS: [Counts<'static>; 2] = [
     (
         ONE_CREDIT,
         &[
@@ -86,14 +78,6 @@ static FOR_WANT_OF_CREDITS: [Counts<'static>; 2] = [
         ],
         &[],
     ),
-];
-
-#[test]
-fn counts_for_want_of_credits(rt: HostRuntime) -> Result<(), Fail> {
-    assert_counts(&rt, &FOR_WANT_OF_CREDITS)
-}
-
-static OF_REFRESHES: [Counts<'static>; 4] = [
     (
         REFRESHES,
         &["channel,0,ref,2", "channel,0,refreshing,2"],
@@ -106,29 +90,13 @@ static OF_REFRESHES: [Counts<'static>; 4] = [
         &[],
     ),
     (RANK_REFRESHES, &["channel,0,refreshing,8"], &[]),
-];
-
-#[test]
-fn counts_of_refreshes(rt: HostRuntime) -> Result<(), Fail> {
-    assert_counts(&rt, &OF_REFRESHES)
-}
-
-static OF_DRAINS: [Counts<'static>; 2] = [
     (DRAIN_AT_TWO, &["channel,0,draining,0"], &[]),
     (
         DRAIN_AT_ONE,
         &["core,0,finish,25", "channel,0,draining,5"],
         &[],
     ),
-];
-
-#[test]
-fn counts_of_drains(rt: HostRuntime) -> Result<(), Fail> {
-    assert_counts(&rt, &OF_DRAINS)
-}
-
-// The first ends as a refresh is due.
-static OF_DRAINED_ENDS: [Counts<'static>; 4] = [
+    // It ends as a refresh is due.
     (
         DRAINED_LATE,
         &[
@@ -153,8 +121,8 @@ static OF_DRAINED_ENDS: [Counts<'static>; 4] = [
 ];
 
 #[test]
-fn counts_of_drained_ends(rt: HostRuntime) -> Result<(), Fail> {
-    assert_counts(&rt, &OF_DRAINED_ENDS)
+fn counts_of_rows(rt: HostRuntime) -> Result<(), Fail> {
+    assert_counts(&rt, &COUNTS)
 }
 
 // Each of 256 cores reads the same line: the first opens the row, and then a RD comes every nCCD_L cycles.

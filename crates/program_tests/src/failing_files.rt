@@ -40,17 +40,12 @@ fn assert_each_refused<R: Abort + Threads + Wait + Sync + AllocGlobal>(
     Ok(())
 }
 
-#[test]
-fn tells_of_tables_that_cannot_be_opened(rt: HostRuntime) -> Result<(), Fail> {
-    assert_each_refused(&rt, Failure::Opening)
-}
+static FAILURES: [Failure; 3] = [Failure::Opening, Failure::Writing, Failure::Closing];
 
 #[test]
-fn tells_of_tables_that_cannot_be_written(rt: HostRuntime) -> Result<(), Fail> {
-    assert_each_refused(&rt, Failure::Writing)
-}
-
-#[test]
-fn tells_of_tables_that_cannot_be_closed(rt: HostRuntime) -> Result<(), Fail> {
-    assert_each_refused(&rt, Failure::Closing)
+fn tells_of_tables_that_fail(rt: HostRuntime) -> Result<(), Fail> {
+    for failure in &FAILURES {
+        assert_each_refused(&rt, *failure)?;
+    }
+    Ok(())
 }

@@ -1,13 +1,14 @@
 //! Runs that are refused where two things are wrong at once: the first of them in the order of the tests is told, by the machine
 //! with workers and by the plain one.
 
-use fixtures::small::{SMALL, small_text};
+use crate::expect::{expect, expect_at};
+use fixtures::small::small_text;
 use fixtures::texts::texts_of;
 use sim_base::fault::{Fault, LineCause};
 use sim_base::key::Key;
 use sim_base::message::Cycle;
 use simulation::runs::{simulate, simulate_plain};
-use std::process::Abort;
+use std::alloc::{AllocError, Global};
 use std::sync::Wait;
 use std::test::Fail;
 use std::thread::Threads;
@@ -16,70 +17,167 @@ use workers::gate::Open;
 /// A cycle more than a run may have.
 const TOO_LONG: Cycle = 1_000_000_000_001;
 
-fn assert_refused<R: Abort + Threads + Wait + Sync + AllocGlobal>(
-    rt: &R,
-    config: &str,
-    traces: &[&str],
+/// Lines of the small machine that are changed, and what else is wrong of a run, with the fault that is told.
+struct Case<'x> {
+    changes: &'x [&'x str],
+    traces: &'x [&'x str],
     cycles: Cycle,
     workers: u64,
     want: Fault,
-) -> Result<(), Fail> {
-    let alloc = rt.alloc();
-    let texts = texts_of(alloc, traces)?;
+}
+
+/// The faults of a run by workers and by the plain machine.
+fn refused<R: Threads + Wait + Sync>(
+    rt: &R,
+    alloc: Global,
+    config: &str,
+    case: &Case<'_>,
+) -> Result<[Option<Fault>; 2], AllocError> {
+    let texts = texts_of(alloc, case.traces)?;
     let bytes = config.as_bytes();
-    let by_workers = simulate(rt, alloc, &Open, bytes, &texts, cycles, workers).err();
-    assert_eq!(rt; by_workers, Some(want));
-    let plain = simulate_plain(rt, alloc, bytes, &texts, cycles, workers).err();
-    assert_eq!(rt; plain, Some(want));
+    let by_workers = simulate(rt, alloc, &Open, bytes, &texts, case.cycles, case.workers).err();
+    let plain = simulate_plain(rt, alloc, bytes, &texts, case.cycles, case.workers).err();
+    Ok([by_workers, plain])
+}
+
+fn refused_of_small<R: Threads + Wait + Sync>(
+    rt: &R,
+    alloc: Global,
+    case: &Case<'_>,
+) -> Result<[Option<Fault>; 2], AllocError> {
+    let config = small_text(alloc, case.changes, "")?;
+    refused(rt, alloc, config.as_str(), case)
+}
+
+static CASES: [Case<'static>; 12] = [
+    // The configuration comes first.
+    Case {
+        changes: &["request_latency = 0"],
+        traces: &["x\n"],
+        cycles: 64,
+        workers: 2,
+        want: Fault::ConfigRange(Key::RequestLatency),
+    },
+    Case {
+        changes: &["request_latency = 0"],
+        traces: &["0 0\n", "0 0\n"],
+        cycles: 64,
+        workers: 2,
+        want: Fault::ConfigRange(Key::RequestLatency),
+    },
+    Case {
+        changes: &["nREFI = 34"],
+        traces: &["0 0\n"],
+        cycles: 64,
+        workers: 65,
+        want: Fault::ConfigRelation(6),
+    },
+    Case {
+        changes: &["nREFI = 34"],
+        traces: &["0 0\n"],
+        cycles: TOO_LONG,
+        workers: 2,
+        want: Fault::ConfigRelation(6),
+    },
+    // Then comes the number of traces.
+    Case {
+        changes: &["cores = 2"],
+        traces: &["x\n"],
+        cycles: 64,
+        workers: 2,
+        want: Fault::TraceCount,
+    },
+    Case {
+        changes: &["cores = 2"],
+        traces: &["0 0\n"; 3],
+        cycles: 64,
+        workers: 0,
+        want: Fault::TraceCount,
+    },
+    Case {
+        changes: &[],
+        traces: &[],
+        cycles: TOO_LONG,
+        workers: 2,
+        want: Fault::TraceCount,
+    },
+    // Then come the workers and the limit.
+    Case {
+        changes: &[],
+        traces: &["0 0\n"],
+        cycles: TOO_LONG,
+        workers: 0,
+        want: Fault::Workers,
+    },
+    Case {
+        changes: &[],
+        traces: &["x\n"],
+        cycles: 64,
+        workers: 65,
+        want: Fault::Workers,
+    },
+    Case {
+        changes: &[],
+        traces: &["x\n"],
+        cycles: TOO_LONG,
+        workers: 2,
+        want: Fault::Cycles,
+    },
+    // Then come the traces by core.
+    Case {
+        changes: &["cores = 2"],
+        traces: &["0 0\n3\n", "x y\n"],
+        cycles: 64,
+        workers: 2,
+        want: Fault::TraceLine {
+            core: 0,
+            line: 2,
+            cause: LineCause::TooFew,
+        },
+    },
+    Case {
+        changes: &["cores = 2"],
+        traces: &["0 0\n", "0 0\n\n1 x\n1 2 3 4\n"],
+        cycles: 64,
+        workers: 2,
+        want: Fault::TraceLine {
+            core: 1,
+            line: 3,
+            cause: LineCause::NotANumber,
+        },
+    },
+];
+
+#[test]
+fn the_first_fault_is_told(rt: HostRuntime) -> Result<(), Fail> {
+    for case in &CASES {
+        let found = refused_of_small(&rt, rt.alloc(), case)?;
+        expect_at(
+            &rt,
+            &(case.changes, case.traces),
+            &found,
+            &[Some(case.want), Some(case.want)],
+        );
+    }
     Ok(())
 }
 
-#[test]
-fn the_configuration_comes_first(rt: HostRuntime) -> Result<(), Fail> {
-    let alloc = rt.alloc();
-    let syntax = Fault::ConfigSyntax;
-    assert_refused(&rt, "cores = = 1\n", &[], TOO_LONG, 0, syntax)?;
-    let zero = small_text(alloc, &["request_latency = 0"], "")?;
-    let range = Fault::ConfigRange(Key::RequestLatency);
-    assert_refused(&rt, zero.as_str(), &["x\n"], 64, 2, range)?;
-    assert_refused(&rt, zero.as_str(), &["0 0\n", "0 0\n"], 64, 2, range)?;
-    let often = small_text(alloc, &["nREFI = 34"], "")?;
-    let relation = Fault::ConfigRelation(6);
-    assert_refused(&rt, often.as_str(), &["0 0\n"], 64, 65, relation)?;
-    assert_refused(&rt, often.as_str(), &["0 0\n"], TOO_LONG, 2, relation)
-}
+/// No document, with all else that is wrong.
+static NO_DOCUMENT: Case<'static> = Case {
+    changes: &[],
+    traces: &[],
+    cycles: TOO_LONG,
+    workers: 0,
+    want: Fault::ConfigSyntax,
+};
 
 #[test]
-fn then_the_number_of_traces(rt: HostRuntime) -> Result<(), Fail> {
-    let two = small_text(rt.alloc(), &["cores = 2"], "")?;
-    let count = Fault::TraceCount;
-    assert_refused(&rt, two.as_str(), &["x\n"], 64, 2, count)?;
-    assert_refused(&rt, two.as_str(), &["0 0\n"; 3], 64, 0, count)?;
-    assert_refused(&rt, SMALL, &[], TOO_LONG, 2, count)
-}
-
-#[test]
-fn then_the_workers_and_the_limit(rt: HostRuntime) -> Result<(), Fail> {
-    let workers = Fault::Workers;
-    assert_refused(&rt, SMALL, &["0 0\n"], TOO_LONG, 0, workers)?;
-    assert_refused(&rt, SMALL, &["x\n"], 64, 65, workers)?;
-    assert_refused(&rt, SMALL, &["x\n"], TOO_LONG, 2, Fault::Cycles)
-}
-
-#[test]
-fn then_the_traces_by_core(rt: HostRuntime) -> Result<(), Fail> {
-    let two = small_text(rt.alloc(), &["cores = 2"], "")?;
-    let first = Fault::TraceLine {
-        core: 0,
-        line: 2,
-        cause: LineCause::TooFew,
-    };
-    assert_refused(&rt, two.as_str(), &["0 0\n3\n", "x y\n"], 64, 2, first)?;
-    let second = Fault::TraceLine {
-        core: 1,
-        line: 3,
-        cause: LineCause::NotANumber,
-    };
-    let bad = "0 0\n\n1 x\n1 2 3 4\n";
-    assert_refused(&rt, two.as_str(), &["0 0\n", bad], 64, 2, second)
+fn the_document_comes_first(rt: HostRuntime) -> Result<(), Fail> {
+    let found = refused(&rt, rt.alloc(), "cores = = 1\n", &NO_DOCUMENT)?;
+    expect(
+        &rt,
+        &found,
+        &[Some(NO_DOCUMENT.want), Some(NO_DOCUMENT.want)],
+    );
+    Ok(())
 }

@@ -4,9 +4,11 @@
 //! each worker. A worker whose job is held takes no other, and each worker takes groups until there is none; so as many workers
 //! come as the phase has jobs, or all of them.
 
-use crate::outcomes::{Tables, plain_tables};
+use crate::outcomes::{Run, Tables, is_plain, plain_tables};
+use crate::expect::{expect, expect_at};
 use fixtures::small::small_text;
 use fixtures::texts::texts_of;
+use sim_base::fault::Fault;
 use sim_base::job::JobName;
 use sim_base::message::Unit;
 use simulation::runs::simulate;
@@ -38,11 +40,15 @@ impl Passes {
     }
 
     fn are(&self, count: u64) -> bool {
-        self.entered() == count && self.left.load(Ordering::SeqCst) == count
+        self.entered() == count && self.left() == count
     }
 
     fn entered(&self) -> u64 {
         self.entered.load(Ordering::SeqCst)
+    }
+
+    fn left(&self) -> u64 {
+        self.left.load(Ordering::SeqCst)
     }
 }
 
@@ -107,6 +113,23 @@ impl Meeting {
         })
     }
 
+    /// How many jobs were entered of each phase.
+    fn jobs(&self, alloc: Global) -> Result<Vec<u64>, AllocError> {
+        let mut jobs = Vec::new(alloc);
+        for phase in &self.phases {
+            jobs.push(phase.all.entered())?;
+        }
+        Ok(jobs)
+    }
+
+    fn faults(&self) -> u64 {
+        self.faults.load(Ordering::SeqCst)
+    }
+
+    fn are_whole(&self) -> bool {
+        self.phases.iter().all(|phase| phase.are_whole())
+    }
+
     fn phase_of(&self, job: JobName) -> Option<&PhasePasses> {
         self.phases.get(usize::try_from(job.phase).ok()?)
     }
@@ -159,40 +182,73 @@ impl Gate for Meeting {
 }
 
 /// How many jobs each phase of a run has, up to a number of phases. One worker runs them, and is held by nothing.
-fn jobs_of_phases<R: Abort + Threads + Wait + Sync + AllocGlobal>(
+fn jobs_of_phases<R: Threads + Wait + Sync>(
     rt: &R,
-    config: &str,
-    texts: &[Vec<u8>],
+    alloc: Global,
+    run: &Run<'_>,
     phases: usize,
-) -> Result<Vec<u64>, Fail> {
-    let alloc = rt.alloc();
-    let gate = Meeting::new(alloc, 1, Vec::from_elem(alloc, 0, phases)?.as_slice())?;
-    simulate(rt, alloc, &gate, config.as_bytes(), texts, 32, 1)?;
-    let mut jobs = Vec::new(alloc);
-    for phase in &gate.phases {
-        jobs.push(phase.all.entered())?;
-    }
-    Ok(jobs)
+) -> Result<Vec<u64>, Fault> {
+    let none = Vec::from_elem(alloc, 0, phases)?;
+    let gate = Meeting::new(alloc, 1, &none)?;
+    let bytes = run.config.as_bytes();
+    simulate(rt, alloc, &gate, bytes, run.texts, run.cycles, 1)?;
+    Ok(gate.jobs(alloc)?)
 }
 
 /// So many workers are at work at once in each phase, and each job is run once.
+fn assert_met<R: Abort + Threads + Wait + Sync>(
+    rt: &R,
+    alloc: Global,
+    run: &Run<'_>,
+    workers: u64,
+    jobs: &[u64],
+    plain: &Tables,
+) -> Result<(), Fault> {
+    let gate = Meeting::new(alloc, workers, jobs)?;
+    let same = is_plain(rt, alloc, &gate, run, workers, plain)?;
+    expect_at(
+        rt,
+        &("workers", workers),
+        &(same, gate.faults(), gate.are_whole()),
+        &(true, 0, true),
+    );
+    Ok(())
+}
+
+/// Some phase has a job for each of the three units.
+fn assert_all_met<R: Abort + Threads + Wait + Sync>(
+    rt: &R,
+    alloc: Global,
+    run: &Run<'_>,
+    jobs: &[u64],
+) -> Result<(), Fault> {
+    expect(rt, &jobs.iter().any(|count| *count == 3), &true);
+    let plain = plain_tables(rt, alloc, run)?;
+    for workers in [1, 2, 3] {
+        assert_met(rt, alloc, run, workers, jobs, &plain)?;
+    }
+    Ok(())
+}
+
+fn assert_meetings<R: Abort + Threads + Wait + Sync>(
+    rt: &R,
+    alloc: Global,
+    run: &Run<'_>,
+) -> Result<(), Fault> {
+    let jobs = jobs_of_phases(rt, alloc, run, 32)?;
+    assert_all_met(rt, alloc, run, &jobs)
+}
+
 #[test]
 fn workers_meet_in_every_phase(rt: HostRuntime) -> Result<(), Fail> {
-    let alloc = rt.alloc();
-    let config = small_text(alloc, &["cores = 2"], "")?;
-    let texts = texts_of(alloc, &["0 0\n", "0 64\n"])?;
-    let plain = plain_tables(&rt, alloc, config.as_str(), &texts, 32)?;
-    let jobs = jobs_of_phases(&rt, config.as_str(), &texts, 32)?;
-    assert!(rt; jobs.iter().any(|count| *count == 3));
-    for workers in [1, 2, 3] {
-        let gate = Meeting::new(alloc, workers, jobs.as_slice())?;
-        let outcome = simulate(&rt, alloc, &gate, config.as_bytes(), &texts, 32, workers)?;
-        let tables = Tables::of(alloc, &outcome)?;
-        assert!(rt; tables.is(&plain), "{workers} workers");
-        assert_eq!(rt; gate.faults.load(Ordering::SeqCst), 0);
-        let whole = gate.phases.iter().all(|phase| phase.are_whole());
-        assert!(rt; whole, "{workers} workers");
-    }
+    let config = small_text(rt.alloc(), &["cores = 2"], "")?;
+    let texts = texts_of(rt.alloc(), &["0 0\n", "0 64\n"])?;
+    let run = Run {
+        config: config.as_str(),
+        texts: &texts,
+        cycles: 32,
+    };
+    assert_meetings(&rt, rt.alloc(), &run)?;
     Ok(())
 }
 
@@ -229,35 +285,57 @@ impl Gate for Holding {
     }
 }
 
-/// What a gate saw that held the first job of a run of four cores and two channels. Its outcome is the plain machine's.
-fn held<R: Abort + Threads + Wait + Sync + AllocGlobal>(
+/// How often the jobs of phase 0 were entered and left, and whether the first was released.
+type Held = (u64, u64, u64);
+
+/// What a gate saw that held the first job of a run, whose tables are the plain machine's.
+fn held<R: Abort + Threads + Wait + Sync>(
     rt: &R,
+    alloc: Global,
+    run: &Run<'_>,
     workers: u64,
     others: u64,
-) -> Result<Holding, Fail> {
-    let alloc = rt.alloc();
-    let config = small_text(alloc, &["cores = 4", "channels = 2"], "")?;
-    let texts = texts_of(alloc, &["0 0\n"; 4])?;
+    plain: &Tables,
+) -> Result<Held, Fault> {
     let gate = Holding {
         others,
         passes: Passes::new(),
         released: AtomicU64::new(0),
     };
-    let outcome = simulate(rt, alloc, &gate, config.as_bytes(), &texts, 32, workers)?;
-    let plain = plain_tables(rt, alloc, config.as_str(), &texts, 32)?;
-    assert!(rt; Tables::of(alloc, &outcome)?.is(&plain));
-    Ok(gate)
+    let same = is_plain(rt, alloc, &gate, run, workers, plain)?;
+    expect_at(rt, &("workers", workers), &same, &true);
+    let released = gate.released.load(Ordering::SeqCst);
+    Ok((gate.passes.entered(), gate.passes.left(), released))
 }
 
-/// While one of several workers holds its first job, the others take all others: jobs are not shared out in advance.
+fn assert_claims<R: Abort + Threads + Wait + Sync>(
+    rt: &R,
+    alloc: Global,
+    run: &Run<'_>,
+    plain: &Tables,
+) -> Result<(), Fault> {
+    let (jobs, _, _) = held(rt, alloc, run, 1, 0, plain)?;
+    expect(rt, &(jobs >= 4), &true);
+    for workers in [2, 3] {
+        let others = jobs.saturating_sub(1);
+        let saw = held(rt, alloc, run, workers, others, plain)?;
+        expect_at(rt, &("workers", workers), &saw, &(jobs, jobs, 1));
+    }
+    Ok(())
+}
+
+/// While one of several workers holds its first job, the others take all others: jobs are not shared out in advance. There are four
+/// cores and two channels.
 #[test]
 fn workers_claim_their_jobs(rt: HostRuntime) -> Result<(), Fail> {
-    let jobs = held(&rt, 1, 0)?.passes.entered();
-    assert!(rt; jobs >= 4);
-    for workers in [2, 3] {
-        let gate = held(&rt, workers, jobs.saturating_sub(1))?;
-        assert_eq!(rt; gate.released.load(Ordering::SeqCst), 1);
-        assert!(rt; gate.passes.are(jobs));
-    }
+    let config = small_text(rt.alloc(), &["cores = 4", "channels = 2"], "")?;
+    let texts = texts_of(rt.alloc(), &["0 0\n"; 4])?;
+    let run = Run {
+        config: config.as_str(),
+        texts: &texts,
+        cycles: 32,
+    };
+    let plain = plain_tables(&rt, rt.alloc(), &run)?;
+    assert_claims(&rt, rt.alloc(), &run, &plain)?;
     Ok(())
 }

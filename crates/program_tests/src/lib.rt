@@ -10,6 +10,8 @@ mod counts;
 #[cfg(test)]
 mod ends;
 #[cfg(test)]
+mod expect;
+#[cfg(test)]
 mod failing_files;
 #[cfg(test)]
 mod files_in_memory;

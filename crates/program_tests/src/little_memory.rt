@@ -2,13 +2,13 @@
 //! with each allocation failing in turn; what these tests take of memory themselves counts too.
 
 use crate::outcomes::Watching;
+use crate::expect::expect;
+use fixtures::one_read::{CHANNELS, CORES};
 use fixtures::small::SMALL;
 use fixtures::texts::texts_of;
 use sim_base::command::Kind;
 use sim_base::fault::Fault;
 use simulation::runs::simulate;
-use statistics::channels::ChannelStats;
-use statistics::cores::CoreStats;
 use statistics::outcome::Outcome;
 use std::alloc::Global;
 use std::sync::Wait;
@@ -29,27 +29,9 @@ fn has_commands(outcome: &Outcome) -> bool {
 
 /// Whether these are its statistics over 16 cycles.
 fn has_stats(outcome: &Outcome) -> bool {
-    let core = CoreStats {
-        issued: 1,
-        retired: 1,
-        reads: 1,
-        replies: 1,
-        read_latency: 15,
-        stop_end: 16,
-        finish: Some(15),
-        ..CoreStats::new()
-    };
-    let channel = ChannelStats {
-        act: 1,
-        rd: 1,
-        queued: 4,
-        queued_max: 1,
-        idle: 12,
-        ..ChannelStats::new()
-    };
     outcome.stats.cycles == 16
-        && outcome.stats.cores.as_slice() == [core].as_slice()
-        && outcome.stats.channels.as_slice() == [channel].as_slice()
+        && outcome.stats.cores.as_slice() == CORES.as_slice()
+        && outcome.stats.channels.as_slice() == CHANNELS.as_slice()
 }
 
 /// Whether this is the outcome of that run.
@@ -70,10 +52,10 @@ fn is_right_or_refused<R: Threads + Wait + Sync>(rt: &R, alloc: Global, workers:
 
 #[test]
 fn one_worker_with_little_memory(rt: HostRuntime) {
-    assert!(rt; is_right_or_refused(&rt, rt.alloc(), 1));
+    expect(&rt, &is_right_or_refused(&rt, rt.alloc(), 1), &true);
 }
 
 #[test]
 fn two_workers_with_little_memory(rt: HostRuntime) {
-    assert!(rt; is_right_or_refused(&rt, rt.alloc(), 2));
+    expect(&rt, &is_right_or_refused(&rt, rt.alloc(), 2), &true);
 }

@@ -13,6 +13,7 @@ use epochs::ordered::{Order, RunFault, run_in_order};
 use epochs::phase::Phase;
 use epochs::planning::{Planned, plan};
 use epochs::sim::Sim;
+use crate::expect::{expect, expect_at};
 use fixtures::small::{RANK_FIELD, small};
 use sim_base::config::Config;
 use sim_base::fault::MergeFault;
@@ -39,7 +40,7 @@ fn results_of(alloc: Global, jobs: Vec<Job>) -> Result<Vec<Done>, AllocError>
 {
     let mut results = Vec::new(alloc);
     for job in jobs {
-        results.push(job.run(alloc)?)?;
+        results.push(job.run()?)?;
     }
     Ok(results)
 }
@@ -55,7 +56,7 @@ static MERGE_FAULTS: [(MergeFault, &str); 4] = [
 fn faults_are_told(rt: HostRuntime) -> Result<(), Fail> {
     for (fault, text) in &MERGE_FAULTS {
         let told = fault.to_string(rt.alloc())?;
-        assert_eq!(rt; told.as_str(), *text);
+        expect(&rt, &told.as_str(), text);
     }
     Ok(())
 }
@@ -72,7 +73,7 @@ static RUN_FAULTS: [(RunFault, &str); 2] = [
 fn faults_of_runs_are_told(rt: HostRuntime) -> Result<(), Fail> {
     for (fault, text) in &RUN_FAULTS {
         let told = fault.to_string(rt.alloc())?;
-        assert_eq!(rt; told.as_str(), *text);
+        expect(&rt, &told.as_str(), text);
     }
     Ok(())
 }
@@ -183,7 +184,7 @@ static PICKS: [Pick<'static>; 7] = [
 fn faults_are_found(rt: HostRuntime) -> Result<(), Fail> {
     for (pairs, count, want) in &PICKS {
         let fault = told(rt.alloc(), pairs, *count)?;
-        assert_eq!(rt; fault, *want, "{pairs:?}, {count}");
+        expect_at(&rt, &(pairs, count), &fault, want);
     }
     Ok(())
 }
@@ -201,7 +202,7 @@ fn lost_results_stop_a_run(rt: HostRuntime) -> Result<(), Fail> {
     for (left, core) in [(2, 1), (0, 0)] {
         let fault = stopped(rt.alloc(), left)?;
         let missing = RunFault::Merge(MergeFault::Missing(Unit::Core(core)));
-        assert_eq!(rt; fault, Some(missing), "{left} are left");
+        expect_at(&rt, &("are left", left), &fault, &Some(missing));
     }
     Ok(())
 }
@@ -216,17 +217,18 @@ fn outcome_by<O: Order>(alloc: Global, order: &mut O) -> Result<Outcome, RunFaul
 
 /// Two outcomes have the same commands, counts of cores, and messages in flight.
 fn assert_same(rt: &impl Abort, found: &Outcome, want: &Outcome) {
-    assert_eq!(rt;
-        (
+    expect(
+        rt,
+        &(
             found.commands.as_slice(),
             found.stats.cores.as_slice(),
-            found.last.in_flight.as_slice()
+            found.last.in_flight.as_slice(),
         ),
-        (
+        &(
             want.commands.as_slice(),
             want.stats.cores.as_slice(),
-            want.last.in_flight.as_slice()
-        )
+            want.last.in_flight.as_slice(),
+        ),
     );
 }
 
@@ -247,9 +249,10 @@ fn assert_worked(rt: &impl Abort, outcome: &Outcome) {
     let commands = ends_of_commands(&outcome.commands);
     let flight = ends_of_messages(&outcome.last.in_flight);
     let retired = outcome.stats.cores.first().map(|core| core.retired);
-    assert_eq!(rt;
-        (commands, flight, retired),
-        ((3, Some(2), Some(10)), (1, Some(20), Some(20)), Some(1))
+    expect(
+        rt,
+        &(commands, flight, retired),
+        &((3, Some(2), Some(10)), (1, Some(20), Some(20)), Some(1)),
     );
 }
 

@@ -1,5 +1,6 @@
 //! Outcomes of runs, compared by the tables that are written of them.
 
+use crate::expect::expect_at;
 use reports::{write_commands, write_final, write_stats};
 use sim_base::fault::Fault;
 use sim_base::job::JobName;
@@ -9,7 +10,6 @@ use statistics::outcome::Outcome;
 use std::alloc::{AllocError, Global};
 use std::process::Abort;
 use std::sync::Wait;
-use std::test::Fail;
 use std::thread::Threads;
 use workers::gate::{Gate, Open};
 
@@ -58,21 +58,20 @@ impl Tables {
 
 /// What is run.
 #[derive(Drop)]
-struct Run<'a> {
-    config: &'a str,
-    texts: &'a [Vec<u8>],
-    cycles: Cycle,
+pub(crate) struct Run<'a> {
+    pub(crate) config: &'a str,
+    pub(crate) texts: &'a [Vec<u8>],
+    pub(crate) cycles: Cycle,
 }
 
 /// The tables of a run by the plain machine.
 pub(crate) fn plain_tables<R: Threads + Sync>(
     rt: &R,
     alloc: Global,
-    config: &str,
-    texts: &[Vec<u8>],
-    cycles: Cycle,
+    run: &Run<'_>,
 ) -> Result<Tables, Fault> {
-    let outcome = simulate_plain(rt, alloc, config.as_bytes(), texts, cycles, 1)?;
+    let bytes = run.config.as_bytes();
+    let outcome = simulate_plain(rt, alloc, bytes, run.texts, run.cycles, 1)?;
     Tables::of(alloc, &outcome)
 }
 
@@ -84,16 +83,43 @@ fn tables_by<R: Threads + Wait + Sync, G: Gate + Sync>(
     run: &Run<'_>,
     workers: u64,
 ) -> Result<Tables, Fault> {
-    let outcome = simulate(
-        rt,
-        alloc,
-        gate,
-        run.config.as_bytes(),
-        run.texts,
-        run.cycles,
-        workers,
-    )?;
+    let bytes = run.config.as_bytes();
+    let outcome = simulate(rt, alloc, gate, bytes, run.texts, run.cycles, workers)?;
     Tables::of(alloc, &outcome)
+}
+
+/// Whether a run by so many workers has the tables of the plain machine.
+pub(crate) fn is_plain<R: Threads + Wait + Sync, G: Gate + Sync>(
+    rt: &R,
+    alloc: Global,
+    gate: &G,
+    run: &Run<'_>,
+    workers: u64,
+    plain: &Tables,
+) -> Result<bool, Fault> {
+    let tables = tables_by(rt, alloc, gate, run, workers)?;
+    Ok(tables.is(plain))
+}
+
+/// The same by each of these numbers of workers, by jobs and as it is run where nothing watches.
+fn assert_plain<R: Abort + Threads + Wait + Sync>(
+    rt: &R,
+    alloc: Global,
+    run: &Run<'_>,
+    workers: &[u64],
+    plain: &Tables,
+) -> Result<(), Fault> {
+    for count in workers {
+        let by_jobs = is_plain(rt, alloc, &Watching, run, *count, plain)?;
+        let unwatched = is_plain(rt, alloc, &Open, run, *count, plain)?;
+        expect_at(
+            rt,
+            &(count, run.cycles, run.config),
+            &[by_jobs, unwatched],
+            &[true, true],
+        );
+    }
+    Ok(())
 }
 
 /// A run has the same tables by each of these numbers of workers as by the plain machine, by jobs and as it is run where nothing
@@ -104,22 +130,12 @@ pub(crate) fn assert_same<R: Abort + Threads + Wait + Sync + AllocGlobal>(
     texts: &[Vec<u8>],
     cycles: Cycle,
     workers: &[u64],
-) -> Result<(), Fail> {
-    let alloc = rt.alloc();
-    let plain = plain_tables(rt, alloc, config, texts, cycles)?;
+) -> Result<(), Fault> {
     let run = Run {
         config,
         texts,
         cycles,
     };
-    for count in workers {
-        let by_jobs = tables_by(rt, alloc, &Watching, &run, *count)?;
-        let unwatched = tables_by(rt, alloc, &Open, &run, *count)?;
-        let are = [by_jobs.is(&plain), unwatched.is(&plain)];
-        assert!(rt;
-            are == [true, true],
-            "{count} workers, {cycles} cycles, {config}"
-        );
-    }
-    Ok(())
+    let plain = plain_tables(rt, rt.alloc(), &run)?;
+    assert_plain(rt, rt.alloc(), &run, workers, &plain)
 }

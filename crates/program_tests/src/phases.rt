@@ -1,6 +1,6 @@
 //! Phases of a small machine and of toy tasks, run by one thread and by several; and the board from which threads take them.
 
-ghost use Rattle.std.specs.Prelude.{◌≡◌, ◌+◌, ◌<◌, ◌≤◌, [], length, vec_len, IfOk};
+ghost use Rattle.std.specs.Prelude.{◌≡◌, ◌+◌, ◌<◌, ◌≤◌, ◌^◌, [], length, vec_len, IfOk};
 ghost use Rattle.crew.specs.Rule.{put_view};
 
 use crate::outcomes::assert_same;
@@ -15,30 +15,35 @@ use crew::work::{DoneOf, Work};
 use epochs::job::Job;
 use epochs::planning::{Planned, plan};
 use epochs::sim::Sim;
+use crate::expect::expect;
 use fixtures::small::{RANK_FIELD, SMALL, small};
 use fixtures::texts::texts_of;
 use sim_base::config::Config;
+use sim_base::fault::Fault;
 use sim_base::job::JobName;
-use sim_base::message::Unit;
+use sim_base::message::{Cycle, Unit};
 use sim_base::trace::Entry;
+use statistics::outcome::Outcome;
 use std::alloc::{AllocError, Global};
 use std::marker::Brand;
+use std::process::Abort;
 use std::sync::Wait;
 use std::sync::atomic::{AtomicU64, Ordering};
 use std::test::Fail;
 use std::thread;
+use std::thread::Threads;
 use workers::gate::{Gate, Open};
 use workers::group::{AtGate, Group, Results};
 use workers::machine::run_machine;
 use workers::runner::{Claims, Runner};
 
 /// Four cores and two channels; the end of the run is a line of its own.
-fn config(alloc: Global, end: &str) -> Result<Config, Fail>
+fn config(alloc: Global, end: &str) -> Result<Config, Fault>
     ensures { IfOk result (λ config. config.cores ≡ 4) }
 {
     let config = small(alloc, &[RANK_FIELD, "cores = 4", "channels = 2"], end)?;
     if config.cores != 4 {
-        return Err(Fail::from("other cores"));
+        return Err(Fault::TraceCount);
     }
     Ok(config)
 }
@@ -61,20 +66,28 @@ fn traces(alloc: Global) -> Result<Vec<Trace>, AllocError>
 }
 
 /// Four cores that read one line each, before their first cycle.
-fn machine(alloc: Global) -> Result<Sim, Fail>
+fn machine(alloc: Global) -> Result<Sim, Fault>
     ensures { IfOk result (λ sim. sim.now ≡ 0) }
 {
     let config = config(alloc, "")?;
-    let sim = Sim::start(alloc, &config, traces(alloc)?)?;
-    Ok(sim)
+    let traces = traces(alloc)?;
+    Ok(Sim::start(alloc, &config, traces)?)
 }
 
-/// The six jobs of the first phase.
-fn first_jobs(alloc: Global) -> Result<Vec<Job>, Fail> {
-    match plan(machine(alloc)?, alloc, 16)? {
+/// The jobs of the first phase of a machine that is before its first cycle.
+fn jobs_of(alloc: Global, sim: Sim) -> Result<Vec<Job>, AllocError>
+    requires early { sim.now ≡ 0 }
+{
+    match plan(sim, alloc, 16)? {
         Planned::Quiet(_) => Ok(Vec::new(alloc)),
         Planned::Work(_, jobs) => Ok(jobs),
     }
+}
+
+/// The six jobs of the first phase.
+fn first_jobs(alloc: Global) -> Result<Vec<Job>, Fault> {
+    let sim = machine(alloc)?;
+    Ok(jobs_of(alloc, sim)?)
 }
 
 /// Holds the first job that enters until five others have left, for at most 1,000,000 turns. There are six, each a group of its own.
@@ -141,9 +154,11 @@ fn jobs_are_claimed(rt: HostRuntime) -> Result<(), Fail> {
     let jobs = first_jobs(rt.alloc())?;
     let work = AtGate { gate: &gate };
     let results = with_crew(&rt, rt.alloc(), &work, 16, 2, PATIENCE, OnePhase { jobs });
-    assert_eq!(rt; results, Ok(6));
-    assert_eq!(rt; gate.released.load(Ordering::SeqCst), 1);
-    assert_eq!(rt; gate.left.load(Ordering::SeqCst), 6);
+    let saw = (
+        gate.released.load(Ordering::SeqCst),
+        gate.left.load(Ordering::SeqCst),
+    );
+    expect(&rt, &(results, saw), &(Ok(6), (1, 6)));
     Ok(())
 }
 
@@ -161,7 +176,7 @@ fn any_number_of_workers_runs_a_phase(rt: HostRuntime) -> Result<(), Fail> {
             PATIENCE,
             OnePhase { jobs },
         );
-        assert_eq!(rt; results, Ok(6));
+        expect(&rt, &results, &Ok(6));
     }
     Ok(())
 }
@@ -189,70 +204,128 @@ impl Gate for Counting {
     fn leave(&self, _worker: usize, _job: JobName) {}
 }
 
+/// The outcome of a run of the four cores. The end of the run is a line of its own.
+fn outcome_by<R: Threads + Wait + Sync, G: Gate + Sync>(
+    rt: &R,
+    alloc: Global,
+    gate: &G,
+    workers: usize,
+    end: &str,
+    limit: Cycle,
+) -> Result<Outcome, Fault>
+    requires some { 1 ≤ workers }
+    requires few { workers ≤ 64 }
+    requires limit { limit ≤ 10 ^ 12 }
+{
+    let config = config(alloc, end)?;
+    let traces = traces(alloc)?;
+    run_machine(rt, alloc, gate, workers, &config, traces, limit)
+}
+
+/// How many cycles a run has, and how many phases with a job.
+fn phases_of<R: Threads + Wait + Sync>(
+    rt: &R,
+    alloc: Global,
+    limit: Cycle,
+) -> Result<(Cycle, u64), Fault>
+    requires limit { limit ≤ 10 ^ 12 }
+{
+    let counting = Counting {
+        next: AtomicU64::new(0),
+        phases: AtomicU64::new(0),
+    };
+    let outcome = outcome_by(rt, alloc, &counting, 1, "", limit)?;
+    let ended = &outcome;
+    Ok((ended.stats.cycles, counting.phases.load(Ordering::SeqCst)))
+}
+
 /// Four cores read one line each, up to a cycle far off. The requests come in cycle 2, where the row is opened. It is read in the
 /// cycles 5, 10, 15 and 20, as the lines lie in one group. The credits come two cycles later, and the replies in 15, 20, 25 and
 /// 30. Where nothing happens, there is no phase: a phase begins in the cycles 0, 2, 5, 7, 10, 12, 15, 17, 20, 22, 25 and 30.
 #[test]
 fn a_machine_works_where_something_happens(rt: HostRuntime) -> Result<(), Fail> {
-    let alloc = rt.alloc();
-    let config = config(alloc, "")?;
     for (limit, phases) in [(16, 7), (1_000_000_000_000, 12)] {
-        let counting = Counting {
-            next: AtomicU64::new(0),
-            phases: AtomicU64::new(0),
-        };
-        let outcome = run_machine(&rt, alloc, &counting, 1, &config, traces(alloc)?, limit).expect(
-            &rt, "a run",
-        );
-        let ended = &outcome;
-        assert_eq!(rt; ended.stats.cycles, limit);
-        assert_eq!(rt; counting.phases.load(Ordering::SeqCst), phases);
+        let found = phases_of(&rt, rt.alloc(), limit)?;
+        expect(&rt, &found, &(limit, phases));
     }
     Ok(())
 }
 
-/// Four cores read one line each, up to cycle 30: each worker count gives the same commands, of which there are an ACT and four
-/// RDs.
+/// Two outcomes have the same commands, cycles and number of messages in flight.
+fn assert_alike(rt: &impl Abort, more: &Outcome, one: &Outcome) {
+    expect(
+        rt,
+        &(
+            more.commands.as_slice(),
+            more.stats.cycles,
+            more.last.in_flight.len(),
+        ),
+        &(
+            one.commands.as_slice(),
+            one.stats.cycles,
+            one.last.in_flight.len(),
+        ),
+    );
+}
+
+/// So many workers give this outcome.
+fn assert_by<R: Abort + Threads + Wait + Sync>(
+    rt: &R,
+    alloc: Global,
+    workers: usize,
+    one: &Outcome,
+) -> Result<(), Fault>
+    requires some { 1 ≤ workers }
+    requires few { workers ≤ 64 }
+{
+    let more = outcome_by(rt, alloc, &Open, workers, "", 30)?;
+    assert_alike(rt, &more, one);
+    Ok(())
+}
+
+/// This outcome has an ACT and four RDs, and two and three workers give it.
+fn assert_workers<R: Abort + Threads + Wait + Sync>(
+    rt: &R,
+    alloc: Global,
+    one: &Outcome,
+) -> Result<(), Fault> {
+    expect(rt, &one.commands.len(), &5);
+    assert_by(rt, alloc, 2, one)?;
+    assert_by(rt, alloc, 3, one)
+}
+
+/// Four cores read one line each, up to cycle 30: each worker count gives the same commands.
 #[test]
 fn a_machine_does_not_show_its_workers(rt: HostRuntime) -> Result<(), Fail> {
-    let alloc = rt.alloc();
-    let config = config(alloc, "")?;
-    let by_one = run_machine(&rt, alloc, &Open, 1, &config, traces(alloc)?, 30).expect(
-        &rt, "a run",
-    );
-    let one = &by_one;
-    assert_eq!(rt; one.commands.len(), 5);
-    for workers in [2, 3] {
-        let by_more = run_machine(&rt, alloc, &Open, workers, &config, traces(alloc)?, 30).expect(
-            &rt, "a run",
-        );
-        let more = &by_more;
-        assert!(rt; more.commands.as_slice() == one.commands.as_slice());
-        assert_eq!(rt; more.stats.cycles, one.stats.cycles);
-        assert_eq!(rt; more.last.in_flight.len(), one.last.in_flight.len());
-    }
+    let one = outcome_by(&rt, rt.alloc(), &Open, 1, "", 30)?;
+    assert_workers(&rt, rt.alloc(), &one)?;
     Ok(())
+}
+
+/// How many commands a run has that ends drained, how many cycles, and how many messages it leaves in flight.
+fn drained_by<R: Threads + Wait + Sync>(
+    rt: &R,
+    alloc: Global,
+    workers: usize,
+) -> Result<(usize, Cycle, usize), Fault>
+    requires some { 1 ≤ workers }
+    requires few { workers ≤ 64 }
+{
+    let outcome = outcome_by(rt, alloc, &Open, workers, "end = \"drained\"\n", 1_000)?;
+    let ended = &outcome;
+    Ok((
+        ended.commands.len(),
+        ended.stats.cycles,
+        ended.last.in_flight.len(),
+    ))
 }
 
 /// Where the machine ends drained, it stops long before its limit, with nothing in flight.
 #[test]
 fn a_machine_ends_drained(rt: HostRuntime) -> Result<(), Fail> {
-    let alloc = rt.alloc();
-    let config = config(alloc, "end = \"drained\"\n")?;
     for workers in [1, 2, 3] {
-        let outcome = run_machine(
-            &rt,
-            alloc,
-            &Open,
-            workers,
-            &config,
-            traces(alloc)?,
-            1_000,
-        ).expect(&rt, "a run");
-        let ended = &outcome;
-        assert_eq!(rt; ended.commands.len(), 5);
-        assert!(rt; ended.stats.cycles < 100);
-        assert_eq!(rt; ended.last.in_flight.len(), 0);
+        let (commands, cycles, flight) = drained_by(&rt, rt.alloc(), workers)?;
+        expect(&rt, &(commands, cycles < 100, flight), &(5, true, 0));
     }
     Ok(())
 }
@@ -261,7 +334,8 @@ fn a_machine_ends_drained(rt: HostRuntime) -> Result<(), Fail> {
 #[test]
 fn most_workers_have_nothing_to_do(rt: HostRuntime) -> Result<(), Fail> {
     let texts = texts_of(rt.alloc(), &["0 0\n7 4096\n3 64 128\n0 8192\n"])?;
-    assert_same(&rt, SMALL, &texts, 200, &[2, 3, 64])
+    assert_same(&rt, SMALL, &texts, 200, &[2, 3, 64])?;
+    Ok(())
 }
 
 /// How long threads look for tasks before they sleep.
@@ -362,7 +436,7 @@ fn many_phases_are_whole(rt: HostRuntime) -> Result<(), Fail> {
     };
     for workers in [1, 2, 4] {
         let whole = with_crew(&rt, rt.alloc(), &Squaring, 17, workers, PATIENCE, course);
-        assert_eq!(rt; whole, Ok(10_000));
+        expect(&rt, &whole, &Ok(10_000));
     }
     Ok(())
 }
@@ -375,7 +449,7 @@ fn a_phase_without_room_is_whole(rt: HostRuntime) -> Result<(), Fail> {
         refused: 3,
     };
     let whole = with_crew(&rt, rt.alloc(), &Squaring, 16, 3, PATIENCE, course);
-    assert_eq!(rt; whole, Ok(3));
+    expect(&rt, &whole, &Ok(3));
     Ok(())
 }
 
@@ -388,7 +462,7 @@ fn refused_memory_ends_the_run(rt: HostRuntime) -> Result<(), Fail> {
             refused,
         };
         let whole = with_crew(&rt, rt.alloc(), &Squaring, 17, 4, PATIENCE, course);
-        assert_eq!(rt; whole, Err(Refused::Memory));
+        expect(&rt, &whole, &Err(Refused::Memory));
     }
     Ok(())
 }
@@ -457,21 +531,32 @@ fn take_in_turn<R: Wait, B: Room>(
     )
 }
 
-/// The jobs of the first phase of two cores that read one line each, and one channel.
-fn three_jobs(alloc: Global) -> Result<Vec<Job>, Fail> {
+/// Two cores that read one line each, and one channel, before their first cycle.
+fn three_units(alloc: Global) -> Result<Sim, Fault>
+    ensures { IfOk result (λ sim. sim.now ≡ 0) }
+{
     let config = small(alloc, &["cores = 2"], "")?;
     if config.cores != 2 {
-        return Err(Fail::from("other cores"));
+        return Err(Fault::TraceCount);
     }
+    let traces = two_traces(alloc)?;
+    Ok(Sim::start(alloc, &config, traces)?)
+}
+
+fn two_traces(alloc: Global) -> Result<Vec<Trace>, AllocError>
+    ensures { IfOk result (λ traces. length traces.items ≡ 2) }
+{
     let line = [Entry::Read(0)];
     let first = Trace::from_entries(alloc, &line)?;
     let second = Trace::from_entries(alloc, &line)?;
     let traces = Vec::from_array(alloc, [first, second])?;
-    let sim = Sim::start(alloc, &config, traces)?;
-    match plan(sim, alloc, 16)? {
-        Planned::Quiet(_) => Ok(Vec::new(alloc)),
-        Planned::Work(_, jobs) => Ok(jobs),
-    }
+    Ok(traces)
+}
+
+/// The jobs of their first phase.
+fn three_jobs(alloc: Global) -> Result<Vec<Job>, Fault> {
+    let sim = three_units(alloc)?;
+    Ok(jobs_of(alloc, sim)?)
 }
 
 #[test]
@@ -480,16 +565,17 @@ fn seats_take_jobs_in_their_order(rt: HostRuntime) -> Result<(), Fail> {
     let room = jobs.len().max(1);
     let blank = Blank::open(rt.alloc(), room)?;
     let (units, missing) = take_in_turn::<HostRuntime, Brand>(&rt, blank, jobs);
-    assert_eq!(rt; missing, [3, 1, 0]);
-    assert_eq!(rt;
-        units,
-        [
+    expect(&rt, &missing, &[3, 1, 0]);
+    expect(
+        &rt,
+        &units,
+        &[
             Some(Unit::Core(0)),
             Some(Unit::Core(1)),
             Some(Unit::Channel(0)),
             None,
-            None
-        ]
+            None,
+        ],
     );
     Ok(())
 }

@@ -2,6 +2,7 @@
 
 use crate::files_in_memory::MemoryFiles;
 use crate::worked_runs::Run;
+use crate::expect::expect_at;
 use fixtures::small::small_text;
 use program::perform::perform;
 use std::alloc::{AllocError, Global};
@@ -28,7 +29,7 @@ impl Said {
 
     /// Asserts the status, what is printed and what is told of errors, in a case with a name.
     pub(crate) fn assert_is(&self, rt: &impl Abort, name: &str, want: (u8, &str, &str)) {
-        assert_eq!(rt; self.all(), want, "{name}");
+        expect_at(rt, &name, &self.all(), &want);
     }
 }
 
@@ -38,7 +39,7 @@ fn text_of(bytes: &[u8]) -> &str {
 
 /// Asserts a text that the program leaves, in a case with a name.
 pub(crate) fn assert_text(rt: &impl Abort, name: &str, found: &str, want: &str) {
-    assert_eq!(rt; found, want, "{name}");
+    expect_at(rt, &name, &found, &want);
 }
 
 /// What the program says to a line of words.

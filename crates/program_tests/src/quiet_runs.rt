@@ -7,6 +7,7 @@ use crate::result_orders::{AsTheyCome, Noting};
 use cpu_trace::trace::Trace;
 use epochs::ordered::{Order, run_in_order};
 use epochs::sim::Sim;
+use crate::expect::{expect, expect_at};
 use fixtures::small::{RANK_FIELD, small};
 use sim_base::config::Config;
 use sim_base::message::Cycle;
@@ -87,7 +88,7 @@ fn read_up_to_16(alloc: Global) -> Result<Did, Fail> {
 fn one_line_is_read(rt: HostRuntime) -> Result<(), Fail> {
     let did = read_up_to_16(rt.alloc())?;
     let counts = (16, Some((1, 1, 0)));
-    assert_eq!(rt; did, (16, counts, (2, Some(2), Some(5))));
+    expect(&rt, &did, &(16, counts, (2, Some(2), Some(5))));
     Ok(())
 }
 
@@ -127,7 +128,7 @@ fn one_line_is_left(rt: HostRuntime) -> Result<(), Fail> {
     let left = read_up_to_6(rt.alloc())?;
     let (commands, flight) = ((2, Some(2), Some(5)), (2, Some(7), Some(15)));
     let units = (Some((1, 0)), Some((1, 0)));
-    assert_eq!(rt; left, (6, 1, commands, flight, units));
+    expect(&rt, &left, &(6, 1, commands, flight, units));
     Ok(())
 }
 
@@ -164,7 +165,7 @@ fn assert_ends(
 {
     for (cycle, limit, want) in cases {
         let end = end_at(alloc, entries, *cycle, *limit)?;
-        assert_eq!(rt; end, *want, "before cycle {cycle}, with limit {limit}");
+        expect_at(rt, &("before cycle with limit", cycle, limit), &end, want);
     }
     Ok(())
 }
@@ -215,7 +216,7 @@ const NONE: (Cycle, Cycle) = (0, 0);
 fn a_read_takes_five_phases(rt: HostRuntime) -> Result<(), Fail> {
     let found = noted(rt.alloc(), &[RANK_FIELD], &[Entry::Read(0)], 40)?;
     let spans = [(0, 2), (2, 4), (5, 7), (7, 9), (15, 17), NONE, NONE, NONE];
-    assert_eq!(rt; found, (40, 5, spans));
+    expect(&rt, &found, &(40, 5, spans));
     Ok(())
 }
 
@@ -225,7 +226,7 @@ fn two_refreshes_take_two_phases(rt: HostRuntime) -> Result<(), Fail> {
     let found = noted(rt.alloc(), &[RANK_FIELD, "nREFI = 100"], &[], 250)?;
     let (first, second) = ((100, 102), (200, 202));
     let spans = [first, second, NONE, NONE, NONE, NONE, NONE, NONE];
-    assert_eq!(rt; found, (250, 2, spans));
+    expect(&rt, &found, &(250, 2, spans));
     Ok(())
 }
 
@@ -248,7 +249,7 @@ fn a_slow_read_takes_three_phases(rt: HostRuntime) -> Result<(), Fail> {
     let (first, second) = ((0, 1_000_000), (1_000_000, 2_000_000));
     let third = (2_000_003, 3_000_003);
     let spans = [first, second, third, NONE, NONE, NONE, NONE, NONE];
-    assert_eq!(rt; found, (LONGEST, 3, spans));
+    expect(&rt, &found, &(LONGEST, 3, spans));
     Ok(())
 }
 
@@ -282,6 +283,6 @@ fn a_slow_read_is_counted(rt: HostRuntime) -> Result<(), Fail> {
     let core = (Some(2_000_011), 2_000_011, LONGEST);
     let commands = (2, Some(1_000_000), Some(1_000_003));
     let waits = (Some(core), Some(999_999_999_996));
-    assert_eq!(rt; found, (LONGEST, commands, waits));
+    expect(&rt, &found, &(LONGEST, commands, waits));
     Ok(())
 }

@@ -37,7 +37,7 @@ fn assert_all_refused<R: Abort + Threads + Wait + Sync + AllocGlobal>(
 
 const ONE_WORKER: &str = "--cycles 64 --workers 1";
 
-static TRACES: [Refused<'static>; 4] = [
+static REFUSED: [Refused<'static>; 12] = [
     (
         Run {
             name: "too few numbers",
@@ -74,14 +74,6 @@ static TRACES: [Refused<'static>; 4] = [
         ONE_WORKER,
         "fault 5: trace 0 line 1 too-large\n",
     ),
-];
-
-#[test]
-fn refuses_traces(rt: HostRuntime) -> Result<(), Fail> {
-    assert_all_refused(&rt, &TRACES)
-}
-
-static CONFIGURATIONS: [Refused<'static>; 3] = [
     (
         Run {
             name: "a trace for two cores",
@@ -109,28 +101,6 @@ static CONFIGURATIONS: [Refused<'static>; 3] = [
         ONE_WORKER,
         "fault 4: configuration relation 6\n",
     ),
-];
-
-#[test]
-fn refuses_configurations(rt: HostRuntime) -> Result<(), Fail> {
-    assert_all_refused(&rt, &CONFIGURATIONS)
-}
-
-// As often as they may come.
-static REFRESHES: Run = Run {
-    name: "refreshes often",
-    changes: &["nREFI = 35"],
-    cycles: 64,
-    ..ONE_READ
-};
-
-#[test]
-fn takes_refreshes_as_often_as_they_may_come(rt: HostRuntime) -> Result<(), Fail> {
-    let _files = files_by(&rt, &REFRESHES, 1)?;
-    Ok(())
-}
-
-static LIMITS_AND_WORDS: [Refused<'static>; 5] = [
     (
         Run {
             name: "no worker",
@@ -175,8 +145,22 @@ static LIMITS_AND_WORDS: [Refused<'static>; 5] = [
 ];
 
 #[test]
-fn refuses_limits_and_words(rt: HostRuntime) -> Result<(), Fail> {
-    assert_all_refused(&rt, &LIMITS_AND_WORDS)
+fn refuses_runs(rt: HostRuntime) -> Result<(), Fail> {
+    assert_all_refused(&rt, &REFUSED)
+}
+
+// As often as they may come.
+static REFRESHES: Run = Run {
+    name: "refreshes often",
+    changes: &["nREFI = 35"],
+    cycles: 64,
+    ..ONE_READ
+};
+
+#[test]
+fn takes_refreshes_as_often_as_they_may_come(rt: HostRuntime) -> Result<(), Fail> {
+    let _files = files_by(&rt, &REFRESHES, 1)?;
+    Ok(())
 }
 
 // What the program says to a line of words beside the small machine.

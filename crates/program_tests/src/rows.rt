@@ -71,7 +71,7 @@ fn whole_rows(rt: HostRuntime) -> Result<(), Fail> {
     assert_rows(&rt, &WHOLE_ROWS)
 }
 
-static OF_ONE_CORE: [(Run, &str); 6] = [
+static COMMANDS: [(Run, &str); 23] = [
     (HITS, "ACT 2, RD 5, RD 10, "),
     (GROUPS, "ACT 2, ACT 4, RD 5, RD 9, "),
     (
@@ -81,14 +81,6 @@ static OF_ONE_CORE: [(Run, &str); 6] = [
     (WRITE, "ACT 2, ACT 4, RD 5, WR 12, "),
     (SAME_LINE, "ACT 2, RD 5, WR 12, RD 21, "),
     (HIGH, "ACT 2, RD 5, RD 10, "),
-];
-
-#[test]
-fn rows_of_one_core(rt: HostRuntime) -> Result<(), Fail> {
-    assert_commands(&rt, &OF_ONE_CORE)
-}
-
-static WITH_OTHER_NUMBERS: [(Run, &str); 4] = [
     (
         EIGHT_CREDITS,
         "ACT 2, ACT 4, RD 5, ACT 6, ACT 8, RD 9, RD 13, ACT 14, RD 17, RD 21, ",
@@ -96,50 +88,18 @@ static WITH_OTHER_NUMBERS: [(Run, &str); 4] = [
     (ONE_CREDIT, "ACT 2, RD 5, RD 10, "),
     (FAST_CREDIT, "ACT 2, RD 5, RD 10, "),
     (NARROW_WINDOW, "ACT 2, RD 5, RD 17, "),
-];
-
-#[test]
-fn rows_with_other_numbers(rt: HostRuntime) -> Result<(), Fail> {
-    assert_commands(&rt, &WITH_OTHER_NUMBERS)
-}
-
-static WITH_REFRESH: [(Run, &str); 3] = [
     (REFRESHES, "REF 100, REF 200, "),
     (REFRESH_OPEN, "ACT 2, RD 5, PREA 100, REF 103, "),
     (REFRESH_LATE, "ACT 98, PREA 106, REF 109, ACT 129, RD 132, "),
-];
-
-#[test]
-fn rows_with_refresh(rt: HostRuntime) -> Result<(), Fail> {
-    assert_commands(&rt, &WITH_REFRESH)
-}
-
-static OF_TWO_RANKS: [(Run, &str); 3] = [
     (RANK_READS, "ACT 2, ACT 3, RD 5, RD 11, "),
     (RANK_WRITE, "ACT 2, ACT 3, RD 5, WR 12, "),
     (
         RANK_REFRESHES,
         "ACT 2, ACT 3, RD 5, RD 11, PREA 100, REF 103, PREA 104, REF 107, ",
     ),
-];
-
-#[test]
-fn rows_of_two_ranks(rt: HostRuntime) -> Result<(), Fail> {
-    assert_commands(&rt, &OF_TWO_RANKS)
-}
-
-static WITH_A_DRAIN: [(Run, &str); 3] = [
     (DRAIN_AT_TWO, "ACT 2, RD 5, ACT 6, WR 12, "),
     (DRAIN_AT_ONE, "ACT 2, ACT 4, WR 7, RD 15, "),
     (DRAIN_AT_FOUR, "ACT 2, RD 5, WR 12, RD 21, "),
-];
-
-#[test]
-fn rows_with_a_drain(rt: HostRuntime) -> Result<(), Fail> {
-    assert_commands(&rt, &WITH_A_DRAIN)
-}
-
-static THAT_END_DRAINED: [(Run, &str); 4] = [
     (DRAINED_READ, "ACT 2, RD 5, "),
     (DRAINED_LINE, "ACT 2, RD 5, WR 12, RD 21, "),
     (DRAINED_CUT, "ACT 2, "),
@@ -147,6 +107,6 @@ static THAT_END_DRAINED: [(Run, &str); 4] = [
 ];
 
 #[test]
-fn rows_that_end_drained(rt: HostRuntime) -> Result<(), Fail> {
-    assert_commands(&rt, &THAT_END_DRAINED)
+fn commands_of_rows(rt: HostRuntime) -> Result<(), Fail> {
+    assert_commands(&rt, &COMMANDS)
 }

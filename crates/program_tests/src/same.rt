@@ -11,6 +11,7 @@ use crate::worked_runs::{
 };
 use fixtures::small::small_text;
 use fixtures::texts::texts_of;
+use sim_base::fault::Fault;
 use std::alloc::{AllocError, Global};
 use std::process::Abort;
 use std::sync::Wait;
@@ -29,7 +30,7 @@ fn assert_limits<R: Abort + Threads + Wait + Sync + AllocGlobal>(
     rt: &R,
     config: &str,
     run: &Run,
-) -> Result<(), Fail> {
+) -> Result<(), Fault> {
     let texts = texts_of(rt.alloc(), run.traces)?;
     for cycles in [run.cycles, 3, 16] {
         assert_same(rt, config, &texts, cycles, &[1, 2, 7, 64])?;
@@ -41,7 +42,7 @@ fn assert_run<R: Abort + Threads + Wait + Sync + AllocGlobal>(
     rt: &R,
     run: &Run,
     link: &str,
-) -> Result<(), Fail> {
+) -> Result<(), Fault> {
     let config = config_of(rt.alloc(), run, link)?;
     assert_limits(rt, config.as_str(), run)
 }
@@ -114,7 +115,10 @@ fn rows_that_end_drained(rt: HostRuntime) -> Result<(), Fail> {
     assert_runs(&rt, &DRAINED)
 }
 
+static SLOW_CREDIT: Run = DRAINED_SLOW_CREDIT;
+
 #[test]
 fn rows_that_end_drained_with_a_slow_link(rt: HostRuntime) -> Result<(), Fail> {
-    assert_run(&rt, &DRAINED_SLOW_CREDIT, "")
+    assert_run(&rt, &SLOW_CREDIT, "")?;
+    Ok(())
 }

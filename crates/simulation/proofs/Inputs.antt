@@ -1,13 +1,16 @@
 -- The tests of a run's input, one after the other.
-use Rattle.std.proofs.Common.{◌≡◌, ℕ, ◌≤◌, Bool, true, false, eqb, leb, ◌&&◌, List, length, Result, Ok, Err, refl, ap, ◌∙◌}
+use Rattle.std.proofs.Common.{◌≡◌, ℕ, ◌≤◌, ◌⊎◌, inl, inr, refl, sym, subst, Bool, true, false, eqb, leb, ◌&&◌, List, length, Result, Ok, Err, ap, ◌∙◌}
 use Rattle.std.proofs.lemmas.Bool.Decides.{nat_tests}
 use Rattle.sim_base.specs.declared.fault.Fault.{Fault}
-use Rattle.sim_base.specs.declared.fault.Fault.TheVariants.{TraceCount, Workers, Cycles}
+use Rattle.sim_base.specs.declared.fault.Fault.TheVariants.{ConfigSyntax, ConfigKey, ConfigRange, ConfigRelation, TraceLine, TraceTooLong, TraceCount, Workers, Cycles, Memory, WorkerStart, Write, Read, CommandLine, CheckRow, Merge}
 use Rattle.config_reader.specs.Document.{document_of}
 use Rattle.sim_base.specs.Values.{Values}
 use Rattle.sim_base.specs.TraceText.{◌>>=◌}
 use Rattle.std.proofs.Common.{arith}
-use Rattle.simulation.specs.Runs.{unless, limits_of, traces_of, input_of}
+use Rattle.std.specs.Prelude.{◌≢◌, IsOk, IfErr}
+use Rattle.sim_base.specs.declared.trace.Entry.{Entry}
+use Rattle.workers.specs.Runs.{IsRefusedTo}
+use Rattle.simulation.specs.Runs.{unless, limits_of, traces_of, input_of, IsRefusal}
 
 pub input_config : (config : List ℕ) (texts : List (List ℕ)) (cycles workers : ℕ) (fault : Fault)
     → document_of config ≡ Err fault → input_of config texts cycles workers ≡ Err fault
@@ -67,3 +70,45 @@ limits_workers cores texts cycles workers h = by (eqb texts cores) (leb 1 worker
     by true false z e f k = absurd (cc)
     by true true false e f k = absurd (cc)
     by true true true e f k = (grind (arith, nat_tests), grind (arith, nat_tests))
+
+-- memory was refused, or it was something else
+pub memory-or-not : (fault : Fault) → (fault ≡ Memory) ⊎ (fault ≢ Memory)
+memory-or-not Memory = inl refl
+memory-or-not ConfigSyntax = inr (λ e. cc)
+memory-or-not (ConfigKey k) = inr (λ e. cc)
+memory-or-not (ConfigRange k) = inr (λ e. cc)
+memory-or-not (ConfigRelation n) = inr (λ e. cc)
+memory-or-not (TraceLine c l w) = inr (λ e. cc)
+memory-or-not (TraceTooLong c) = inr (λ e. cc)
+memory-or-not TraceCount = inr (λ e. cc)
+memory-or-not Workers = inr (λ e. cc)
+memory-or-not Cycles = inr (λ e. cc)
+memory-or-not WorkerStart = inr (λ e. cc)
+memory-or-not Write = inr (λ e. cc)
+memory-or-not Read = inr (λ e. cc)
+memory-or-not CommandLine = inr (λ e. cc)
+memory-or-not (CheckRow n) = inr (λ e. cc)
+memory-or-not (Merge m) = inr (λ e. cc)
+
+-- what the tests of the input refuse
+pub refused-input : (config : List ℕ) (texts : List (List ℕ)) (cycles workers : ℕ) (fault : Fault)
+    → (fault ≢ Memory → input_of config texts cycles workers ≡ Err fault) → IsRefusal config texts cycles workers fault
+refused-input config texts cycles workers fault h =
+    elim (memory-or-not fault) [
+      | inl e ↦ inl e
+      | inr n ↦ inr (inl (h n))
+    ]
+
+-- what the host refuses to a run of which the input is right
+refused-host : (config : List ℕ) (texts : List (List ℕ)) (cycles workers : ℕ) (traces : List (List Entry)) (fault : Fault)
+    → input_of config texts cycles workers ≡ Ok traces → IsRefusedTo workers fault → IsRefusal config texts cycles workers fault
+refused-host config texts cycles workers traces fault e h =
+    elim (h.0) [
+      | inl m ↦ inl m
+      | inr w ↦ inr (inr (w, h.1 w, subst IsOk (sym e) refl))
+    ]
+
+pub refused-run : (config : List ℕ) (texts : List (List ℕ)) (cycles workers : ℕ) (traces : List (List Entry)) {A : Type 0} (result : Result A Fault)
+    → input_of config texts cycles workers ≡ Ok traces → IfErr result (IsRefusedTo workers) → IfErr result (IsRefusal config texts cycles workers)
+refused-run config texts cycles workers traces (Ok outcome) e h = h
+refused-run config texts cycles workers traces (Err fault) e h = refused-host config texts cycles workers traces fault e h

@@ -2,12 +2,13 @@
 --     traces_of core texts      the entries of traces, of which the first is that of this core
 --     limits_of cores texts cycles workers      whether there is one trace a core, and so on
 --     input_of config texts cycles workers      the entries of all traces, or the first fault of a run's input
+--     IsRefusal config texts cycles workers fault      why a run with these workers is refused
 --     IsRunOf config texts cycles workers outcome      what the one-clock machine that the bytes describe did and left
 --     IsJudgedLegal config outcome      `check` says of the table of its commands that it is legal
-use Rattle.std.specs.Prelude.{◌≡◌, ℕ, ◌+◌, ◌==◌, nat_le, Bool, ◌&&◌, List, [], ◌∷◌, length, Result, Ok, Err, if◌then◌else◌}
+use Rattle.std.specs.Prelude.{◌≡◌, ◌⊎◌, ℕ, ◌+◌, ◌≤◌, ◌==◌, nat_le, Bool, ◌&&◌, List, [], ◌∷◌, length, Result, Ok, Err, IsOk, if◌then◌else◌}
 use Rattle.sim_base.specs.declared.config.Config.{Config}
 use Rattle.sim_base.specs.declared.fault.Fault.{Fault}
-use Rattle.sim_base.specs.declared.fault.Fault.TheVariants.{TraceCount, Workers, Cycles}
+use Rattle.sim_base.specs.declared.fault.Fault.TheVariants.{TraceCount, Workers, Cycles, Memory, WorkerStart}
 use Rattle.sim_base.specs.declared.trace.Entry.{Entry}
 use Rattle.config_reader.specs.Document.{document_of}
 use Rattle.sim_base.specs.Values.{values_of}
@@ -44,6 +45,13 @@ input_of config texts cycles workers = do
   values ← document_of config
   _ ← limits_of values.cores (length texts) cycles workers
   traces_of 0 texts
+
+-- Memory was refused; or this is the first fault of the input; or the input has none, and one of several workers was not started.
+abbrev pub IsRefusal : List ℕ → List (List ℕ) → ℕ → ℕ → Fault → Type 0
+IsRefusal config texts cycles workers fault =
+    (fault ≡ Memory)
+    ⊎ (input_of config texts cycles workers ≡ Err fault)
+    ⊎ ((fault ≡ WorkerStart) × (2 ≤ workers) × IsOk (input_of config texts cycles workers))
 
 -- The configuration is what the document states, the traces are what the texts mean, and the outcome is that of the machine
 -- that advances every core, link and channel one cycle at a time, up to the limit or until all is done: its commands, what it

@@ -3,7 +3,7 @@
 ghost use Rattle.std.specs.Prelude.{◌≡◌, ◌≢◌, ◌≤◌, ◌^◌, ◌==◌, ◌&&◌, nat_le, length, vec_len, map, Ok, Err, IfOk, IfErr};
 ghost use Rattle.config_reader.specs.Document.{document_of};
 ghost use Rattle.sim_base.specs.Values.{values_of};
-ghost use Rattle.simulation.specs.Runs.{unless, limits_of, traces_of, input_of, IsRunOf, IsJudgedLegal};
+ghost use Rattle.simulation.specs.Runs.{unless, limits_of, traces_of, input_of, IsRefusal, IsRunOf, IsJudgedLegal};
 
 use config_reader::read_config;
 use cpu_trace::reader::read_trace;
@@ -128,8 +128,8 @@ fn read_input<R: Threads + Sync>(
 ///
 /// The input is tested in this order: the configuration, the number of traces, the number of workers (1 to 64), the limit (at
 /// most 10^12 cycles), and the traces by core. The first fault is answered. `Fault::Memory` may come at any time, and the run
-/// itself is refused by nothing but this and `Fault::WorkerStart`. The table of its commands is legal, as `check` reads it under
-/// the same configuration.
+/// itself is refused by nothing but this and, with two workers or more, `Fault::WorkerStart`. The table of its commands is
+/// legal, as `check` reads it under the same configuration.
 pub fn simulate<R: Threads + Wait + Sync, G: Gate + Sync>(
     rt: &R,
     alloc: Global,
@@ -141,7 +141,7 @@ pub fn simulate<R: Threads + Wait + Sync, G: Gate + Sync>(
 ) -> Result<Outcome, Fault>
     ensures run { IfOk result (IsRunOf config.now (map (λ t. t.items) texts.now) cycles workers) }
     ensures legal { IfOk result (IsJudgedLegal config.now) }
-    ensures refused { IfErr result (λ e. e ≢ Fault.Memory → e ≢ Fault.WorkerStart → input_of config.now (map (λ t. t.items) texts.now) cycles workers ≡ Err e) }
+    ensures refused { IfErr result (IsRefusal config.now (map (λ t. t.items) texts.now) cycles workers) }
 {
     let (config, traces) = match read_input(rt, alloc, config, texts, cycles, workers) {
         Ok(input) => input,

@@ -147,7 +147,7 @@ rows-of_cycle cycle i (Some c ∷ os) =
     ((refl, omega arith), in-more cycle (i + 1 + length os) (i + suc (length os)) (omega arith) (rows_from cycle (i + 1) os) (rows-of_cycle cycle (i + 1) os))
 
 -- the rows of the table of a run
-commands-within : (s : Config) (traces : List (List Entry)) (n : ℕ) → Each (λ (x : CommandRow). (x.cycle < n) × (x.channel < s.channels)) (commands (run s traces n))
+pub commands-within : (s : Config) (traces : List (List Entry)) (n : ℕ) → Each (λ (x : CommandRow). (x.cycle < n) × (x.channel < s.channels)) (commands (run s traces n))
 unfolding run commands next_row
 commands-within s traces zero = tt
 commands-within s traces (suc n) =

@@ -75,7 +75,7 @@ impl Units {
             &mut sent,
             &mut self.commands,
         )?;
-        self.links.accept(&sent)?;
+        self.links.accept(&mut sent)?;
         Ok(Units {
             cores,
             channels,

@@ -6,9 +6,11 @@ ghost use Rattle.channel_step.specs.Past.{CarriesRequest};
 ghost use Rattle.channel_step.specs.Channels.{HasRank, HasBank};
 
 use channel_step::channel::Channel;
+use crate::expect::expect;
 use fixtures::small::{RANK_FIELD, small};
 use sim_base::command::{Command, CommandRow};
 use sim_base::config::Config;
+use sim_base::fault::Fault;
 use sim_base::message::{Cycle, Load, Message, Request};
 use sim_base::place::{BankId, Place};
 use std::alloc::{AllocError, Global};
@@ -21,12 +23,12 @@ const BANK: BankId = BankId {
 };
 
 /// The small machine, with an interval of refreshes.
-fn config(alloc: Global, n_refi: &str) -> Result<Config, Fail>
+fn config(alloc: Global, n_refi: &str) -> Result<Config, Fault>
     ensures { IfOk result (λ config. config.ranks ≡ 1) }
 {
     let config = small(alloc, &[RANK_FIELD, n_refi], "")?;
     if config.ranks != 1 {
-        return Err(Fail::from("other ranks"));
+        return Err(Fault::TraceCount);
     }
     Ok(config)
 }
@@ -98,21 +100,33 @@ fn idle_span_is_skipped(rt: HostRuntime) -> Result<(), Fail> {
     let done = run_alone(rt.alloc(), &config, &[], 1_000_000_000_000)?;
     let channel = &done.channel;
     let stats = channel.stats();
-    assert_eq!(rt;
-        (channel.now(), stats.idle, stats.queued, stats.refreshing),
-        (1_000_000_000_000, 1_000_000_000_000, 0, 0)
-    );
-    assert_eq!(rt;
-        (
-            done.commands.len(),
-            done.messages.len(),
-            channel.due(0),
-            channel.open_row(BANK)
+    let counts = (stats.idle, stats.queued, stats.refreshing);
+    let did = (done.commands.len(), done.messages.len());
+    let stands = (channel.now(), channel.due(0), channel.open_row(BANK));
+    expect(
+        &rt,
+        &(counts, did, stands),
+        &(
+            (1_000_000_000_000, 0, 0),
+            (0, 0),
+            (1_000_000_000_000, 0, None),
         ),
-        (0, 0, 0, None)
     );
     Ok(())
 }
+
+static REFRESHES: [CommandRow; 2] = [
+    CommandRow {
+        cycle: 100,
+        channel: 0,
+        command: Command::Ref { rank: 0 },
+    },
+    CommandRow {
+        cycle: 200,
+        channel: 0,
+        command: Command::Ref { rank: 0 },
+    },
+];
 
 /// No requests, and a refresh every 100 cycles: REF 100, REF 200.
 #[test]
@@ -120,21 +134,38 @@ fn idle_channel_is_refreshed(rt: HostRuntime) -> Result<(), Fail> {
     let config = config(rt.alloc(), "nREFI = 100")?;
     let done = run_alone(rt.alloc(), &config, &[], 250)?;
     let stats = done.channel.stats();
-    let rows = [100, 200].map(|cycle| CommandRow {
-        cycle,
-        channel: 0,
-        command: Command::Ref { rank: 0 },
-    });
-    assert_eq!(rt;
-        (
+    expect(
+        &rt,
+        &(
             done.commands.as_slice(),
             stats.refs,
             stats.refreshing,
-            stats.idle
+            stats.idle,
         ),
-        (rows.as_slice(), 2, 2, 250)
+        &(REFRESHES.as_slice(), 2, 2, 250),
     );
     Ok(())
+}
+
+/// A number of things, and the cycles of the first and of the last.
+type Ends = (usize, Option<Cycle>, Option<Cycle>);
+
+/// In which cycles commands were issued, and messages arrive.
+fn cycles_of(done: &ChannelDone) -> (Ends, Ends) {
+    let commands = done.commands.as_slice();
+    let messages = done.messages.as_slice();
+    (
+        (
+            commands.len(),
+            commands.first().map(|row| row.cycle),
+            commands.last().map(|row| row.cycle),
+        ),
+        (
+            messages.len(),
+            messages.first().map(|m| m.arrival),
+            messages.last().map(|m| m.arrival),
+        ),
+    )
 }
 
 /// One read, which is in the queue from cycle 2 on: ACT 2, RD 5. Its credit is back in cycle 7, and its data in cycle 15.
@@ -145,30 +176,27 @@ fn one_read_is_served(rt: HostRuntime) -> Result<(), Fail> {
     let done = run_alone(rt.alloc(), &config, &inbox, 16)?;
     let channel = &done.channel;
     let stats = channel.stats();
-    let cycles: Vec<Cycle> = done
-        .commands
-        .iter()
-        .map(|row| row.cycle)
-        .collect(rt.alloc())?;
-    let arrivals: Vec<Cycle> = done.messages.iter().map(|m| m.arrival).collect(rt.alloc())?;
-    assert_eq!(rt;
-        (channel.now(), cycles.as_slice(), arrivals.as_slice()),
-        (16, [2, 5].as_slice(), [15, 7].as_slice())
+    let ends = (
+        channel.now(),
+        channel.open_row(BANK),
+        channel.requests().len(),
     );
-    assert_eq!(rt;
-        (
-            stats.queued,
-            stats.queued_max,
-            stats.idle,
-            stats.act,
-            stats.rd,
-            stats.hits
+    let counts = (
+        stats.queued,
+        stats.queued_max,
+        stats.idle,
+        stats.act,
+        stats.rd,
+        stats.hits,
+    );
+    expect(
+        &rt,
+        &(ends, counts, cycles_of(&done)),
+        &(
+            (16, Some(0), 0),
+            (4, 1, 12, 1, 1, 0),
+            ((2, Some(2), Some(5)), (2, Some(15), Some(7))),
         ),
-        (4, 1, 12, 1, 1, 0)
-    );
-    assert_eq!(rt;
-        (channel.open_row(BANK), channel.requests().len()),
-        (Some(0), 0)
     );
     Ok(())
 }

@@ -2,10 +2,13 @@
 
 ghost use Rattle.std.specs.Prelude.{◌≤◌, length};
 
+use crate::none::NO_CORE;
 use core_window::core_unit::Core;
 use cpu_trace::trace::Trace;
+use crate::expect::expect;
 use fixtures::small::small;
 use sim_base::config::Config;
+use sim_base::fault::Fault;
 use sim_base::message::{Cycle, Message};
 use sim_base::trace::Entry;
 use statistics::cores::CoreStats;
@@ -34,86 +37,125 @@ fn run_alone(
     Ok(Alone { core, sent })
 }
 
+/// Other lines of the small machine, the entries of its core's trace and a cycle; what the core counted before it, and how many
+/// messages it sent.
+struct Case<'x> {
+    changes: &'x [&'x str],
+    entries: &'x [Entry],
+    until: Cycle,
+    did: CoreStats,
+    sent: usize,
+}
+
+/// What a core counted, how many messages it sent, and which of its first two entries wait for a reply.
+type Did = (CoreStats, usize, [bool; 2]);
+
+fn did_alone(alloc: Global, case: &Case<'_>) -> Result<Did, Fault> {
+    if case.entries.len() > 8 || case.until > 64 {
+        return Err(Fault::Cycles);
+    }
+    let config = small(alloc, case.changes, "")?;
+    let Alone { core, sent } = run_alone(alloc, &config, case.entries, case.until)?;
+    let awaited = [core.is_awaited(0), core.is_awaited(1)];
+    Ok((core.stats(), sent.len(), awaited))
+}
+
+static CASES: [Case<'static>; 4] = [
+    // The second read waits for the only credit.
+    Case {
+        changes: &["read_credits = 1"],
+        entries: &[Entry::Read(0), Entry::Read(64)],
+        until: 7,
+        did: CoreStats {
+            issued: 1,
+            reads: 1,
+            stop_memory: 1,
+            stop_credit: 6,
+            ..NO_CORE
+        },
+        sent: 1,
+    },
+    // Plain entries go by the width.
+    Case {
+        changes: &[],
+        entries: &[Entry::Plain, Entry::Plain, Entry::Plain, Entry::Read(0)],
+        until: 16,
+        did: CoreStats {
+            issued: 4,
+            retired: 3,
+            reads: 1,
+            stop_end: 15,
+            stop_width: 1,
+            ..NO_CORE
+        },
+        sent: 1,
+    },
+    // A window of one entry is full.
+    Case {
+        changes: &["window = 1"],
+        entries: &[Entry::Read(0), Entry::Read(64)],
+        until: 15,
+        did: CoreStats {
+            issued: 1,
+            reads: 1,
+            stop_window: 15,
+            ..NO_CORE
+        },
+        sent: 1,
+    },
+    // Plain entries alone finish.
+    Case {
+        changes: &[],
+        entries: &[Entry::Plain; 8],
+        until: 16,
+        did: CoreStats {
+            issued: 8,
+            retired: 8,
+            stop_end: 13,
+            stop_width: 3,
+            finish: Some(4),
+            ..NO_CORE
+        },
+        sent: 0,
+    },
+];
+
 #[test]
-fn second_read_waits_for_the_only_credit(rt: HostRuntime) -> Result<(), Fail> {
-    let config = small(rt.alloc(), &["read_credits = 1"], "")?;
-    let entries = [Entry::Read(0), Entry::Read(64)];
-    let Alone { core, sent } = run_alone(rt.alloc(), &config, &entries, 7)?;
-    let did = CoreStats {
-        issued: 1,
-        reads: 1,
-        stop_memory: 1,
-        stop_credit: 6,
-        ..CoreStats::new()
-    };
-    assert_eq!(rt; (core.stats(), sent.len()), (did, 1));
+fn counts_of_cores_alone(rt: HostRuntime) -> Result<(), Fail> {
+    for case in &CASES {
+        let (did, sent, _) = did_alone(rt.alloc(), case)?;
+        expect(&rt, &(did, sent), &(case.did, case.sent));
+    }
     Ok(())
 }
 
-#[test]
-fn plain_entries_go_by_the_width(rt: HostRuntime) -> Result<(), Fail> {
-    let config = small(rt.alloc(), &[], "")?;
-    let entries = [Entry::Plain, Entry::Plain, Entry::Plain, Entry::Read(0)];
-    let Alone { core, sent } = run_alone(rt.alloc(), &config, &entries, 16)?;
-    let did = CoreStats {
-        issued: 4,
-        retired: 3,
-        reads: 1,
-        stop_end: 15,
-        stop_width: 1,
-        ..CoreStats::new()
-    };
-    assert_eq!(rt; (core.stats(), sent.len()), (did, 1));
-    Ok(())
-}
-
-#[test]
-fn window_of_one_entry_is_full(rt: HostRuntime) -> Result<(), Fail> {
-    let config = small(rt.alloc(), &["window = 1"], "")?;
-    let entries = [Entry::Read(0), Entry::Read(64)];
-    let Alone { core, sent } = run_alone(rt.alloc(), &config, &entries, 15)?;
-    assert_eq!(rt; (core.stats().stop_window, sent.len()), (15, 1));
-    Ok(())
-}
-
-#[test]
-fn plain_entries_alone_finish(rt: HostRuntime) -> Result<(), Fail> {
-    let config = small(rt.alloc(), &[], "")?;
-    let entries = [Entry::Plain; 8];
-    let Alone { core, sent } = run_alone(rt.alloc(), &config, &entries, 16)?;
-    let did = CoreStats {
-        issued: 8,
-        retired: 8,
-        stop_end: 13,
-        stop_width: 3,
-        finish: Some(4),
-        ..CoreStats::new()
-    };
-    assert_eq!(rt; (core.stats(), sent.len()), (did, 0));
-    Ok(())
-}
-
-#[test]
-fn plain_entries_fill_the_window_behind_a_read(rt: HostRuntime) -> Result<(), Fail> {
-    let config = small(rt.alloc(), &["window = 4"], "")?;
-    let mut entries = [Entry::Plain; 8];
-    entries[0] = Entry::Read(0);
-    let Alone { core, sent } = run_alone(rt.alloc(), &config, &entries, 15)?;
-    let did = CoreStats {
+static BEHIND_A_READ: Case<'static> = Case {
+    changes: &["window = 4"],
+    entries: &[
+        Entry::Read(0),
+        Entry::Plain,
+        Entry::Plain,
+        Entry::Plain,
+        Entry::Plain,
+        Entry::Plain,
+        Entry::Plain,
+        Entry::Plain,
+    ],
+    until: 15,
+    did: CoreStats {
         issued: 4,
         reads: 1,
         stop_width: 2,
         stop_window: 13,
-        ..CoreStats::new()
-    };
-    assert_eq!(rt;
-        (
-            core.stats(),
-            core.is_awaited(0),
-            core.is_awaited(1),
-            sent.len()
-        ),
-        (did, true, false, 1)
-    );
+        ..NO_CORE
+    },
+    sent: 1,
+};
+
+#[test]
+fn plain_entries_fill_the_window_behind_a_read(rt: HostRuntime) -> Result<(), Fail> {
+    let found = did_alone(rt.alloc(), &BEHIND_A_READ)?;
+    let case = &BEHIND_A_READ;
+    expect(&rt, &found, &(case.did, case.sent, [true, false]));
     Ok(())
 }

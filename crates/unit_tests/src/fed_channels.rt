@@ -1,14 +1,17 @@
 //! A channel of the small machine, whose commands and messages are worked out by hand, and messages that do not fit it.
 
+use crate::none::NO_CHANNEL;
+use channel_feed::done::ChannelDone;
 use channel_feed::fault::FeedFault;
 use channel_feed::fed::FedChannel;
+use crate::expect::{expect, expect_at};
 use fixtures::small::small;
 use sim_base::command::{Command, CommandRow, Source};
-use sim_base::config::Config;
 use sim_base::message::{Cycle, Load, Message, Request};
 use sim_base::place::{BankId, Place};
 use statistics::channels::ChannelStats;
 use std::alloc::{AllocError, Global};
+use std::process::Abort;
 use std::test::Fail;
 
 // The Read of an entry at address 0, as core 0 sends it.
@@ -49,110 +52,129 @@ struct Run {
     messages: Vec<Message>,
 }
 
-// Runs a channel from its start over spans with these ends, with a Read that arrives in cycle 2.
-fn run_spans(alloc: Global, config: &Config, ends: &[Cycle]) -> Result<Run, Fail> {
-    let read = [message(read(0, 2))];
-    let mut fed = FedChannel::start(alloc, config, 0)?;
-    let mut commands = Vec::new(alloc);
-    let mut messages = Vec::new(alloc);
-    for (index, until) in ends.iter().enumerate() {
-        let inbox = if index == 0 { read.as_slice() } else { &[] };
-        let done = fed.run(alloc, inbox, *until)?;
-        commands.extend_from_slice(&done.commands)?;
-        messages.extend_from_slice(&done.messages)?;
-        fed = done.channel;
-    }
-    Ok(Run {
+// The small machine's channel, before its first cycle.
+fn started(alloc: Global) -> Result<FedChannel, Fail> {
+    let config = small(alloc, &[], "")?;
+    Ok(FedChannel::start(alloc, &config, 0)?)
+}
+
+// Runs a channel over a span.
+fn run_on(alloc: Global, run: Run, inbox: &[Message], until: Cycle) -> Result<Run, Fail> {
+    let Run {
         fed,
+        mut commands,
+        mut messages,
+    } = run;
+    let done = fed.run(alloc, inbox, until)?;
+    commands.extend_from_slice(&done.commands)?;
+    messages.extend_from_slice(&done.messages)?;
+    Ok(Run {
+        fed: done.channel,
         commands,
         messages,
     })
 }
 
+// Runs a channel from its start over spans with these ends, with a Read that arrives in cycle 2.
+fn run_spans(alloc: Global, ends: &[Cycle]) -> Result<Run, Fail> {
+    let read = [message(read(0, 2))];
+    let mut run = Run {
+        fed: started(alloc)?,
+        commands: Vec::new(alloc),
+        messages: Vec::new(alloc),
+    };
+    for (index, until) in ends.iter().enumerate() {
+        let inbox = if index == 0 { read.as_slice() } else { &[] };
+        run = run_on(alloc, run, inbox, *until)?;
+    }
+    Ok(run)
+}
+
 // Whether messages do not fit a channel before its first cycle, over a span of 64 cycles.
-fn is_unfit(alloc: Global, config: &Config, inbox: &[Message]) -> Result<bool, AllocError> {
-    let fed = FedChannel::start(alloc, config, 0)?;
-    match fed.run(alloc, inbox, 64) {
+fn is_unfit(alloc: Global, inbox: &[Message]) -> Result<bool, Fail> {
+    match started(alloc)?.run(alloc, inbox, 64) {
         Ok(_) => Ok(false),
         Err(FeedFault::Unfit) => Ok(true),
-        Err(FeedFault::Memory) => Err(AllocError),
+        Err(FeedFault::Memory) => Err(Fail::from(AllocError)),
     }
 }
 
+const BANK: BankId = BankId {
+    rank: 0,
+    group: 0,
+    bank: 0,
+};
+
+const SOURCE: Source = Source { core: 0, entry: 0 };
+
 // The commands of one Read to a bank that is closed: ACT, and RD after nRCD = 3 cycles.
-fn opened_and_read() -> [CommandRow; 2] {
-    let bank = BankId {
-        rank: 0,
-        group: 0,
-        bank: 0,
-    };
-    let source = Source { core: 0, entry: 0 };
-    let act = Command::Act {
-        bank,
-        row: 0,
-        source,
-    };
-    let rd = Command::Rd {
-        bank,
-        row: 0,
-        column: 0,
-        source,
-    };
-    [
-        CommandRow {
-            cycle: 2,
-            channel: 0,
-            command: act,
+static OPENED_AND_READ: [CommandRow; 2] = [
+    CommandRow {
+        cycle: 2,
+        channel: 0,
+        command: Command::Act {
+            bank: BANK,
+            row: 0,
+            source: SOURCE,
         },
-        CommandRow {
-            cycle: 5,
-            channel: 0,
-            command: rd,
+    },
+    CommandRow {
+        cycle: 5,
+        channel: 0,
+        command: Command::Rd {
+            bank: BANK,
+            row: 0,
+            column: 0,
+            source: SOURCE,
         },
-    ]
-}
+    },
+];
 
 // Its reply, which leaves when the burst is over, and its credit.
-fn replied() -> [Message; 2] {
-    [
-        Message {
-            link: 1,
-            arrival: 15,
-            load: Load::Reply(0),
+static REPLIED: [Message; 2] = [
+    Message {
+        link: 1,
+        arrival: 15,
+        load: Load::Reply(0),
+    },
+    Message {
+        link: 2,
+        arrival: 7,
+        load: Load::Credit {
+            write: false,
+            entry: 0,
         },
-        Message {
-            link: 2,
-            arrival: 7,
-            load: Load::Credit {
-                write: false,
-                entry: 0,
-            },
-        },
-    ]
-}
+    },
+];
 
 // The Read waits in cycles 2, 3, 4 and in 5, the cycle of its service.
-fn counted() -> ChannelStats {
-    let mut stats = ChannelStats::new();
-    stats.act = 1;
-    stats.rd = 1;
-    stats.queued = 4;
-    stats.queued_max = 1;
-    stats.idle = 60;
-    stats
+static COUNTED: ChannelStats = ChannelStats {
+    act: 1,
+    rd: 1,
+    queued: 4,
+    queued_max: 1,
+    idle: 60,
+    ..NO_CHANNEL
+};
+
+fn assert_one_read(rt: &impl Abort, run: &Run) {
+    expect(
+        rt,
+        &(
+            run.commands.as_slice(),
+            run.messages.as_slice(),
+            run.fed.stats(),
+            run.fed.now(),
+        ),
+        &(OPENED_AND_READ.as_slice(), REPLIED.as_slice(), COUNTED, 64),
+    );
 }
 
 #[test]
 fn a_run_whole_and_in_three_spans(rt: HostRuntime) -> Result<(), Fail> {
-    let alloc = rt.alloc();
-    let config = small(alloc, &[], "")?;
     for ends in [[64].as_slice(), [3, 6, 64].as_slice()] {
-        let run = run_spans(alloc, &config, ends)?;
-        assert_eq!(rt;
-            (run.commands.as_slice(), run.messages.as_slice()),
-            (opened_and_read().as_slice(), replied().as_slice())
-        );
-        assert_eq!(rt; (run.fed.stats(), run.fed.now()), (counted(), 64));
+        let run = run_spans(rt.alloc(), ends)?;
+        assert_one_read(&rt, &run);
     }
     Ok(())
 }
@@ -188,10 +210,8 @@ fn unfit_alone() -> [Message; 7] {
 
 #[test]
 fn messages_that_do_not_fit(rt: HostRuntime) -> Result<(), Fail> {
-    let alloc = rt.alloc();
-    let config = small(alloc, &[], "")?;
     for message in unfit_alone() {
-        assert!(rt; is_unfit(alloc, &config, &[message])?, "{message:?}");
+        expect_at(&rt, &message, &is_unfit(rt.alloc(), &[message])?, &true);
     }
     let first = message(read(0, 2));
     for (inbox, why) in [
@@ -199,7 +219,7 @@ fn messages_that_do_not_fit(rt: HostRuntime) -> Result<(), Fail> {
         ([first, message(read(1, 2))], "two in a cycle of a link"),
         ([first, message(read(0, 3))], "an entry twice"),
     ] {
-        assert!(rt; is_unfit(alloc, &config, &inbox)?, "{why}");
+        expect_at(&rt, &why, &is_unfit(rt.alloc(), &inbox)?, &true);
     }
     Ok(())
 }
@@ -207,24 +227,19 @@ fn messages_that_do_not_fit(rt: HostRuntime) -> Result<(), Fail> {
 // The machine's one core has four credits of each kind, so that the channel has room for eight.
 #[test]
 fn more_messages_than_credits(rt: HostRuntime) -> Result<(), Fail> {
-    let alloc = rt.alloc();
-    let config = small(alloc, &[], "")?;
-    let many: Vec<Message> = (0..9u64)
-        .map(|entry| message(read(entry, 2 + entry)))
-        .collect(alloc)?;
-    for (count, unfit) in [(9usize, true), (8, false)] {
-        assert_eq!(rt;
-            (count, is_unfit(alloc, &config, &many[..count])?),
-            (count, unfit)
-        );
-    }
+    let many = [0, 1, 2, 3, 4, 5, 6, 7, 8].map(|entry: u64| message(read(
+        entry,
+        entry.wrapping_add(2),
+    )));
+    let nine = is_unfit(rt.alloc(), &many)?;
+    let eight = is_unfit(rt.alloc(), &many[..8])?;
+    expect(&rt, &(nine, eight), &(true, false));
     Ok(())
 }
 
 // Why a channel that was run up to cycle 6 does not run on over a span; none, where it does.
 fn refusal(alloc: Global, inbox: &[Message], until: Cycle) -> Result<Option<FeedFault>, Fail> {
-    let config = small(alloc, &[], "")?;
-    let fed = run_spans(alloc, &config, &[6])?.fed;
+    let fed = run_spans(alloc, &[6])?.fed;
     Ok(fed.run(alloc, inbox, until).err())
 }
 
@@ -240,7 +255,7 @@ fn a_message_that_comes_too_late(rt: HostRuntime) -> Result<(), Fail> {
         (&[], 5, "the span ends before now"),
     ] {
         let refused = refusal(rt.alloc(), inbox, until)?;
-        assert_eq!(rt; refused, Some(FeedFault::Unfit), "{why}");
+        expect_at(&rt, &why, &refused, &Some(FeedFault::Unfit));
     }
     Ok(())
 }
@@ -248,92 +263,86 @@ fn a_message_that_comes_too_late(rt: HostRuntime) -> Result<(), Fail> {
 // In cycle 2 the Read arrives, in cycle 5 it is served.
 #[test]
 fn a_cycle_with_a_command_is_not_skipped(rt: HostRuntime) -> Result<(), Fail> {
-    let alloc = rt.alloc();
-    let config = small(alloc, &[], "")?;
-    let mut fed = run_spans(alloc, &config, &[3])?.fed;
+    let mut fed = run_spans(rt.alloc(), &[3])?.fed;
     let next = fed.next_act();
-    assert_eq!(rt;
-        (next, fed.skip(6).err()),
-        (Some(5), Some(FeedFault::Unfit))
-    );
+    let skipped = fed.skip(6).err();
+    expect(&rt, &(next, skipped), &(Some(5), Some(FeedFault::Unfit)));
     Ok(())
 }
 
-// After cycle 5 there is nothing to do.
-#[test]
-fn cycles_that_are_skipped(rt: HostRuntime) -> Result<(), Fail> {
-    let alloc = rt.alloc();
-    let config = small(alloc, &[], "")?;
-    let fed = run_spans(alloc, &config, &[3])?.fed.skip(5)?;
+// After cycle 5 there is nothing to do. The channel stands at cycle 6, and when it acts next.
+fn served(alloc: Global) -> Result<(FedChannel, Option<Cycle>), Fail> {
+    let fed = run_spans(alloc, &[3])?.fed.skip(5)?;
     let mut fed = fed.run(alloc, &[], 6)?.channel;
     let next = fed.next_act();
+    Ok((fed, next))
+}
+
+#[test]
+fn cycles_that_are_skipped(rt: HostRuntime) -> Result<(), Fail> {
+    let (fed, next) = served(rt.alloc())?;
     let fed = fed.skip(64)?;
     let stats = fed.stats();
     // It stands at cycle 64 already.
     let back = fed.skip(63).err();
-    assert_eq!(rt;
-        (next, stats, back),
-        (None, counted(), Some(FeedFault::Unfit))
+    expect(
+        &rt,
+        &(next, stats, back),
+        &(None, COUNTED, Some(FeedFault::Unfit)),
     );
     Ok(())
 }
 
-// A run of two spans, and then one in which a second Read comes. It hits the row that the first one opened.
-fn hit_later(alloc: Global, config: &Config) -> Result<Run, Fail> {
+// A run of two spans, then one in which a second Read comes, and then cycles are skipped. The Read hits the row that the first one
+// opened.
+fn hit_later(alloc: Global) -> Result<Run, Fail> {
+    let run = run_spans(alloc, &[3, 6])?;
     let Run {
         fed,
-        mut commands,
-        mut messages,
-    } = run_spans(alloc, config, &[3, 6])?;
-    let done = fed.run(alloc, &[message(read(1, 8))], 40)?;
-    commands.extend_from_slice(&done.commands)?;
-    messages.extend_from_slice(&done.messages)?;
+        commands,
+        messages,
+    } = run_on(alloc, run, &[message(read(1, 8))], 40)?;
     Ok(Run {
-        fed: done.channel,
+        fed: fed.skip(64)?,
         commands,
         messages,
     })
 }
 
+fn assert_replayed(rt: &impl Abort, run: &Run, replay: &ChannelDone) {
+    expect(
+        rt,
+        &(
+            replay.commands.as_slice(),
+            replay.messages.as_slice(),
+            (
+                replay.commands.len(),
+                replay.channel.stats(),
+                replay.channel.now(),
+            ),
+        ),
+        &(
+            run.commands.as_slice(),
+            run.messages.as_slice(),
+            (3, run.fed.stats(), 64),
+        ),
+    );
+}
+
 // One Read comes in the first span and one in the third, and then cycles are skipped.
 #[test]
 fn a_replay_does_what_the_spans_did(rt: HostRuntime) -> Result<(), Fail> {
-    let alloc = rt.alloc();
-    let config = small(alloc, &[], "")?;
-    let Run {
-        fed,
-        commands,
-        messages,
-    } = hit_later(alloc, &config)?;
-    let fed = fed.skip(64)?;
-    let replay = fed.replay(alloc)?;
-    assert_eq!(rt;
-        (replay.commands.as_slice(), replay.messages.as_slice()),
-        (commands.as_slice(), messages.as_slice())
-    );
-    assert_eq!(rt;
-        (
-            replay.commands.len(),
-            replay.channel.stats(),
-            replay.channel.now()
-        ),
-        (3, fed.stats(), 64)
-    );
+    let run = hit_later(rt.alloc())?;
+    let replay = run.fed.replay(rt.alloc())?;
+    assert_replayed(&rt, &run, &replay);
     Ok(())
 }
 
 #[test]
 fn a_replay_of_no_cycle(rt: HostRuntime) -> Result<(), Fail> {
-    let alloc = rt.alloc();
-    let config = small(alloc, &[], "")?;
-    let replay = FedChannel::start(alloc, &config, 0)?.replay(alloc)?;
-    assert_eq!(rt;
-        (
-            replay.commands.len(),
-            replay.messages.len(),
-            replay.channel.now()
-        ),
-        (0, 0, 0)
-    );
+    let replay = started(rt.alloc())?.replay(rt.alloc())?;
+    let now = replay.channel.now();
+    let lengths = (replay.commands.len(), replay.messages.len());
+    expect(&rt, &(lengths, now), &((0, 0), 0));
     Ok(())
 }

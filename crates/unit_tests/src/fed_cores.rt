@@ -1,14 +1,18 @@
 //! Short runs of one profile, counted by hand, and messages that may not come.
 
+use crate::none::NO_CORE;
+use core_feed::done::CoreDone;
 use core_feed::fed::{FedCore, FedCoreDone, FeedFault};
 use cpu_trace::trace::Trace;
+use crate::expect::{expect, expect_at};
 use fixtures::small::small;
 use sim_base::config::Config;
-use sim_base::message::{Cycle, Load, Message, Request};
+use sim_base::message::{Cycle, LinkId, Load, Message, Request};
 use sim_base::place::Place;
 use sim_base::trace::Entry;
 use statistics::cores::CoreStats;
 use std::alloc::{AllocError, Global};
+use std::process::Abort;
 use std::test::Fail;
 
 fn reply(entry: u64, arrival: Cycle) -> Message {
@@ -28,6 +32,59 @@ fn credit(entry: u64, arrival: Cycle) -> Message {
             entry,
         },
     }
+}
+
+/// A message to core 0: a credit or a reply, with its entry and its arrival; a credit that may not come in cycle 7, with its link
+/// and whether it is a write's; or a request.
+#[derive(Clone, Copy)]
+enum Mail {
+    Credit(u64, Cycle),
+    Reply(u64, Cycle),
+    CreditOn(LinkId, bool),
+    Request,
+}
+
+/// A request, which does not come to a core.
+static REQUEST: Message = Message {
+    link: 0,
+    arrival: 7,
+    load: Load::Request(Request {
+        core: 0,
+        entry: 1,
+        write: false,
+        address: 0,
+        place: Place {
+            channel: 0,
+            rank: 0,
+            group: 0,
+            bank: 0,
+            row: 0,
+            column: 0,
+        },
+        arrival: 7,
+        link: 0,
+    }),
+};
+
+fn message_of(mail: Mail) -> Message {
+    match mail {
+        Mail::Credit(entry, arrival) => credit(entry, arrival),
+        Mail::Reply(entry, arrival) => reply(entry, arrival),
+        Mail::CreditOn(link, write) => Message {
+            link,
+            arrival: 7,
+            load: Load::Credit { write, entry: 1 },
+        },
+        Mail::Request => REQUEST,
+    }
+}
+
+fn mail_of(alloc: Global, mail: &[Mail]) -> Result<Vec<Message>, AllocError> {
+    let mut messages = Vec::new(alloc);
+    for one in mail {
+        messages.push(message_of(*one))?;
+    }
+    Ok(messages)
 }
 
 /// The messages that arrive from a cycle on and before another.
@@ -66,12 +123,28 @@ fn trace_of(alloc: Global, entries: &[Entry]) -> Result<Trace, Fail> {
     Ok(Trace::from_entries(alloc, entries)?)
 }
 
-#[test]
-fn counts_do_not_depend_on_the_cuts(rt: HostRuntime) -> Result<(), Fail> {
-    let config = small(rt.alloc(), &[], "")?;
-    let entries = [Entry::Read(0), Entry::Read(64)];
-    let mail = [credit(0, 7), credit(1, 12), reply(0, 15), reply(1, 20)];
-    let did = CoreStats {
+/// Other lines of the small machine, the entries of its core's trace, the messages to it and the ends of spans; and what the core
+/// counts.
+struct Case<'x> {
+    changes: &'x [&'x str],
+    entries: &'x [Entry],
+    mail: &'x [Mail],
+    cuts: &'x [Cycle],
+    did: CoreStats,
+}
+
+/// Two reads with all credits, which do not depend on the cuts.
+const TWO_READS: Case<'static> = Case {
+    changes: &[],
+    entries: &[Entry::Read(0), Entry::Read(64)],
+    mail: &[
+        Mail::Credit(0, 7),
+        Mail::Credit(1, 12),
+        Mail::Reply(0, 15),
+        Mail::Reply(1, 20),
+    ],
+    cuts: &[7, 32],
+    did: CoreStats {
         issued: 2,
         retired: 2,
         reads: 2,
@@ -80,81 +153,100 @@ fn counts_do_not_depend_on_the_cuts(rt: HostRuntime) -> Result<(), Fail> {
         stop_end: 31,
         stop_memory: 1,
         finish: Some(20),
-        ..CoreStats::new()
-    };
-    let cycles: Vec<Cycle> = (0..33u64).collect(rt.alloc())?;
-    for cuts in [
-        [7, 32].as_slice(),
-        [2, 12, 15, 16, 21, 32].as_slice(),
-        cycles.as_slice(),
-    ] {
-        let did_so = counted(rt.alloc(), &config, &entries, &mail, cuts)?;
-        assert_eq!(rt; (cuts, did_so), (cuts, did));
+        ..NO_CORE
+    },
+};
+
+static CASES: [Case<'static>; 6] = [
+    TWO_READS,
+    Case {
+        cuts: &[2, 12, 15, 16, 21, 32],
+        ..TWO_READS
+    },
+    Case {
+        cuts: &[
+            0, 1, 2, 3, 4, 5, 6, 7, 8, 9, 10, 11, 12, 13, 14, 15, 16, 17, 18, 19, 20, 21, 22, 23,
+            24, 25, 26, 27, 28, 29, 30, 31, 32,
+        ],
+        ..TWO_READS
+    },
+    // One credit holds back the second read.
+    Case {
+        changes: &["read_credits = 1"],
+        cuts: &[7, 8, 32],
+        did: CoreStats {
+            issued: 2,
+            retired: 2,
+            reads: 2,
+            replies: 2,
+            read_latency: 28,
+            stop_end: 25,
+            stop_memory: 1,
+            stop_credit: 6,
+            finish: Some(20),
+            ..NO_CORE
+        },
+        ..TWO_READS
+    },
+    // Plain entries go by the width.
+    Case {
+        changes: &[],
+        entries: &[Entry::Plain, Entry::Plain, Entry::Plain, Entry::Read(0)],
+        mail: &[Mail::Credit(3, 8), Mail::Reply(3, 16)],
+        cuts: &[2, 32],
+        did: CoreStats {
+            issued: 4,
+            retired: 4,
+            reads: 1,
+            replies: 1,
+            read_latency: 15,
+            stop_end: 31,
+            stop_width: 1,
+            finish: Some(16),
+            ..NO_CORE
+        },
+    },
+    // A window of one entry is full.
+    Case {
+        changes: &["window = 1"],
+        entries: &[Entry::Read(0), Entry::Read(64)],
+        mail: &[
+            Mail::Credit(0, 7),
+            Mail::Reply(0, 15),
+            Mail::Credit(1, 19),
+            Mail::Reply(1, 27),
+        ],
+        cuts: &[7, 16, 32],
+        did: CoreStats {
+            issued: 2,
+            retired: 2,
+            reads: 2,
+            replies: 2,
+            read_latency: 27,
+            stop_end: 17,
+            stop_window: 15,
+            finish: Some(27),
+            ..NO_CORE
+        },
+    },
+];
+
+fn did(alloc: Global, case: &Case<'_>) -> Result<CoreStats, Fail> {
+    let config = small(alloc, case.changes, "")?;
+    let mail = mail_of(alloc, case.mail)?;
+    counted(alloc, &config, case.entries, &mail, case.cuts)
+}
+
+#[test]
+fn counts_of_fed_cores(rt: HostRuntime) -> Result<(), Fail> {
+    for case in &CASES {
+        expect_at(
+            &rt,
+            &("in spans up to", case.cuts),
+            &did(rt.alloc(), case)?,
+            &case.did,
+        );
     }
-    Ok(())
-}
-
-#[test]
-fn one_credit_holds_back_the_second_read(rt: HostRuntime) -> Result<(), Fail> {
-    let config = small(rt.alloc(), &["read_credits = 1"], "")?;
-    let entries = [Entry::Read(0), Entry::Read(64)];
-    let mail = [credit(0, 7), credit(1, 12), reply(0, 15), reply(1, 20)];
-    let did = CoreStats {
-        issued: 2,
-        retired: 2,
-        reads: 2,
-        replies: 2,
-        read_latency: 28,
-        stop_end: 25,
-        stop_memory: 1,
-        stop_credit: 6,
-        finish: Some(20),
-        ..CoreStats::new()
-    };
-    let did_so = counted(rt.alloc(), &config, &entries, &mail, &[7, 8, 32])?;
-    assert_eq!(rt; did_so, did);
-    Ok(())
-}
-
-#[test]
-fn plain_entries_go_by_the_width(rt: HostRuntime) -> Result<(), Fail> {
-    let config = small(rt.alloc(), &[], "")?;
-    let entries = [Entry::Plain, Entry::Plain, Entry::Plain, Entry::Read(0)];
-    let mail = [credit(3, 8), reply(3, 16)];
-    let did = CoreStats {
-        issued: 4,
-        retired: 4,
-        reads: 1,
-        replies: 1,
-        read_latency: 15,
-        stop_end: 31,
-        stop_width: 1,
-        finish: Some(16),
-        ..CoreStats::new()
-    };
-    let did_so = counted(rt.alloc(), &config, &entries, &mail, &[2, 32])?;
-    assert_eq!(rt; did_so, did);
-    Ok(())
-}
-
-#[test]
-fn window_of_one_entry_is_full(rt: HostRuntime) -> Result<(), Fail> {
-    let config = small(rt.alloc(), &["window = 1"], "")?;
-    let entries = [Entry::Read(0), Entry::Read(64)];
-    let mail = [credit(0, 7), reply(0, 15), credit(1, 19), reply(1, 27)];
-    let did = CoreStats {
-        issued: 2,
-        retired: 2,
-        reads: 2,
-        replies: 2,
-        read_latency: 27,
-        stop_end: 17,
-        stop_window: 15,
-        finish: Some(27),
-        ..CoreStats::new()
-    };
-    let did_so = counted(rt.alloc(), &config, &entries, &mail, &[7, 16, 32])?;
-    assert_eq!(rt; did_so, did);
     Ok(())
 }
 
@@ -179,21 +271,30 @@ fn fed_up_to(
     })
 }
 
+/// A core with one credit, after four spans in which it sent two reads.
+fn fed_in_four_spans(alloc: Global) -> Result<FedCoreDone, Fail> {
+    let config = small(alloc, &["read_credits = 1"], "")?;
+    let trace = trace_of(alloc, &[Entry::Read(0), Entry::Plain, Entry::Read(64)])?;
+    let start = FedCore::start(alloc, &config, 0, trace)?;
+    let mail = [credit(0, 7), credit(2, 12), reply(0, 15), reply(2, 20)];
+    fed_up_to(alloc, start, &mail, &[7, 8, 18, 32])
+}
+
+fn assert_replayed(rt: &impl Abort, fed: &FedCoreDone, replay: &CoreDone) {
+    let stats = replay.core.stats();
+    let ends = (fed.messages.len(), replay.core.now());
+    expect(
+        rt,
+        &(replay.messages.as_slice(), stats, stats.finish, ends),
+        &(fed.messages.as_slice(), fed.core.stats(), Some(20), (2, 32)),
+    );
+}
+
 #[test]
 fn a_replay_does_the_same_in_one_span(rt: HostRuntime) -> Result<(), Fail> {
-    let config = small(rt.alloc(), &["read_credits = 1"], "")?;
-    let entries = [Entry::Read(0), Entry::Plain, Entry::Read(64)];
-    let mail = [credit(0, 7), credit(2, 12), reply(0, 15), reply(2, 20)];
-    let trace = trace_of(rt.alloc(), &entries)?;
-    let start = FedCore::start(rt.alloc(), &config, 0, trace)?;
-    let fed = fed_up_to(rt.alloc(), start, &mail, &[7, 8, 18, 32])?;
+    let fed = fed_in_four_spans(rt.alloc())?;
     let replay = fed.core.replay(rt.alloc())?;
-    let stats = replay.core.stats();
-    assert_eq!(rt;
-        (replay.messages.as_slice(), stats, stats.finish),
-        (fed.messages.as_slice(), fed.core.stats(), Some(20))
-    );
-    assert_eq!(rt; (fed.messages.len(), replay.core.now()), (2, 32));
+    assert_replayed(&rt, &fed, &replay);
     Ok(())
 }
 
@@ -212,95 +313,79 @@ fn core_at_two(alloc: Global) -> Result<FedCore, Fail> {
 }
 
 /// Whether these messages are refused of a core at cycle 2, in a span up to a cycle.
-fn is_refused(alloc: Global, inbox: &[Message], until: Cycle) -> Result<bool, Fail> {
-    match core_at_two(alloc)?.run(alloc, inbox, until) {
+fn is_refused(alloc: Global, mail: &[Mail], until: Cycle) -> Result<bool, Fail> {
+    let inbox = mail_of(alloc, mail)?;
+    match core_at_two(alloc)?.run(alloc, &inbox, until) {
         Ok(_) => Ok(false),
         Err(fault) => Ok(fault == FeedFault::Unfit),
     }
 }
 
-#[test]
-fn fit_messages_are_taken(rt: HostRuntime) -> Result<(), Fail> {
-    let mail = [credit(1, 7), credit(2, 7), reply(1, 14), reply(2, 14)];
-    for (inbox, until) in [(mail.as_slice(), 32), (&[], 2)] {
-        assert!(rt; !is_refused(rt.alloc(), inbox, until)?, "up to {until}");
-    }
-    Ok(())
-}
+/// Messages, the end of the span in which they come, and what is wrong with them; none, where they are taken.
+type Refusal<'x> = (&'x [Mail], Cycle, Option<&'x str>);
+
+static REFUSALS: [Refusal<'static>; 16] = [
+    (
+        &[
+            Mail::Credit(1, 7),
+            Mail::Credit(2, 7),
+            Mail::Reply(1, 14),
+            Mail::Reply(2, 14),
+        ],
+        32,
+        None,
+    ),
+    (&[], 2, None),
+    (
+        &[Mail::Reply(1, 14), Mail::Reply(1, 15)],
+        32,
+        Some("a reply twice"),
+    ),
+    (&[Mail::Reply(0, 14)], 32, Some("a reply of a Plain entry")),
+    (
+        &[Mail::Reply(3, 2)],
+        32,
+        Some("a reply of an entry not issued yet"),
+    ),
+    (&[Mail::Reply(9, 14)], 32, Some("a reply of no entry")),
+    (
+        &[Mail::Credit(1, 2), Mail::Credit(2, 2), Mail::Credit(3, 2)],
+        32,
+        Some("one credit too many"),
+    ),
+    (
+        &[Mail::CreditOn(2, true)],
+        32,
+        Some("a credit of a kind of which none is spent"),
+    ),
+    (
+        &[Mail::CreditOn(5, false)],
+        32,
+        Some("a credit on another core's link"),
+    ),
+    (
+        &[Mail::CreditOn(1, false)],
+        32,
+        Some("a credit on the link of replies"),
+    ),
+    (
+        &[Mail::Reply(2, 15), Mail::Reply(1, 14)],
+        32,
+        Some("out of order"),
+    ),
+    (&[Mail::Reply(1, 1)], 32, Some("before the span")),
+    (&[Mail::Reply(1, 32)], 32, Some("after the span")),
+    (&[], 1, Some("a span that ends before it begins")),
+    (&[], 1 << 62, Some("a span that ends too late")),
+    (&[Mail::Request], 32, Some("a request")),
+];
 
 #[test]
-fn replies_that_may_not_come(rt: HostRuntime) -> Result<(), Fail> {
-    for (inbox, why) in [
-        ([reply(1, 14), reply(1, 15)].as_slice(), "twice"),
-        (&[reply(0, 14)], "of a Plain entry"),
-        (&[reply(3, 2)], "of an entry not issued yet"),
-        (&[reply(9, 14)], "of no entry"),
-    ] {
-        assert!(rt; is_refused(rt.alloc(), inbox, 32)?, "{why}");
+fn messages_are_taken_or_refused(rt: HostRuntime) -> Result<(), Fail> {
+    for (mail, until, why) in &REFUSALS {
+        let refused = is_refused(rt.alloc(), mail, *until)?;
+        expect_at(&rt, &why, &refused, &why.is_some());
     }
-    Ok(())
-}
-
-/// A credit that may not come, as it stands in a good one's place.
-fn credit_with(link: u64, write: bool) -> Message {
-    Message {
-        link,
-        arrival: 7,
-        load: Load::Credit { write, entry: 1 },
-    }
-}
-
-#[test]
-fn credits_that_may_not_come(rt: HostRuntime) -> Result<(), Fail> {
-    let three = [credit(1, 2), credit(2, 2), credit(3, 2)];
-    for (inbox, why) in [
-        (three.as_slice(), "one too many"),
-        (&[credit_with(2, true)], "of a kind of which none is spent"),
-        (&[credit_with(5, false)], "on another core's link"),
-        (&[credit_with(1, false)], "on the link of replies"),
-    ] {
-        assert!(rt; is_refused(rt.alloc(), inbox, 32)?, "{why}");
-    }
-    Ok(())
-}
-
-#[test]
-fn messages_at_a_wrong_time(rt: HostRuntime) -> Result<(), Fail> {
-    for (inbox, until, why) in [
-        ([reply(2, 15), reply(1, 14)].as_slice(), 32, "out of order"),
-        (&[reply(1, 1)], 32, "before the span"),
-        (&[reply(1, 32)], 32, "after the span"),
-        (&[], 1, "a span that ends before it begins"),
-        (&[], 1 << 62, "a span that ends too late"),
-    ] {
-        assert!(rt; is_refused(rt.alloc(), inbox, until)?, "{why}");
-    }
-    Ok(())
-}
-
-#[test]
-fn requests_do_not_come_to_a_core(rt: HostRuntime) -> Result<(), Fail> {
-    let request = Message {
-        link: 0,
-        arrival: 7,
-        load: Load::Request(Request {
-            core: 0,
-            entry: 1,
-            write: false,
-            address: 0,
-            place: Place {
-                channel: 0,
-                rank: 0,
-                group: 0,
-                bank: 0,
-                row: 0,
-                column: 0,
-            },
-            arrival: 7,
-            link: 0,
-        }),
-    };
-    assert!(rt; is_refused(rt.alloc(), &[request], 32)?);
     Ok(())
 }
 
@@ -321,9 +406,10 @@ fn a_core_at_rest_skips(rt: HostRuntime) -> Result<(), Fail> {
     let stands = (skipped.now(), skipped.core().credits().len());
     let mail = [credit(0, 15), reply(0, 15)];
     let finish = skipped.run(rt.alloc(), &mail, 16)?.core.stats().finish;
-    assert_eq!(rt;
-        (first, next, stands, finish),
-        (Some(0), None, (15, 1), Some(15))
+    expect(
+        &rt,
+        &(first, next, stands, finish),
+        &(Some(0), None, (15, 1), Some(15)),
     );
     Ok(())
 }
@@ -331,6 +417,6 @@ fn a_core_at_rest_skips(rt: HostRuntime) -> Result<(), Fail> {
 #[test]
 fn a_core_that_acts_does_not_skip(rt: HostRuntime) -> Result<(), Fail> {
     let core = core_at_two(rt.alloc())?;
-    assert_eq!(rt; core.skip(3).err(), Some(FeedFault::Unfit));
+    expect(&rt, &core.skip(3).err(), &Some(FeedFault::Unfit));
     Ok(())
 }

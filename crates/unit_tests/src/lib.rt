@@ -6,6 +6,10 @@ mod channels;
 #[cfg(test)]
 mod cores;
 #[cfg(test)]
+mod expect;
+#[cfg(test)]
 mod fed_channels;
 #[cfg(test)]
 mod fed_cores;
+#[cfg(test)]
+mod none;

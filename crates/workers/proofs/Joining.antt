@@ -13,7 +13,7 @@ weigh_joined h [] = refl
 weigh_joined h (g ∷ gs) = let r = weigh_joined h gs in omega (arith, weigh_append h g (joined gs))
 
 -- jobs can be told apart
-job_code : Coded JobView
+pub job_code : Coded JobView
 job_code = Prim.hlevel (codes, config.the_row.coded)
 
 same_groups : (groups : List (List JobView)) → map (λ g. g) groups ≡ groups

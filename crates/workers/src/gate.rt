@@ -34,17 +34,12 @@ impl Gate for Open {
 }
 
 /// Runs a job between its enter and its leave. Only memory can be refused; the gate is then not left.
-pub(crate) fn run_at<G: Gate>(
-    gate: &G,
-    alloc: Global,
-    worker: usize,
-    job: Job,
-) -> Result<Done, AllocError>
+pub(crate) fn run_at<G: Gate>(gate: &G, worker: usize, job: Job) -> Result<Done, AllocError>
     ensures { IfOk result (λ done. done ≡ job) }
 {
     let name = job.name();
     gate.enter(worker, name);
-    let done = job.run(alloc)?;
+    let done = job.run()?;
     gate.leave(worker, name);
     Ok(done)
 }
@@ -58,9 +53,9 @@ pub(crate) fn run_all<G: Gate>(
 ) -> Result<Vec<Done>, AllocError>
     ensures { IfOk result (λ results. results.items ≡ jobs.items) }
 {
-    let mut results = Vec::new(alloc);
+    let mut results = Vec::with_capacity(alloc, jobs.len())?;
     for job in jobs {
-        results.push(run_at(gate, alloc, worker, job)?)?;
+        results.push(run_at(gate, worker, job)?)?;
     }
     Ok(results)
 }

@@ -1,7 +1,6 @@
 //! Jobs of a phase that are claimed together.
 
-ghost use Rattle.std.specs.Prelude.{◌≡◌, ◌+◌, ◌<◌, ◌≤◌, List, [], ◌++◌, length, min, All, IfOk, vec_len};
-ghost use Rattle.std.specs.Vec.Iter.{into_iter_items, into_iter_len};
+ghost use Rattle.std.specs.Prelude.{◌≡◌, ◌<◌, [], ◌∷◌, ◌++◌, length, min, slice_set, slice_index_or, IsPermutation, IfOk, OnOk, vec_len};
 ghost use Rattle.epochs.specs.Views.{JobView};
 ghost use Rattle.workers.specs.Groups.{joined};
 
@@ -10,7 +9,6 @@ use crew::work::{DoneOf, Work};
 use epochs::job::{Done, Job};
 use std::alloc::{AllocError, Global};
 use std::marker::Model;
-use std::vec::IntoIter;
 
 /// Jobs that one worker runs, one after the other. To a contract it is the list of them.
 #[derive(Drop)]
@@ -69,34 +67,43 @@ impl<'a, G: Gate> Work<Group, Results> for AtGate<'a, G> {
     }
 }
 
-// The next jobs, so many.
-fn next_group(alloc: Global, rest: &mut IntoIter<Job>, size: usize) -> Result<Group, AllocError>
-    requires { size ≤ into_iter_len rest.old }
-    ensures size { IfOk result (λ g. length g ≡ size) }
-    ensures jobs { IfOk result (λ g. g ++ into_iter_items rest.new ≡ into_iter_items rest.old) }
+// Groups without jobs, so many, each with room for some.
+fn empty_groups(alloc: Global, count: usize, room: usize) -> Result<Vec<Group>, AllocError>
+    ensures count { IfOk result (λ groups. length groups.items ≡ count) }
+    ensures empty { IfOk result (λ groups. joined groups.items ≡ []) }
 {
-    let mut jobs = Vec::with_capacity(alloc, size)?;
-    for _ in 0..size {
-        if let Some(job) = rest.next() {
-            jobs.push(job)?;
-        }
+    let mut groups = Vec::with_capacity(alloc, count)?;
+    for _ in 0..count {
+        let jobs = Vec::with_capacity(alloc, room)?;
+        groups.push(Group { jobs })?;
     }
-    Ok(Group { jobs })
+    Ok(groups)
 }
 
-/// The jobs in their order, in groups: as many groups as `most`, or else one for each job. Their lengths differ by 1 at most.
-/// Only memory can be refused.
+// Deals a job to a group.
+fn deal(groups: &mut Vec<Group>, turn: usize, job: Job) -> Result<(), AllocError>
+    requires { turn < length groups.old.items }
+    ensures { OnOk result (groups.new.items ≡ slice_set groups.old.items turn (slice_index_or groups.old.items turn [] ++ job ∷ [])) }
+{
+    let group = &mut groups[turn];
+    group.jobs.push(job)?;
+    Ok(())
+}
+
+/// The jobs dealt out in turn to as many groups as `most`, or else to one for each job, so that jobs of one kind, which stand side by side,
+/// come into different groups: a channel takes as long as many cores. Only memory can be refused.
 pub fn split(alloc: Global, jobs: Vec<Job>, most: usize) -> Result<Vec<Group>, AllocError>
     requires some { 0 < most }
-    ensures joined { IfOk result (λ groups. joined groups.items ≡ jobs.items) }
-    ensures count { IfOk result (λ groups. vec_len groups ≡ min (vec_len jobs) most) }
+    ensures dealt { IfOk result (λ groups. IsPermutation jobs.items (joined groups.items)) }
+    ensures count { IfOk result (λ groups. length groups.items ≡ min (vec_len jobs) most) }
 {
     let count = jobs.len().min(most);
-    let mut rest = jobs.into_iter();
-    let mut groups = Vec::with_capacity(alloc, count)?;
-    for before in 0..count {
-        let size = rest.len() / (count - before);
-        groups.push(next_group(alloc, &mut rest, size)?)?;
+    let room = jobs.len() / count.max(1) + 1;
+    let mut groups = empty_groups(alloc, count, room)?;
+    let mut turn = 0;
+    for job in jobs {
+        deal(&mut groups, turn, job)?;
+        turn = if turn + 1 < count { turn + 1 } else { 0 };
     }
     Ok(groups)
 }

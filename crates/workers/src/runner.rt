@@ -56,6 +56,7 @@ impl<'a, P: Phases<Group, Results>> Claims<'a, P> {
     /// A runner by this crew, with at most so many groups in a phase.
     pub fn new(alloc: Global, crew: &'a mut P, most: usize) -> Claims<'a, P>
         requires { 0 < most }
+        ensures { result.most ≡ most }
     {
         Claims { alloc, crew, most }
     }

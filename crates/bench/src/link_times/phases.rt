@@ -112,7 +112,7 @@ impl Times {
         rt: &impl Clock,
         links: &mut Links,
         alloc: Global,
-        messages: &[Message],
+        messages: &mut [Message],
         now: Cycle,
     ) -> Result<()> {
         let start = Instant::now(rt)?;
@@ -154,8 +154,8 @@ pub fn run_phases(rt: &impl Clock, alloc: Global, phases: u64) -> Result<Times> 
     };
     for phase in 0..phases {
         let now = phase.wrapping_mul(SPAN);
-        let messages = messages_of(alloc, phase, now)?;
-        times.add_phase(rt, &mut links, alloc, &messages, now)?;
+        let mut messages = messages_of(alloc, phase, now)?;
+        times.add_phase(rt, &mut links, alloc, &mut messages, now)?;
     }
     Ok(times)
 }

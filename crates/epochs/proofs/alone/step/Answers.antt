@@ -20,8 +20,8 @@ returns c =
       count = count;
       words_count = c.lower_all.ensures.count ∙ gone.words ∙ r.asleep.words_count;
       wait = lowered-wait_all s traces c.args.now c.args.until c.go_all.new.slots c.go_all.new.words c.lower_all.new.words order r.travels count (gone.words ∙ r.asleep.words_count) gone.between
-          (subst (λ z. AreLowered s z c.go_all.new.words c.lower_all.new.words) (c.deref-2.ensures.value ∙ gone.sent) c.lower_all.ensures);
+          (subst (λ z. AreLowered s z c.go_all.new.words c.lower_all.new.words) (c.deref.ensures.value ∙ gone.sent) c.lower_all.ensures);
       flight = c.in_ok-accept.ensures.ok
-          ∙ ap₂ {C = InFlight} (λ (l : InFlight) new. record l { messages = fold insert_by_age l.messages new }) gone.links (c.deref.ensures.value ∙ gone.sent)
+          ∙ ap₂ {C = InFlight} (λ (l : InFlight) new. record l { messages = fold insert_by_age l.messages new }) gone.links (c.deref_mut.ensures.value ∙ gone.sent)
           ∙ ap {B = InFlight} (λ z. record { channels = s.channels; messages = z }) (join-flight s traces c.args.now c.args.until order r.travels);
     }

@@ -25,7 +25,7 @@ loop-done-preserved c =
     let p : PhaseView = record { machine = s; traces = traces; number = c.args.number; from = from; until = until } in
     let steps = c.in-Some.ensures.steps in
     let part = c.into_sent-part.result.part.value in
-    let ms = c.into_sent-part.result.messages.items in
+    let ms = c.into_sent-part.result.mail.sent.items in
     let whole = ap (λ z. at.yielded ++ z) (sym steps.0) ∙ at.invariant.0 ∙ c.into_iter-done-iterator.ensures.into_iter_gives.0 ∙ c.requires.all in
     let is = seam-is (job_at p) (unit_count s) at.yielded _ x whole in
     let has = subst (λ (d : JobView). HasRun d.machine d.traces d.name.unit d.name.from d.name.until part ms) is c.into_sent-part.ensures.ran in
@@ -41,7 +41,7 @@ loop-done-preserved c =
       subst (StandAt s traces until) (sym items)
           (stand-push s traces until at.parts.items part at.invariant.3 (subst (λ i. IsPart s traces (unit_at s i) until part) (sym at.invariant.2) has.stands)),
       c.in_ok-accept.ensures.ok
-          ∙ ap₂ {C = InFlight} (λ (l : InFlight) new. record l { messages = fold insert_by_age l.messages new }) at.invariant.4 c.deref.ensures.value
+          ∙ ap₂ {C = InFlight} (λ (l : InFlight) new. record l { messages = fold insert_by_age l.messages new }) at.invariant.4 c.deref_mut.ensures.value
           ∙ ap {B = InFlight} (λ z. record c.args.links.now { messages = z })
           (fresh-more s traces from until k acc ms has.sent ∙ ap (λ n. fold insert_by_age acc (flat_map (fresh s traces from until) (below n))) (sym grown)),
     )

@@ -1,33 +1,13 @@
-use Rattle.std.proofs.Common.{◌≡◌, ◌<◌, ◌+◌, ◌∙◌, ap, sym, subst, get_or, arith}
-use Rattle.sim_base.specs.declared.message.Unit.TheVariants as unit
-use Rattle.laws.specs.Commands.{history_of}
-use Rattle.epochs.specs.Parts.{IsPart}
-use Rattle.epochs.specs.Tables.{merged}
-use Rattle.epochs.proofs.Counted.{channel-stands}
-use Rattle.epochs.proofs.Tabled.{IsTable, table-more, table-all}
+use Rattle.std.proofs.Common.{rules, ◌∙◌}
+use Rattle.std.proofs.lemmas.List.Sorted.{answers_always, IsNonDecreasingBy-from_sort_by_key}
+use Rattle.epochs.proofs.Tabled.{table-sorted, stable-rows, sorted-rising}
 use Rattle.epochs.proofs.tables.all_commands.Goals as goal
-
-pub loop-channel-preserved : goal.loop-channel-preserved
-loop-channel-preserved c =
-    let s = c.args.machine.now.config in
-    let traces = c.args.machine.now.traces.items in
-    let now = c.args.now in
-    let l = c.loop-channel in
-    let k : l.channel < s.channels = c.loop-channel-test.true in
-    let place = c.from.ensures in
-    let more = c.from-in-loop-channel.ensures in
-    let stands = channel-stands s traces now c.args.parts.now l.channel c.index-parts-place.result c.requires.stand c.requires.count k in
-    let part = subst (IsPart s traces (unit.Channel l.channel) now)
-    (ap (λ i. get_or c.args.parts.now (i + l.channel) c.index-parts-place.result) (sym place) ∙ ap (λ i. get_or c.args.parts.now (c.from.result + i) c.index-parts-place.result) (sym more) ∙ sym c.index-parts-place.is) stands in
-    let is = c.in_ok-table.ensures {u = tt} s traces l.channel now part ∙ ap (λ z. merged z (history_of s traces now l.channel)) c.deref.ensures.value in
-    subst (IsTable s traces now (l.channel + 1)) (sym is) (table-more s traces now l.channel l.table.items k l.invariant)
 
 pub returns : goal.returns
 returns c =
     let s = c.args.machine.now.config in
     let traces = c.args.machine.now.traces.items in
-    let l = c.loop-channel in
-    let past = c.loop-channel-test.false in
-    let within = c.loop-channel.auto.channel-end in
-    let end : l.channel ≡ s.channels = omega (arith, past, within) in
-    table-all s traces c.args.now l.table.items (subst (λ n. IsTable s traces c.args.now n l.table.items) end l.invariant)
+    let made = c.in_ok-table.ensures in
+    let stable = stable-rows _ _ (c.sort_by_key.ensures.stable (λ row. row.cycle) (answers_always _ _ _ (λ f a r g h. search rules))) in
+    let rising = sorted-rising _ (IsNonDecreasingBy-from_sort_by_key (λ row. row.cycle) _ c.in_ok-sort_by_key.ensures.sorted (λ a r q k. search rules)) in
+    table-sorted s traces c.args.now _ rising (λ k. stable k ∙ made k)

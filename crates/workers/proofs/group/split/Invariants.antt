@@ -1,12 +1,16 @@
--- The groups so far have the first jobs. As many jobs are left as groups, or more; with no group, none.
-use Rattle.std.proofs.Common.{◌≡◌, ◌+◌, ◌≤◌, ◌++◌, vec_len}
+-- However the jobs are weighed, the groups have the jobs so far. While jobs are left it is some group's turn.
+use Rattle.std.proofs.Common.{◌≡◌, ℕ, ◌<◌, ◌++◌, length}
 use Rattle.std.specs.Vec.Iter.{into_iter_items, into_iter_len}
+use Rattle.crew.specs.Rule.{weigh}
+use Rattle.epochs.specs.Views.{JobView}
 use Rattle.workers.specs.Groups.{joined}
 use Rattle.workers.proofs.group.split.Given as goal
 
-abbrev pub invariant-loop-before : goal.invariant-loop-before
-invariant-loop-before l =
-    (joined l.groups.items ++ into_iter_items l.rest ≡ l.fn.jobs.items)
-    × (vec_len l.groups ≡ l.before)
-    × (l.count ≤ l.before + into_iter_len l.rest)
-    × (l.before ≡ l.count → into_iter_len l.rest ≡ 0)
+abbrev pub invariant-loop-job : goal.invariant-loop-job
+invariant-loop-job l = record {
+  whole : l.yielded ++ into_iter_items l.job-iterator ≡ into_iter_items l.initial.job-iterator;
+  steps : into_iter_len l.job-iterator ≡ length (into_iter_items l.job-iterator);
+  count : length l.groups.items ≡ l.count;
+  turn : 0 < length (into_iter_items l.job-iterator) → l.turn < l.count;
+  dealt : (f : JobView → ℕ) → weigh f (joined l.groups.items) ≡ weigh f l.yielded;
+}

@@ -26,7 +26,7 @@ invariant_of-result c =
     let told = c.in_ok-send.ensures {u = tt} s traces j.name.unit ready in
     let onto = HasRun s traces j.name.unit j.name.from j.name.until in
     record {
-      ran = subst (onto c.run_and_tell.new.self) (sym (told.onto.behind ∙ ap (λ z. z ++ told.onto.messages) c.new-messages.ensures.items)) told.onto.ran;
+      ran = subst (onto c.run_and_tell.new.self) (sym (told.onto.behind ∙ ap (λ z. z ++ told.onto.messages) c.clear.ensures.items)) told.onto.ran;
       since = told.since;
       silent = told.silent;
     }

@@ -40,7 +40,7 @@ returns-in_ok-append-in-Back c =
     let u = unit_at s k in
     let ms = in_flight s traces (run s traces from) in
     let part = c.into_sent-part.result.part in
-    let sent = c.into_sent-part.result.messages.items in
+    let sent = c.into_sent-part.result.mail.sent.items in
     let wake = c.arrival_word.result in
     let h = subst (MaySettle s traces c.args.span.number from until k word) c.in-Back.is r.settles in
     let done = subst (λ (v : JobView). IsDone v.machine v.traces v.name part.value sent c.into_sent-part.result.send) h.is c.into_sent-part.ensures in
@@ -52,7 +52,7 @@ returns-in_ok-append-in-Back c =
     ∙ c.arrival_word.ensures.first wake (omega arith) in
     record {
       messages = sent;
-      gone = woken-gone s traces u from until (sleeper h.slot word) (sleeper (record { part = part; at = until }) wake) sent (exists-at s k r.place) h.waited done.ran refl
+      gone = woken-gone s traces u from until (sleeper h.slot word) (sleeper (record { part = part; at = until; mail = c.into_sent-part.result.mail }) wake) sent (exists-at s k r.place) h.waited done.ran refl
           c.arrival_word.ensures.since
           (silent-sooner s traces until wake c.into_sent-part.result.send u c.arrival_word.ensures.within done.silent) none;
       added = c.in_ok-append-in-Back.ensures.items;

@@ -55,8 +55,8 @@ invariant_of-result c =
     let sent = settled.sent ∙ ap (λ (x : Machine). sent_in x.config x.traces.items from until) c.deref-2.ensures in
     let once = with_items_is f.words words (words_count ∙ sym h.words_count ∙ sym f.words.ok.0) in
     let old = c.deref_mut-2.ensures.value ∙ once in
-    let are_lowered = subst (λ (x : Machine). AreLowered x.config c.deref-5.result.now c.deref_mut-2.result.now lowered) c.deref-4.ensures c.lower_all.ensures in
-    let lower = subst (λ z. AreLowered s z words lowered) (c.deref-5.ensures.value ∙ sent) (subst (λ z. AreLowered s c.deref-5.result.now z lowered) old are_lowered) in
+    let are_lowered = subst (λ (x : Machine). AreLowered x.config c.deref-4.result.now c.deref_mut-2.result.now lowered) c.deref-3.ensures c.lower_all.ensures in
+    let lower = subst (λ z. AreLowered s z words lowered) (c.deref-4.ensures.value ∙ sent) (subst (λ z. AreLowered s c.deref-4.result.now z lowered) old are_lowered) in
     let lowered_count = lower.count ∙ words_count in
     let twice = with_items_is (with_items f.words words) lowered (lowered_count ∙ sym h.words_count ∙ sym f.words.ok.0) in
     record {
@@ -67,7 +67,7 @@ invariant_of-result c =
         words_count = lowered_count;
         wait = lowered-wait_all s traces from until slots words lowered order h.travels count words_count between lower;
         flight = c.in_ok-accept.ensures.ok
-            ∙ ap₂ {C = InFlight} (λ (l : InFlight) new. record l { messages = fold insert_by_age l.messages new }) h.flight (c.deref-3.ensures.value ∙ sent)
+            ∙ ap₂ {C = InFlight} (λ (l : InFlight) new. record l { messages = fold insert_by_age l.messages new }) h.flight (c.deref_mut-3.ensures.value ∙ sent)
             ∙ ap {B = InFlight} (λ z. record { channels = s.channels; messages = z }) (join-flight s traces from until order h.travels);
       });
     }
