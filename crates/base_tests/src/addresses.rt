@@ -1,7 +1,7 @@
 //! Places and addresses of one memory: two groups of four banks, with 65536 rows of 128 lines each.
 
-use address_map::{address_of, place_of};
 use crate::expect::expect;
+use address_map::{address_of, place_of};
 use fixtures::small::small;
 use sim_base::config::Config;
 use sim_base::place::Place;

@@ -1,7 +1,7 @@
 //! The table of a few commands, to writers that take all, little or nothing.
 
-use crate::slow::Slow;
 use crate::expect::{expect, expect_at};
+use crate::slow::Slow;
 use reports::write_commands;
 use sim_base::command::{Command, CommandRow, Source};
 use sim_base::fault::Fault;

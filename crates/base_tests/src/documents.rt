@@ -1,7 +1,7 @@
 //! Configurations that are read or refused, and why.
 
-use config_reader::read_config;
 use crate::expect::{expect, expect_at};
+use config_reader::read_config;
 use fixtures::small::SMALL;
 use sim_base::config::Config;
 use sim_base::fault::Fault;

@@ -1,7 +1,7 @@
 //! The states in which small runs end, found by hand.
 
-use crate::slow::Slow;
 use crate::expect::{expect, expect_at};
+use crate::slow::Slow;
 use reports::write_final;
 use sim_base::fault::Fault;
 use sim_base::message::{Load, Message, Request};

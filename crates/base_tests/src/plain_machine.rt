@@ -1,7 +1,7 @@
 //! A run of one core, with each number as counted by hand.
 
-use cpu_trace::trace::Trace;
 use crate::expect::expect;
+use cpu_trace::trace::Trace;
 use fixtures::one_read::{CHANNELS, CORES};
 use fixtures::small::small;
 use one_clock::machine::run_plain;

@@ -1,7 +1,7 @@
 //! The statistics of small runs whose counts were found by hand.
 
-use crate::slow::Slow;
 use crate::expect::{expect, expect_at};
+use crate::slow::Slow;
 use reports::write_stats;
 use sim_base::fault::Fault;
 use statistics::channels::ChannelStats;

@@ -1,10 +1,10 @@
 //! Texts of traces whose entries and faults are known.
 
+use crate::expect::{expect, expect_at};
 use cpu_trace::entries::MemoryEntry;
 use cpu_trace::number::read_number;
 use cpu_trace::reader::{read_trace, read_trace_in_pieces};
 use cpu_trace::trace::Trace;
-use crate::expect::{expect, expect_at};
 use sim_base::fault::{Fault, LineCause};
 use sim_base::trace::Entry;
 use std::alloc::{AllocError, Global};

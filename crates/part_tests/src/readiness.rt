@@ -4,8 +4,8 @@ ghost use Rattle.std.specs.Prelude.{◌≡◌, ◌+◌, ◌*◌, ◌<◌, IsTrue
 ghost use Rattle.bank_ready.specs.Stands.{rank_count};
 ghost use Rattle.bank_ready.specs.Words.{names_bank};
 
-use bank_ready::banks::Banks;
 use crate::expect::expect;
+use bank_ready::banks::Banks;
 use fixtures::small::{RANK_FIELD, small};
 use sim_base::command::{Command, Kind, Source};
 use sim_base::config::Config;

@@ -4,8 +4,8 @@
 //! each worker. A worker whose job is held takes no other, and each worker takes groups until there is none; so as many workers
 //! come as the phase has jobs, or all of them.
 
-use crate::outcomes::{Run, Tables, is_plain, plain_tables};
 use crate::expect::{expect, expect_at};
+use crate::outcomes::{Run, Tables, is_plain, plain_tables};
 use fixtures::small::small_text;
 use fixtures::texts::texts_of;
 use sim_base::fault::Fault;

@@ -1,8 +1,8 @@
 //! A small run that is refused memory: it gives fault 10, or 11 where a worker did not start, or what it gives else. To be run
 //! with each allocation failing in turn; what these tests take of memory themselves counts too.
 
-use crate::outcomes::Watching;
 use crate::expect::expect;
+use crate::outcomes::Watching;
 use fixtures::one_read::{CHANNELS, CORES};
 use fixtures::small::SMALL;
 use fixtures::texts::texts_of;

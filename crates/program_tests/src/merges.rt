@@ -5,6 +5,7 @@ ghost use Rattle.sim_base.specs.declared.trace.Entry.TheVariants as entry;
 ghost use Rattle.epochs.specs.Views.{jobs_of};
 
 use crate::ends::{ends_of_commands, ends_of_messages};
+use crate::expect::{expect, expect_at};
 use crate::result_orders::{AsTheyCome, Leaves, Reversed, Turned, exchange};
 use cpu_trace::trace::Trace;
 use epochs::job::{Done, Job};
@@ -13,7 +14,6 @@ use epochs::ordered::{Order, RunFault, run_in_order};
 use epochs::phase::Phase;
 use epochs::planning::{Planned, plan};
 use epochs::sim::Sim;
-use crate::expect::{expect, expect_at};
 use fixtures::small::{RANK_FIELD, small};
 use sim_base::config::Config;
 use sim_base::fault::MergeFault;

@@ -3,6 +3,7 @@
 ghost use Rattle.std.specs.Prelude.{◌≡◌, ◌+◌, ◌<◌, ◌≤◌, ◌^◌, [], length, vec_len, IfOk};
 ghost use Rattle.crew.specs.Rule.{put_view};
 
+use crate::expect::expect;
 use crate::outcomes::assert_same;
 use cpu_trace::trace::Trace;
 use crew::bell::Patience;
@@ -15,7 +16,6 @@ use crew::work::{DoneOf, Work};
 use epochs::job::Job;
 use epochs::planning::{Planned, plan};
 use epochs::sim::Sim;
-use crate::expect::expect;
 use fixtures::small::{RANK_FIELD, SMALL, small};
 use fixtures::texts::texts_of;
 use sim_base::config::Config;

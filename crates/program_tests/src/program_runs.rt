@@ -1,8 +1,8 @@
 //! The whole program over files in memory, and what it says and leaves.
 
+use crate::expect::expect_at;
 use crate::files_in_memory::MemoryFiles;
 use crate::worked_runs::Run;
-use crate::expect::expect_at;
 use fixtures::small::small_text;
 use program::perform::perform;
 use std::alloc::{AllocError, Global};

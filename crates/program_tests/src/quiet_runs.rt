@@ -3,11 +3,11 @@
 ghost use Rattle.std.specs.Prelude.{◌≡◌, ◌≤◌, ◌^◌, length, IfOk};
 
 use crate::ends::{Ends, ends_of_commands, ends_of_messages};
+use crate::expect::{expect, expect_at};
 use crate::result_orders::{AsTheyCome, Noting};
 use cpu_trace::trace::Trace;
 use epochs::ordered::{Order, run_in_order};
 use epochs::sim::Sim;
-use crate::expect::{expect, expect_at};
 use fixtures::small::{RANK_FIELD, small};
 use sim_base::config::Config;
 use sim_base::message::Cycle;

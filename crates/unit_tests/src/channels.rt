@@ -5,8 +5,8 @@ ghost use Rattle.channel_step.specs.Fit.{IsFit};
 ghost use Rattle.channel_step.specs.Past.{CarriesRequest};
 ghost use Rattle.channel_step.specs.Channels.{HasRank, HasBank};
 
-use channel_step::channel::Channel;
 use crate::expect::expect;
+use channel_step::channel::Channel;
 use fixtures::small::{RANK_FIELD, small};
 use sim_base::command::{Command, CommandRow};
 use sim_base::config::Config;

@@ -1,10 +1,10 @@
 //! A channel of the small machine, whose commands and messages are worked out by hand, and messages that do not fit it.
 
+use crate::expect::{expect, expect_at};
 use crate::none::NO_CHANNEL;
 use channel_feed::done::ChannelDone;
 use channel_feed::fault::FeedFault;
 use channel_feed::fed::FedChannel;
-use crate::expect::{expect, expect_at};
 use fixtures::small::small;
 use sim_base::command::{Command, CommandRow, Source};
 use sim_base::message::{Cycle, Load, Message, Request};

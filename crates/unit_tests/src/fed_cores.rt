@@ -1,10 +1,10 @@
 //! Short runs of one profile, counted by hand, and messages that may not come.
 
+use crate::expect::{expect, expect_at};
 use crate::none::NO_CORE;
 use core_feed::done::CoreDone;
 use core_feed::fed::{FedCore, FedCoreDone, FeedFault};
 use cpu_trace::trace::Trace;
-use crate::expect::{expect, expect_at};
 use fixtures::small::small;
 use sim_base::config::Config;
 use sim_base::message::{Cycle, LinkId, Load, Message, Request};
