@@ -1,0 +1,5 @@
+//! Commands in few bytes a row, and the commands of all channels read as one table.
+#![tactic(auto)]
+
+mod compact;
+pub mod list;

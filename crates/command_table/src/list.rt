@@ -1,0 +1,122 @@
+//! Commands in the order in which they were put in.
+
+ghost use Rattle.std.specs.Prelude.{◌≡◌, ◌++◌, ◌↔◌, [], ◌∷◌, length, slice_get, IsTrue, IfOk, OnOk, OnErr};
+ghost use Rattle.command_table.specs.Lists.{rows_of};
+
+use crate::compact::Compact;
+use sim_base::command::CommandRow;
+use std::alloc::{AllocError, Global};
+use std::marker::Model;
+
+/// How a list is kept.
+#[derive(Drop)]
+pub(crate) enum Kept {
+    /// In few bytes.
+    Compact(Vec<Compact>),
+    /// As it is.
+    Whole(Vec<CommandRow>),
+}
+
+/// Commands in the order in which they were put in. Each takes 24 bytes, as long as the numbers of all are those of a usual machine and trace
+/// (`Compact`); from the first on that has a greater one, each takes 56.
+#[derive(Drop)]
+pub struct CommandList {
+    kept: Kept,
+}
+
+impl Model for CommandList {
+    ghost use Rattle.std.specs.Prelude.{List};
+    ghost use Rattle.sim_base.specs.declared.command.CommandRow.{CommandRow as Row};
+    ghost use Rattle.command_table.specs.Lists.{rows_of};
+
+    ghost Value = { List Row };
+
+    ghost view = { λ l. rows_of l.kept };
+}
+
+/// Rows that are kept in few bytes, as they are.
+fn whole(alloc: Global, rows: &[Compact]) -> Result<Vec<CommandRow>, AllocError>
+    ensures { IfOk result (λ found. found.items ≡ rows.now) }
+{
+    rows.iter().map(|row| row.row()).collect(alloc)
+}
+
+impl CommandList {
+    /// A list of no commands.
+    pub fn new(alloc: Global) -> Self
+        ensures { result ≡ [] }
+    {
+        CommandList {
+            kept: Kept::Compact(Vec::new(alloc)),
+        }
+    }
+
+    /// How many commands there are.
+    pub fn len(&self) -> usize
+        ensures { result ≡ length self.now }
+    {
+        match &self.kept {
+            Kept::Compact(rows) => rows.len(),
+            Kept::Whole(rows) => rows.len(),
+        }
+    }
+
+    /// Whether there is none.
+    pub fn is_empty(&self) -> bool
+        ensures { IsTrue result ↔ (self.now ≡ []) }
+    {
+        self.len() == 0
+    }
+
+    /// The command at a place, if there is one.
+    #[inline(always)]
+    pub fn get(&self, place: usize) -> Option<CommandRow>
+        ensures { result ≡ slice_get self.now place }
+    {
+        match &self.kept {
+            Kept::Compact(rows) => Some(rows.get(place)?.row()),
+            Kept::Whole(rows) => Some(*rows.get(place)?),
+        }
+    }
+
+    /// Keeps a command, and from it on each as it is.
+    #[inline(never)]
+    fn push_whole(&mut self, row: CommandRow) -> Result<(), AllocError>
+        ensures ok { OnOk result (self.new ≡ self.old ++ row ∷ []) }
+        ensures err { OnErr result (self.new ≡ self.old) }
+    {
+        match &mut self.kept {
+            Kept::Whole(rows) => Ok(rows.push(row)?),
+            Kept::Compact(rows) => {
+                let mut all = whole(*rows.allocator(), rows)?;
+                all.push(row)?;
+                self.kept = Kept::Whole(all);
+                Ok(())
+            }
+        }
+    }
+
+    /// Puts a command behind the others. Only memory can be refused; the list is then as it was.
+    #[inline(always)]
+    pub fn push(&mut self, row: CommandRow) -> Result<(), AllocError>
+        ensures ok { OnOk result (self.new ≡ self.old ++ row ∷ []) }
+        ensures err { OnErr result (self.new ≡ self.old) }
+    {
+        if let Kept::Compact(rows) = &mut self.kept
+            && let Some(compact) = Compact::of(row)
+        {
+            return Ok(rows.push(compact)?);
+        }
+        self.push_whole(row)
+    }
+
+    /// The commands as they are. Only memory can be refused.
+    pub fn to_vec(&self, alloc: Global) -> Result<Vec<CommandRow>, AllocError>
+        ensures { IfOk result (λ rows. rows.items ≡ self.now) }
+    {
+        match &self.kept {
+            Kept::Compact(rows) => whole(alloc, rows),
+            Kept::Whole(rows) => Vec::from_slice(alloc, rows),
+        }
+    }
+}
