@@ -1,3 +1,4 @@
+pub mod Lefts
 pub mod Lists
 pub mod Rows
 pub mod Tables
