@@ -2,4 +2,6 @@
 #![tactic(auto)]
 
 mod compact;
+mod left;
 pub mod list;
+pub mod table;

@@ -1,0 +1,180 @@
+-- A table of several lists goes on with the row of the list that begins soonest.
+use Rattle.std.proofs.Common.{◌≡◌, ℕ, zero, suc, ◌+◌, ◌<◌, ◌≤◌, Bool, true, false, cond, eqb, List, [], ◌∷◌, ◌++◌, length, get_or, set, Option, Some, None, IfSome, refl, sym, ap, ap₂, subst, ◌∙◌, arith}
+use Rattle.std.specs.Prelude.{filter, flat_map, All}
+use Rattle.std.specs.List.{AllByRecursion as Each}
+use Rattle.std.proofs.lemmas.Bool.{cond-false, eqb-true, eqb-false, ne_eqb}
+use Rattle.std.proofs.lemmas.List.{get_or_default, append-nil}
+use Rattle.std.proofs.lemmas.List.Elements.{filter-append, recursion_from_All, All-set}
+use Rattle.sim_base.specs.declared.command.CommandRow.{CommandRow}
+use Rattle.sim_base.proofs.Each.{Each-append}
+use Rattle.command_table.specs.Tables.{IsRising, rows_in, HaveSameCycles, by_cycle, table_of}
+use Rattle.command_table.specs.Lefts.{first_cycle, IsNextOf, IsNext}
+use Rattle.command_table.proofs.Rising.{Rising, rising-pairs, own-cycle, other-cycle, by_cycle-is, by_cycle-rising, by_cycle-same, each-by_cycle}
+
+-- the rows of all lists
+abbrev all : List (List CommandRow) → List CommandRow
+all lists = flat_map (λ rows. rows) lists
+
+-- a list that begins no sooner than in a cycle
+abbrev pub From : ℕ → List CommandRow → Type 0
+From cycle rows = IfSome (first_cycle rows) (λ first. cycle ≤ first)
+
+-- a list that begins later than a cycle
+abbrev pub After : ℕ → List CommandRow → Type 0
+After cycle rows = IfSome (first_cycle rows) (λ first. cycle < first)
+
+weaker : (a b : ℕ) → a ≤ b → (xs : List CommandRow) → Each (λ (y : CommandRow). b ≤ y.cycle) xs → Each (λ (y : CommandRow). a ≤ y.cycle) xs
+weaker a b l [] h = tt
+weaker a b l (x ∷ xs) h = (omega (arith, l, h.0), weaker a b l xs h.1)
+
+from-each : (cycle : ℕ) (rows : List CommandRow) → Rising rows → From cycle rows → Each (λ (y : CommandRow). cycle ≤ y.cycle) rows
+from-each cycle [] r h = tt
+from-each cycle (x ∷ xs) r h = (h, weaker cycle x.cycle h xs r.0)
+
+from-after : (cycle : ℕ) (rows : List CommandRow) → After cycle rows → From cycle rows
+from-after cycle [] h = h
+from-after cycle (x ∷ xs) h = omega (arith, h)
+
+none-each : (k cycle : ℕ) → k < cycle → (rows : List CommandRow) → Each (λ (y : CommandRow). cycle ≤ y.cycle) rows → rows_in k rows ≡ []
+none-each k cycle l [] h = refl
+none-each k cycle l (x ∷ xs) h = other-cycle x xs k (λ e. omega (arith, l, h.0, e)) ∙ none-each k cycle l xs h.1
+
+-- a list that begins later than a cycle has no row in it
+after-none : (cycle : ℕ) (rows : List CommandRow) → Rising rows → After cycle rows → rows_in cycle rows ≡ []
+after-none cycle [] r h = refl
+after-none cycle (x ∷ xs) r h = none-each cycle x.cycle h (x ∷ xs) (omega arith, r.0)
+
+-- All lists rise.
+abbrev pub RisingAll : List (List CommandRow) → Type 0
+RisingAll [] = Unit {0}
+RisingAll (rows ∷ lists) = Rising rows × RisingAll lists
+
+pub rising-all : (lists : List (List CommandRow)) → Each IsRising lists → RisingAll lists
+rising-all [] h = tt
+rising-all (rows ∷ lists) h = (rising-pairs rows h.0, rising-all lists h.1)
+
+-- Of some lists, the one at this place begins with this row, and none sooner.
+record Begins (lists : List (List CommandRow)) (place : ℕ) (row : CommandRow) (rest : List CommandRow) : Type 0 where
+  within : place < length lists
+  is : get_or lists place [] ≡ row ∷ rest
+  before : (k : ℕ) → k < place → After row.cycle (get_or lists k [])
+  behind : (k : ℕ) → place < k → k < length lists → From row.cycle (get_or lists k [])
+
+begins-tail : (rows : List CommandRow) (lists : List (List CommandRow)) (place : ℕ) (row : CommandRow) (rest : List CommandRow) → Begins (rows ∷ lists) (suc place) row rest → Begins lists place row rest
+begins-tail rows lists place row rest b =
+    record {
+      within = omega (arith, b.within);
+      is = b.is;
+      before = λ k l. b.before (suc k) (omega (arith, l));
+      behind = λ k l m. b.behind (suc k) (omega (arith, l)) (omega (arith, m));
+    }
+
+-- the row is no later than any other
+all-from : (lists : List (List CommandRow)) (cycle : ℕ) → RisingAll lists → ((k : ℕ) → k < length lists → From cycle (get_or lists k [])) → Each (λ (y : CommandRow). cycle ≤ y.cycle) (all lists)
+all-from [] cycle r h = tt
+all-from (rows ∷ lists) cycle r h =
+    Each-append (λ (y : CommandRow). cycle ≤ y.cycle) rows (all lists) (from-each cycle rows r.0 (h 0 (omega arith))) (all-from lists cycle r.1 (λ k l. h (suc k) (omega (arith, l))))
+
+left-from : (lists : List (List CommandRow)) (place : ℕ) (row : CommandRow) (rest : List CommandRow) → RisingAll lists → Begins lists place row rest
+    → Each (λ (y : CommandRow). row.cycle ≤ y.cycle) (all (set lists place rest))
+left-from [] place row rest r b = absurd (omega (arith, b.within))
+left-from (rows ∷ lists) zero row rest r b =
+    let begins : Rising (row ∷ rest) = subst Rising b.is r.0 in
+    Each-append (λ (y : CommandRow). row.cycle ≤ y.cycle) rest (all lists) begins.0 (all-from lists row.cycle r.1 (λ k l. b.behind (suc k) (omega arith) (omega (arith, l))))
+left-from (rows ∷ lists) (suc place) row rest r b =
+    Each-append (λ (y : CommandRow). row.cycle ≤ y.cycle) rows (all (set lists place rest)) (from-each row.cycle rows r.0 (from-after row.cycle rows (b.before 0 (omega arith))))
+    (left-from lists place row rest r.1 (begins-tail rows lists place row rest b))
+
+-- In front of what is left, it leaves the rows of each cycle as they are.
+left-same : (lists : List (List CommandRow)) (place : ℕ) (row : CommandRow) (rest : List CommandRow) → RisingAll lists → Begins lists place row rest
+    → HaveSameCycles (row ∷ all (set lists place rest)) (all lists)
+left-same [] place row rest r b k = absurd (omega (arith, b.within))
+left-same (rows ∷ lists) zero row rest r b k = ap (λ z. rows_in k (z ++ all lists)) (sym b.is)
+left-same (rows ∷ lists) (suc place) row rest r b k =
+    by (eqb row.cycle k) refl (left-same lists place row rest r.1 (begins-tail rows lists place row rest b) k)
+  where
+    left : List CommandRow
+    left = all (set lists place rest)
+
+    in_cycle : CommandRow → Bool
+    in_cycle = λ x. eqb x.cycle k
+
+    by : (t : Bool) → eqb row.cycle k ≡ t → rows_in k (row ∷ left) ≡ rows_in k (all lists) → rows_in k (row ∷ rows ++ left) ≡ rows_in k (rows ++ all lists)
+    by true e h =
+        let same : row.cycle ≡ k = eqb-true _ _ e in
+        let none : rows_in k rows ≡ [] = subst (λ n. rows_in n rows ≡ []) same (after-none row.cycle rows r.0 (b.before 0 (omega arith))) in
+        own-cycle row (rows ++ left) k same
+        ∙ ap (λ z. row ∷ z) (filter-append in_cycle rows left ∙ ap (λ z. z ++ rows_in k left) none)
+        ∙ sym (own-cycle row left k same)
+        ∙ h
+        ∙ sym (filter-append in_cycle rows (all lists) ∙ ap (λ z. z ++ rows_in k (all lists)) none)
+    by false e h =
+        let other : row.cycle ≡ k → ⊥ = eqb-false _ _ e in
+        other-cycle row (rows ++ left) k other
+        ∙ filter-append in_cycle rows left
+        ∙ ap (λ z. rows_in k rows ++ z) (sym (other-cycle row left k other) ∙ h)
+        ∙ sym (filter-append in_cycle rows (all lists))
+
+cons-same : (x : CommandRow) (xs ys : List CommandRow) → HaveSameCycles xs ys → HaveSameCycles (x ∷ xs) (x ∷ ys)
+cons-same x xs ys h k = by (eqb x.cycle k)
+  where
+    by : (b : Bool) → cond b (x ∷ rows_in k xs) (rows_in k xs) ≡ cond b (x ∷ rows_in k ys) (rows_in k ys)
+    by true = ap (λ z. x ∷ z) (h k)
+    by false = h k
+
+-- the table begins with this row, and goes on with what is left
+first-row : (lists : List (List CommandRow)) (place : ℕ) (row : CommandRow) (rest : List CommandRow) → RisingAll lists → Begins lists place row rest
+    → table_of lists ≡ row ∷ table_of (set lists place rest)
+first-row lists place row rest r b =
+    let left = all (set lists place rest) in
+    by_cycle-is (row ∷ by_cycle left) (all lists)
+    (each-by_cycle (λ (y : CommandRow). row.cycle ≤ y.cycle) left (left-from lists place row rest r b), by_cycle-rising left)
+    (λ k. cons-same row (by_cycle left) left (by_cycle-same left) k ∙ left-same lists place row rest r b k)
+
+starts : (cycle : ℕ) (row : CommandRow) (rest rows : List CommandRow) → rows ≡ row ∷ rest → first_cycle rows ≡ Some cycle → cycle ≡ row.cycle
+starts cycle row rest rows e h = let i : Some row.cycle ≡ Some cycle = sym (ap first_cycle e) ∙ h in cc
+
+pub next-row : (lists : List (List CommandRow)) (place : ℕ) (row : CommandRow) (rest : List CommandRow) → All IsRising lists → IsNext lists place → get_or lists place [] ≡ row ∷ rest
+    → table_of lists ≡ row ∷ table_of (set lists place rest)
+next-row lists place row rest r n e =
+    let same : n.cycle ≡ row.cycle = starts n.cycle row rest (get_or lists place []) e n.next.starts in
+    first-row lists place row rest (rising-all lists (recursion_from_All IsRising lists r))
+    (record {
+      within = n.next.within;
+      is = e;
+      before = λ k l. subst (λ c. After c (get_or lists k [])) same (n.next.before k l);
+      behind = λ k l m. subst (λ c. From c (get_or lists k [])) same (n.next.behind k l m);
+    })
+
+-- where no list has a row, the table has none
+pub no-row : (lists : List (List CommandRow)) → ((k : ℕ) → k < length lists → get_or lists k [] ≡ []) → table_of lists ≡ []
+unfolding by_cycle
+no-row lists h = ap by_cycle (none lists h)
+  where
+    none : (lists : List (List CommandRow)) → ((k : ℕ) → k < length lists → get_or lists k [] ≡ []) → flat_map (λ rows. rows) lists ≡ []
+    none [] h = refl
+    none (rows ∷ lists) h = ap₂ (λ a b. a ++ b) (h 0 (omega arith)) (none lists (λ k l. h (suc k) (omega (arith, l))))
+
+empty-rises : IsRising []
+empty-rises i j d a b = absurd (omega (arith, b))
+
+-- what is left of a list rises as it did
+pub tail-rises : (taken : Option CommandRow) (old new : List CommandRow) → IfSome taken (λ row. old ≡ row ∷ new) → (taken ≡ None → old ≡ []) → (old ≡ [] → new ≡ []) → IsRising old → IsRising new
+tail-rises None old new some none over r = subst IsRising (sym (over (none refl))) empty-rises
+tail-rises (Some row) old new some none over r = behind (subst IsRising some r)
+  where
+    behind : IsRising (row ∷ new) → IsRising new
+    behind h i j d a b = h (suc i) (suc j) d (omega (arith, a)) (omega (arith, b))
+
+pub set-rises : (lists : List (List CommandRow)) (place : ℕ) (rest : List CommandRow) → All IsRising lists → IsRising rest → All IsRising (set lists place rest)
+set-rises lists place rest r h = All-set IsRising lists place rest h r
+
+-- the table is the row that is taken and what is left
+pub table-next : (taken : Option CommandRow) (lists : List (List CommandRow)) (place : ℕ) (old new : List CommandRow) → All IsRising lists → IsNext lists place → old ≡ get_or lists place old
+    → IfSome taken (λ row. old ≡ row ∷ new) → IfSome taken (λ row. table_of lists ≡ row ∷ table_of (set lists place new))
+table-next None lists place old new r n o some = tt
+table-next (Some row) lists place old new r n o some = next-row lists place row new r n (get_or_default lists place [] old n.next.within ∙ sym o ∙ some)
+
+-- a list of rows by cycle is a table of its own
+pub own-table : (rows : List CommandRow) → IsRising rows → table_of (rows ∷ []) ≡ rows
+own-table rows r = by_cycle-is rows (rows ++ []) (rising-pairs rows r) (λ k. ap (rows_in k) (sym (append-nil rows)))
