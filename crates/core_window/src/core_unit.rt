@@ -645,7 +645,7 @@ impl Core {
         *stats
     }
 
-    /// Whether the Read with this number was issued and has no reply yet.
+    /// Whether the Read with this number was issued and has no reply yet: which replies may come to it, for one that tests its messages.
     pub fn is_awaited(&self, entry: u64) -> bool
         ensures { result ≡ is_waiting (view_of self.now).waiting entry }
     {

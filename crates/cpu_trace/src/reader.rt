@@ -33,7 +33,8 @@ fn read_text<R: Threads + Sync>(
     }
 }
 
-/// Reads a core's trace, as `read_trace` does and with its faults, in pieces of so many bytes where its text is longer.
+/// Reads a core's trace, as `read_trace` does and with its faults, in pieces of so many bytes where its text is longer. So tests read short texts
+/// in pieces.
 pub fn read_trace_in_pieces<R: Threads + Sync>(
     rt: &R,
     alloc: Global,

@@ -34,7 +34,7 @@ impl Trace {
         Ok(Trace { entries })
     }
 
-    /// The trace with these entries, of which there are at most 2^62.
+    /// The trace with these entries, of which there are at most 2^62: for callers whose entries stand in no text, as those of tests do.
     pub fn from_entries(alloc: Global, entries: &[Entry]) -> Result<Trace, AllocError>
         requires { length entries.now ≤ 2 ^ 62 }
         ensures { IfOk result (λ trace. trace ≡ entries.now) }

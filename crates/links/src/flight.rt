@@ -410,8 +410,8 @@ impl Links {
         }
     }
 
-    /// Takes out the messages to a unit that arrive from `from` on and before `until`, by age. Where memory is refused, the
-    /// links stay as they were.
+    /// Takes out the messages to a unit that arrive from `from` on and before `until`, by age, into a list of their own, where `take_due_into` fills
+    /// one of the caller's: so tests do. Where memory is refused, the links stay as they were.
     pub fn take_due(
         &mut self,
         alloc: Global,
