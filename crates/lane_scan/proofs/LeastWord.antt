@@ -4,6 +4,7 @@ use Rattle.std.proofs.lemmas.List.{take_all}
 use Rattle.std.proofs.Math.Seq.{take-add}
 use Rattle.std.proofs.lemmas.Simd.{length-chunk, length-zip2}
 use Rattle.std.specs.List.{fold}
+use Rattle.std.specs.Prelude.{All}
 use Rattle.std.specs.Simd.Lanes.{zip2, chunk}
 use Rattle.lane_scan.specs.Scans.{greatest, least_of}
 
@@ -46,3 +47,17 @@ least_more words at n lanes next least room long same so_far =
 -- the least of all words, once none is left
 pub least_whole : (words : List ℕ) (end least : ℕ) → length words < end + 1 → least ≡ least_of (take end words) → least ≡ least_of words
 least_whole words end least rest so_far = so_far ∙ ap least_of (take_all end words (omega arith))
+
+-- no word is below the least
+pub least-all : (words : List ℕ) → All (λ word. least_of words ≤ word) words
+least-all [] k d l = absurd (omega (arith, l))
+least-all (x ∷ xs) zero d l = omega (arith, least-cons x xs)
+least-all (x ∷ xs) (suc k) d l = let rest = least-all xs k d (omega (arith, l)) in omega (arith, least-cons x xs, rest)
+
+-- and what is not above any of them is not above it
+pub least-since : (words : List ℕ) (bound : ℕ) → bound ≤ greatest → All (λ word. bound ≤ word) words → bound ≤ least_of words
+least-since [] bound l h = l
+least-since (x ∷ xs) bound l h =
+    let first : bound ≤ x = h 0 0 (omega arith) in
+    let rest = least-since xs bound l (λ k d m. h (suc k) d (omega (arith, m))) in
+    omega (arith, least-cons x xs, first, rest)
