@@ -2,7 +2,7 @@
 use Rattle.std.proofs.Common.{◌≡◌, ℕ, ◌+◌, ◌<◌, ◌≤◌, true, cond, eqb, ltb, List, length, map, get_or, Some, None, ap, ◌∙◌, inl, inr, arith}
 use Rattle.std.proofs.lemmas.Bool.{cases_lt, cond-true, cond-false, lt-ltb, le-ltb}
 use Rattle.std.proofs.lemmas.List.Sums.{position_or_len_is}
-use Rattle.std.proofs.lemmas.Simd.{first_set_mask_l, run_in_chunk_fails, run_in_chunk_stops}
+use Rattle.std.proofs.lemmas.Simd.{first_set_mask_l, run_in_chunk_fails}
 use Rattle.std.specs.List.{position_or_len, position}
 use Rattle.std.specs.Simd.Lanes.{mask_l, chunk}
 use Rattle.lane_scan.specs.Scans.{is_below, NoneBelow}
@@ -27,11 +27,6 @@ none_more bound words at n run room counted none k below =
 pub none_all : (bound : ℕ) (words : List ℕ) (at n run : ℕ) → at + n ≤ length words → run ≡ position_or_len (is_below bound) (chunk at n words) → n ≤ run → NoneBelow bound words at
     → NoneBelow bound words (at + n)
 none_all bound words at n run room counted whole none k below = none_more bound words at n run room counted none k (omega arith)
-
--- the first of some words that is below the bound, where there is one
-pub found_at : (bound : ℕ) (words : List ℕ) (at n run : ℕ) → at + n ≤ length words → run ≡ position_or_len (is_below bound) (chunk at n words) → run < n
-    → is_below bound (get_or words (at + run) 0) ≡ true
-found_at bound words at n run room counted short = run_in_chunk_stops (is_below bound) words at n run 0 room counted short
 
 first_place : (bound : ℕ) (words : List ℕ) (i : ℕ) → i ≤ length words → NoneBelow bound words i → (i + 1 ≤ length words → is_below bound (get_or words i 0) ≡ true)
     → position_or_len (is_below bound) words ≡ i

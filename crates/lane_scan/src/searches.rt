@@ -1,6 +1,6 @@
 //! The first word of a column that is below a bound, and the least word.
 
-ghost use Rattle.std.specs.Prelude.{◌≡◌, ◌+◌, ◌≤◌, ◌<◌, true, nat_lt, length, take, position, slice_index};
+ghost use Rattle.std.specs.Prelude.{◌≡◌, ◌+◌, ◌≤◌, ◌<◌, nat_lt, length, take, position};
 ghost use Rattle.std.specs.List.{position_or_len};
 ghost use Rattle.std.specs.Simd.Lanes.{chunk};
 ghost use Rattle.lane_scan.specs.Scans.{is_below, NoneBelow, least_of};
@@ -8,11 +8,11 @@ ghost use Rattle.lane_scan.specs.Scans.{is_below, NoneBelow, least_of};
 use crate::lanes::{below_bits, least_lane, lesser, load};
 use std::simd::prelude::*;
 
-/// The words of a full vector.
-const LANES: usize = 8;
+/// The words that are tested at once.
+const TESTED: usize = 16;
 
-/// The words that are tested at once in a long column.
-const WIDE: usize = 32;
+/// The words of a full vector of which the least are kept.
+const LANES: usize = 8;
 
 /// How many of N words from a place on come before the first that is below a bound.
 fn others_in<const N: usize>(words: &[u64], at: usize, bound: u64) -> usize
@@ -29,16 +29,13 @@ fn others_in<const N: usize>(words: &[u64], at: usize, bound: u64) -> usize
 }
 
 /// Passes over words, N at a time, up to the first that is below a bound or to where fewer than N are left.
-fn skip_others<const N: usize>(words: &[u64], from: usize, bound: u64) -> usize
-    requires begun { from ≤ length words.now }
-    requires none { NoneBelow bound words.now from }
+fn skip_others<const N: usize>(words: &[u64], bound: u64) -> usize
     requires some { 0 < N }
     requires one_word { N ≤ 64 }
     ensures stop { result ≤ length words.now }
     ensures none { NoneBelow bound words.now result }
-    ensures found { result + N ≤ length words.now → is_below bound (slice_index words.now result) ≡ true }
 {
-    let mut at = from;
+    let mut at = 0;
     while N <= words.len() - at {
         let run = others_in::<N>(words, at, bound);
         if run < N {
@@ -53,10 +50,12 @@ fn skip_others<const N: usize>(words: &[u64], from: usize, bound: u64) -> usize
 pub fn first_below(words: &[u64], bound: u64) -> Option<usize>
     ensures { result ≡ position (λ word. nat_lt word bound) words.now }
 {
-    let at = skip_others::<WIDE>(words, 0, bound);
-    let at = skip_others::<LANES>(words, at, bound);
-    let at = skip_others::<1>(words, at, bound);
-    if at < words.len() { Some(at) } else { None }
+    for place in skip_others::<TESTED>(words, bound)..words.len() {
+        if words[place] < bound {
+            return Some(place);
+        }
+    }
+    None
 }
 
 /// Goes on over the words from a place on, N at a time, up to where fewer than N are left; the least word so far.
