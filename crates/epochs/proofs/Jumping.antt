@@ -27,7 +27,8 @@ use Rattle.epochs.specs.declared.slot.Slot.{Slot}
 use Rattle.epochs.proofs.Standing.{same-default}
 use Rattle.epochs.proofs.Waiting.{awake-waits, none-first, none-taken, due-flight, untouched, untouched-none}
 
-some-slot : (slots : List Slot) → 0 < length slots → Slot
+-- a unit of a machine that has one
+pub some-slot : (slots : List Slot) → 0 < length slots → Slot
 some-slot [] l = absurd (omega (arith, l))
 some-slot (x ∷ xs) l = x
 

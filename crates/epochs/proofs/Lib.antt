@@ -19,4 +19,5 @@ pub mod Waiting
 pub mod Lowering
 pub mod Jumping
 pub mod Going
+pub mod Passing
 pub mod Calling

@@ -14,10 +14,25 @@ use crate::machine::Machine;
 use crate::part::Part;
 use crate::planning::end_of_phase;
 use crate::slot::{Mail, Slot};
+use lane_scan::{first_below, least};
 use links::flight::Links;
 use sim_base::config::Config;
 use sim_base::message::{Cycle, LinkId, Message};
 use std::alloc::{AllocError, Global};
+
+/// The first place from one on whose word is before a cycle, or the number of words where there is none.
+fn next_waking(words: &[Cycle], from: usize, until: Cycle) -> usize
+    requires { from ≤ length words.now }
+    ensures since { from ≤ result }
+    ensures within { result ≤ length words.now }
+    ensures passed { (k : ℕ) → from ≤ k → k < result → until ≤ slice_index_or words.now k 0 }
+    ensures wakes { result < length words.now → slice_index_or words.now result 0 < until }
+{
+    match first_below(&words[from..], until) {
+        Some(place) => from + place,
+        None => words.len(),
+    }
+}
 
 /// Takes all units over a phase: those whose word is before its end are run, the others are left as they are.
 fn go_all(
@@ -43,8 +58,10 @@ fn go_all(
       messages = late until (in_flight machine.now.config machine.now.traces.items (run machine.now.config machine.now.traces.items now));
     }) }
 {
-    for place in 0..slots.len() {
-        slots[place].go_on(machine, links, mail, &mut words[place], place, now, until)?;
+    let mut place = next_waking(words, 0, until);
+    while place < slots.len() {
+        words[place] = slots[place].woken(machine, links, mail, words[place], place, now, until)?;
+        place = next_waking(words, place + 1, until);
     }
     Ok(())
 }
@@ -119,11 +136,7 @@ pub(crate) fn next_wake(words: &[Cycle], limit: Cycle) -> Cycle
     ensures sleep { All (λ word. result ≤ word) words.now }
     ensures since { (cycle : ℕ) → cycle ≤ limit → All (λ word. cycle ≤ word) words.now → cycle ≤ result }
 {
-    let mut least = limit;
-    for word in words {
-        least = least.min(*word);
-    }
-    least
+    least(words).min(limit)
 }
 
 /// A machine up to a limit, phase by phase: each begins at the least word.

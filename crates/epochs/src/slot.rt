@@ -96,7 +96,7 @@ pub(crate) fn arrival_word(links: &Links, unit: Unit, from: Cycle, send: Cycle) 
 impl Slot {
     /// Runs the unit at a place up to the end of a phase, with what arrives at it, and puts what it sends at the end of a list. Gives its
     /// next word.
-    fn woken(
+    pub(crate) fn woken(
         &mut self,
         machine: &Machine,
         links: &mut Links,
@@ -128,40 +128,6 @@ impl Slot {
         let send = self.part.run_and_tell(inbox, self.at, until, sent)?;
         self.at = until;
         Ok(arrival_word(links, unit, until, send))
-    }
-
-    /// Takes the unit at a place over a phase. One whose word is before its end is run up to there, with what arrives at it, and what it
-    /// sends is put at the end of a list; another is left as it is.
-    #[inline(always)]
-    pub(crate) fn go_on(
-        &mut self,
-        machine: &Machine,
-        links: &mut Links,
-        mail: &mut Mail,
-        word: &mut Cycle,
-        place: usize,
-        now: Cycle,
-        until: Cycle,
-    ) -> Result<(), AllocError>
-        requires place { place < unit_count machine.now.config }
-        requires order { now < until }
-        requires early { until ≤ 10 ^ 12 }
-        requires travels { TravelsFor machine.now.config (until - now) }
-        requires waits { Waits machine.now.config machine.now.traces.items (unit_at machine.now.config place) now (sleeper self.old word.old) }
-        requires links { links.old ≡ record {
-          channels = machine.now.config.channels;
-          messages = left machine.now.config now until place (in_flight machine.now.config machine.now.traces.items (run machine.now.config machine.now.traces.items now));
-        } }
-        ensures gone { OnOk result (AddsWhatItSent machine.now.config machine.now.traces.items (unit_at machine.now.config place) now until (sleeper self.new word.new) mail.old.sent.items mail.new.sent.items) }
-        ensures links { OnOk result (links.new ≡ record {
-          channels = machine.now.config.channels;
-          messages = left machine.now.config now until (place + 1) (in_flight machine.now.config machine.now.traces.items (run machine.now.config machine.now.traces.items now));
-        }) }
-    {
-        if *word < until {
-            *word = self.woken(machine, links, mail, *word, place, now, until)?;
-        }
-        Ok(())
     }
 
     /// The unit at a cycle before which nothing arrives at it.

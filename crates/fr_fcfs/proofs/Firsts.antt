@@ -5,7 +5,7 @@ use Rattle.std.specs.List.{filter, find, zip, list_any, position, slice_get, All
 use Rattle.std.specs.Option.{is_some, option_map, option_and_then}
 use Rattle.sim_base.specs.declared.message.Request.{Request}
 use Rattle.sim_base.specs.Scheduling.{first_of_lines}
-use Rattle.lane_scan.specs.Marks.{is_marked}
+use Rattle.queue_columns.specs.Marks.{is_marked}
 use Rattle.queue_columns.specs.Columns.{eligible_column, marked_items}
 use Rattle.queue_columns.proofs.Eligible.{marked_eligible}
 use Rattle.heads.specs.Heads.{passes, entries, first_place}

@@ -10,7 +10,7 @@ use Rattle.sim_base.specs.Places.{is_line}
 use Rattle.sim_base.specs.Scheduling.{asks_for_line}
 use Rattle.sim_base.specs.declared.message.Request.{Request}
 use Rattle.sim_base.specs.declared.place.Place.{Place}
-use Rattle.lane_scan.specs.Marks.{mark}
+use Rattle.queue_columns.specs.Marks.{mark}
 use Rattle.queue_columns.specs.Columns.{bank_number, eligible_column}
 use Rattle.queue_columns.proofs.Eligible.{marks_after, eligible_push, length-eligible, remove_at, around}
 use Rattle.heads.specs.Heads.{asks, wants, passes, waits, kind_number, kind_of, entries, first_place, NoneWaits}

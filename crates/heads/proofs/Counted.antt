@@ -5,7 +5,7 @@ use Rattle.std.proofs.lemmas.List.{length-set}
 use Rattle.std.proofs.lemmas.List.Sums.{sum_by-cons, sum_by_push, sum_by-remove, count_by-le-length}
 use Rattle.std.specs.List.{list_any, remove, zip}
 use Rattle.sim_base.specs.declared.message.Request.{Request}
-use Rattle.lane_scan.specs.Marks.{is_marked}
+use Rattle.queue_columns.specs.Marks.{is_marked}
 use Rattle.queue_columns.specs.Columns.{eligible_column}
 use Rattle.heads.specs.declared.entry.KindHeads.{KindHeads}
 use Rattle.heads.specs.Heads.{asks, hits, kind_number, kind_of, kind_count, waits, first_place, NoneWaits, AreFirst}

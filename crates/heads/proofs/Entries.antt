@@ -9,7 +9,7 @@ use Rattle.sim_base.specs.Places.{is_line}
 use Rattle.sim_base.specs.Scheduling.{asks_for_line, or_else}
 use Rattle.sim_base.specs.declared.message.Request.{Request}
 use Rattle.sim_base.specs.declared.place.Place.{Place}
-use Rattle.lane_scan.specs.Marks.{mark}
+use Rattle.queue_columns.specs.Marks.{mark}
 use Rattle.queue_columns.specs.Columns.{eligible_column}
 use Rattle.queue_columns.proofs.Eligible.{marks_after, marks-append, length-marks, eligible_is, eligible_push, length-eligible, split_marks, remove_at, around}
 use Rattle.heads.specs.Heads.{passes, entries, first_place}

@@ -6,7 +6,7 @@ use Rattle.std.specs.List.{All}
 use Rattle.std.specs.Option.{is_some}
 use Rattle.sim_base.specs.Scheduling.{is_favoured}
 use Rattle.sim_base.specs.declared.message.Request.{Request}
-use Rattle.lane_scan.specs.Marks.{is_marked}
+use Rattle.queue_columns.specs.Marks.{is_marked}
 use Rattle.queue_columns.specs.Columns.{bank_number, eligible_column}
 use Rattle.queue_columns.proofs.Eligible.{length-eligible}
 use Rattle.heads.specs.declared.entry.BankHeads.{BankHeads}

@@ -9,7 +9,7 @@ use Rattle.sim_base.specs.declared.place.BankId.{BankId}
 use Rattle.sim_base.specs.Rules.{is_row}
 use Rattle.sim_base.specs.Scheduling.{asks_for_line, or_else}
 use Rattle.sim_base.specs.declared.message.Request.{Request}
-use Rattle.lane_scan.specs.Marks.{mark, is_marked}
+use Rattle.queue_columns.specs.Marks.{mark, is_marked}
 use Rattle.queue_columns.specs.Columns.{bank_number, eligible_column}
 use Rattle.queue_columns.proofs.Eligible.{marks_after, length-marks, split_marks, around}
 use Rattle.heads.specs.declared.entry.BankHeads.{BankHeads}

@@ -3,7 +3,7 @@ use Rattle.std.proofs.Common.{◌≡◌, ℕ, ◌+◌, ◌-◌, ◌*◌, ◌%◌
 use Rattle.std.proofs.lemmas.Bool.{cases_lt, eqb-true}
 use Rattle.std.proofs.lemmas.List.{get_or-drop, length-drop, take_all}
 use Rattle.sim_base.specs.declared.message.Request.{Request}
-use Rattle.lane_scan.specs.Marks.{mark, is_marked}
+use Rattle.queue_columns.specs.Marks.{mark, is_marked}
 use Rattle.queue_columns.specs.Columns.{bank_number, eligible_column, tag_word, tag_of, tag_column}
 use Rattle.queue_columns.proofs.Tags.{length-tags, tag_there, untagged}
 use Rattle.heads.specs.Heads.{asks, wants}

@@ -14,7 +14,7 @@ use Rattle.std.specs.List.{list_any, zip}
 use Rattle.sim_base.specs.declared.message.Request.{Request}
 use Rattle.sim_base.specs.declared.place.BankId.{BankId}
 use Rattle.sim_base.specs.Rules.{is_row}
-use Rattle.lane_scan.specs.Marks.{is_marked}
+use Rattle.queue_columns.specs.Marks.{is_marked}
 use Rattle.queue_columns.specs.Columns.{bank_number, eligible_column}
 use Rattle.heads.specs.declared.entry.KindHeads.{KindHeads}
 use Rattle.heads.specs.declared.entry.BankHeads.{BankHeads}

@@ -1,4 +1,3 @@
 pub mod Vectors
-pub mod Chunks
-pub mod FirstMark
-pub mod LeastTime
+pub mod FirstBelow
+pub mod LeastWord

@@ -8,7 +8,7 @@ use mir.Val.{bool_byte}
 use Rattle.sim_base.specs.Scheduling.{asks_for_line}
 use Rattle.sim_base.specs.declared.message.Request.{Request}
 use Rattle.std.specs.Simd.Lanes.{zip2}
-use Rattle.lane_scan.specs.Marks.{mark, is_marked}
+use Rattle.queue_columns.specs.Marks.{mark, is_marked}
 use Rattle.queue_columns.specs.Columns.{eligible_column, tag_column, tag_of, tags_of, waiting_count, write_count}
 use Rattle.queue_columns.proofs.Eligible.{eligible_push}
 

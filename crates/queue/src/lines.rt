@@ -5,7 +5,7 @@ ghost use Rattle.std.specs.List.{position_or_len};
 ghost use Rattle.sim_base.specs.Places.{is_line};
 ghost use Rattle.sim_base.specs.Scheduling.{asks_for_line};
 ghost use Rattle.queue_columns.specs.Columns.{print_column, waiting_count, AreCounted};
-ghost use Rattle.lane_scan.specs.Marks.{mark};
+ghost use Rattle.queue_columns.specs.Marks.{mark};
 
 use crate::aged::Aged;
 use memchr::memchr;

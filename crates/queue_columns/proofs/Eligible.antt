@@ -9,7 +9,7 @@ use Rattle.sim_base.specs.Places.{is_line}
 use Rattle.sim_base.specs.Scheduling.{asks_for_line, first_of_lines}
 use Rattle.sim_base.specs.declared.message.Request.{Request}
 use Rattle.sim_base.specs.declared.place.Place.{Place}
-use Rattle.lane_scan.specs.Marks.{mark, is_marked}
+use Rattle.queue_columns.specs.Marks.{mark, is_marked}
 use Rattle.queue_columns.specs.Columns.{eligible_column, marked_items}
 use Rattle.queue_columns.proofs.SameLine.{line_same, line_apart}
 

@@ -16,7 +16,7 @@ use Rattle.std.specs.Simd.Lanes.{zip2}
 use Rattle.sim_base.specs.Scheduling.{asks_for_line}
 use Rattle.sim_base.specs.declared.message.Request.{Request}
 use Rattle.sim_base.specs.declared.place.Place.{Place}
-use Rattle.lane_scan.specs.Marks.{is_marked, mark}
+use Rattle.queue_columns.specs.Marks.{is_marked, mark}
 
 -- the number of the bank of a place, each rank having places for four groups of four banks
 abbrev pub bank_number : Place → ℕ

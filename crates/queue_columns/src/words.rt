@@ -1,7 +1,7 @@
 //! The words of a request in the columns.
 
 ghost use Rattle.std.specs.Prelude.{◌≡◌, ◌≤◌};
-ghost use Rattle.lane_scan.specs.Marks.{mark};
+ghost use Rattle.queue_columns.specs.Marks.{mark};
 ghost use Rattle.queue_columns.specs.Columns.{bank_number, tag_word, tag_of, line_print, line_slot};
 
 use sim_base::message::Request;

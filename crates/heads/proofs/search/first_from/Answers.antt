@@ -2,7 +2,7 @@
 use Rattle.std.proofs.Common.{◌≡◌, ◌<◌, ◌+◌, ◌-◌, ◌&&◌, Bool, true, false, length, take, drop, get_or, refl, ap, ◌∙◌, arith}
 use Rattle.std.proofs.lemmas.List.{length-drop}
 use Rattle.queue_columns.specs.Columns.{eligible_column}
-use Rattle.lane_scan.specs.Marks.{is_marked}
+use Rattle.queue_columns.specs.Marks.{is_marked}
 use Rattle.heads.specs.Heads.{wants}
 use Rattle.heads.proofs.Searches.{tested, none_more, found_here, found_none}
 use Rattle.heads.proofs.Tagged.{left_is, same_length, none_tagged, marked_tag}

@@ -2,7 +2,7 @@
 use Rattle.std.proofs.Common.{◌≡◌, ℕ, ◌<◌, Bool, true, false, ◌&&◌, eqb, List, length, get_or, Some, refl, sym, ap, ◌∙◌, arith}
 use Rattle.std.proofs.lemmas.List.Quantifiers.{position-Some}
 use Rattle.sim_base.specs.declared.message.Request.{Request}
-use Rattle.lane_scan.specs.Marks.{is_marked}
+use Rattle.queue_columns.specs.Marks.{is_marked}
 use Rattle.queue_columns.specs.Columns.{eligible_column}
 use Rattle.std.proofs.lemmas.List.{get_or_default}
 use Rattle.heads.specs.Heads.{asks, wants, passes, entries}

@@ -4,7 +4,7 @@ use Rattle.std.proofs.lemmas.List.{length_push, length-set, get_or_default}
 use Rattle.queue.proofs.Counted.{none_asks, few_counted, counted_push}
 use Rattle.std.proofs.lemmas.List.Sums.{count_by-le-length}
 use Rattle.sim_base.specs.Scheduling.{asks_for_line}
-use Rattle.lane_scan.specs.Marks.{mark, is_marked}
+use Rattle.queue_columns.specs.Marks.{mark, is_marked}
 use Rattle.queue_columns.proofs.Eligible.{length-eligible}
 use Rattle.queue.proofs.Kept.{eligible_pushed, waiting_pushed, writes_pushed, byte_is, mark_le}
 use Rattle.queue_columns.specs.Columns.{AreCounted}

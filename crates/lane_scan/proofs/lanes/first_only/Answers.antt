@@ -1,8 +1,0 @@
-use Rattle.std.proofs.Common.{bit_and, not, ◌∙◌}
-use Rattle.std.specs.Simd.Lanes.{zip2}
-use Rattle.lane_scan.specs.Marks.{is_marked}
-use Rattle.lane_scan.proofs.Vectors.{bit_and-marks}
-use Rattle.lane_scan.proofs.lanes.first_only.Goals as goal
-
-pub returns : goal.returns
-returns g c = (λ i. zip2 bit_and (c.marked.ensures i) (c.unmarked.ensures i)) ∙ bit_and-marks is_marked (λ y. not (is_marked y)) c.args.a c.args.b
