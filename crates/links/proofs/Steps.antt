@@ -4,8 +4,10 @@ use Rattle.std.specs.Prelude.{filter, insert, slice_get}
 use Rattle.std.specs.Option.{option_map, option_map_or}
 use Rattle.std.specs.List.{take_while, AllByRecursion as Each}
 use Rattle.std.proofs.lemmas.Bool.{cond-true, cond-false}
+use Rattle.std.proofs.lemmas.List.{get_or-set_other, set-set}
 use Rattle.std.proofs.lemmas.Bool.Decides.{nat_tests}
 use Rattle.std.proofs.lemmas.List.Sums.{take_while-cons}
+use Rattle.circular_buffer.specs.Buffer.{Buffer, buffer, keep_last}
 use Rattle.sim_base.specs.History.{is_before, insert_by_age, by_age}
 use Rattle.sim_base.specs.declared.message.Message.{Message}
 use Rattle.sim_base.proofs.Arrived.{put, fold-puts}
@@ -35,41 +37,62 @@ pub insert_last : (m : Message) (xs : List Message) → insert xs (length xs) m 
 insert_last m [] = refl
 insert_last m (x ∷ xs) = ap (λ z. x ∷ z) (insert_last m xs)
 
-pub length_insert : (m : Message) (i : ℕ) (xs : List Message) → i ≤ length xs → length (insert xs i m) ≡ length xs + 1
-length_insert m zero xs l = omega arith
-length_insert m (suc i) [] l = absurd (omega arith)
-length_insert m (suc i) (x ∷ xs) l = omega (arith, length_insert m i xs (omega arith))
+pub last_free : (m : Message) (xs : List Message) → set (xs ++ m ∷ []) (length xs) m ≡ insert xs (length xs) m
+last_free m [] = refl
+last_free m (x ∷ xs) = ap (λ z. x ∷ z) (last_free m xs)
+
+pub length_more : (m : Message) (xs : List Message) → length (xs ++ m ∷ []) ≡ length xs + 1
+length_more m [] = refl
+length_more m (x ∷ xs) = omega (arith, length_more m xs)
+
+-- what is pushed into a ring that has room
+pub pushed : (m : Message) (ring after : Buffer Message) → length ring.items < ring.capacity → after ≡ buffer (keep_last ring.capacity (ring.items ++ m ∷ [])) ring.capacity
+    → (after.items ≡ ring.items ++ m ∷ []) × (after.capacity ≡ ring.capacity)
+pushed m ring after l h =
+    let none : length (ring.items ++ m ∷ []) - ring.capacity ≡ 0 = omega (arith, l, length_more m ring.items) in
+    let whole : keep_last ring.capacity (ring.items ++ m ∷ []) ≡ ring.items ++ m ∷ [] = ap (λ k. drop k (ring.items ++ m ∷ [])) none in
+    (ap (λ r. r.items) h ∙ whole, ap (λ r. r.capacity) h)
 
 insert_before : (m d : Message) (q : ℕ) (xs : List Message) → q < length xs → get_or (insert xs (suc q) m) q d ≡ get_or xs q d
 insert_before m d q [] l = absurd (omega arith)
 insert_before m d zero (x ∷ xs) l = refl
 insert_before m d (suc q) (x ∷ xs) l = insert_before m d q xs (omega arith)
 
-insert_swap : (m d : Message) (q : ℕ) (xs : List Message) → q < length xs → set (set (insert xs (suc q) m) (suc q) (get_or xs q d)) q m ≡ insert xs q m
-insert_swap m d q [] l = absurd (omega arith)
-insert_swap m d zero (x ∷ xs) l = refl
-insert_swap m d (suc q) (x ∷ xs) l = ap (λ z. x ∷ z) (insert_swap m d q xs (omega arith))
+insert_moves : (m d : Message) (q : ℕ) (xs : List Message) → q < length xs → set (set (insert xs (suc q) m) (suc q) (get_or xs q d)) q m ≡ insert xs q m
+insert_moves m d q [] l = absurd (omega arith)
+insert_moves m d zero (x ∷ xs) l = refl
+insert_moves m d (suc q) (x ∷ xs) l = ap (λ z. x ∷ z) (insert_moves m d q xs (omega arith))
 
 younger_more : (m d : Message) (q : ℕ) (xs : List Message) → q < length xs → AreYounger m (suc q) xs → is_before m (get_or xs q d) ≡ true → AreYounger m q xs
 younger_more m d q [] l h k = absurd (omega arith)
 younger_more m d zero (x ∷ xs) l h k = (k, h)
 younger_more m d (suc q) (x ∷ xs) l h k = younger_more m d q xs (omega arith) h k
 
--- one place further to the front
-pub sunk : (m y : Message) (p q : ℕ) (xs ys : List Message) → p ≡ q + 1 → p ≤ length xs → ys ≡ insert xs p m → get_or ys q y ≡ y → set (set ys p y) q m ≡ insert xs q m
+-- the message at a place before the one that is free
+before_free : (m y : Message) (p q : ℕ) (xs ys : List Message) → p ≡ q + 1 → p ≤ length xs → set ys p m ≡ insert xs p m → get_or ys q y ≡ get_or xs q y
+before_free m y p q xs ys e l h =
+    let s : p ≡ suc q = omega arith in
+    sym (get_or-set_other ys p q m y (λ f. absurd (omega (arith, e, f))))
+    ∙ ap (λ z. get_or z q y) h
+    ∙ ap (λ i. get_or (insert xs i m) q y) s
+    ∙ insert_before m y q xs (omega arith)
+
+-- a younger message moves back into the place that is free, and its own is free
+pub sunk : (m y : Message) (p q : ℕ) (xs ys : List Message) → p ≡ q + 1 → p ≤ length xs → set ys p m ≡ insert xs p m → get_or ys q y ≡ y → set (set ys p y) q m ≡ insert xs q m
 sunk m y p q xs ys e l h g =
     let s : p ≡ suc q = omega arith in
-    let at : get_or xs q y ≡ y = sym (insert_before m y q xs (omega arith)) ∙ ap (λ i. get_or (insert xs i m) q y) (sym s) ∙ ap (λ z. get_or z q y) (sym h) ∙ g in
-    ap (λ z. set (set z p y) q m) h
+    let at : get_or xs q y ≡ y = sym (before_free m y p q xs ys e l h) ∙ g in
+    ap (λ z. set z q m) (sym (set-set ys p m y))
+    ∙ ap (λ z. set (set z p y) q m) h
     ∙ ap (λ i. set (set (insert xs i m) i y) q m) s
     ∙ ap (λ z. set (set (insert xs (suc q) m) (suc q) z) q m) (sym at)
-    ∙ insert_swap m y q xs (omega arith)
+    ∙ insert_moves m y q xs (omega arith)
 
-pub sunk_younger : (m y : Message) (p q : ℕ) (xs ys : List Message) → p ≡ q + 1 → p ≤ length xs → ys ≡ insert xs p m → get_or ys q y ≡ y → is_before m y ≡ true
+pub sunk_younger : (m y : Message) (p q : ℕ) (xs ys : List Message) → p ≡ q + 1 → p ≤ length xs → set ys p m ≡ insert xs p m → get_or ys q y ≡ y → is_before m y ≡ true
     → AreYounger m p xs → AreYounger m q xs
 sunk_younger m y p q xs ys e l h g b k =
     let s : p ≡ suc q = omega arith in
-    let at : get_or xs q y ≡ y = sym (insert_before m y q xs (omega arith)) ∙ ap (λ i. get_or (insert xs i m) q y) (sym s) ∙ ap (λ z. get_or z q y) (sym h) ∙ g in
+    let at : get_or xs q y ≡ y = sym (before_free m y p q xs ys e l h) ∙ g in
     younger_more m y q xs (omega arith) (subst (λ i. AreYounger m i xs) s k) (ap (is_before m) at ∙ b)
 
 put_younger : (m : Message) (xs : List Message) → AreYounger m 0 xs → put m xs ≡ m ∷ xs
@@ -97,6 +120,13 @@ placed m p xs ys s e l h k =
     (λ q f. let g : p ≡ q + 1 = omega arith in
     ap (is_before m) (sym (insert_before m m q xs (omega arith)) ∙ ap (λ i. get_or (insert xs i m) q m) f ∙ ap (λ z. get_or z q m) (sym e)) ∙ k q g)
     ∙ sym (fold-puts xs (m ∷ []))
+
+-- the same, where the place is still free
+pub placed_free : (m : Message) (p : ℕ) (xs ys : List Message) → by_age xs ≡ xs → set ys p m ≡ insert xs p m → p ≤ length xs → AreYounger m p xs
+    → ((q : ℕ) → p ≡ q + 1 → is_before m (get_or ys q m) ≡ false) → set ys p m ≡ insert_by_age xs m
+placed_free m p xs ys s e l h k =
+    placed m p xs (set ys p m) s e l h
+    (λ q f. ap (is_before m) (get_or-set_other ys p q m m (λ g. absurd (omega (arith, f, g)))) ∙ k q f)
 
 last_not_younger : (m : Message) (q : ℕ) (xs : List Message) → q < length xs → option_map_or (is_before m) (slice_get xs q) false ≡ false → is_before m (get_or (xs ++ m ∷ []) q m) ≡ false
 last_not_younger m q [] l h = absurd (omega arith)

@@ -1,6 +1,6 @@
 //! The messages in flight.
 
-ghost use Rattle.std.specs.Prelude.{◌≡◌, ◌+◌, ◌<◌, ◌^◌, ◌≤◌, [], length, filter, fold, List, not, ◌==◌, slice_get, false, All, Any, ◌↔◌, IsTrue, IsNone, IfSome, IfOk, OnOk, OnErr, IsOkAnd};
+ghost use Rattle.std.specs.Prelude.{◌≡◌, ℕ, ◌+◌, ◌<◌, ◌^◌, nat_lt, nat_le, ◌≤◌, [], length, filter, fold, List, not, ◌==◌, slice_get, false, All, Any, ◌↔◌, IsTrue, IsNone, IfSome, IfOk, OnOk, OnErr, IsOkAnd};
 ghost use Rattle.std.specs.List.{list_all};
 ghost use Rattle.std.specs.List.Sorted.{IsPermutation};
 ghost use Rattle.std.specs.Option.{option_map};
@@ -129,6 +129,53 @@ fn make_room_at(
         make_ring_with_room(alloc, rings, number, more)?;
     }
     Ok(())
+}
+
+/// A number of links, each of which leads to a ring that is there.
+fn links_to_rings(channels: u16, rings: usize) -> u64
+    requires { 0 < channels }
+    ensures { (link : ℕ) → link < result → ring_of channels link < rings }
+{
+    let cores = rings.saturating_sub(usize::from(channels)) / 2;
+    (cores as u64)
+        .saturating_mul(u64::from(channels))
+        .saturating_mul(3)
+}
+
+/// Whether all messages are on the first links, so many.
+fn are_on_first(messages: &[Message], links: u64) -> bool
+    ensures { result ≡ list_all (λ m. nat_lt m.link links) messages.now }
+{
+    messages.iter().all(|message| message.link < links)
+}
+
+/// Whether a ring has room for so many messages more.
+fn is_room_in(ring: &Ring, more: usize) -> bool
+    ensures { result ≡ nat_le (length ring.now.items + more) ring.now.capacity }
+{
+    more <= ring.capacity() - ring.len()
+}
+
+/// Whether each ring has room for so many messages more.
+fn has_each_room(rings: &[Ring], more: usize) -> bool
+    ensures { result ≡ list_all (λ ring. nat_le (length ring.items + more) ring.capacity) rings.now }
+{
+    rings.iter().all(|ring| is_room_in(ring, more))
+}
+
+/// Whether each ring that there is has room for all messages, and each message has a ring: with few rings this is seen sooner than the
+/// ring of each message.
+fn is_room_for(rings: &[Ring], channels: u16, messages: &[Message]) -> bool
+    requires { 0 < channels }
+    ensures { IsTrue result → HaveRoom channels rings.now (length messages.now) messages.now }
+{
+    if messages.len() < rings.len() {
+        return false;
+    }
+    if !has_each_room(rings, messages.len()) {
+        return false;
+    }
+    are_on_first(messages, links_to_rings(channels, rings.len()))
 }
 
 /// Makes room for messages in the rings that they go to.
@@ -375,7 +422,9 @@ impl Links {
         if messages.len() > FEW_MESSAGES {
             sort_by_arrival(self.alloc, messages)?;
         }
-        make_room_for(self.alloc, &mut self.rings, self.channels, messages)?;
+        if !is_room_for(&self.rings, self.channels, messages) {
+            make_room_for(self.alloc, &mut self.rings, self.channels, messages)?;
+        }
         put_all(&mut self.rings, self.channels, messages);
         Ok(())
     }

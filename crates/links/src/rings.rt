@@ -63,7 +63,7 @@ fn younger_before(ring: &Ring, place: usize, message: &Message) -> Option<Messag
     }
 }
 
-/// Puts a message into its place by age, which is sought from the back.
+/// Puts a message into its place by age, which is sought from the back: each younger one moves back by a place.
 #[cold]
 #[inline(never)]
 fn put_among(ring: &mut Ring, message: &Message)
@@ -77,8 +77,8 @@ fn put_among(ring: &mut Ring, message: &Message)
     while let Some(younger) = younger_before(ring, place, message) {
         put_into(ring, place, &younger);
         place -= 1;
-        put_into(ring, place, message);
     }
+    put_into(ring, place, message);
 }
 
 /// Whether a message goes before the last one of a ring.
