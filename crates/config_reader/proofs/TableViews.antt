@@ -1,14 +1,17 @@
 -- Tests over the entries of a table, and over the values of an array, beside those over what they stand for.
-use Rattle.std.proofs.Common.{◌≡◌, ◌&&◌, length, suc, List, [], ◌∷◌, ◌++◌, Result, Ok, Err, refl, ap, string_bytes}
+use Rattle.std.proofs.Common.{◌≡◌, ◌&&◌, ℕ, ◌<◌, length, suc, List, [], ◌∷◌, ◌++◌, get_or, drop, drop-cons, Result, Ok, Err, refl, ap, string_bytes}
 use Rattle.std.specs.List.{list_all}
 use Rattle.std.specs.Map.{keys_of}
 use Rattle.std.specs.Prelude.{is_some}
 use Rattle.toml.specs.View.{view, items_view, members_view}
-use Rattle.toml.specs.Data.{as_str}
+use Rattle.toml.specs.Data.{as_str, as_table}
 use Rattle.toml.specs.declared.value.Value.{Value}
 use Rattle.toml.proofs.Views.{Entry}
 use Rattle.sim_base.specs.declared.fault.Fault.{Fault}
-use Rattle.config_reader.specs.Document.Fields.{are_texts}
+use Rattle.sim_base.specs.declared.overrides.Override.{Override}
+use Rattle.sim_base.specs.declared.place.Field.{Field}
+use Rattle.config_reader.specs.Document.Fields.{are_texts, field_named, fields_named}
+use Rattle.config_reader.specs.Document.Links.{override_from, overrides_in}
 use Rattle.config_reader.specs.Document.Keys.{is_known, keys_are_known, count_of}
 
 pub keys_are_known-view : (es : List Entry) → list_all (λ k. is_known (string_bytes k)) (keys_of es) ≡ keys_are_known (members_view es)
@@ -27,3 +30,12 @@ are_texts-view (v ∷ vs) = ap (λ b. is_some (as_str (view v)) && b) (are_texts
 abbrev pub prepend : {T : Type 0} → List T → Result (List T) Fault → Result (List T) Fault
 prepend xs (Ok ys) = Ok (xs ++ ys)
 prepend xs (Err e) = Err e
+
+-- an item is refused, and with it all that it stands among
+pub refused_field : (xs : List Field) (e : Fault) (vs : List Value) (i : ℕ) (v : Value) → i < length vs → field_named (as_str (view (get_or vs i v))) ≡ Err e
+    → prepend xs (fields_named (items_view (drop i vs))) ≡ Err e
+refused_field xs e vs i v h refused = rw (drop-cons vs i v h) (rw refused refl)
+
+pub refused_override : (xs : List Override) (e : Fault) (vs : List Value) (i : ℕ) (v : Value) → i < length vs → override_from (as_table (view (get_or vs i v))) ≡ Err e
+    → prepend xs (overrides_in (items_view (drop i vs))) ≡ Err e
+refused_override xs e vs i v h refused = rw (drop-cons vs i v h) (rw refused refl)

@@ -1,6 +1,6 @@
 //! The order of an address's fields in a document.
 
-ghost use Rattle.std.specs.Prelude.{◌≡◌, ◌≢◌, Ok, Err, IfOk, IfErr, IsTrue, is_some, option_map, option_and_then, count_by};
+ghost use Rattle.std.specs.Prelude.{◌≡◌, ◌≢◌, Some, Ok, Err, IfOk, IfErr, IsTrue, is_some, option_map, option_and_then, count_by};
 ghost use Rattle.std.specs.List.{list_all};
 ghost use Rattle.toml.specs.Data.{as_str, as_array};
 ghost use Rattle.toml.specs.View.{view, array_view, table_view};
@@ -16,18 +16,28 @@ use std::alloc::Global;
 use toml::value::Array;
 use toml::{Table, Value};
 
+/// The field of a name.
+fn field_of(name: &str) -> Result<Field, Fault>
+    ensures { result ≡ field_named (Some name.now) }
+{
+    match name {
+        "channel" => Ok(Field::Channel),
+        "column" => Ok(Field::Column),
+        "rank" => Ok(Field::Rank),
+        "group" => Ok(Field::Group),
+        "bank" => Ok(Field::Bank),
+        "row" => Ok(Field::Row),
+        _ => Err(Fault::ConfigRange(Key::Fields)),
+    }
+}
+
 /// The field that a value names.
 fn field_named(value: &Value) -> Result<Field, Fault>
     ensures { result ≡ field_named (as_str (view value.now)) }
 {
     match value.as_str() {
-        Some("channel") => Ok(Field::Channel),
-        Some("column") => Ok(Field::Column),
-        Some("rank") => Ok(Field::Rank),
-        Some("group") => Ok(Field::Group),
-        Some("bank") => Ok(Field::Bank),
-        Some("row") => Ok(Field::Row),
-        _ => Err(Fault::ConfigRange(Key::Fields)),
+        Some(name) => field_of(name),
+        None => Err(Fault::ConfigRange(Key::Fields)),
     }
 }
 

@@ -2,8 +2,8 @@
 
 ghost use Rattle.std.specs.Prelude.{◌≡◌, IfOk};
 ghost use Rattle.toml.specs.View.{table_view};
-ghost use Rattle.sim_base.specs.Ranges.{TimingInRange};
-ghost use Rattle.config_reader.specs.Document.Numbers.{timing_of};
+ghost use Rattle.sim_base.specs.Ranges.{DistanceInRange, TimingInRange};
+ghost use Rattle.config_reader.specs.Document.Numbers.{distances_at, timing_of};
 
 use crate::keys::{number_at, number_or};
 use sim_base::fault::Fault;
@@ -11,31 +11,61 @@ use sim_base::key::Key;
 use sim_base::timing::Timing;
 use toml::Table;
 
+/// The distances at four keys, one after the other.
+#[tactic(auto, unfolding(crate::specs::Document::Numbers::distances_at))]
+fn distances_at(
+    table: &Table,
+    a: Key,
+    b: Key,
+    c: Key,
+    d: Key,
+) -> Result<(u32, u32, u32, u32), Fault>
+    ensures value { result ≡ distances_at (table_view table.now) a b c d }
+    ensures range { IfOk result (λ n. DistanceInRange n.0 × DistanceInRange n.1 × DistanceInRange n.2 × DistanceInRange n.3) }
+{
+    let first = number_at(table, a, 1, 100_000)?;
+    let second = number_at(table, b, 1, 100_000)?;
+    let third = number_at(table, c, 1, 100_000)?;
+    let fourth = number_at(table, d, 1, 100_000)?;
+    Ok((first, second, third, fourth))
+}
+
 /// Reads the distances in the order of their keys.
 #[tactic(auto, unfolding(crate::specs::Document::Numbers::timing_of))]
 pub(super) fn read_timing(table: &Table) -> Result<Timing, Fault>
     ensures value { result ≡ timing_of (table_view table.now) }
     ensures range { IfOk result TimingInRange }
 {
+    use Key::{
+        NCcdL, NCcdS, NCl, NCwl, NFaw, NRas, NRc, NRcd, NRp, NRrdL, NRrdS, NRtp, NRtw, NWr, NWtrL,
+        NWtrS,
+    };
+    let (n_rcd, n_rp, n_ras, n_rc) = distances_at(table, NRcd, NRp, NRas, NRc)?;
+    let (n_cl, n_cwl, n_ccd_s, n_ccd_l) = distances_at(table, NCl, NCwl, NCcdS, NCcdL)?;
+    let (n_rrd_s, n_rrd_l, n_faw, n_rtp) = distances_at(table, NRrdS, NRrdL, NFaw, NRtp)?;
+    let (n_wr, n_wtr_s, n_wtr_l, n_rtw) = distances_at(table, NWr, NWtrS, NWtrL, NRtw)?;
+    let n_rfc = number_at(table, Key::NRfc, 1, 100_000)?;
+    let n_rtrs = number_or(0, table, Key::NRtrs, 0, 100_000)?;
+    let n_refi = number_at(table, Key::NRefi, 0, 100_000)?;
     Ok(Timing {
-        n_rcd: number_at(table, Key::NRcd, 1, 100_000)?,
-        n_rp: number_at(table, Key::NRp, 1, 100_000)?,
-        n_ras: number_at(table, Key::NRas, 1, 100_000)?,
-        n_rc: number_at(table, Key::NRc, 1, 100_000)?,
-        n_cl: number_at(table, Key::NCl, 1, 100_000)?,
-        n_cwl: number_at(table, Key::NCwl, 1, 100_000)?,
-        n_ccd_s: number_at(table, Key::NCcdS, 1, 100_000)?,
-        n_ccd_l: number_at(table, Key::NCcdL, 1, 100_000)?,
-        n_rrd_s: number_at(table, Key::NRrdS, 1, 100_000)?,
-        n_rrd_l: number_at(table, Key::NRrdL, 1, 100_000)?,
-        n_faw: number_at(table, Key::NFaw, 1, 100_000)?,
-        n_rtp: number_at(table, Key::NRtp, 1, 100_000)?,
-        n_wr: number_at(table, Key::NWr, 1, 100_000)?,
-        n_wtr_s: number_at(table, Key::NWtrS, 1, 100_000)?,
-        n_wtr_l: number_at(table, Key::NWtrL, 1, 100_000)?,
-        n_rtw: number_at(table, Key::NRtw, 1, 100_000)?,
-        n_rfc: number_at(table, Key::NRfc, 1, 100_000)?,
-        n_rtrs: number_or(0, table, Key::NRtrs, 0, 100_000)?,
-        n_refi: number_at(table, Key::NRefi, 0, 100_000)?,
+        n_rcd,
+        n_rp,
+        n_ras,
+        n_rc,
+        n_cl,
+        n_cwl,
+        n_ccd_s,
+        n_ccd_l,
+        n_rrd_s,
+        n_rrd_l,
+        n_faw,
+        n_rtp,
+        n_wr,
+        n_wtr_s,
+        n_wtr_l,
+        n_rtw,
+        n_rfc,
+        n_rtrs,
+        n_refi,
     })
 }

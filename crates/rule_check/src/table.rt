@@ -76,6 +76,32 @@ fn check_rows(
     unreachable!()
 }
 
+// The verdict on the records that are left, the first of which must be the header.
+fn check_left(
+    alloc: Global,
+    config: &Config,
+    turns: u64,
+    reader: &mut Reader<&[u8]>,
+    fields: &mut ByteRecord,
+) -> Result<Verdict, Fault>
+    requires reading { IsReading reader.old }
+    requires few { length (left_of reader.old) + 1 ≤ turns }
+    ensures ok { IfOk result (λ v. verdict config.now (left_of reader.old) ≡ Ok v) }
+    ensures refused { IfErr result (λ e. e ≢ Fault.Memory → verdict config.now (left_of reader.old) ≡ Err e) }
+    ensures fault { IfErr result IsCheckFault }
+{
+    let Ok(found) = read_next(reader, fields) else {
+        return Err(Fault::Memory);
+    };
+    if !found {
+        return Err(Fault::CheckRow(0));
+    }
+    if !is_header(config.ranks, fields) {
+        return Err(Fault::CheckRow(0));
+    }
+    check_rows(alloc, config, turns, reader, fields)
+}
+
 // The verdict on a table, whose records are read one after the other.
 fn check_records(alloc: Global, config: &Config, table: &[u8]) -> Result<Verdict, Fault>
     ensures ok { IfOk result (λ v. verdict config.now (records_of table.now) ≡ Ok v) }
@@ -84,17 +110,8 @@ fn check_records(alloc: Global, config: &Config, table: &[u8]) -> Result<Verdict
 {
     let mut reader = open(alloc, table);
     let mut fields = ByteRecord::new(alloc);
-    let Ok(found) = read_next(&mut reader, &mut fields) else {
-        return Err(Fault::Memory);
-    };
-    if !found {
-        return Err(Fault::CheckRow(0));
-    }
-    if !is_header(config.ranks, &fields) {
-        return Err(Fault::CheckRow(0));
-    }
     let turns = table.len() as u64 + 2;
-    check_rows(alloc, config, turns, &mut reader, &mut fields)
+    check_left(alloc, config, turns, &mut reader, &mut fields)
 }
 
 /// Tests a table of commands under a configuration: its text is read as comma-separated values, whose first record must be the

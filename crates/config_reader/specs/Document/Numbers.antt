@@ -1,4 +1,5 @@
 -- The numbers of a document, key by key.
+--     distances_at      four distances whose keys stand one after the other
 --     machine_of, memory_of, core_of, latencies_of, timing_of, drain_of      groups of keys that stand one after the other
 --     end_of      whether the run ends as soon as all is done
 use Rattle.std.specs.Prelude.{ℕ, List, Bool, true, false, if◌then◌else◌, codes, Option, Some, None, Result, Ok, Err}
@@ -11,6 +12,7 @@ use Rattle.config_reader.specs.declared.numbers.Latencies.{Latencies}
 use Rattle.config_reader.specs.declared.numbers.Drain.{Drain}
 use Rattle.sim_base.specs.declared.fault.Fault.{Fault}
 use Rattle.sim_base.specs.declared.fault.Fault.TheVariants.{ConfigKey, ConfigRange}
+use Rattle.sim_base.specs.declared.key.Key.{Key}
 use Rattle.sim_base.specs.declared.key.Key.TheVariants as key
 use Rattle.sim_base.specs.declared.timing.Timing.{Timing}
 use Rattle.config_reader.specs.Document.Keys.{◌>>=◌, data_at, number_of, number_or, power_of, power_or}
@@ -48,45 +50,42 @@ latencies_of ms = do
   credit ← number_of ms key.CreditLatency 1 1000000
   Ok (record { request = request; reply = reply; credit = credit })
 
+-- the distances at four keys, one after the other
+unfoldable pub distances_at : Members → Key → Key → Key → Key → Result (ℕ × ℕ × ℕ × ℕ) Fault
+distances_at ms k1 k2 k3 k4 = do
+  first ← number_of ms k1 1 100000
+  second ← number_of ms k2 1 100000
+  third ← number_of ms k3 1 100000
+  fourth ← number_of ms k4 1 100000
+  Ok (first, second, third, fourth)
+
 -- the distances between commands; no turn between ranks where its key is left out
 unfoldable pub timing_of : Members → Result Timing Fault
 timing_of ms = do
-  n_rcd ← number_of ms key.NRcd 1 100000
-  n_rp ← number_of ms key.NRp 1 100000
-  n_ras ← number_of ms key.NRas 1 100000
-  n_rc ← number_of ms key.NRc 1 100000
-  n_cl ← number_of ms key.NCl 1 100000
-  n_cwl ← number_of ms key.NCwl 1 100000
-  n_ccd_s ← number_of ms key.NCcdS 1 100000
-  n_ccd_l ← number_of ms key.NCcdL 1 100000
-  n_rrd_s ← number_of ms key.NRrdS 1 100000
-  n_rrd_l ← number_of ms key.NRrdL 1 100000
-  n_faw ← number_of ms key.NFaw 1 100000
-  n_rtp ← number_of ms key.NRtp 1 100000
-  n_wr ← number_of ms key.NWr 1 100000
-  n_wtr_s ← number_of ms key.NWtrS 1 100000
-  n_wtr_l ← number_of ms key.NWtrL 1 100000
-  n_rtw ← number_of ms key.NRtw 1 100000
+  rows ← distances_at ms key.NRcd key.NRp key.NRas key.NRc
+  columns ← distances_at ms key.NCl key.NCwl key.NCcdS key.NCcdL
+  acts ← distances_at ms key.NRrdS key.NRrdL key.NFaw key.NRtp
+  writes ← distances_at ms key.NWr key.NWtrS key.NWtrL key.NRtw
   n_rfc ← number_of ms key.NRfc 1 100000
   n_rtrs ← number_or 0 ms key.NRtrs 0 100000
   n_refi ← number_of ms key.NRefi 0 100000
   Ok (record {
-    n_rcd = n_rcd;
-    n_rp = n_rp;
-    n_ras = n_ras;
-    n_rc = n_rc;
-    n_cl = n_cl;
-    n_cwl = n_cwl;
-    n_ccd_s = n_ccd_s;
-    n_ccd_l = n_ccd_l;
-    n_rrd_s = n_rrd_s;
-    n_rrd_l = n_rrd_l;
-    n_faw = n_faw;
-    n_rtp = n_rtp;
-    n_wr = n_wr;
-    n_wtr_s = n_wtr_s;
-    n_wtr_l = n_wtr_l;
-    n_rtw = n_rtw;
+    n_rcd = rows.0;
+    n_rp = rows.1;
+    n_ras = rows.2;
+    n_rc = rows.3;
+    n_cl = columns.0;
+    n_cwl = columns.1;
+    n_ccd_s = columns.2;
+    n_ccd_l = columns.3;
+    n_rrd_s = acts.0;
+    n_rrd_l = acts.1;
+    n_faw = acts.2;
+    n_rtp = acts.3;
+    n_wr = writes.0;
+    n_wtr_s = writes.1;
+    n_wtr_l = writes.2;
+    n_rtw = writes.3;
     n_rfc = n_rfc;
     n_rtrs = n_rtrs;
     n_refi = n_refi;
