@@ -122,7 +122,7 @@ fn push_some(sent: &mut Vec<Message>, message: Option<Message>) -> Result<(), Al
 }
 
 /// The requests among `count` entries from `first` on.
-#[tactic(auto, using(crate::proofs::Entries::requests_between_none, crate::proofs::Entries::requests_between_more))]
+#[tactic(auto, using(crate::proofs::Entries::requests_between_none))]
 pub fn requests_of_entries(
     alloc: Global,
     s: &Config,

@@ -48,7 +48,6 @@ pub fn insert(mail: &mut Vec<Message>, m: Message) -> Result<(), AllocError>
 }
 
 /// Puts messages into their places by age.
-#[tactic(auto, using(crate::proofs::Folds::inserted_none, crate::proofs::Folds::inserted_more))]
 pub fn insert_all(mail: &mut Vec<Message>, more: &[Message]) -> Result<(), AllocError>
     ensures { OnOk result (mail.new.items ≡ fold insert_by_age mail.old.items more.now) }
 {
