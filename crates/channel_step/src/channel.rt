@@ -28,10 +28,11 @@ use crate::noting::{likely_places, note_heads, note_refresh, request_at};
 use crate::sending::tell;
 use crate::waiting::Waiting;
 use bank_ready::banks::Banks;
+use command_table::list::CommandList;
 use fr_fcfs::choice::{Choice, next};
 use heads::Heads;
 use refresh::Refresh;
-use sim_base::command::{Command, CommandRow};
+use sim_base::command::Command;
 use sim_base::config::Config;
 use sim_base::message::{ChannelId, Cycle, Message, Request};
 use sim_base::place::BankId;
@@ -345,7 +346,7 @@ impl Channel {
         inbox: &[Message],
         now: Cycle,
         until: Cycle,
-        commands: &mut Vec<CommandRow>,
+        commands: &mut CommandList,
         messages: &mut Vec<Message>,
     ) -> Result<Turn, AllocError>
         requires can_run { CanRun self.old inbox.now now until }
@@ -357,7 +358,7 @@ impl Channel {
         ensures done { (s : Config) (channel : ℕ) (rows : List (Option Command)) (mail : List Message)
             → StandsFor self.old s channel rows mail → length rows ≡ now → IsFit s channel rows mail inbox.now now until
             → IfOk result (λ turn. HasTurned self.new s channel rows mail inbox.now now (turn.last + 1) until turn.arrived
-            commands.old.items commands.new.items messages.old.items messages.new.items) }
+            commands.old commands.new messages.old.items messages.new.items) }
     {
         let arrived = self.arrive(inbox, now)?;
         let end = next_arrival(&inbox[arrived..], until);
@@ -399,7 +400,7 @@ impl Channel {
         inbox: &[Message],
         from: Cycle,
         until: Cycle,
-        commands: &mut Vec<CommandRow>,
+        commands: &mut CommandList,
         messages: &mut Vec<Message>,
     ) -> Result<(), AllocError>
         requires can_run { CanRun self.old inbox.now from until }
@@ -407,7 +408,7 @@ impl Channel {
         requires until { until ≤ 2 ^ 62 }
         ensures { (s : Config) (channel : ℕ) (rows : List (Option Command)) (mail : List Message)
             → StandsFor self.old s channel rows mail → length rows ≡ from → IsFit s channel rows mail inbox.now from until
-            → OnOk result (IsDone self.new s channel rows mail inbox.now from until commands.old.items commands.new.items messages.old.items messages.new.items) }
+            → OnOk result (IsDone self.new s channel rows mail inbox.now from until commands.old commands.new messages.old.items messages.new.items) }
     {
         let mut arrived = 0;
         let mut now = from;

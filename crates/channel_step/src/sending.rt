@@ -4,6 +4,7 @@ ghost use Rattle.std.specs.Prelude.{◌≡◌, ◌<◌, ◌^◌, ◌++◌, IfOk,
 ghost use Rattle.sim_base.specs.History.{reply, credit, messages_of, messages_at};
 ghost use Rattle.channel_step.specs.Runs.{issued_in};
 
+use command_table::list::CommandList;
 use sim_base::command::{Command, CommandRow, Source};
 use sim_base::config::Config;
 use sim_base::message::{ChannelId, Cycle, Load, Message};
@@ -77,11 +78,11 @@ pub(crate) fn tell(
     channel: ChannelId,
     now: Cycle,
     command: &Command,
-    commands: &mut Vec<CommandRow>,
+    commands: &mut CommandList,
     messages: &mut Vec<Message>,
 ) -> Result<(), AllocError>
     requires { now < 2 ^ 62 }
-    ensures commands { IfOk result (λ u. commands.new.items ≡ commands.old.items ++ issued_in channel now (Some command.now)) }
+    ensures commands { IfOk result (λ u. commands.new ≡ commands.old ++ issued_in channel now (Some command.now)) }
     ensures messages { IfOk result (λ u. messages.new.items ≡ messages.old.items ++ messages_at config.now channel now (Some command.now)) }
 {
     commands.push(CommandRow {

@@ -13,8 +13,6 @@ use Rattle.sim_base.specs.declared.message.Message.{Message}
 use Rattle.sim_base.specs.declared.trace.Entry.{Entry}
 use Rattle.statistics.specs.Cores.{core_stats}
 use Rattle.statistics.specs.declared.cores.CoreStats.{CoreStats}
-use Rattle.std.specs.declared.vec.Vec.{Vec}
-use Rattle.std.specs.declared.alloc.Global.{Global}
 use Rattle.sim_base.specs.declared.command.CommandRow.{CommandRow}
 use Rattle.channel_step.specs.declared.channel.Channel.{Channel}
 use Rattle.core_window.specs.declared.core_unit.Core.{Core}
@@ -52,7 +50,7 @@ pub record IsChannelPlace (s : Config) (traces : List (List Entry)) (now place :
   pub is : place ≡ s.cores + channel
   pub stands : IsChannelAt s traces channel now c
 
-pub channel-place : (s : Config) (traces : List (List Entry)) (now place : ℕ) (c : Channel) (rows : Vec CommandRow Global) → IsPart s traces (unit_at s place) now (part.Channel c rows)
+pub channel-place : (s : Config) (traces : List (List Entry)) (now place : ℕ) (c : Channel) (rows : List CommandRow) → IsPart s traces (unit_at s place) now (part.Channel c rows)
     → IsChannelPlace s traces now place c
 channel-place s traces now place c rows h = go (cases_lt place s.cores)
   where

@@ -2,8 +2,6 @@
 use Rattle.std.proofs.Common.{◌≡◌, ℕ, zero, suc, ◌+◌, ◌-◌, Bool, true, false, List, [], ◌∷◌, ◌++◌, length, get_or, replicate, Option, Some, None, is_some, refl, sym, ap, subst, ◌∙◌, append_assoc, arith}
 use Rattle.std.proofs.lemmas.Bool.{false≢true}
 use Rattle.std.proofs.lemmas.List.{append-nil, append_cancel_left}
-use Rattle.std.specs.declared.alloc.Global.{Global}
-use Rattle.std.specs.declared.vec.Vec.{Vec}
 use Rattle.sim_base.specs.declared.config.Config.{Config}
 use Rattle.sim_base.specs.declared.command.Command.{Command}
 use Rattle.sim_base.specs.declared.command.CommandRow.{CommandRow}
@@ -133,7 +131,7 @@ core-tells s traces (unit.Core core) c now next h tells =
 core-tells s traces (unit.Channel channel) c now next h tells = absurd h
 
 -- a channel of a simulator may be asked
-pub channel-stands_at : (s : Config) (traces : List (List Entry)) (u : MachineUnit) (c : Channel) (rows : Vec CommandRow Global) (now : ℕ) → IsPart s traces u now (part.Channel c rows)
+pub channel-stands_at : (s : Config) (traces : List (List Entry)) (u : MachineUnit) (c : Channel) (rows : List CommandRow) (now : ℕ) → IsPart s traces u now (part.Channel c rows)
     → StandsAt c now
 channel-stands_at s traces (unit.Channel channel) c rows now h =
     record {
@@ -152,7 +150,7 @@ ChannelTells c now next =
     (s : Config) (channel : ℕ) (rows : List (Option Command)) (mail : List Message) → ChannelStandsFor c s channel rows mail → length rows ≡ now
     → IsFirstCycle (λ cycle. is_some (choice s channel (rows ++ replicate (cycle - now) None) mail)) now next
 
-pub channel-tells : (s : Config) (traces : List (List Entry)) (u : MachineUnit) (c : Channel) (rows : Vec CommandRow Global) (now : ℕ) (next : Option ℕ)
+pub channel-tells : (s : Config) (traces : List (List Entry)) (u : MachineUnit) (c : Channel) (rows : List CommandRow) (now : ℕ) (next : Option ℕ)
     → IsPart s traces u now (part.Channel c rows) → ChannelTells c now next → IsNextActOf s traces u now next
 channel-tells s traces (unit.Channel channel) c rows now next h tells =
     channel-next_act s traces channel now next
@@ -197,7 +195,7 @@ core-skips s traces (unit.Core core) c d from until h skips =
 core-skips s traces (unit.Channel channel) c d from until h skips = absurd h.stands
 
 -- a channel is idle in a span in which nothing happens
-pub channel-can_skip : (s : Config) (traces : List (List Entry)) (u : MachineUnit) (c : Channel) (rows : Vec CommandRow Global) (from until : ℕ)
+pub channel-can_skip : (s : Config) (traces : List (List Entry)) (u : MachineUnit) (c : Channel) (rows : List CommandRow) (from until : ℕ)
     → RestsUpTo s traces u (part.Channel c rows) from until → CanSkip c until
 channel-can_skip s traces (unit.Channel channel) c rows from until h =
     let long = length-rows_of s traces from channel in
@@ -220,7 +218,7 @@ ChannelSkips c d until =
     (s : Config) (channel : ℕ) (rows : List (Option Command)) (mail : List Message) → ChannelStandsFor c s channel rows mail → IsIdle s channel rows mail (until - length rows)
     → ChannelStandsFor d s channel (rows ++ replicate (until - length rows) None) mail
 
-pub channel-skips : (s : Config) (traces : List (List Entry)) (u : MachineUnit) (c d : Channel) (rows : Vec CommandRow Global) (from until : ℕ)
+pub channel-skips : (s : Config) (traces : List (List Entry)) (u : MachineUnit) (c d : Channel) (rows : List CommandRow) (from until : ℕ)
     → RestsUpTo s traces u (part.Channel c rows) from until → ChannelSkips c d until → IsPart s traces u until (part.Channel d rows)
 channel-skips s traces (unit.Channel channel) c d rows from until h skips =
     let long = length-rows_of s traces from channel in

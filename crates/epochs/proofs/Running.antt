@@ -8,8 +8,6 @@ use Rattle.sim_base.specs.declared.message.Unit.TheVariants as unit
 use Rattle.sim_base.specs.declared.trace.Entry.{Entry}
 use Rattle.sim_base.specs.declared.command.CommandRow.{CommandRow}
 use Rattle.sim_base.proofs.Spans.{length-run}
-use Rattle.std.specs.declared.vec.Vec.{Vec}
-use Rattle.std.specs.declared.alloc.Global.{Global}
 use Rattle.statistics.proofs.Replies.{length-core_rows}
 use Rattle.channel_step.specs.Runs.{CanRun}
 use Rattle.channel_step.specs.declared.channel.Channel.{Channel}
@@ -42,18 +40,18 @@ core-has_run s traces (unit.Core core) c d inbox held holds from until h runs =
     record { messages = runs.sent; behind = runs.behind; ran = record { exists = h.exists; stands = goes.0; sent = goes.1 } }
 core-has_run s traces (unit.Channel channel) c d inbox held holds from until h runs = absurd h.stands
 
-pub channel-can_run : (s : Config) (traces : List (List Entry)) (unit : MachineUnit) (c : Channel) (rows : Vec CommandRow Global) (inbox : List Message) (from until : ℕ)
+pub channel-can_run : (s : Config) (traces : List (List Entry)) (unit : MachineUnit) (c : Channel) (rows : List CommandRow) (inbox : List Message) (from until : ℕ)
     → IsReadyFor s traces unit (part.Channel c rows) inbox from until → CanRun c inbox from until
 channel-can_run s traces (unit.Channel channel) c rows inbox from until h =
     subst (λ mail. CanRun c mail from until) (sym h.mail) (channels-may_run s traces from until channel c h.exists h.order h.stands.0)
 channel-can_run s traces (unit.Core core) c rows inbox from until h = absurd h.stands
 
-pub channel-has_run : (s : Config) (traces : List (List Entry)) (unit : MachineUnit) (c d : Channel) (rows more : Vec CommandRow Global) (inbox held holds : List Message) (from until : ℕ)
-    → IsReadyFor s traces unit (part.Channel c rows) inbox from until → Gives c inbox from until d rows.items more.items held holds
+pub channel-has_run : (s : Config) (traces : List (List Entry)) (unit : MachineUnit) (c d : Channel) (rows more : List CommandRow) (inbox held holds : List Message) (from until : ℕ)
+    → IsReadyFor s traces unit (part.Channel c rows) inbox from until → Gives c inbox from until d rows more held holds
     → HasRunOnto s traces unit from until (part.Channel d more) held holds
 channel-has_run s traces (unit.Channel channel) c d rows more inbox held holds from until h gives =
-    let goes = channels-go_on s traces from until channel c d rows.items more.items held holds h.exists h.order h.stands.0
-    (subst (λ mail. Gives c mail from until d rows.items more.items held holds) h.mail gives) in
+    let goes = channels-go_on s traces from until channel c d rows more held holds h.exists h.order h.stands.0
+    (subst (λ mail. Gives c mail from until d rows more held holds) h.mail gives) in
     record {
       messages = goes.sent;
       behind = goes.messages_behind;

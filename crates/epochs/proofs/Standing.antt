@@ -7,8 +7,6 @@ use Rattle.std.proofs.lemmas.Option.{get_or_from_slice_get, slice_get-get_or}
 use Rattle.std.proofs.Math.Seq.{get_or-append_seam}
 use Rattle.std.proofs.lemmas.Bool.{cond-true, cond-false}
 use Rattle.std.proofs.lemmas.Bool.Decides.{nat_tests}
-use Rattle.std.specs.declared.vec.Vec.{Vec}
-use Rattle.std.specs.declared.alloc.Global.{Global}
 use Rattle.sim_base.specs.declared.config.Config.{Config}
 use Rattle.sim_base.specs.declared.command.CommandRow.{CommandRow}
 use Rattle.sim_base.specs.declared.message.Unit.TheVariants as unit
@@ -73,8 +71,8 @@ history-none : (s : Config) (traces : List (List Entry)) (channel : ℕ) → his
 unfolding run channel_rows issued_commands
 history-none s traces channel = refl
 
-pub first-channel : (s : Config) (traces : List (List Entry)) (parts : List Part) (channel : ℕ) (c : Channel) (rows : Vec CommandRow Global) → StandAt s traces 0 parts
-    → length parts ≡ s.cores + channel → ChannelStandsFor c s channel [] [] → rows.items ≡ [] → StandAt s traces 0 (parts ++ part.Channel c rows ∷ [])
+pub first-channel : (s : Config) (traces : List (List Entry)) (parts : List Part) (channel : ℕ) (c : Channel) (rows : List CommandRow) → StandAt s traces 0 parts
+    → length parts ≡ s.cores + channel → ChannelStandsFor c s channel [] [] → rows ≡ [] → StandAt s traces 0 (parts ++ part.Channel c rows ∷ [])
 first-channel s traces parts channel c rows h e k none =
     stand-push s traces 0 parts (part.Channel c rows) h
     (subst (λ u. IsPart s traces u 0 (part.Channel c rows)) (sym (channel-at_place s (length parts) channel e))

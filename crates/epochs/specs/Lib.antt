@@ -6,7 +6,6 @@ pub mod Flight
 pub mod Merging
 pub mod Seats
 pub mod Ordered
-pub mod Tables
 pub mod Drained
 pub mod Quiet
 pub mod Wakes

@@ -34,7 +34,7 @@ use Rattle.epochs.specs.declared.part.Part.TheVariants as part
 -- A unit stands for what the one with this number did in the cycles of a run before one. With a channel its commands are kept.
 abbrev pub IsPart : Config → List (List Entry) → MachineUnit → ℕ → Part → Type 0
 IsPart s traces (unit.Core core) now (part.Core c) = IsCoreAt s traces core now (view_of c)
-IsPart s traces (unit.Channel channel) now (part.Channel c commands) = IsChannelAt s traces channel now c × (commands.items ≡ history_of s traces now channel)
+IsPart s traces (unit.Channel channel) now (part.Channel c commands) = IsChannelAt s traces channel now c × (commands ≡ history_of s traces now channel)
 IsPart s traces (unit.Core core) now (part.Channel c commands) = ⊥
 IsPart s traces (unit.Channel channel) now (part.Core c) = ⊥
 

@@ -7,8 +7,8 @@ ghost use Rattle.sim_base.specs.declared.message.Unit.{Unit as MachineUnit};
 ghost use Rattle.epochs.specs.Parts.{IsReady, IsReadyFor, HasRunOnto};
 
 use channel_step::channel::Channel;
+use command_table::list::CommandList;
 use core_window::core_unit::Core;
-use sim_base::command::CommandRow;
 use sim_base::message::{Cycle, Message};
 use std::alloc::AllocError;
 
@@ -16,7 +16,7 @@ use std::alloc::AllocError;
 #[derive(Drop)]
 pub(crate) enum Part {
     Core(Core),
-    Channel(Channel, Vec<CommandRow>),
+    Channel(Channel, CommandList),
 }
 
 impl Part {

@@ -15,6 +15,7 @@ use crate::machine::Machine;
 use crate::part::Part;
 use crate::tables::all_commands;
 use channel_step::channel::Channel;
+use command_table::list::CommandList;
 use core_window::core_unit::Core;
 use cpu_trace::trace::Trace;
 use links::flight::Links;
@@ -77,7 +78,7 @@ fn add_channels(alloc: Global, config: &Config, parts: &mut Vec<Part>) -> Result
 {
     for number in 0..u32::from(config.channels) {
         let channel = Channel::start(alloc, config, number)?;
-        parts.push(Part::Channel(channel, Vec::new(alloc)))?;
+        parts.push(Part::Channel(channel, CommandList::new(alloc)))?;
     }
     Ok(())
 }
@@ -173,8 +174,8 @@ impl Sim {
             parts,
             links,
         } = self;
-        let commands = all_commands(alloc, &machine, now, &parts)?;
         let last = final_state(alloc, &machine, now, phase, &parts, &links)?;
+        let commands = all_commands(alloc, &machine, now, parts)?;
         Ok(Outcome {
             commands,
             stats,

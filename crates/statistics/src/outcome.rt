@@ -2,14 +2,14 @@
 
 use crate::final_state::FinalState;
 use crate::stats::Stats;
-use sim_base::command::CommandRow;
+use command_table::table::CommandTable;
 use std::marker::Model;
 
 /// What a run did and left.
 #[derive(Drop)]
 pub struct Outcome {
     /// The commands of all channels, by cycle and then by channel.
-    pub commands: Vec<CommandRow>,
+    pub commands: CommandTable,
     pub stats: Stats,
     /// The state before the cycle that would be the run's next.
     pub last: FinalState,
@@ -22,5 +22,5 @@ impl Model for Outcome {
 
     ghost Value = { RunOutcome };
 
-    ghost view = { λ o. record { commands = o.commands.items; stats = o.stats; last = o.last; ranks = o.ranks } };
+    ghost view = { λ o. record { commands = o.commands; stats = o.stats; last = o.last; ranks = o.ranks } };
 }

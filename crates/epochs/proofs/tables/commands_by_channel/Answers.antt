@@ -1,36 +1,42 @@
-use Rattle.std.proofs.Common.{◌≡◌, ◌<◌, ◌+◌, ◌∙◌, ap, sym, subst, get_or, arith}
-use Rattle.sim_base.specs.declared.message.Unit.TheVariants as unit
-use Rattle.epochs.specs.Parts.{IsPart}
-use Rattle.epochs.proofs.Counted.{channel-stands}
-use Rattle.epochs.proofs.Tabled.{IsTable, table-none, table-more, table-all}
+use Rattle.std.proofs.Common.{rules, ◌≡◌, ◌-◌, ◌∷◌, [], ◌++◌, length, refl, sym, ap, subst, ◌∙◌, append_assoc, arith}
+use Rattle.std.specs.Vec.Iter.{into_iter_items}
+use Rattle.statistics.proofs.Lists.{length-push_suc}
+use Rattle.epochs.proofs.Standing.{stand-seam, all-yielded}
+use Rattle.epochs.proofs.Tabled.{lists_below, listed-more}
 use Rattle.epochs.proofs.tables.commands_by_channel.Goals as goal
 
-pub loop-channel-init : goal.loop-channel-init
-loop-channel-init c =
+pub loop-part-init : goal.loop-part-init
+loop-part-init c =
     let s = c.args.machine.now.config in
-    let traces = c.args.machine.now.traces.items in
-    subst (IsTable s traces c.args.now 0) (sym c.new-table.ensures.items) (table-none s traces c.args.now)
+    let none : 0 ≡ 0 - s.cores = omega arith in
+    (refl, search rules, c.new-lists.ensures.items ∙ ap (lists_below s c.args.machine.now.traces.items c.args.now) none)
 
-pub loop-channel-preserved : goal.loop-channel-preserved
-loop-channel-preserved c =
+pub loop-part-preserved : goal.loop-part-preserved
+loop-part-preserved c =
     let s = c.args.machine.now.config in
     let traces = c.args.machine.now.traces.items in
-    let now = c.args.now in
-    let l = c.loop-channel in
-    let k : l.channel < s.channels = c.loop-channel-test.true in
-    let place = c.from.ensures in
-    let more = c.from-in-loop-channel.ensures in
-    let stands = channel-stands s traces now c.args.parts.now l.channel c.index-parts-place.result c.requires.stand c.requires.count k in
-    let part = subst (IsPart s traces (unit.Channel l.channel) now)
-    (ap (λ i. get_or c.args.parts.now (i + l.channel) c.index-parts-place.result) (sym place) ∙ ap (λ i. get_or c.args.parts.now (c.from.result + i) c.index-parts-place.result) (sym more) ∙ sym c.index-parts-place.is) stands in
-    subst (IsTable s traces now (l.channel + 1)) (sym (c.in_ok-add_commands.ensures {u = tt} s traces l.channel now part)) (table-more s traces now l.channel l.table.items k l.invariant)
+    let at = c.loop-part in
+    let x = c.in-Some.part in
+    let steps = c.in-Some.ensures.steps in
+    let seam : at.yielded ++ x ∷ into_iter_items c.next.new.self ≡ c.args.parts.items =
+    ap (λ z. at.yielded ++ z) (sym steps.0) ∙ at.invariant.0 ∙ c.into_iter-part-iterator.ensures.into_iter_gives.0 in
+    let told = c.in_ok-add_commands.ensures {u = tt} in (
+      append_assoc at.yielded (x ∷ []) _ ∙ ap (λ z. at.yielded ++ z) (sym steps.0) ∙ at.invariant.0,
+      let was = at.invariant.1 in
+          let gone = steps.1 in
+          let short = ap length steps.0 in
+          omega arith,
+      listed-more s traces c.args.now (length at.yielded) x at.lists.items c.add_commands.new.lists.items
+          (stand-seam s traces c.args.now c.args.parts.items at.yielded _ x c.requires.stand seam)
+          (λ core. told.core s traces core c.args.now) (λ channel. told.channel s traces channel c.args.now) at.invariant.2
+          ∙ ap (λ n. lists_below s traces c.args.now (n - s.cores)) (sym (length-push_suc at.yielded x)),
+    )
 
 pub returns : goal.returns
 returns c =
     let s = c.args.machine.now.config in
-    let traces = c.args.machine.now.traces.items in
-    let l = c.loop-channel in
-    let past = c.loop-channel-test.false in
-    let within = c.loop-channel.auto.channel-end in
-    let end : l.channel ≡ s.channels = omega (arith, past, within) in
-    table-all s traces c.args.now l.table.items (subst (λ n. IsTable s traces c.args.now n l.table.items) end l.invariant)
+    let at = c.loop-part in
+    let all = all-yielded at.yielded (into_iter_items at.part-iterator) c.args.parts.items (at.invariant.0 ∙ c.into_iter-part-iterator.ensures.into_iter_gives.0)
+    (sym at.invariant.1 ∙ c.in-None.ensures.steps.0) in
+    let count : length at.yielded - s.cores ≡ s.channels = omega (arith, ap length all, c.requires.count) in
+    at.invariant.2 ∙ ap (lists_below s c.args.machine.now.traces.items c.args.now) count

@@ -11,7 +11,7 @@ loop-now-init c = (
   omega arith,
   omega arith,
   λ s channel rows mail h at f.
-      turned-none c.args.self.now s channel rows mail c.args.inbox.now c.args.from c.args.until c.args.commands.now.items c.args.messages.now.items h f,
+      turned-none c.args.self.now s channel rows mail c.args.inbox.now c.args.from c.args.until c.args.commands.now c.args.messages.now.items h f,
 )
 
 pub turn-requires-clause-can_run : goal.turn-requires-clause-can_run
@@ -43,7 +43,7 @@ pub returns : goal.returns
 returns c s channel rows mail stands at f =
     let l = c.loop-now in
     let end : l.now ≡ c.args.until = omega (arith, l.invariant.2) in
-    let h = subst (λ t. HasTurned l.self s channel rows mail c.args.inbox.now c.args.from t c.args.until l.arrived c.args.commands.now.items l.commands.items c.args.messages.now.items l.messages.items) end
+    let h = subst (λ t. HasTurned l.self s channel rows mail c.args.inbox.now c.args.from t c.args.until l.arrived c.args.commands.now l.commands c.args.messages.now.items l.messages.items) end
     (l.invariant.3 s channel rows mail stands at f) in
     record {
       issued = h.issued;

@@ -12,7 +12,7 @@ invariant-loop-now l =
     (l.arrived ≤ length l.inbox) × (l.fn.from ≤ l.now) × (l.now ≤ l.fn.until)
     × ((s : Config) (channel : ℕ) (rows : List (Option Command)) (mail : List Message)
     → StandsFor l.fn.self s channel rows mail → length rows ≡ l.fn.from → IsFit s channel rows mail l.inbox l.fn.from l.fn.until
-    → HasTurned l.self s channel rows mail l.inbox l.fn.from l.now l.fn.until l.arrived l.fn.commands.items l.commands.items l.fn.messages.items l.messages.items)
+    → HasTurned l.self s channel rows mail l.inbox l.fn.from l.now l.fn.until l.arrived l.fn.commands l.commands l.fn.messages.items l.messages.items)
 
 abbrev pub decreases-loop-now : goal.decreases-loop-now
 decreases-loop-now l = l.fn.until - l.now

@@ -171,7 +171,7 @@ returns-in_ok-tell-in-Some-clause-done c s channel rows mail stands at f =
       issued = issued_in channel c.in-Some.cycle (Some c.in-Some.chosen.command);
       sent = messages_at s channel c.in-Some.cycle (Some c.in-Some.chosen.command);
       has_run = acts c.wait.new.self c.perform.new.self s channel rows mail c.args.inbox.now c.args.now c.args.until n c.next_arrival-end.result c.in-Some.cycle c.in-Some.chosen.command g i k after;
-      commands_are = told.commands ∙ ap (λ x. c.args.commands.now.items ++ issued_in x c.in-Some.cycle (Some c.in-Some.chosen.command)) after.made_for.number_is;
+      commands_are = told.commands ∙ ap (λ x. c.args.commands.now ++ issued_in x c.in-Some.cycle (Some c.in-Some.chosen.command)) after.made_for.number_is;
       messages_are = told.messages ∙ ap₂ (λ x y. c.args.messages.now.items ++ messages_at x y c.in-Some.cycle (Some c.in-Some.chosen.command)) after.made_for.config_is after.made_for.number_is;
     }
 
@@ -209,6 +209,6 @@ returns-in-None-clause-done c s channel rows mail stands at f =
       sent = [];
       has_run = waits c.wait-in-None.new.self s channel rows mail c.args.inbox.now c.args.now c.args.until n end g idle
           (waited-stands c.look.new.self c.wait-in-None.new.self s channel rows there (end - length rows) k (c.wait-in-None.ensures.in_cycle s channel rows there k) (omega (arith, within.0)));
-      commands_are = sym (append-nil c.args.commands.now.items);
+      commands_are = sym (append-nil c.args.commands.now);
       messages_are = sym (append-nil c.args.messages.now.items);
     }

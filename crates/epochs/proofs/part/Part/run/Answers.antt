@@ -45,7 +45,7 @@ returns-in-Channel c s traces unit ready = go c.run-in-Channel.result c.run-in-C
     go : {T E : Type 0} (r : Result T E)
         → ((s : Config) (channel : ℕ) (rows : List (Option Command)) (mail : List Message)
         → StandsFor c.in-Channel.channel s channel rows mail → length rows ≡ c.args.from → IsFit s channel rows mail c.args.inbox.now c.args.from c.args.until
-        → OnOk r (IsDone c.run-in-Channel.new.self s channel rows mail c.args.inbox.now c.args.from c.args.until c.in-Channel.issued.items c.run-in-Channel.new.commands.items c.args.sent.now.items c.run-in-Channel.new.messages.items))
+        → OnOk r (IsDone c.run-in-Channel.new.self s channel rows mail c.args.inbox.now c.args.from c.args.until c.in-Channel.issued c.run-in-Channel.new.commands c.args.sent.now.items c.run-in-Channel.new.messages.items))
         → OnOk r (HasRunOnto s traces unit c.args.from c.args.until (part.Channel c.run-in-Channel.new.self c.run-in-Channel.new.commands) c.args.sent.now.items c.run-in-Channel.new.messages.items)
     go (Ok x) h =
         channel-has_run s traces unit c.in-Channel.channel c.run-in-Channel.new.self c.in-Channel.issued c.run-in-Channel.new.commands c.args.inbox.now _ _ c.args.from c.args.until

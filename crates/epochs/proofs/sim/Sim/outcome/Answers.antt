@@ -15,9 +15,9 @@ returns c =
     let f = c.self.inside in
     let s = (arc_value f.machine).config in
     let view = c.self.view_is in
-    let rows = c.in_ok-commands.ensures {u = tt} ∙ ap (λ (m : Machine). commands (run m.config m.traces.items f.now)) c.deref.ensures in
-    let last = c.in_ok-last.ensures {u = tt} ∙ ap (λ (m : Machine). final_of m.config m.traces.items (run m.config m.traces.items f.now)) c.deref-3.ensures in
+    let rows = c.in_ok-commands.ensures {u = tt} ∙ ap (λ (m : Machine). commands (run m.config m.traces.items f.now)) c.deref-3.ensures in
+    let last = c.in_ok-last.ensures {u = tt} ∙ ap (λ (m : Machine). final_of m.config m.traces.items (run m.config m.traces.items f.now)) c.deref.ensures in
     let stats = c.in_ok-stats.ensures {u = tt} ∙ ap (λ (v : SimView). stats_of v.machine v.traces (run v.machine v.traces v.now)) (sym view) in
-    ap {B = RunOutcome} (λ (m : Machine). record { commands = c.in_ok-commands.commands.items; stats = c.in_ok-stats.stats; last = c.in_ok-last.last; ranks = m.config.ranks }) c.deref-5.ensures
+    ap {B = RunOutcome} (λ (m : Machine). record { commands = c.in_ok-commands.commands; stats = c.in_ok-stats.stats; last = c.in_ok-last.last; ranks = m.config.ranks }) c.deref-4.ensures
     ∙ outcome_is s.ranks rows stats last
     ∙ ap (λ (v : SimView). outcome_of v.machine v.traces v.now) view
