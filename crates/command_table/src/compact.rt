@@ -8,6 +8,7 @@ use sim_base::command::{Command, CommandRow, Kind, Source};
 use sim_base::message::Cycle;
 use sim_base::place::BankId;
 use std::marker::Model;
+use std::mem::size_of;
 
 /// A command whose numbers are those of a usual machine and trace: entries below 2^32, rows below 2^32, columns below 2^16, and all else
 /// below 2^8. Operands that it does not have are 0.
@@ -33,6 +34,8 @@ impl Model for Compact {
 
     ghost view = { λ c. record { cycle = c.cycle; channel = c.channel; command = command_of c.kind c.rank c.group c.bank c.row c.column c.core c.entry } };
 }
+
+const _: () = prove!(size_of::<Compact>() == 24);
 
 /// The operands of a command, and 0 for those that it does not have.
 #[derive(Clone, Copy)]
