@@ -1,10 +1,8 @@
 -- What a row is that is kept in few bytes.
 --     command_of kind rank group bank row column core entry      the command of a kind, with as many of these operands as it has
---     listed first rest      a row that may be there, and others behind it
-use Rattle.std.specs.Prelude.{ℕ, List, ◌∷◌, Option, Some, None}
+use Rattle.std.specs.Prelude.{ℕ}
 use Rattle.sim_base.specs.declared.command.Command.{Command}
 use Rattle.sim_base.specs.declared.command.Command.TheVariants.{Act as ACT, Rd as RD, Wr as WR, Pre as PRE, Prea as PREA, Ref as REF}
-use Rattle.sim_base.specs.declared.command.CommandRow.{CommandRow}
 use Rattle.sim_base.specs.declared.command.Kind.{Kind}
 use Rattle.sim_base.specs.declared.command.Kind.TheVariants.{Act, Rd, Wr, Pre, Prea, Ref}
 
@@ -16,8 +14,3 @@ command_of Wr rank group bank row column core entry = WR (record { rank = rank; 
 command_of Pre rank group bank row column core entry = PRE (record { rank = rank; group = group; bank = bank }) (record { core = core; entry = entry })
 command_of Prea rank group bank row column core entry = PREA rank
 command_of Ref rank group bank row column core entry = REF rank
-
--- a row that may be there, and others behind it
-abbrev pub listed : Option CommandRow → List CommandRow → List CommandRow
-listed None rest = rest
-listed (Some row) rest = row ∷ rest
