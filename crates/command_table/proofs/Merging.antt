@@ -1,14 +1,14 @@
 -- A table of several lists goes on with the row of the list that begins soonest.
-use Rattle.std.proofs.Common.{◌≡◌, ℕ, zero, suc, ◌+◌, ◌<◌, ◌≤◌, Bool, true, false, cond, eqb, List, [], ◌∷◌, ◌++◌, length, get_or, set, Option, Some, None, IfSome, refl, sym, ap, ap₂, subst, ◌∙◌, arith}
-use Rattle.std.specs.Prelude.{filter, flat_map, All}
+use Rattle.std.proofs.Common.{◌≡◌, ℕ, zero, suc, ◌<◌, ◌≤◌, Bool, true, false, cond, eqb, List, [], ◌∷◌, ◌++◌, length, get_or, set, drop, slice_get, Option, Some, None, IfSome, refl, sym, ap, subst, ◌∙◌, arith}
+use Rattle.std.specs.Prelude.{flat_map, All}
 use Rattle.std.specs.List.{AllByRecursion as Each}
-use Rattle.std.proofs.lemmas.Bool.{cond-false, eqb-true, eqb-false, ne_eqb}
+use Rattle.std.proofs.lemmas.Bool.{eqb-true, eqb-false}
 use Rattle.std.proofs.lemmas.List.{get_or_default, append-nil}
 use Rattle.std.proofs.lemmas.List.Elements.{filter-append, recursion_from_All, All-set}
 use Rattle.sim_base.specs.declared.command.CommandRow.{CommandRow}
 use Rattle.sim_base.proofs.Each.{Each-append}
 use Rattle.command_table.specs.Tables.{IsRising, rows_in, HaveSameCycles, by_cycle, table_of}
-use Rattle.command_table.specs.Lefts.{first_cycle, IsNextOf, IsNext}
+use Rattle.command_table.specs.Lefts.{first_cycle, IsNext}
 use Rattle.command_table.proofs.Rising.{Rising, rising-pairs, own-cycle, other-cycle, by_cycle-is, by_cycle-rising, by_cycle-same, each-by_cycle}
 
 -- the rows of all lists
@@ -146,34 +146,39 @@ next-row lists place row rest r n e =
       behind = λ k l m. subst (λ c. From c (get_or lists k [])) same (n.next.behind k l m);
     })
 
--- where no list has a row, the table has none
-pub no-row : (lists : List (List CommandRow)) → ((k : ℕ) → k < length lists → get_or lists k [] ≡ []) → table_of lists ≡ []
+-- with no lists the table has no rows
+pub no-row : (lists : List (List CommandRow)) → lists ≡ [] → table_of lists ≡ []
 unfolding by_cycle
-no-row lists h = ap by_cycle (none lists h)
+no-row lists h = ap table_of h
+
+-- with a list that goes on it has some
+pub some-row : (lists : List (List CommandRow)) (place : ℕ) → All IsRising lists → IsNext lists place → table_of lists ≡ [] → ⊥
+some-row lists place r n h = by (get_or lists place []) refl n.next.starts
   where
-    none : (lists : List (List CommandRow)) → ((k : ℕ) → k < length lists → get_or lists k [] ≡ []) → flat_map (λ rows. rows) lists ≡ []
-    none [] h = refl
-    none (rows ∷ lists) h = ap₂ (λ a b. a ++ b) (h 0 (omega arith)) (none lists (λ k l. h (suc k) (omega (arith, l))))
+    by : (rows : List CommandRow) → get_or lists place [] ≡ rows → first_cycle rows ≡ Some n.cycle → ⊥
+    by [] e s = absurd (cc)
+    by (row ∷ rest) e s = let t = next-row lists place row rest r n e in absurd (cc)
 
 empty-rises : IsRising []
 empty-rises i j d a b = absurd (omega (arith, b))
 
 -- what is left of a list rises as it did
-pub tail-rises : (taken : Option CommandRow) (old new : List CommandRow) → IfSome taken (λ row. old ≡ row ∷ new) → (taken ≡ None → old ≡ []) → (old ≡ [] → new ≡ []) → IsRising old → IsRising new
-tail-rises None old new some none over r = subst IsRising (sym (over (none refl))) empty-rises
-tail-rises (Some row) old new some none over r = behind (subst IsRising some r)
-  where
-    behind : IsRising (row ∷ new) → IsRising new
-    behind h i j d a b = h (suc i) (suc j) d (omega (arith, a)) (omega (arith, b))
+pub rest-rises : (rows : List CommandRow) → IsRising rows → IsRising (drop 1 rows)
+rest-rises [] r = empty-rises
+rest-rises (row ∷ rows) r = λ i j d a b. r (suc i) (suc j) d (omega (arith, a)) (omega (arith, b))
 
 pub set-rises : (lists : List (List CommandRow)) (place : ℕ) (rest : List CommandRow) → All IsRising lists → IsRising rest → All IsRising (set lists place rest)
 set-rises lists place rest r h = All-set IsRising lists place rest h r
 
 -- the table is the row that is taken and what is left
-pub table-next : (taken : Option CommandRow) (lists : List (List CommandRow)) (place : ℕ) (old new : List CommandRow) → All IsRising lists → IsNext lists place → old ≡ get_or lists place old
-    → IfSome taken (λ row. old ≡ row ∷ new) → IfSome taken (λ row. table_of lists ≡ row ∷ table_of (set lists place new))
-table-next None lists place old new r n o some = tt
-table-next (Some row) lists place old new r n o some = next-row lists place row new r n (get_or_default lists place [] old n.next.within ∙ sym o ∙ some)
+pub table-next : (taken : Option CommandRow) (lists new : List (List CommandRow)) (place : ℕ) (old : List CommandRow) → All IsRising lists → IsNext lists place
+    → old ≡ get_or lists place old → taken ≡ slice_get old 0 → table_of new ≡ table_of (set lists place (drop 1 (get_or lists place []))) → IfSome taken (λ row. table_of lists ≡ row ∷ table_of new)
+table-next None lists new place old r n o t e = tt
+table-next (Some row) lists new place [] r n o t e = absurd (cc)
+table-next (Some row) lists new place (first ∷ rest) r n o t e =
+    let same : first ≡ row = cc in
+    let is : get_or lists place [] ≡ row ∷ rest = get_or_default lists place [] (first ∷ rest) n.next.within ∙ sym o ∙ ap (λ z. z ∷ rest) same in
+    next-row lists place row rest r n is ∙ ap (λ z. row ∷ z) (ap (λ z. table_of (set lists place (drop 1 z))) (sym is) ∙ sym e)
 
 -- a list of rows by cycle is a table of its own
 pub own-table : (rows : List CommandRow) → IsRising rows → table_of (rows ∷ []) ≡ rows

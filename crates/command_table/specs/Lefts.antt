@@ -2,8 +2,7 @@
 --     first_cycle rows      the cycle of the first row
 --     IsNextOf lists count place cycle      of the first so many lists, the one at this place begins in this cycle, and none sooner
 --     IsNext lists place      the same of all lists
---     AreDone lists      no list has a row
-use Rattle.std.specs.Prelude.{◌≡◌, ℕ, ◌<◌, ◌≤◌, List, [], ◌∷◌, length, slice_index_or, All, Option, Some, None, IfSome}
+use Rattle.std.specs.Prelude.{◌≡◌, ℕ, ◌<◌, ◌≤◌, List, [], ◌∷◌, length, slice_index_or, Option, Some, None, IfSome}
 use Rattle.sim_base.specs.declared.command.CommandRow.{CommandRow}
 
 -- the cycle of the first row, if there is one
@@ -22,7 +21,3 @@ pub record IsNextOf (lists : List (List CommandRow)) (count place cycle : ℕ) :
 pub record IsNext (lists : List (List CommandRow)) (place : ℕ) : Type 0 where
   pub cycle : ℕ
   pub next : IsNextOf lists (length lists) place cycle
-
--- no list has a row
-abbrev pub AreDone : List (List CommandRow) → Type 0
-AreDone lists = All (λ rows. rows ≡ []) lists

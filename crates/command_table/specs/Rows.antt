@@ -1,11 +1,13 @@
 -- What a row is that is kept in few bytes.
 --     command_of kind rank group bank row column core entry      the command of a kind, with as many of these operands as it has
---     listed first rest      a row that may be there, and others behind it
-use Rattle.std.specs.Prelude.{ℕ, List, ◌∷◌, Option, Some, None}
+--     operands_in command      the operands of a command, and 0 for those that it does not have
+--     IsUsual row      its numbers are those of a usual machine and trace
+use Rattle.std.specs.Prelude.{ℕ, ◌^◌, ◌<◌}
 use Rattle.sim_base.specs.declared.command.Command.{Command}
 use Rattle.sim_base.specs.declared.command.Command.TheVariants.{Act as ACT, Rd as RD, Wr as WR, Pre as PRE, Prea as PREA, Ref as REF}
 use Rattle.sim_base.specs.declared.command.CommandRow.{CommandRow}
 use Rattle.sim_base.specs.declared.command.Kind.{Kind}
+use Rattle.command_table.specs.declared.compact.Operands.{Operands}
 use Rattle.sim_base.specs.declared.command.Kind.TheVariants.{Act, Rd, Wr, Pre, Prea, Ref}
 
 -- the command of a kind, with as many of these operands as it has
@@ -17,7 +19,18 @@ command_of Pre rank group bank row column core entry = PRE (record { rank = rank
 command_of Prea rank group bank row column core entry = PREA rank
 command_of Ref rank group bank row column core entry = REF rank
 
--- a row that may be there, and others behind it
-abbrev pub listed : Option CommandRow → List CommandRow → List CommandRow
-listed None rest = rest
-listed (Some row) rest = row ∷ rest
+-- the operands of a command, and 0 for those that it does not have
+abbrev pub operands_in : Command → Operands
+operands_in (ACT bank row source) = record { bank = bank; row = row; column = 0; source = source }
+operands_in (RD bank row column source) = record { bank = bank; row = row; column = column; source = source }
+operands_in (WR bank row column source) = record { bank = bank; row = row; column = column; source = source }
+operands_in (PRE bank source) = record { bank = bank; row = 0; column = 0; source = source }
+operands_in (PREA rank) = record { bank = record { rank = rank; group = 0; bank = 0 }; row = 0; column = 0; source = record { core = 0; entry = 0 } }
+operands_in (REF rank) = record { bank = record { rank = rank; group = 0; bank = 0 }; row = 0; column = 0; source = record { core = 0; entry = 0 } }
+
+-- its numbers are those of a usual machine and trace
+abbrev pub IsUsual : CommandRow → Type 0
+IsUsual row =
+    let operands = operands_in row.command in
+    (row.channel < 2 ^ 8) × (operands.bank.rank < 2 ^ 8) × (operands.bank.group < 2 ^ 8) × (operands.bank.bank < 2 ^ 8)
+    × (operands.source.core < 2 ^ 8) × (operands.source.entry < 2 ^ 32) × (operands.column < 2 ^ 16)

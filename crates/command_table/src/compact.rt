@@ -1,13 +1,14 @@
 //! A command in 24 bytes.
 
-ghost use Rattle.std.specs.Prelude.{◌≡◌, IfSome};
+ghost use Rattle.std.specs.Prelude.{◌≡◌, ◌↔◌, IsSome, IfSome};
 ghost use Rattle.sim_base.specs.Rules.{kind_of};
-ghost use Rattle.command_table.specs.Rows.{command_of};
+ghost use Rattle.command_table.specs.Rows.{command_of, operands_in, IsUsual};
 
 use sim_base::command::{Command, CommandRow, Kind, Source};
 use sim_base::message::Cycle;
 use sim_base::place::BankId;
 use std::marker::Model;
+use std::mem::size_of;
 
 /// A command whose numbers are those of a usual machine and trace: entries below 2^32, rows below 2^32, columns below 2^16, and all else
 /// below 2^8. Operands that it does not have are 0.
@@ -34,6 +35,8 @@ impl Model for Compact {
     ghost view = { λ c. record { cycle = c.cycle; channel = c.channel; command = command_of c.kind c.rank c.group c.bank c.row c.column c.core c.entry } };
 }
 
+const _: () = prove!(size_of::<Compact>() == 24);
+
 /// The operands of a command, and 0 for those that it does not have.
 #[derive(Clone, Copy)]
 struct Operands {
@@ -46,7 +49,8 @@ struct Operands {
 const NO_SOURCE: Source = Source { core: 0, entry: 0 };
 
 fn operands_of(command: Command) -> Operands
-    ensures { command_of (kind_of command) result.bank.rank result.bank.group result.bank.bank result.row result.column result.source.core result.source.entry ≡ command }
+    ensures operands { result ≡ operands_in command }
+    ensures command { command_of (kind_of command) result.bank.rank result.bank.group result.bank.bank result.row result.column result.source.core result.source.entry ≡ command }
 {
     match command {
         Command::Act { bank, row, source } => Operands {
@@ -122,10 +126,11 @@ fn command_with(kind: Kind, operands: Operands) -> Command
 }
 
 impl Compact {
-    /// A command, if its numbers are small enough.
+    /// A command, if its numbers are those of a usual machine and trace.
     #[inline(always)]
     pub(crate) fn of(row: CommandRow) -> Option<Self>
-        ensures { IfSome result (λ compact. compact ≡ row) }
+        ensures same { IfSome result (λ compact. compact ≡ row) }
+        ensures usual { IsSome result ↔ IsUsual row }
     {
         let operands = operands_of(row.command);
         let BankId { rank, group, bank } = operands.bank;

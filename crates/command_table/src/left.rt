@@ -1,6 +1,6 @@
 //! What is left to be read of a list of commands.
 
-ghost use Rattle.std.specs.Prelude.{◌≡◌, ◌≤◌, [], ◌∷◌, None, IfSome};
+ghost use Rattle.std.specs.Prelude.{◌≡◌, ◌<◌, [], Some, None, IfSome, drop, length, slice_get};
 ghost use Rattle.command_table.specs.Lefts.{first_cycle};
 
 use crate::list::CommandList;
@@ -8,63 +8,60 @@ use sim_base::command::CommandRow;
 use sim_base::message::Cycle;
 use std::marker::Model;
 
-/// What is left of a list: its first command, if there is one, and from which place on the others stand.
+/// What is left of a list, which is at least one command: from which place on, and the cycle of the one there.
 #[derive(Drop)]
 pub(crate) struct Left<'a> {
-    first: Option<CommandRow>,
+    cycle: Cycle,
     list: &'a CommandList,
-    next: usize,
+    place: usize,
 }
 
 impl<'a> Model for Left<'a> {
-    ghost use Rattle.std.specs.Prelude.{◌≡◌, List, None, [], drop};
+    ghost use Rattle.std.specs.Prelude.{◌≡◌, List, Some, drop};
     ghost use Rattle.sim_base.specs.declared.command.CommandRow.{CommandRow as Row};
-    ghost use Rattle.command_table.specs.Rows.{listed};
+    ghost use Rattle.command_table.specs.Lefts.{first_cycle};
 
     ghost Value = { List Row };
 
-    ghost view = { λ l. listed l.first (drop l.next l.list.now) };
+    ghost view = { λ l. drop l.place l.list.now };
 
-    ghost invariant = { λ l. l.first ≡ None → drop l.next l.list.now ≡ [] };
+    ghost invariant = { λ l. first_cycle (drop l.place l.list.now) ≡ Some l.cycle };
 }
 
 impl<'a> Left<'a> {
-    /// A whole list.
-    pub(crate) fn of(list: &'a CommandList) -> Self
-        ensures { result ≡ list.now }
+    /// A list from a place on, if it has a command there.
+    #[inline(always)]
+    pub(crate) fn of(list: &'a CommandList, place: usize) -> Option<Self>
+        ensures some { IfSome result (λ left. left ≡ drop place list.now) }
+        ensures none { result ≡ None → drop place list.now ≡ [] }
     {
-        Left {
-            first: list.get(0),
-            list,
-            next: 1,
-        }
+        let cycle = list.get(place)?.cycle;
+        Some(Left { cycle, list, place })
     }
 
     /// The cycle of the first command that is left.
     #[inline(always)]
-    pub(crate) fn cycle(&self) -> Option<Cycle>
-        ensures { result ≡ first_cycle self.now }
+    pub(crate) fn cycle(&self) -> Cycle
+        ensures { first_cycle self.now ≡ Some result }
     {
-        match &self.first {
-            Some(row) => Some(row.cycle),
-            None => None,
-        }
+        self.cycle
     }
 
-    /// Takes the first command that is left.
+    /// The first command that is left.
     #[inline(always)]
-    pub(crate) fn take(&mut self) -> Option<CommandRow>
-        ensures some { IfSome result (λ row. self.old ≡ row ∷ self.new) }
-        ensures none { result ≡ None → self.old ≡ [] }
-        ensures over { self.old ≡ [] → self.new ≡ [] }
+    pub(crate) fn first(&self) -> Option<CommandRow>
+        ensures { result ≡ slice_get self.now 0 }
     {
-        let taken = self.first;
-        if self.next < self.list.len() {
-            self.first = self.list.get(self.next);
-            self.next += 1;
-        } else {
-            self.first = None;
-        }
-        taken
+        self.list.get(self.place)
+    }
+
+    /// What is left without the first command, if that is any.
+    #[inline(always)]
+    pub(crate) fn rest(&self) -> Option<Left<'a>>
+        ensures some { IfSome result (λ rest. rest ≡ drop 1 self.now) }
+        ensures none { result ≡ None → drop 1 self.now ≡ [] }
+    {
+        let _count = self.list.len();
+        Left::of(self.list, self.place + 1)
     }
 }

@@ -1,8 +1,8 @@
 //! The commands of several lists as one table.
 
-ghost use Rattle.std.specs.Prelude.{◌≡◌, ◌≤◌, ◌<◌, [], ◌∷◌, length, None, All, IfOk, IfSome};
+ghost use Rattle.std.specs.Prelude.{◌≡◌, ◌<◌, [], ◌∷◌, length, drop, slice_set, slice_index_or, None, All, IfOk, IfSome};
 ghost use Rattle.command_table.specs.Tables.{IsRising, table_of};
-ghost use Rattle.command_table.specs.Lefts.{IsNext, AreDone};
+ghost use Rattle.command_table.specs.Lefts.{IsNext};
 
 use crate::left::Left;
 use crate::list::CommandList;
@@ -47,22 +47,37 @@ impl<'a> Model for Rows<'a> {
     ghost invariant = { λ r. All IsRising r.lefts.items };
 }
 
-/// The place of the list that goes on soonest, the first of those of one cycle, if one goes on.
-fn next_place(lefts: &[Left<'_>]) -> Option<usize>
+/// The place of the list that goes on soonest, the first of those of one cycle, if one is left.
+#[inline(always)]
+fn soonest(lefts: &[Left<'_>]) -> Option<usize>
     ensures some { IfSome result (IsNext lefts.now) }
-    ensures none { result ≡ None → AreDone lefts.now }
+    ensures none { result ≡ None → lefts.now ≡ [] }
 {
-    let mut found = None;
-    let mut least = Cycle::MAX;
-    for place in 0..lefts.len() {
-        if let Some(cycle) = lefts[place].cycle()
-            && (found.is_none() || cycle < least)
-        {
-            found = Some(place);
+    let mut found = 0;
+    let mut least = lefts.first()?.cycle();
+    for place in 1..lefts.len() {
+        let cycle = lefts[place].cycle();
+        if cycle < least {
+            found = place;
             least = cycle;
         }
     }
-    found
+    Some(found)
+}
+
+/// Takes the first command of the list at a place, which is left out where it was the last.
+#[inline(always)]
+fn drop_first(lefts: &mut Vec<Left<'_>>, place: usize)
+    requires place { place < length lefts.old.items }
+    ensures table { table_of lefts.new.items ≡ table_of (slice_set lefts.old.items place (drop 1 (slice_index_or lefts.old.items place []))) }
+    ensures rising { All IsRising lefts.old.items → All IsRising lefts.new.items }
+{
+    match lefts[place].rest() {
+        Some(rest) => lefts[place] = rest,
+        None => {
+            lefts.remove(place);
+        }
+    }
 }
 
 impl<'a> Rows<'a> {
@@ -71,10 +86,27 @@ impl<'a> Rows<'a> {
     pub fn next(&mut self) -> Option<CommandRow>
         ensures some { IfSome result (λ row. self.old ≡ row ∷ self.new) }
         ensures none { result ≡ None → self.old ≡ [] }
+        ensures over { self.old ≡ [] → self.new ≡ [] }
     {
-        let place = next_place(&self.lefts)?;
-        self.lefts[place].take()
+        let place = soonest(&self.lefts)?;
+        let row = self.lefts[place].first();
+        drop_first(&mut self.lefts, place);
+        row
     }
+}
+
+/// What is left of lists of which nothing was read. Only memory can be refused.
+fn lefts_of<'a>(alloc: Global, lists: &'a [CommandList]) -> Result<Vec<Left<'a>>, AllocError>
+    ensures table { IfOk result (λ lefts. table_of lefts.items ≡ table_of lists.now) }
+    ensures rising { IfOk result (λ lefts. All IsRising lists.now → All IsRising lefts.items) }
+{
+    let mut lefts = Vec::with_capacity(alloc, lists.len())?;
+    for list in lists {
+        if let Some(left) = Left::of(list, 0) {
+            lefts.push(left)?;
+        }
+    }
+    Ok(lefts)
 }
 
 /// Rows in a list. Only memory can be refused.
@@ -112,8 +144,9 @@ impl CommandTable {
     pub fn rows(&self, alloc: Global) -> Result<Rows<'_>, AllocError>
         ensures { IfOk result (λ rows. rows ≡ self.now) }
     {
-        let lefts = self.lists.iter().map(|list| Left::of(list)).collect(alloc)?;
-        Ok(Rows { lefts })
+        Ok(Rows {
+            lefts: lefts_of(alloc, &self.lists)?,
+        })
     }
 
     /// The commands in a list, as they are. Only memory can be refused.

@@ -1,4 +1,4 @@
-use Rattle.std.proofs.Common.{◌≡◌, ◌∷◌, [], ap, ◌∙◌}
+use Rattle.std.proofs.Common.{◌∷◌, [], ap, ◌∙◌}
 use Rattle.command_table.specs.Tables.{table_of}
 use Rattle.command_table.proofs.Merging.{own-table}
 use Rattle.command_table.proofs.table.CommandTable.of_rows.Goals as goal

@@ -1,0 +1,6 @@
+-- Of the lists so far, the one that goes on soonest.
+use Rattle.command_table.specs.Lefts.{IsNextOf}
+use Rattle.command_table.proofs.table.soonest.Given as goal
+
+abbrev pub invariant-loop-place : goal.invariant-loop-place
+invariant-loop-place l = IsNextOf l.lefts l.place l.found l.least
