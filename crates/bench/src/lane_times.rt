@@ -1,16 +1,11 @@
 //! Times each lane kernel beside a plain loop over the same columns, and sees that both give the same.
 
-ghost use Rattle.std.specs.Prelude.{◌≡◌, ◌<◌, ◌≤◌, ◌*◌, ◌^◌};
+ghost use Rattle.std.specs.Prelude.{◌<◌, ◌≤◌};
 
 mod kernels;
-mod plain;
-mod vectors;
 
 use crate::clock::Effort;
-use crate::lane_times::kernels::{
-    Columns, Kernel, LanesBoth, LanesEqual, LanesFirst, LanesFirstOnly, LanesLeast, LanesReady,
-    PlainBoth, PlainEqual, PlainFirst, PlainFirstOnly, PlainLeast, PlainReady,
-};
+use crate::lane_times::kernels::{Kernel, LanesFirst, LanesLeast, PlainFirst, PlainLeast};
 use anyhow::{Result, ensure};
 use std::rt::Clock;
 use std::time::Instant;
@@ -44,51 +39,31 @@ struct Measured {
     tenths: u128,
 }
 
-/// A column of N words with a mark at the end of each so many words.
-fn column<const N: usize>(period: usize) -> [u64; N]
-    requires { 0 < period }
+/// A column of N great words, and then one.
+fn column<const N: usize>(last: u64) -> [u64; N]
+    requires { 0 < N }
 {
     let mut words = [0u64; N];
     for (i, word) in words.iter_mut().enumerate() {
-        *word = u64::from(i % period == period - 1);
+        *word = (i as u64).wrapping_mul(0x9e37_79b9_7f4a_7c15) | 1 << 62;
     }
+    words[N - 1] = last;
     words
 }
 
-/// Calls a kernel over and over on two sets of columns of N words, in turn: no word is written that a call reads, since a
-/// vector that is read right after one of its words was written waits for the memory.
+/// Calls a kernel over and over on two columns of N words, in turn: in one of them the last word is below the bound, in the other none is.
 fn run<K: Kernel, const N: usize>(rt: &impl Clock, scanned: u64) -> Result<Measured>
     requires some { 0 < N }
     requires few { N ≤ 1024 }
 {
-    let mut times = [0u64; N];
-    for (i, time) in times.iter_mut().enumerate() {
-        *time = (i as u64).wrapping_mul(0x9e37_79b9_7f4a_7c15) >> 32;
-    }
-    let marks: [u64; N] = column(2);
-    let others: [u64; N] = column(3);
-    let last: [u64; N] = column(N);
-    let again: [u64; N] = column(N);
-    let mut out = [0u64; N];
+    let even: [u64; N] = column(0);
+    let odd: [u64; N] = column(u64::MAX);
     let calls = scanned / N as u64;
-    let even = Columns {
-        times: &times,
-        marks: &marks,
-        others: &others,
-        last: &last,
-    };
-    let odd = Columns {
-        times: &times,
-        marks: &others,
-        others: &last,
-        last: &again,
-    };
     let mut sum = 0u64;
     let start = Instant::now(rt)?;
     for call in 0..calls {
-        let columns = if call % 2 == 0 { even } else { odd };
-        sum = sum.wrapping_add(K::call(columns, call << 8, &mut out));
-        sum = sum.wrapping_add(out[N / 2]);
+        let words = if call % 2 == 0 { &even } else { &odd };
+        sum = sum.wrapping_add(K::call(words, call));
     }
     let spent = start.elapsed(rt)?.as_nanos();
     Ok(Measured {
@@ -141,23 +116,19 @@ fn show_row<R: Clock + Print, P: Kernel, L: Kernel, const N: usize>(
 
 fn show_kernel<R: Clock + Print, P: Kernel, L: Kernel>(rt: &R, effort: Effort) -> Result<()> {
     show_row::<R, P, L, 8>(rt, effort)?;
-    show_row::<R, P, L, 64>(rt, effort)?;
-    show_row::<R, P, L, 1024>(rt, effort)
+    show_row::<R, P, L, 129>(rt, effort)?;
+    show_row::<R, P, L, 272>(rt, effort)
 }
 
-/// Each kernel at 8, 64 and 1024 words.
+/// Each kernel at 8, 129 and 272 words.
 pub fn show<R: Clock + Print>(rt: &R, effort: Effort) -> Result<()> {
     if effort.is_timed() {
         println!(rt; "      kernel words   plain   lanes   ns a call")?;
     }
-    show_kernel::<R, PlainReady, LanesReady>(rt, effort)?;
-    show_kernel::<R, PlainEqual, LanesEqual>(rt, effort)?;
-    show_kernel::<R, PlainBoth, LanesBoth>(rt, effort)?;
-    show_kernel::<R, PlainFirstOnly, LanesFirstOnly>(rt, effort)?;
     show_kernel::<R, PlainFirst, LanesFirst>(rt, effort)?;
     show_kernel::<R, PlainLeast, LanesLeast>(rt, effort)?;
     if !effort.is_timed() {
-        println!(rt; "6 kernels give what plain loops give")?;
+        println!(rt; "2 kernels give what plain loops give")?;
     }
     Ok(())
 }
