@@ -1,8 +1,9 @@
 -- The laws of the one-clock machine, for the outcome of a run.
-use Rattle.std.proofs.Common.{◌≡◌, ℕ, zero, suc, ◌+◌, ◌*◌, ◌<◌, ◌≤◌, ◌&&◌, cond, leb, max, List, [], ◌∷◌, length, take, map, Option, Some, None, sym, ap, subst, ◌∙◌, arith}
+use Rattle.std.proofs.Common.{◌≡◌, ℕ, zero, suc, ◌+◌, ◌*◌, ◌<◌, ◌≤◌, true, ◌&&◌, cond, leb, max, List, [], ◌∷◌, length, get_or, take, map, Option, Some, None, sym, ap, subst, ◌∙◌, arith}
 use Rattle.std.specs.Prelude.{count_by, filter_map, fold}
 use Rattle.std.specs.List.{AllByRecursion as Each, enumerate_from, range_with_len}
 use Rattle.std.proofs.lemmas.Bool.{and_from, le-leb}
+use Rattle.std.proofs.lemmas.Bool.Decides.{nat_tests}
 use Rattle.std.proofs.lemmas.List.Elements.{All-from_recursion}
 use Rattle.sim_base.specs.declared.command.Command.{Command}
 use Rattle.sim_base.specs.declared.command.CommandRow.{CommandRow}
@@ -15,13 +16,14 @@ use Rattle.sim_base.specs.History.{below, issued_at, issued_commands, commands, 
 use Rattle.sim_base.specs.Machine.{run}
 use Rattle.sim_base.specs.Scheduling.{refreshes}
 use Rattle.sim_base.proofs.Spans.{length-run}
+use Rattle.command_table.specs.Tables.{IsRising}
 use Rattle.statistics.specs.Channels.{channel_stats}
 use Rattle.statistics.specs.Runs.{stats_of_channel, stats_of, outcome_after, outcome_of}
 use Rattle.statistics.specs.Values.{RunOutcome}
 use Rattle.statistics.specs.declared.channels.ChannelStats.{ChannelStats}
 use Rattle.laws.specs.Commands.{rows_of}
 use Rattle.laws.specs.DataBus.{has_data_in}
-use Rattle.laws.specs.Tables.{rows_on, IsOrdered, IsLegalTable, IsRefreshedTable}
+use Rattle.laws.specs.Tables.{rows_on, stands_before, IsOrdered, IsLegalTable, IsRefreshedTable}
 use Rattle.laws.proofs.Bounded.{queues_are_bounded}
 use Rattle.laws.proofs.Burst.{data_bus_is_shared}
 use Rattle.laws.proofs.Counting.{count-cons, bit_le}
@@ -36,6 +38,13 @@ commands_are s traces n o e = ap (λ (x : RunOutcome). x.commands) e
 
 pub table_is_ordered : (s : Config) (traces : List (List Entry)) (n : ℕ) (o : RunOutcome) → o ≡ outcome_of s traces n → IsOrdered o.commands
 table_is_ordered s traces n o e = subst (λ t. IsOrdered t) (sym (commands_are s traces n o e)) (tables_are_ordered s traces n)
+
+-- so no row of it is of an earlier cycle than one before it
+pub table_rises : (s : Config) (traces : List (List Entry)) (n : ℕ) (rows : List CommandRow) → rows ≡ commands (run s traces n) → IsRising rows
+table_rises s traces n rows e = subst (λ t. IsRising t) (sym e) (λ i j d a b. no_earlier (get_or (commands (run s traces n)) i d) (get_or (commands (run s traces n)) j d) (tables_are_ordered s traces n i j d a b))
+  where
+    no_earlier : (x y : CommandRow) → stands_before x y ≡ true → x.cycle ≤ y.cycle
+    no_earlier x y h = grind (arith, nat_tests)
 
 pub table_is_legal : (s : Config) (traces : List (List Entry)) (n : ℕ) (o : RunOutcome) → o ≡ outcome_of s traces n → IsLegalTable s o.commands
 table_is_legal s traces n o e = subst (λ t. IsLegalTable s t) (sym (commands_are s traces n o e)) (tables_are_legal s traces n)

@@ -18,6 +18,7 @@ ghost use Rattle.one_clock.specs.Held.{HoldsRun};
 use crate::sending::{self, trace_of_core};
 use crate::state::{ChannelPast, CorePast, issued_row, push_row};
 use crate::{ending, tally};
+use command_table::table::CommandTable;
 use cpu_trace::trace::Trace;
 use plain_steps::scheduling::ChannelStep;
 use plain_steps::{cores, mail, scheduling};
@@ -525,7 +526,7 @@ impl Machine {
             channels: self.channel_counts,
         };
         Ok(Outcome {
-            commands: self.commands,
+            commands: CommandTable::of_rows(alloc, &self.commands)?,
             stats,
             last,
             ranks: s.ranks,

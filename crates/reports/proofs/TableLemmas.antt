@@ -108,18 +108,15 @@ pub commands_text-none : (ranks : ℕ) → commands_text ranks [] ≡ row_text (
 unfolding commands_text table_text
 commands_text-none ranks = rows_text-one (header ranks)
 
--- one command more is one row more
-pub commands_text-more : (ranks : ℕ) (rows : List CommandRow) (i : ℕ) (d : CommandRow) → i < length rows
-    → commands_text ranks (take (i + 1) rows) ≡ commands_text ranks (take i rows) ++ row_text (command_fields ranks (get_or rows i d))
-unfolding commands_text
-commands_text-more ranks rows i d here =
+-- one row more
+pub commands_text-more : (ranks : ℕ) (rows : List CommandRow) (row : CommandRow) → commands_text ranks (rows ++ row ∷ []) ≡ commands_text ranks rows ++ row_text (command_fields ranks row)
+unfolding commands_text table_text
+commands_text-more ranks rows row =
+    let fields = command_fields ranks in
     let names = header ranks in
-    let few = map (command_fields ranks) (take i rows) in
-    let next = row_text (command_fields ranks (get_or rows i d)) in
-    table_text-parts names (map (command_fields ranks) (take (i + 1) rows))
-    ∙ ap (λ t. row_text names ++ t) (mapped_more (command_fields ranks) rows i d here)
-    ∙ sym (append_assoc (row_text names) (rows_text few) next)
-    ∙ sym (ap (λ t. t ++ next) (table_text-parts names few))
+    ap (λ t. rows_text (names ∷ t)) (map-append fields rows (row ∷ []))
+    ∙ rows_text-append (names ∷ map fields rows) (fields row ∷ [])
+    ∙ ap (λ t. rows_text (names ∷ map fields rows) ++ t) (rows_text-one (fields row))
 
 -- the parts of the table of statistics
 pub stats_text-parts : (stats : RunStats) → stats_text stats

@@ -9,6 +9,7 @@ ghost use Rattle.reports.specs.Commands.{header, kind_word, operand_fields, comm
 
 use crate::line::Line;
 use crate::table::Table;
+use command_table::table::CommandTable;
 use sim_base::command::{Command, CommandRow, Kind, Source};
 use sim_base::fault::Fault;
 use sim_base::place::BankId;
@@ -140,7 +141,7 @@ fn write_command<W: Write>(
     table.write_row(writer)
 }
 
-/// Writes the table of commands: a header, and then a row for each command, in the order in which they are handed in.
+/// Writes the table of commands: a header, and then a row for each command, in their order.
 ///
 /// Where `ranks` is above 1 the table has a column for the rank. The memory that the call takes is that of a batch
 /// of rows, below 64 KB, and some 10 KB for the writer of `csv`.
@@ -152,7 +153,7 @@ fn write_command<W: Write>(
 pub fn write_commands<W: Write>(
     alloc: Global,
     ranks: u32,
-    commands: &[CommandRow],
+    commands: &CommandTable,
     writer: &mut W,
 ) -> Result<(), Fault>
     ensures written { OnOk result (Appends (W.contents writer.old) (W.contents writer.new) (commands_text ranks commands.now)) }
@@ -160,8 +161,9 @@ pub fn write_commands<W: Write>(
 {
     let mut table = Table::new(alloc);
     write_header(&mut table, ranks, writer)?;
-    for row in commands {
-        write_command(&mut table, ranks, row, writer)?;
+    let mut rows = commands.rows(alloc)?;
+    while let Some(row) = rows.next() {
+        write_command(&mut table, ranks, &row, writer)?;
     }
     table.finish(writer)
 }
