@@ -2,6 +2,7 @@
 
 use crate::expect::{expect, expect_at};
 use crate::slow::Slow;
+use command_table::table::CommandTable;
 use reports::write_commands;
 use sim_base::command::{Command, CommandRow, Source};
 use sim_base::fault::Fault;
@@ -152,8 +153,9 @@ static TABLES: [(u32, &[CommandRow], &str); 3] = [
 #[test]
 fn writes_commands(rt: HostRuntime) -> Result<(), Fail> {
     for (ranks, rows, want) in &TABLES {
+        let table = CommandTable::of_rows(rt.alloc(), rows)?;
         let mut text = Vec::new(rt.alloc());
-        write_commands(rt.alloc(), *ranks, rows, &mut text)?;
+        write_commands(rt.alloc(), *ranks, &table, &mut text)?;
         expect(&rt, &str::from_utf8(text.as_slice()), &Ok(*want));
     }
     Ok(())
@@ -166,7 +168,8 @@ fn slowly(
     fails: bool,
 ) -> Result<(Vec<u8>, Result<(), Fault>), AllocError> {
     let mut slow = Slow::new(alloc, 200, calls, fails)?;
-    let ended = write_commands(alloc, 1, &OF_ONE_READ, &mut slow);
+    let table = CommandTable::of_rows(alloc, &OF_ONE_READ)?;
+    let ended = write_commands(alloc, 1, &table, &mut slow);
     Ok((slow.taken, ended))
 }
 

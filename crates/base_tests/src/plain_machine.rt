@@ -7,7 +7,7 @@ use fixtures::small::small;
 use one_clock::machine::run_plain;
 use sim_base::trace::Entry;
 use statistics::outcome::Outcome;
-use std::alloc::Global;
+use std::alloc::{AllocError, Global};
 use std::process::Abort;
 use std::test::Fail;
 
@@ -21,9 +21,10 @@ fn run_one_read(alloc: Global) -> Result<Outcome, Fail> {
     Ok(run_plain(alloc, &config, &traces, 16)?)
 }
 
-fn assert_counts(rt: &impl Abort, whole: &Outcome) {
+fn assert_counts(rt: &impl Abort, alloc: Global, whole: &Outcome) -> Result<(), AllocError> {
     let stats = &whole.stats;
-    let lengths = (whole.commands.len(), whole.last.in_flight.len());
+    let commands = whole.commands.to_vec(alloc)?;
+    let lengths = (commands.len(), whole.last.in_flight.len());
     expect(
         rt,
         &(
@@ -34,11 +35,12 @@ fn assert_counts(rt: &impl Abort, whole: &Outcome) {
         ),
         &((2, 0), 16, CORES.as_slice(), CHANNELS.as_slice()),
     );
+    Ok(())
 }
 
 #[test]
 fn counts_one_read(rt: HostRuntime) -> Result<(), Fail> {
     let outcome = run_one_read(rt.alloc())?;
-    assert_counts(&rt, &outcome);
+    assert_counts(&rt, rt.alloc(), &outcome)?;
     Ok(())
 }

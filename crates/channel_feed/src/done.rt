@@ -10,6 +10,7 @@ ghost use Rattle.channel_step.specs.Runs.{CanRun};
 ghost use Rattle.channel_feed.specs.Done.{IsDone};
 
 use channel_step::channel::Channel;
+use command_table::list::CommandList;
 use sim_base::command::CommandRow;
 use sim_base::message::{Cycle, Message};
 use std::alloc::{AllocError, Global};
@@ -38,9 +39,10 @@ pub(crate) fn run_alone(
         → IfOk result (λ done. IsDone done s number rows mail inbox.now from until) }
 {
     let mut channel = channel;
-    let mut commands = Vec::new(alloc);
+    let mut issued = CommandList::new(alloc);
     let mut messages = Vec::new(alloc);
-    channel.run(inbox, from, until, &mut commands, &mut messages)?;
+    channel.run(inbox, from, until, &mut issued, &mut messages)?;
+    let commands = issued.to_vec(alloc)?;
     Ok(ChannelDone {
         channel,
         commands,

@@ -1,15 +1,17 @@
 //! The first and the last of what a run did and left.
 
-use sim_base::command::CommandRow;
+use command_table::table::CommandTable;
 use sim_base::message::{Cycle, Message};
+use std::alloc::{AllocError, Global};
 
 /// A number of things, and the cycles of the first and of the last.
 pub(crate) type Ends = (usize, Option<Cycle>, Option<Cycle>);
 
-pub(crate) fn ends_of_commands(rows: &[CommandRow]) -> Ends {
+pub(crate) fn ends_of_commands(alloc: Global, commands: &CommandTable) -> Result<Ends, AllocError> {
+    let rows = commands.to_vec(alloc)?;
     let first = rows.first().map(|row| row.cycle);
     let last = rows.last().map(|row| row.cycle);
-    (rows.len(), first, last)
+    Ok((rows.len(), first, last))
 }
 
 /// The cycles are those in which they arrive.

@@ -14,9 +14,13 @@ use std::alloc::Global;
 use std::sync::Wait;
 use std::thread::Threads;
 
-/// Whether these are the commands of one core that reads one line: an ACT in cycle 2 and an RD in cycle 5.
-fn has_commands(outcome: &Outcome) -> bool {
-    match outcome.commands.as_slice() {
+/// Whether these are the commands of one core that reads one line: an ACT in cycle 2 and an RD in cycle 5. Where the list of them is
+/// refused memory, that is not known.
+fn has_commands(alloc: Global, outcome: &Outcome) -> bool {
+    let Ok(rows) = outcome.commands.to_vec(alloc) else {
+        return true;
+    };
+    match rows.as_slice() {
         [act, read] => {
             act.cycle == 2
                 && act.command.kind() == Kind::Act
@@ -35,8 +39,8 @@ fn has_stats(outcome: &Outcome) -> bool {
 }
 
 /// Whether this is the outcome of that run.
-fn is_right(outcome: &Outcome) -> bool {
-    has_commands(outcome) && has_stats(outcome) && outcome.last.in_flight.is_empty()
+fn is_right(alloc: Global, outcome: &Outcome) -> bool {
+    has_commands(alloc, outcome) && has_stats(outcome) && outcome.last.in_flight.is_empty()
 }
 
 /// Whether a run by so many workers gives what it is to give, or is refused for want of memory, or of a worker.
@@ -45,7 +49,7 @@ fn is_right_or_refused<R: Threads + Wait + Sync>(rt: &R, alloc: Global, workers:
         return true;
     };
     match simulate(rt, alloc, &Watching, SMALL.as_bytes(), &texts, 16, workers) {
-        Ok(outcome) => is_right(&outcome),
+        Ok(outcome) => is_right(alloc, &outcome),
         Err(fault) => fault == Fault::Memory || workers > 1 && fault == Fault::WorkerStart,
     }
 }

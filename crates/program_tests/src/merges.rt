@@ -216,20 +216,26 @@ fn outcome_by<O: Order>(alloc: Global, order: &mut O) -> Result<Outcome, RunFaul
 }
 
 /// Two outcomes have the same commands, counts of cores, and messages in flight.
-fn assert_same(rt: &impl Abort, found: &Outcome, want: &Outcome) {
+fn assert_same(
+    rt: &impl Abort,
+    alloc: Global,
+    found: &Outcome,
+    want: &Outcome,
+) -> Result<(), AllocError> {
     expect(
         rt,
         &(
-            found.commands.as_slice(),
+            found.commands.to_vec(alloc)?.as_slice(),
             found.stats.cores.as_slice(),
             found.last.in_flight.as_slice(),
         ),
         &(
-            want.commands.as_slice(),
+            want.commands.to_vec(alloc)?.as_slice(),
             want.stats.cores.as_slice(),
             want.last.in_flight.as_slice(),
         ),
     );
+    Ok(())
 }
 
 fn assert_order<O: Order>(
@@ -239,14 +245,14 @@ fn assert_order<O: Order>(
     want: &Outcome,
 ) -> Result<(), Fail> {
     let outcome = outcome_by(alloc, order)?;
-    assert_same(rt, &outcome, want);
+    assert_same(rt, alloc, &outcome, want)?;
     Ok(())
 }
 
 /// ACT 2, RD 5, and RD 10, as a burst of the same group comes 5 cycles after another at the soonest. The replies arrive in the
 /// cycles 15 and 20.
-fn assert_worked(rt: &impl Abort, outcome: &Outcome) {
-    let commands = ends_of_commands(&outcome.commands);
+fn assert_worked(rt: &impl Abort, alloc: Global, outcome: &Outcome) -> Result<(), AllocError> {
+    let commands = ends_of_commands(alloc, &outcome.commands)?;
     let flight = ends_of_messages(&outcome.last.in_flight);
     let retired = outcome.stats.cores.first().map(|core| core.retired);
     expect(
@@ -254,6 +260,7 @@ fn assert_worked(rt: &impl Abort, outcome: &Outcome) {
         &(commands, flight, retired),
         &((3, Some(2), Some(10)), (1, Some(20), Some(20)), Some(1)),
     );
+    Ok(())
 }
 
 #[test]
@@ -261,7 +268,7 @@ fn orders_do_not_matter(rt: HostRuntime) -> Result<(), Fail> {
     let alloc = rt.alloc();
     let outcome = outcome_by(alloc, &mut AsTheyCome)?;
     let whole = &outcome;
-    assert_worked(&rt, whole);
+    assert_worked(&rt, alloc, whole)?;
     assert_order(&rt, alloc, &mut Reversed, whole)?;
     assert_order(&rt, alloc, &mut Turned, whole)
 }

@@ -252,20 +252,26 @@ fn a_machine_works_where_something_happens(rt: HostRuntime) -> Result<(), Fail> 
 }
 
 /// Two outcomes have the same commands, cycles and number of messages in flight.
-fn assert_alike(rt: &impl Abort, more: &Outcome, one: &Outcome) {
+fn assert_alike(
+    rt: &impl Abort,
+    alloc: Global,
+    more: &Outcome,
+    one: &Outcome,
+) -> Result<(), AllocError> {
     expect(
         rt,
         &(
-            more.commands.as_slice(),
+            more.commands.to_vec(alloc)?.as_slice(),
             more.stats.cycles,
             more.last.in_flight.len(),
         ),
         &(
-            one.commands.as_slice(),
+            one.commands.to_vec(alloc)?.as_slice(),
             one.stats.cycles,
             one.last.in_flight.len(),
         ),
     );
+    Ok(())
 }
 
 /// So many workers give this outcome.
@@ -279,7 +285,7 @@ fn assert_by<R: Abort + Threads + Wait + Sync>(
     requires few { workers ≤ 64 }
 {
     let more = outcome_by(rt, alloc, &Open, workers, "", 30)?;
-    assert_alike(rt, &more, one);
+    assert_alike(rt, alloc, &more, one)?;
     Ok(())
 }
 
@@ -289,7 +295,8 @@ fn assert_workers<R: Abort + Threads + Wait + Sync>(
     alloc: Global,
     one: &Outcome,
 ) -> Result<(), Fault> {
-    expect(rt, &one.commands.len(), &5);
+    let commands = one.commands.to_vec(alloc)?;
+    expect(rt, &commands.len(), &5);
     assert_by(rt, alloc, 2, one)?;
     assert_by(rt, alloc, 3, one)
 }
@@ -313,8 +320,9 @@ fn drained_by<R: Threads + Wait + Sync>(
 {
     let outcome = outcome_by(rt, alloc, &Open, workers, "end = \"drained\"\n", 1_000)?;
     let ended = &outcome;
+    let commands = ended.commands.to_vec(alloc)?;
     Ok((
-        ended.commands.len(),
+        commands.len(),
         ended.stats.cycles,
         ended.last.in_flight.len(),
     ))

@@ -69,7 +69,7 @@ fn counts_of(alloc: Global, sim: &Sim) -> Result<Counts, AllocError> {
 
 fn commands_of(alloc: Global, sim: Sim) -> Result<Ends, AllocError> {
     let outcome = sim.outcome(alloc)?;
-    Ok(ends_of_commands(&outcome.commands))
+    ends_of_commands(alloc, &outcome.commands)
 }
 
 /// Where a run stands, what it counted, and its commands.
@@ -107,11 +107,11 @@ fn units_of(last: &FinalState) -> Units {
 /// What a run did and left: its cycles and its ranks, its commands, its messages in flight, and its units.
 type Left = (Cycle, u32, Ends, Ends, Units);
 
-fn left_by(outcome: &Outcome) -> Left {
-    let commands = ends_of_commands(&outcome.commands);
+fn left_by(alloc: Global, outcome: &Outcome) -> Result<Left, AllocError> {
+    let commands = ends_of_commands(alloc, &outcome.commands)?;
     let flight = ends_of_messages(&outcome.last.in_flight);
     let units = units_of(&outcome.last);
-    (outcome.stats.cycles, outcome.ranks, commands, flight, units)
+    Ok((outcome.stats.cycles, outcome.ranks, commands, flight, units))
 }
 
 fn read_up_to_6(alloc: Global) -> Result<Left, Fail> {
@@ -119,7 +119,7 @@ fn read_up_to_6(alloc: Global) -> Result<Left, Fail> {
     let sim = run_to(alloc, &[RANK_FIELD], &read, 6, &mut AsTheyCome)?;
     let outcome = sim.outcome(alloc)?;
     let whole = &outcome;
-    Ok(left_by(whole))
+    Ok(left_by(alloc, whole)?)
 }
 
 /// The same read, up to cycle 6: its row is open, its reply and its credit are in flight, and the credit comes first.
@@ -272,7 +272,7 @@ fn slow_read(alloc: Global) -> Result<(Cycle, Ends, Waits), Fail> {
     let sim = run_to(alloc, &SLOW_LINKS, &read, LONGEST, &mut AsTheyCome)?;
     let outcome = sim.outcome(alloc)?;
     let whole = &outcome;
-    let commands = ends_of_commands(&whole.commands);
+    let commands = ends_of_commands(alloc, &whole.commands)?;
     Ok((whole.stats.cycles, commands, waits_of(&whole.stats)))
 }
 

@@ -10,6 +10,7 @@ use fixtures::generated::made_up;
 use fixtures::random::Random;
 use fixtures::texts::traces_of;
 use one_clock::machine::run_plain;
+use sim_base::command::CommandRow;
 use sim_base::config::Config;
 use sim_base::message::{Message, Unit};
 use statistics::outcome::Outcome;
@@ -88,9 +89,10 @@ fn assert_same_units(
     rt: &impl Abort,
     units: &Units,
     plain: &Outcome,
+    commands: &[CommandRow],
     flight: &[Message],
 ) -> Result<(), Fail> {
-    assert_eq!(rt; units.commands, plain.commands);
+    assert_eq!(rt; units.commands.as_slice(), commands);
     assert_eq!(rt; flight, plain.last.in_flight.as_slice());
     assert_same_cores(rt, units, plain)?;
     assert_same_channels(rt, units, plain)
@@ -116,8 +118,9 @@ fn assert_same(
     let mut random = Random::new(seed);
     let mut units = run_units(alloc, start, &mut random, plain.stats.cycles, jumps)?;
     units.commands.sort_by_key(|row| (row.cycle, row.channel))?;
+    let commands = plain.commands.to_vec(alloc)?;
     let flight = in_flight(alloc, config, &mut units)?;
-    assert_same_units(rt, &units, plain, &flight)
+    assert_same_units(rt, &units, plain, &commands, &flight)
 }
 
 /// Compares on machines of some seeds.

@@ -7,6 +7,7 @@ ghost use Rattle.channel_step.specs.Channels.{HasRank, HasBank};
 
 use crate::expect::expect;
 use channel_step::channel::Channel;
+use command_table::list::CommandList;
 use fixtures::small::{RANK_FIELD, small};
 use sim_base::command::{Command, CommandRow};
 use sim_base::config::Config;
@@ -55,9 +56,10 @@ fn run_alone(
     ensures bank { IfOk result (λ done. HasBank done.channel BANK) }
 {
     let mut channel = Channel::start(alloc, config, 0)?;
-    let mut commands = Vec::new(alloc);
+    let mut issued = CommandList::new(alloc);
     let mut messages = Vec::new(alloc);
-    channel.run(inbox, 0, until, &mut commands, &mut messages)?;
+    channel.run(inbox, 0, until, &mut issued, &mut messages)?;
+    let commands = issued.to_vec(alloc)?;
     Ok(ChannelDone {
         channel,
         commands,

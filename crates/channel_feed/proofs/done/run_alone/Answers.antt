@@ -7,6 +7,6 @@ returns c s number rows mail stands at fit =
     let done = c.in_ok-run.ensures {u = tt} s number rows mail stands at fit in
     record {
       stands = done.stands;
-      commands_are = done.commands_are ∙ ap (λ x. issued_commands number rows ++ x) (sym (done.commands_behind ∙ ap (λ x. x ++ done.issued) c.new-commands.ensures.items));
+      commands_are = done.commands_are ∙ ap (λ x. issued_commands number rows ++ x) (sym (c.in_ok-commands.ensures {u = tt} ∙ done.commands_behind ∙ ap (λ x. x ++ done.issued) c.new-issued.ensures));
       messages_are = done.messages_are ∙ ap (λ x. channel_messages s number rows ++ x) (sym (done.messages_behind ∙ ap (λ x. x ++ done.sent) c.new-messages.ensures.items));
     }
