@@ -18,9 +18,10 @@ const BANK: BankId = BankId {
     bank: 3,
 };
 
-/// An entry that is kept in few bytes, and the first that is not.
+/// An entry that is kept in few bytes.
 const SMALL: Source = Source { core: 4, entry: 5 };
 
+/// The first entry that is not.
 const LARGE: Source = Source {
     core: 4,
     entry: 1 << 32,
