@@ -4,6 +4,7 @@ pub mod Steps
 pub mod Held
 pub mod Both
 pub mod Room
+pub mod Counted
 pub mod Next
 pub mod Merging
 pub mod Heads

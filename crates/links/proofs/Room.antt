@@ -61,7 +61,7 @@ Grows-push n rings = record {
   room = λ i more h. HasRoom-push n i more rings h;
 }
 
-HasRoom-set : (i j more : ℕ) (b : Buffer Message) (rings : List (Buffer Message)) → (i ≡ j → length b.items + more ≤ b.capacity) → HasRoom rings j more → HasRoom (set rings i b) j more
+pub HasRoom-set : (i j more : ℕ) (b : Buffer Message) (rings : List (Buffer Message)) → (i ≡ j → length b.items + more ≤ b.capacity) → HasRoom rings j more → HasRoom (set rings i b) j more
 HasRoom-set i j more b rings here h = record { exists = omega (arith, length-set rings i b, h.exists); room = by (cases_lt i j) (cases_lt j i) }
   where
     apart : (j ≡ i → ⊥) → length (get_or (set rings i b) j no_ring).items + more ≤ (get_or (set rings i b) j no_ring).capacity
@@ -105,7 +105,7 @@ HaveRoom-grows ch more ms a b h k = Each-weaker _ (λ (m : Message). HasRoom b (
 pub room_more : (ch n i : ℕ) (d : Message) (b : List (Buffer Message)) (ms : List Message) → i < length ms → HaveRoom ch b n (take i ms) → HasRoom b (ring_to ch (get_or ms i d)) n → HaveRoom ch b n (take (i + 1) ms)
 room_more ch n i d b ms l h k = rw (take_more ms i d l) (Each-append (λ (m : Message). HasRoom b (ring_to ch m) n) (take i ms) (get_or ms i d ∷ []) h (k, tt))
 
-any_default : (i : ℕ) (d : Buffer Message) (rings : List (Buffer Message)) → i < length rings → get_or rings i no_ring ≡ get_or rings i d
+pub any_default : (i : ℕ) (d : Buffer Message) (rings : List (Buffer Message)) → i < length rings → get_or rings i no_ring ≡ get_or rings i d
 any_default i d [] l = absurd (omega arith)
 any_default zero d (r ∷ rings) l = refl
 any_default (suc i) d (r ∷ rings) l = any_default i d rings (omega arith)
@@ -164,7 +164,7 @@ message_more ch i m d b rings l e h n k =
     ∙ by_age-joined ch i m (contents rings) k n (omega (arith, length-map rings (λ (ring : Buffer Message). ring.items)))
     ∙ sym (fold-puts (by_age (joined (contents rings))) (m ∷ []))
 
-HasRoom-less : (i j more less : ℕ) (m : Message) (d b : Buffer Message) (rings : List (Buffer Message)) → i < length rings → d ≡ get_or rings i d → TakesUp m d b → more ≡ less + 1
+pub HasRoom-less : (i j more less : ℕ) (m : Message) (d b : Buffer Message) (rings : List (Buffer Message)) → i < length rings → d ≡ get_or rings i d → TakesUp m d b → more ≡ less + 1
     → HasRoom rings j more → HasRoom (set rings i b) j less
 HasRoom-less i j more less m d b rings l e h n k =
     HasRoom-set i j less b rings
@@ -174,18 +174,9 @@ HasRoom-less i j more less m d b rings l e h n k =
     omega (arith, longer, h.capacity, room))
     (record { exists = k.exists; room = omega (arith, k.room) })
 
-pub room_less : (ch i more less : ℕ) (m : Message) (d b : Buffer Message) (rings : List (Buffer Message)) (ms : List Message) → i < length rings → d ≡ get_or rings i d → TakesUp m d b → more ≡ less + 1
-    → HaveRoom ch rings more ms → HaveRoom ch (set rings i b) less ms
-room_less ch i more less m d b rings ms l e h n k =
-    Each-weaker _ (λ (y : Message). HasRoom (set rings i b) (ring_to ch y) less) (λ y r. HasRoom-less i (ring_to ch y) more less m d b rings l e h n r) ms k
-
 -- what is taken out of a ring
 pub taken_out : (i : ℕ) (ms : List Message) (b : Buffer Message) (rings : List (Buffer Message)) → b.items ≡ ms → contents (set rings i b) ≡ set (contents rings) i ms
 taken_out i ms b rings e = map-set (λ ring. ring.items) rings i b ∙ ap (set (contents rings) i) e
-
--- the ring of a message for which there is room
-pub ring_exists : (ch more j i : ℕ) (d : Message) (rings : List (Buffer Message)) (ms : List Message) → HaveRoom ch rings more ms → j < length ms → i ≡ ring_to ch (get_or ms j d) → i < length rings
-ring_exists ch more j i d rings ms h l e = subst (λ k. k < length rings) (sym e) (Each-at (λ (m : Message). HasRoom rings (ring_to ch m) more) ms j d h l).exists
 
 pub grown : (i : ℕ) (a b : List (Buffer Message)) (d e : Buffer Message) → Grows a b → i + 1 ≤ length b → d ≡ get_or b i d → e.items ≡ d.items → d.capacity ≤ e.capacity → Grows a (set b i e)
 grown i a b d e h l at items capacity =

@@ -11,8 +11,10 @@
 --     due_of_both from until rings number      what arrives within a span in a ring and in the one behind it, by age
 --     without_due from until rings number, without_due_of_both from until rings number      the rings without what arrives within a span
 --     HasRoom rings number more      a ring has room for so many messages more
+--     count_to channels number ms      how many of some messages go to a ring
+--     CanTakeUp channels rings ms      each ring has room for those of some messages that go to it
 --     Grows old new      the same messages, with more room
-use Rattle.std.specs.Prelude.{◌≡◌, ℕ, ◌+◌, ◌*◌, ◌-◌, ◌/◌, ◌%◌, ◌==◌, ◌<◌, ◌≤◌, nat_lt, Bool, false, not, filter, fold, slice_get, slice_set, List, [], ◌∷◌, ◌++◌, length, map, min, slice_index_or, Option, Some, None, if◌then◌else◌}
+use Rattle.std.specs.Prelude.{◌≡◌, ℕ, ◌+◌, ◌*◌, ◌-◌, ◌/◌, ◌%◌, ◌==◌, ◌<◌, ◌≤◌, nat_lt, Bool, false, not, filter, count_by, fold, slice_get, slice_set, List, [], ◌∷◌, ◌++◌, length, map, min, slice_index_or, Option, Some, None, if◌then◌else◌}
 use Rattle.std.specs.List.{AllByRecursion}
 use Rattle.std.specs.Option.{option_map_or}
 use Rattle.circular_buffer.specs.Buffer.{Buffer, buffer}
@@ -63,6 +65,18 @@ AreRings channels first (ms ∷ rest) = IsRing channels first ms × AreRings cha
 pub record HasRoom (rings : List (Buffer Message)) (number more : ℕ) : Type 0 where
   pub exists : number < length rings
   pub room : length (slice_index_or rings number (buffer [] 0)).items + more ≤ (slice_index_or rings number (buffer [] 0)).capacity
+
+-- a message goes to this ring
+abbrev pub goes_to : ℕ → ℕ → Message → Bool
+goes_to channels number m = ring_to channels m == number
+
+-- how many of some messages go to this ring
+abbrev pub count_to : ℕ → ℕ → List Message → ℕ
+count_to channels number ms = count_by (goes_to channels number) ms
+
+-- each ring that some of these messages go to has room for all that do
+abbrev pub CanTakeUp : ℕ → List (Buffer Message) → List Message → Type 0
+CanTakeUp channels rings ms = (number : ℕ) → 0 < count_to channels number ms → HasRoom rings number (count_to channels number ms)
 
 -- the ring of each message has room for so many more
 abbrev pub HaveRoom : ℕ → List (Buffer Message) → ℕ → List Message → Type 0

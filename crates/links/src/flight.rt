@@ -1,12 +1,12 @@
 //! The messages in flight.
 
-ghost use Rattle.std.specs.Prelude.{◌≡◌, ℕ, ◌+◌, ◌<◌, ◌^◌, nat_lt, nat_le, ◌≤◌, [], length, filter, fold, List, not, ◌==◌, slice_get, false, All, Any, ◌↔◌, IsTrue, IsNone, IfSome, IfOk, OnOk, OnErr, IsOkAnd};
+ghost use Rattle.std.specs.Prelude.{◌≡◌, ℕ, if◌then◌else◌, slice_index_or, ◌+◌, ◌<◌, ◌^◌, nat_lt, nat_le, ◌≤◌, [], length, filter, fold, List, not, ◌==◌, slice_get, false, All, Any, ◌↔◌, IsTrue, IsNone, IfSome, IfOk, OnOk, OnErr, IsOkAnd};
 ghost use Rattle.std.specs.List.{list_all};
 ghost use Rattle.std.specs.List.Sorted.{IsPermutation};
 ghost use Rattle.std.specs.Option.{option_map};
 ghost use Rattle.sim_base.specs.History.{is_unit, insert_by_age, by_age};
 ghost use Rattle.links.specs.InFlight.{receiver_of, arrives_within, is_due};
-ghost use Rattle.links.specs.Rings.{ring_of, ring_if_any, contents, joined, ring_at, sooner_of, lesser_of, begins_before, due_of_both, without_due, without_due_of_both, AreRings, HasRoom, HaveRoom, Grows};
+ghost use Rattle.links.specs.Rings.{ring_of, ring_if_any, contents, joined, ring_at, sooner_of, lesser_of, begins_before, due_of_both, without_due, without_due_of_both, AreRings, HasRoom, HaveRoom, count_to, CanTakeUp, Grows};
 
 use crate::merge::{merged, messages_of};
 use crate::rings::{
@@ -19,7 +19,7 @@ use sim_base::message::{Cycle, Inbox, LinkId, Message, Unit};
 use std::alloc::{AllocError, Global};
 use std::marker::Model;
 
-/// So many messages are put into their rings one after the other; more are worth a sort.
+/// So many messages are put into their rings one after the other; more are worth a sort, and a count of those that go to each ring.
 const FEW_MESSAGES: usize = 64;
 
 /// The messages in flight on the links of a machine.
@@ -178,8 +178,8 @@ fn is_room_for(rings: &[Ring], channels: u16, messages: &[Message]) -> bool
     are_on_first(messages, links_to_rings(channels, rings.len()))
 }
 
-/// Makes room for messages in the rings that they go to.
-fn make_room_for(
+/// Makes room for all messages in each ring that one of them goes to.
+fn make_room_for_all(
     alloc: Global,
     rings: &mut Vec<Ring>,
     channels: u16,
@@ -192,6 +192,72 @@ fn make_room_for(
     for message in messages {
         let number = ring_of_link(channels, message.link);
         make_room_at(alloc, rings, number, messages.len())?;
+    }
+    Ok(())
+}
+
+/// Adds one to the count at a number. Counts that are not there are 0.
+fn count_one(counts: &mut Vec<usize>, number: usize) -> Result<(), AllocError>
+    requires { number + 1 < 2 ^ 64 }
+    ensures { OnOk result ((n : ℕ) → slice_index_or counts.new.items n 0 ≡ slice_index_or counts.old.items n 0 + (if number == n then 1 else 0)) }
+{
+    while counts.len() <= number {
+        counts.push(0)?;
+    }
+    counts[number] = counts[number].checked_add(1).ok_or(AllocError)?;
+    Ok(())
+}
+
+/// How many messages go to each ring, by its number.
+fn count_by_ring(
+    alloc: Global,
+    channels: u16,
+    messages: &[Message],
+) -> Result<Vec<usize>, AllocError>
+    requires { 0 < channels }
+    ensures { IfOk result (λ counts. (number : ℕ) → slice_index_or counts.items number 0 ≡ count_to channels number messages.now) }
+{
+    let mut counts = Vec::new(alloc);
+    for message in messages {
+        count_one(&mut counts, ring_of_link(channels, message.link))?;
+    }
+    Ok(counts)
+}
+
+/// Makes room in each ring for so many messages more.
+fn make_counted_room(
+    alloc: Global,
+    rings: &mut Vec<Ring>,
+    counts: &[usize],
+) -> Result<(), AllocError>
+    ensures grows { Grows rings.old.items rings.new.items }
+    ensures room { OnOk result ((number : ℕ) → number < length counts.now → HasRoom rings.new.items number (slice_index_or counts.now number 0)) }
+{
+    for number in 0..counts.len() {
+        make_room_at(alloc, rings, number, counts[number])?;
+    }
+    Ok(())
+}
+
+/// Makes room for messages in the rings that they go to: for few of them each ring gets room for all, which is soon seen; for many each
+/// gets room for its own.
+fn make_room_for(
+    alloc: Global,
+    rings: &mut Vec<Ring>,
+    channels: u16,
+    messages: &[Message],
+) -> Result<(), AllocError>
+    requires { 0 < channels }
+    ensures grows { Grows rings.old.items rings.new.items }
+    ensures room { OnOk result (CanTakeUp channels rings.new.items messages.now) }
+{
+    if messages.len() > FEW_MESSAGES {
+        let counts = count_by_ring(alloc, channels, messages)?;
+        make_counted_room(alloc, rings, &counts)?;
+        return Ok(());
+    }
+    if !is_room_for(rings, channels, messages) {
+        make_room_for_all(alloc, rings, channels, messages)?;
     }
     Ok(())
 }
@@ -220,7 +286,7 @@ fn put_one(
 fn put_all(rings: &mut Vec<Ring>, channels: u16, messages: &[Message])
     requires channels { 0 < channels }
     requires rings { AreRings channels 0 (contents rings.old.items) }
-    requires room { HaveRoom channels rings.old.items (length messages.now) messages.now }
+    requires room { CanTakeUp channels rings.old.items messages.now }
     ensures rings { AreRings channels 0 (contents rings.new.items) }
     ensures messages { by_age (joined (contents rings.new.items)) ≡ fold insert_by_age (by_age (joined (contents rings.old.items))) messages.now }
 {
@@ -422,9 +488,7 @@ impl Links {
         if messages.len() > FEW_MESSAGES {
             sort_by_arrival(self.alloc, messages)?;
         }
-        if !is_room_for(&self.rings, self.channels, messages) {
-            make_room_for(self.alloc, &mut self.rings, self.channels, messages)?;
-        }
+        make_room_for(self.alloc, &mut self.rings, self.channels, messages)?;
         put_all(&mut self.rings, self.channels, messages);
         Ok(())
     }

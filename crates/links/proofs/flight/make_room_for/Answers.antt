@@ -1,15 +1,14 @@
-use Rattle.std.proofs.Common.{length, subst}
-use Rattle.links.specs.Rings.{HasRoom}
-use Rattle.links.proofs.Room.{Grows-trans, HaveRoom-grows, room_more}
+use Rattle.std.proofs.Common.{get_or, ap, subst, ◌∙◌}
+use Rattle.links.specs.Rings.{CanTakeUp}
+use Rattle.links.proofs.Counted.{can_take_up, counted_room}
 use Rattle.links.proofs.flight.make_room_for.Goals as goal
 
-pub returns-in_err-make_room_at-clause-grows : goal.returns-in_err-make_room_at-clause-grows
-returns-in_err-make_room_at-clause-grows c = Grows-trans _ _ _ c.loop-message.invariant.grows c.make_room_at.ensures.grows
+pub returns-then-messages-gt-FEW_MESSAGES-clause-room : goal.returns-then-messages-gt-FEW_MESSAGES-clause-room
+returns-then-messages-gt-FEW_MESSAGES-clause-room c = counted_room c.args.channels _ c.args.messages.now _ (λ n. ap (λ counts. get_or counts n 0) c.deref.ensures.value ∙ c.in_ok-counts.ensures n) c.in_ok-make_counted_room.ensures.room
 
-pub loop-message-preserved : goal.loop-message-preserved
-loop-message-preserved c = record {
-  grows = Grows-trans _ _ _ c.loop-message.invariant.grows c.make_room_at.ensures.grows;
-  room = room_more _ _ _ _ _ _ c.loop-message-test.true
-      (HaveRoom-grows _ _ _ _ _ c.make_room_at.ensures.grows c.loop-message.invariant.room)
-      (subst (λ number. HasRoom c.make_room_at.new.rings.items number (length c.args.messages.now)) c.ring_of_link-number.ensures.number c.in_ok-make_room_at.ensures.room);
-}
+pub returns-in_ok-make_room_for_all-clause-room : goal.returns-in_ok-make_room_for_all-clause-room
+returns-in_ok-make_room_for_all-clause-room c = can_take_up _ _ _ c.in_ok-make_room_for_all.ensures.room
+
+pub returns-else-not-is_room_for-clause-room : goal.returns-else-not-is_room_for-clause-room
+returns-else-not-is_room_for-clause-room c =
+    subst (λ rings. CanTakeUp c.args.channels rings c.args.messages.now) c.deref-2.ensures.value (can_take_up _ _ _ (c.is_room_for.ensures c.if-not-is_room_for.false))

@@ -1,6 +1,6 @@
 use Rattle.std.proofs.Common.{length, take}
 use Rattle.links.specs.Rings.{HaveRoom, Grows}
-use Rattle.links.proofs.flight.make_room_for.Given as goal
+use Rattle.links.proofs.flight.make_room_for_all.Given as goal
 
 abbrev pub invariant-loop-message : goal.invariant-loop-message
 invariant-loop-message l = record {
