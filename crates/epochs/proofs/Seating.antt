@@ -200,6 +200,21 @@ seats-all p names xs e =
     let r = none-missing (λ i. is_among names (name_at p i)) (job_at p) 0 (unit_count p.machine) xs e in
     (ap (option_map (λ place. Missing (unit_at p.machine place))) r.0, r.1)
 
+first-false : (b : ℕ → Bool) (a n k : ℕ) → k < n → ((i : ℕ) → i < k → b (a + i) ≡ true) → b (a + k) ≡ false → find (λ i. not (b i)) (range_with_len a n) ≡ Some (a + k)
+first-false b a zero k l h e = absurd (omega arith)
+first-false b a (suc n) zero l h e = cond-true _ _ _ (ap not (subst (λ j. b j ≡ false) (add-zero a) e)) ∙ ap Some (sym (add-zero a))
+first-false b a (suc n) (suc k) l h e =
+    let t : a + suc k ≡ a + 1 + k = omega arith in
+    cond-false _ _ _ (ap not (subst (λ j. b j ≡ true) (add-zero a) (h 0 (omega arith))))
+    ∙ first-false b (a + 1) n k (omega arith) (λ i m. let u : a + suc i ≡ a + 1 + i = omega arith in subst (λ j. b j ≡ true) u (h (suc i) (omega arith))) (subst (λ j. b j ≡ false) t e)
+    ∙ ap Some (sym t)
+
+none-false : (b : ℕ → Bool) (a n : ℕ) → ((i : ℕ) → i < n → b (a + i) ≡ true) → find (λ i. not (b i)) (range_with_len a n) ≡ None
+none-false b a zero h = refl
+none-false b a (suc n) h =
+    cond-false _ _ _ (ap not (subst (λ j. b j ≡ true) (add-zero a) (h 0 (omega arith))))
+    ∙ none-false b (a + 1) n (λ i m. let u : a + suc i ≡ a + 1 + i = omega arith in subst (λ j. b j ≡ true) u (h (suc i) (omega arith)))
+
 -- a name of a unit that the machine does not have is of no job
 pub not_unit : (p : PhaseView) (name : JobName) → (Exists p.machine name.unit → ⊥) → is_among (names_of p) name ≡ false
 not_unit p name h = by (is_among (names_of p) name) refl
@@ -266,3 +281,24 @@ pub job-is : (p : PhaseView) (place : ℕ) (d : JobView) → d.machine ≡ p.mac
 job-is p place d h k l =
     ap₂ {C = JobView} (λ m t. record { machine = m; traces = t; name = d.name }) h k
     ∙ ap {B = JobView} (λ n. record { machine = p.machine; traces = p.traces; name = n }) (sym l)
+
+-- whether a place has a result is whether its name is among those that came
+taken-is : (p : PhaseView) (names : List JobName) (seats : List (Option JobView)) (i : ℕ) (t : Bool) → seats ≡ seats_of p names → i < unit_count p.machine
+    → is_some (get_or seats i None) ≡ t → is_among names (name_at p (0 + i)) ≡ t
+taken-is p names seats i t e l h = ap (λ j. is_among names (name_at p j)) (zero-add i) ∙ sym (seat-taken p names i) ∙ sym (ap is_some (seat-is p names seats i None e l)) ∙ h
+
+-- the first place without a result is that of the unit that is missing
+pub missing-at : (p : PhaseView) (names : List JobName) (seats : List (Option JobView)) (k : ℕ) → seats ≡ seats_of p names → k < unit_count p.machine
+    → ((i : ℕ) → i < k → is_some (get_or seats i None) ≡ true) → is_some (get_or seats k None) ≡ false → missing p names ≡ Some (Missing (unit_at p.machine k))
+unfolding missing
+missing-at p names seats k e l h f =
+    ap (option_map (λ place. Missing (unit_at p.machine place)))
+    (first-false (λ i. is_among names (name_at p i)) 0 (unit_count p.machine) k l (λ i m. taken-is p names seats i true e (omega (arith, l, m)) (h i m)) (taken-is p names seats k false e l f)
+    ∙ ap Some (zero-add k))
+
+-- no unit is missing where all places have results
+pub missing-none : (p : PhaseView) (names : List JobName) (seats : List (Option JobView)) → seats ≡ seats_of p names
+    → ((i : ℕ) → i < unit_count p.machine → is_some (get_or seats i None) ≡ true) → missing p names ≡ None
+unfolding missing
+missing-none p names seats e h =
+    ap (option_map (λ place. Missing (unit_at p.machine place))) (none-false (λ i. is_among names (name_at p i)) 0 (unit_count p.machine) (λ i m. taken-is p names seats i true e m (h i m)))

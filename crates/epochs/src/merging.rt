@@ -1,6 +1,6 @@
 //! How the results of a phase are put together, in whatever order they come.
 
-ghost use Rattle.std.specs.Prelude.{◌≡◌, ◌==◌, ◌&&◌, ◌<◌, ◌≤◌, ◌^◌, ◌+◌, ◌-◌, ◌∷◌, ◌++◌, [], fold, flat_map, length, map, false, is_some, slice_index_or, List, Some, None, All, ◌⊎◌, IfOk, IfErr, OnOk, IfSome, IfNone, IsPermutation};
+ghost use Rattle.std.specs.Prelude.{◌≡◌, ◌==◌, ◌&&◌, ◌<◌, ◌≤◌, ◌^◌, ◌+◌, ◌-◌, ◌∷◌, ◌++◌, [], fold, flat_map, length, map, false, is_some, slice_index_or, List, Some, None, Err, All, ◌⊎◌, IfOk, IfErr, OnOk, IfSome, IfNone, IsPermutation};
 ghost use Rattle.std.specs.Arc.{arc_value};
 ghost use Rattle.sim_base.specs.History.{below, insert_by_age};
 ghost use Rattle.epochs.specs.Units.{unit_at, unit_count, Exists};
@@ -14,7 +14,7 @@ ghost use Rattle.sim_base.specs.declared.job.JobName.{JobName};
 use crate::job::{Done, Sent};
 use crate::machine::{Machine, unit_at};
 use crate::part::Part;
-use crate::phase::Phase;
+use crate::phase::{Outline, Phase};
 use crate::sim::Sim;
 use links::flight::Links;
 use sim_base::config::Config;
@@ -52,11 +52,11 @@ fn parts_of(
 }
 
 /// The simulator at the end of a phase, from the results of all units in their order.
-fn joined(phase: Phase, alloc: Global, results: Vec<Done>) -> Result<Sim, AllocError>
+fn joined(phase: Outline, alloc: Global, results: Vec<Done>) -> Result<Sim, AllocError>
     requires all { results.items ≡ map (job_at phase) (below (unit_count phase.machine)) }
     ensures { IfOk result (λ sim. sim ≡ after phase) }
 {
-    let Phase {
+    let Outline {
         machine,
         number,
         from,
@@ -98,14 +98,14 @@ pub(crate) fn place_of(config: &Config, unit: Unit) -> Option<usize>
 }
 
 /// Whether a name is of this phase.
-fn is_of_phase(phase: &Phase, name: JobName) -> bool
+fn is_of_phase(phase: &Outline, name: JobName) -> bool
     ensures { result ≡ ((name.phase == phase.now.number) && ((name.from == phase.now.from) && (name.until == phase.now.until))) }
 {
     name.phase == phase.number && (name.from == phase.from && name.until == phase.until)
 }
 
 /// The place of the unit that a name is of, if it is that of a job of the phase.
-fn seat_of(phase: &Phase, name: JobName) -> Option<usize>
+fn seat_of(phase: &Outline, name: JobName) -> Option<usize>
     ensures some { IfSome result (λ place. (place < unit_count phase.now.machine) × (name_at phase.now place ≡ name)) }
     ensures none { IfNone result (is_among (names_of phase.now) name ≡ false) }
 {
@@ -117,7 +117,7 @@ fn seat_of(phase: &Phase, name: JobName) -> Option<usize>
 }
 
 /// A place for each unit, with no result in it.
-fn no_results(alloc: Global, phase: &Phase) -> Result<Vec<Option<Done>>, AllocError>
+pub(crate) fn no_results(alloc: Global, phase: &Outline) -> Result<Vec<Option<Done>>, AllocError>
     ensures { IfOk result (λ seats. seats.items ≡ seats_of phase.now []) }
 {
     let config = &phase.machine.config;
@@ -139,7 +139,7 @@ fn is_taken(seats: &[Option<Done>], place: usize) -> bool
 
 /// Puts a result, which comes after so many others, in the place of its unit.
 fn put(
-    phase: &Phase,
+    phase: &Outline,
     seats: &mut Vec<Option<Done>>,
     result_of: Done,
     index: usize,
@@ -164,25 +164,41 @@ fn put(
     }
 }
 
-/// The results of a phase, each in the place of its unit. The first result that is of no job of the phase, or whose name stood
-/// earlier, is a fault; only memory is another.
-fn seated(alloc: Global, phase: &Phase, results: Vec<Done>) -> Result<Vec<Option<Done>>, MergeFault>
+/// The results of a phase, each put in the place of its unit, of which all are empty. The first result that is of no job of the phase, or
+/// whose name stood earlier, is a fault.
+fn seated(
+    phase: &Outline,
+    empty: Vec<Option<Done>>,
+    results: Vec<Done>,
+) -> Result<Vec<Option<Done>>, MergeFault>
+    requires empty { empty.items ≡ seats_of phase.now [] }
     requires of { All (IsOf phase.now) results.items }
     ensures ok { IfOk result (λ seats. (first_fault phase.now [] (map (λ d. d.name) results.items) ≡ None)
         × (seats.items ≡ seats_of phase.now (map (λ d. d.name) results.items))) }
     ensures count { IfOk result (λ seats. length seats.items ≡ unit_count phase.now.machine) }
-    ensures err { IfErr result (λ fault. (fault ≡ MergeFault.Memory) ⊎ (first_fault phase.now [] (map (λ d. d.name) results.items) ≡ Some fault)) }
+    ensures err { IfErr result (λ fault. first_fault phase.now [] (map (λ d. d.name) results.items) ≡ Some fault) }
 {
-    let mut seats = match no_results(alloc, phase) {
-        Ok(seats) => seats,
-        Err(_) => return Err(MergeFault::Memory),
-    };
+    let mut seats = empty;
     let mut read = 0;
     for done in results {
         put(phase, &mut seats, done, read)?;
         read += 1;
     }
     Ok(seats)
+}
+
+/// Whether each unit has a result. The first that has none is a fault.
+fn are_all_there(phase: &Outline, seats: &[Option<Done>]) -> Result<(), MergeFault>
+    requires count { length seats.now ≡ unit_count phase.now.machine }
+    ensures ok { OnOk result ((names : List JobName) → seats.now ≡ seats_of phase.now names → missing phase.now names ≡ None) }
+    ensures err { IfErr result (λ fault. (names : List JobName) → seats.now ≡ seats_of phase.now names → missing phase.now names ≡ Some fault) }
+{
+    for place in 0..seats.len() {
+        if !is_taken(seats, place) {
+            return Err(MergeFault::Missing(unit_at(&phase.machine.config, place)));
+        }
+    }
+    Ok(())
 }
 
 /// Puts a result at the end of a list.
@@ -199,7 +215,7 @@ fn add(all: &mut Vec<Done>, done: Done) -> Result<(), MergeFault>
 /// The results of all units, in their order. The first unit without one is a fault; only memory is another.
 fn all_there(
     alloc: Global,
-    phase: &Phase,
+    phase: &Outline,
     seats: Vec<Option<Done>>,
 ) -> Result<Vec<Done>, MergeFault>
     requires count { length seats.items ≡ unit_count phase.now.machine }
@@ -222,16 +238,20 @@ fn all_there(
 }
 
 /// Puts the results of a phase together, in whatever order they come: the simulator then stands at the end of the phase. The
-/// first result of the list that is of no job of the phase, or whose name stood earlier, is a fault; then the first unit without
-/// a result, cores before channels; and want of memory.
+/// first result of the list that is of no job of the phase, or whose name stood earlier, is a fault, and else the first unit without
+/// a result, cores before channels: that is answered also where memory is short. Where the results are whole, only memory can be
+/// refused.
 pub fn merge(phase: Phase, alloc: Global, results: Vec<Done>) -> Result<Sim, MergeFault>
     requires of { All (IsOf phase) results.items }
     ensures ok { IfOk result (λ sim. (merge_fault phase (map (λ d. d.name) results.items) ≡ None) × (sim ≡ after phase)) }
+    ensures exact { IfSome (merge_fault phase (map (λ d. d.name) results.items)) (λ fault. result ≡ Err fault) }
     ensures err { IfErr result (λ fault. (fault ≡ MergeFault.Memory) ⊎ (merge_fault phase (map (λ d. d.name) results.items) ≡ Some fault)) }
 {
-    let seats = seated(alloc, &phase, results)?;
-    let all = all_there(alloc, &phase, seats)?;
-    match joined(phase, alloc, all) {
+    let Phase { outline, seats } = phase;
+    let seats = seated(&outline, seats, results)?;
+    are_all_there(&outline, &seats)?;
+    let all = all_there(alloc, &outline, seats)?;
+    match joined(outline, alloc, all) {
         Ok(sim) => Ok(sim),
         Err(_) => Err(MergeFault::Memory),
     }

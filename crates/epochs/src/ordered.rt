@@ -98,7 +98,7 @@ fn one_phase<O: Order>(
     match plan(sim, alloc, limit)? {
         Planned::Quiet(after) => Ok(after),
         Planned::Work(phase, jobs) => {
-            let results = order.arrange(phase.number, results_of(alloc, jobs)?);
+            let results = order.arrange(phase.number(), results_of(alloc, jobs)?);
             Ok(merge(phase, alloc, results)?)
         }
     }

@@ -2,16 +2,16 @@
 
 ghost use Rattle.std.specs.Prelude.{◌≡◌};
 
+use crate::job::Done;
 use crate::machine::Machine;
 use links::flight::Links;
 use sim_base::message::Cycle;
 use std::marker::Model;
 use std::sync::Arc;
 
-/// A span of cycles in which all units run, each by a job: from one on and before another. What is kept meanwhile are the
-/// messages that arrive later.
+/// What a phase is: a span of cycles from one on and before another. What is kept meanwhile are the messages that arrive later.
 #[derive(Drop)]
-pub struct Phase {
+pub(crate) struct Outline {
     pub(crate) machine: Arc<Machine>,
     pub(crate) number: u64,
     pub(crate) from: Cycle,
@@ -19,7 +19,7 @@ pub struct Phase {
     pub(crate) links: Links,
 }
 
-impl Model for Phase {
+impl Model for Outline {
     ghost use Rattle.std.specs.Arc.{arc_value};
     ghost use Rattle.epochs.specs.Views.{PhaseView};
 
@@ -35,4 +35,39 @@ impl Model for Phase {
     ghost view = { λ p. record { machine = (arc_value p.machine).config; traces = (arc_value p.machine).traces.items; number = p.number; from = p.from; until = p.until } };
 
     ghost invariant = { λ p. IsPhase (arc_value p.machine).config (arc_value p.machine).traces.items p.number p.from p.until p.links };
+}
+
+/// A span of cycles in which all units run, each by a job.
+#[derive(Drop)]
+pub struct Phase {
+    pub(crate) outline: Outline,
+    /// A place for the result of each unit, all of them empty. They are made with the jobs, so that what is wrong with results is told
+    /// without memory.
+    pub(crate) seats: Vec<Option<Done>>,
+}
+
+impl Model for Phase {
+    ghost use Rattle.std.specs.Prelude.{◌≡◌, []};
+    ghost use Rattle.epochs.specs.Views.{PhaseView};
+    ghost use Rattle.epochs.specs.Seats.{seats_of};
+
+    ghost Value = { PhaseView };
+
+    ghost use Rattle.sim_base.specs.contracts.config.Config as config;
+    ghost use Rattle.std.specs.Coded.{codes};
+
+    ghost coded = { Prim.hlevel (codes, config.the_row.coded) };
+
+    ghost view = { λ p. p.outline };
+
+    ghost invariant = { λ p. p.seats.items ≡ seats_of p.outline [] };
+}
+
+impl Phase {
+    /// The number of the phase.
+    pub(crate) fn number(&self) -> u64
+        ensures { result ≡ self.now.number }
+    {
+        self.outline.number
+    }
 }

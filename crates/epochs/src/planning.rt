@@ -15,8 +15,9 @@ ghost use Rattle.epochs.specs.Planning.{EndsAt, IsNext, IsPlanned};
 
 use crate::job::Job;
 use crate::machine::{Machine, unit_at};
+use crate::merging::no_results;
 use crate::part::Part;
-use crate::phase::Phase;
+use crate::phase::{Outline, Phase};
 use crate::sim::Sim;
 use crate::slot::Mail;
 use links::flight::Links;
@@ -120,14 +121,15 @@ fn work(sim: Sim, alloc: Global, limit: Cycle) -> Result<(Phase, Vec<Job>), Allo
     } = sim;
     let until = end_of_phase(&machine.config, now, limit);
     let jobs = jobs(alloc, &machine, &mut links, phase, now, until, parts)?;
-    let phase = Phase {
+    let outline = Outline {
         machine,
         number: phase,
         from: now,
         until,
         links,
     };
-    Ok((phase, jobs))
+    let seats = no_results(alloc, &outline)?;
+    Ok((Phase { outline, seats }, jobs))
 }
 
 /// What is to be done next by a simulator that stands before a limit, at most 10^12 cycles. Where nothing happens in the next

@@ -1,4 +1,4 @@
-use Rattle.std.proofs.Common.{[], ◌∷◌, ◌++◌, length, map, inr, refl, rules, ap, sym, ◌∙◌, append_assoc, arith}
+use Rattle.std.proofs.Common.{[], ◌∷◌, ◌++◌, length, map, refl, rules, ap, sym, ◌∙◌, append_assoc, arith}
 use Rattle.std.specs.Vec.Iter.{into_iter_items}
 use Rattle.std.proofs.lemmas.List.{map-append, length-map, length_push}
 use Rattle.std.proofs.lemmas.Result.{err_from_is_err_and}
@@ -15,8 +15,8 @@ loop-done-init c =
       refl,
       search rules,
       refl,
-      ap length (c.in-Ok.ensures {u = tt}) ∙ length-seats p [],
-      c.in-Ok.ensures {u = tt},
+      ap length c.requires.empty ∙ length-seats p [],
+      c.requires.empty,
       refl,
     )
 
@@ -27,10 +27,10 @@ returns-in_err-put-clause-err c =
     let names = map (λ (d : JobView). d.name) at.yielded in
     let steps = c.in-Some.ensures.steps in
     let q = err_from_is_err_and c.from_residual.result c.from_residual.ensures.1 in
-    rw (q.1, q.2) (inr (ap (λ ds. first_fault p [] (map (λ (d : JobView). d.name) ds)) (sym c.into_iter-done-iterator.ensures.into_iter_gives.0)
+    rw (q.1, q.2) (ap (λ ds. first_fault p [] (map (λ (d : JobView). d.name) ds)) (sym c.into_iter-done-iterator.ensures.into_iter_gives.0)
     ∙ at.invariant.5
     ∙ ap (λ ds. first_fault p names (map (λ (d : JobView). d.name) ds)) steps.0
-    ∙ first-found p names _ c.in-Some.done.name _ (c.in_err-put.ensures.err names at.invariant.4 (length-map at.yielded (λ (d : JobView). d.name) ∙ sym at.invariant.2))))
+    ∙ first-found p names _ c.in-Some.done.name _ (c.in_err-put.ensures.err names at.invariant.4 (length-map at.yielded (λ (d : JobView). d.name) ∙ sym at.invariant.2)))
 
 pub loop-done-preserved : goal.loop-done-preserved
 loop-done-preserved c =
