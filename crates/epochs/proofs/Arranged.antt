@@ -1,15 +1,17 @@
 -- Results of a phase that are arranged, and where the next phase ends.
-use Rattle.std.proofs.Common.{◌≡◌, ℕ, ◌+◌, ◌<◌, ◌≤◌, min, List, length, get_or, refl, sym, ap, subst, ◌∙◌, zero-add, arith}
+use Rattle.std.proofs.Common.{◌≡◌, ℕ, ◌+◌, ◌<◌, ◌≤◌, min, true, List, length, get_or, refl, sym, ap, subst, ◌∙◌, zero-add, arith}
 use Rattle.std.specs.Prelude.{All, Any, IsPermutation}
 use Rattle.std.proofs.lemmas.List.FromFn.{get_or-map-range_with_len}
 use Rattle.std.proofs.lemmas.List.Sorted.{All-permutation}
 use Rattle.sim_base.specs.declared.config.Config.{Config}
 use Rattle.statistics.proofs.RunSteps.{travels}
-use Rattle.epochs.specs.Merging.{after}
+use Rattle.epochs.specs.Merging.{is_among, names_of, after}
 use Rattle.epochs.specs.Ordered.{IsFurther}
 use Rattle.epochs.specs.Planning.{EndsAt, IsNext}
 use Rattle.epochs.specs.Units.{unit_count}
 use Rattle.epochs.proofs.Standing.{length-places, same-default}
+use Rattle.epochs.proofs.Seating.{among-place}
+use Rattle.sim_base.specs.declared.job.JobName.{JobName}
 use Rattle.epochs.specs.Views.{SimView, PhaseView, JobView, job_at, jobs_of}
 
 -- the end of a phase is after its beginning, and not past the limit
@@ -38,9 +40,19 @@ given-of p given e d h =
     sym h.3 ∙ ap (λ z. get_or z h.0 h.1) e ∙ get_or-map-range_with_len (job_at p) 0 (unit_count p.machine) h.0 h.0 h.1 l (zero-add h.0) in
     (sym (ap (λ (x : JobView). x.machine) h.4) ∙ ap (λ (x : JobView). x.machine) is, sym (ap (λ (x : JobView). x.traces) h.4) ∙ ap (λ (x : JobView). x.traces) is)
 
--- each of some results is one of them, also in another order
-pub each-given : (results : List JobView) → All (λ d. Any (λ r. r ≡ d) results) results
-each-given results k d l = (k, get_or results k d, l, same-default results k (get_or results k d) d l, refl)
+-- and so is what has the name of a job of the phase, where what has its number is among them
+pub of_run : (p : PhaseView) (given : List JobView) → given ≡ jobs_of p → (d : JobView) (number : ℕ) → number ≡ p.number → (d.name.phase ≡ number → Any (λ r. r ≡ d) given)
+    → is_among (names_of p) d.name ≡ true → (d.machine ≡ p.machine) × (d.traces ≡ p.traces)
+of_run p given e d number k h among =
+    let at = among-place p d.name among in
+    given-of p given e d (h (sym (ap (λ (n : JobName). n.phase) at.2) ∙ sym k))
 
-pub permuted-given : (results arranged : List JobView) → IsPermutation results arranged → All (λ d. Any (λ r. r ≡ d) results) arranged
-permuted-given results arranged same = All-permutation (λ d. Any (λ r. r ≡ d) results) results arranged same (each-given results)
+-- each of some results is one of them, also in another order
+each-is_one : (results : List JobView) → All (λ d. Any (λ r. r ≡ d) results) results
+each-is_one results k d l = (k, get_or results k d, l, same-default results k (get_or results k d) d l, refl)
+
+pub each-given : {phase : ℕ} (results : List JobView) → All (λ (d : JobView). d.name.phase ≡ phase → Any (λ r. r ≡ d) results) results
+each-given results k d l of = each-is_one results k d l
+
+pub permuted-given : {phase : ℕ} (results arranged : List JobView) → IsPermutation results arranged → All (λ (d : JobView). d.name.phase ≡ phase → Any (λ r. r ≡ d) results) arranged
+permuted-given results arranged same k d l of = All-permutation (λ d. Any (λ r. r ≡ d) results) results arranged same (each-is_one results) k d l

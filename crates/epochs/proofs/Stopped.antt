@@ -2,13 +2,13 @@
 use Rattle.std.proofs.Common.{◌≡◌, ◌≢◌, ℕ, ◌<◌, ◌≤◌, List, map, Some, None, ◌⊎◌, inl, inr, refl, sym, ◌∙◌, arith}
 use Rattle.sim_base.specs.declared.message.Unit.{Unit as MachineUnit}
 use Rattle.epochs.specs.Merging.{merge_fault}
-use Rattle.epochs.specs.Ordered.{IsOnTheWay, run_fault, IsWhyStopped, OnlyPermutes}
+use Rattle.epochs.specs.Ordered.{IsOnTheWay, StopsAtMisfit, run_fault, IsWhyStopped, OnlyPermutes}
 use Rattle.epochs.specs.Planning.{IsNext}
 use Rattle.epochs.specs.Views.{SimView, PhaseView, JobView, jobs_of}
 use Rattle.sim_base.specs.declared.fault.MergeFault.{MergeFault}
 use Rattle.sim_base.specs.declared.fault.MergeFault.TheVariants as merging
-use Rattle.epochs.specs.declared.ordered.RunFault.{RunFault}
-use Rattle.epochs.specs.declared.ordered.RunFault.TheVariants.{Memory, Merge}
+use Rattle.sim_base.specs.declared.fault.Fault.{Fault}
+use Rattle.sim_base.specs.declared.fault.Fault.TheVariants.{Memory, Merge}
 use Rattle.epochs.proofs.Whole.{whole-fits}
 
 pub next-on_the_way : (sim : SimView) (limit : ℕ) (phase : PhaseView) → sim.now < limit → IsNext sim limit phase → IsOnTheWay sim limit phase
@@ -31,10 +31,13 @@ stranger_place place e = cc
 -- what is wrong with the results of a phase on the way stops a run
 pub stops : (may_give : ℕ → List JobView → List JobView → Type 0) (sim : SimView) (limit : ℕ) (phase : PhaseView) (arranged : List JobView) (cause : MergeFault) → IsOnTheWay sim limit phase
     → may_give phase.number (jobs_of phase) arranged → (cause ≡ merging.Memory) ⊎ (merge_fault phase (map (λ (d : JobView). d.name) arranged) ≡ Some cause) → IsWhyStopped may_give sim limit (run_fault cause)
-stops may_give sim limit phase arranged merging.Memory way given e = tt
-stops may_give sim limit phase arranged (merging.Missing unit) way given e = (phase, way, record { arranged = arranged; given = given; fault_is = second (missing_unit unit) e })
-stops may_give sim limit phase arranged (merging.Double place) way given e = (phase, way, record { arranged = arranged; given = given; fault_is = second (double_place place) e })
-stops may_give sim limit phase arranged (merging.Stranger place) way given e = (phase, way, record { arranged = arranged; given = given; fault_is = second (stranger_place place) e })
+stops may_give sim limit phase arranged merging.Memory way given e = inl refl
+stops may_give sim limit phase arranged (merging.Missing unit) way given e =
+    inr (record { phase = phase; cause = merging.Missing unit; on_the_way = way; misfit = record { arranged = arranged; given = given; fault_is = second (missing_unit unit) e }; fault_is = refl })
+stops may_give sim limit phase arranged (merging.Double place) way given e =
+    inr (record { phase = phase; cause = merging.Double place; on_the_way = way; misfit = record { arranged = arranged; given = given; fault_is = second (double_place place) e }; fault_is = refl })
+stops may_give sim limit phase arranged (merging.Stranger place) way given e =
+    inr (record { phase = phase; cause = merging.Stranger place; on_the_way = way; misfit = record { arranged = arranged; given = given; fault_is = second (stranger_place place) e }; fault_is = refl })
 
 -- want of memory is told as such
 pub told-as_memory : (cause : MergeFault) → run_fault cause ≢ Merge merging.Memory
@@ -48,16 +51,17 @@ further-way : (sim later : SimView) (limit : ℕ) (phase : PhaseView) → later.
 further-way sim later limit phase m t l way =
     record { at = way.at; machine_is = way.machine_is ∙ m; traces_are = way.traces_are ∙ t; begun = omega (arith, l, way.begun); before = way.before; next = way.next }
 
-pub stopped-further : (may_give : ℕ → List JobView → List JobView → Type 0) (sim later : SimView) (limit : ℕ) (fault : RunFault) → later.machine ≡ sim.machine → later.traces ≡ sim.traces → sim.now ≤ later.now
+pub stopped-further : (may_give : ℕ → List JobView → List JobView → Type 0) (sim later : SimView) (limit : ℕ) (fault : Fault) → later.machine ≡ sim.machine → later.traces ≡ sim.traces → sim.now ≤ later.now
     → IsWhyStopped may_give later limit fault → IsWhyStopped may_give sim limit fault
-stopped-further may_give sim later limit Memory m t l why = tt
-stopped-further may_give sim later limit (Merge cause) m t l why = (why.0, further-way sim later limit why.0 m t l why.1, why.2)
+stopped-further may_give sim later limit fault m t l (inl e) = inl e
+stopped-further may_give sim later limit fault m t l (inr why) =
+    inr (record { phase = why.phase; cause = why.cause; on_the_way = further-way sim later limit why.phase m t l why.on_the_way; misfit = why.misfit; fault_is = why.fault_is })
 
 -- an order that only permutes leaves want of memory alone
-pub only-memory : (may_give : ℕ → List JobView → List JobView → Type 0) (sim : SimView) (limit : ℕ) (fault : RunFault) → IsWhyStopped may_give sim limit fault → OnlyPermutes may_give → fault ≡ Memory
-only-memory may_give sim limit Memory why permutes = refl
-only-memory may_give sim limit (Merge cause) why permutes =
-    let phase = why.0 in
-    let fit = why.2 in
-    let e : None ≡ Some cause = sym (whole-fits phase fit.arranged (permutes phase.number (jobs_of phase) fit.arranged fit.given)) ∙ fit.fault_is in
+pub only-memory : (may_give : ℕ → List JobView → List JobView → Type 0) (sim : SimView) (limit : ℕ) (fault : Fault) → IsWhyStopped may_give sim limit fault → OnlyPermutes may_give → fault ≡ Memory
+only-memory may_give sim limit fault (inl e) permutes = e
+only-memory may_give sim limit fault (inr why) permutes =
+    let phase = why.phase in
+    let fit = why.misfit in
+    let e : None ≡ Some why.cause = sym (whole-fits phase fit.arranged (permutes phase.number (jobs_of phase) fit.arranged fit.given)) ∙ fit.fault_is in
     cc

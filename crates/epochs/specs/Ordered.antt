@@ -6,14 +6,14 @@
 --     run_fault cause      what a run says where results do not fit
 --     IsWhyStopped may_give sim limit fault      why a run does not come to a limit
 --     OnlyPermutes may_give      an order leaves no result out, and repeats none
-use Rattle.std.specs.Prelude.{◌≡◌, ℕ, ◌<◌, ◌≤◌, List, map, Some, IsPermutation}
+use Rattle.std.specs.Prelude.{◌≡◌, ◌⊎◌, ℕ, ◌<◌, ◌≤◌, List, map, Some, IsPermutation}
 use Rattle.epochs.specs.Merging.{merge_fault}
 use Rattle.epochs.specs.Planning.{IsNext}
 use Rattle.epochs.specs.Views.{SimView, PhaseView, JobView, jobs_of}
 use Rattle.sim_base.specs.declared.fault.MergeFault.{MergeFault}
 use Rattle.sim_base.specs.declared.fault.MergeFault.TheVariants as merging
-use Rattle.epochs.specs.declared.ordered.RunFault.{RunFault}
-use Rattle.epochs.specs.declared.ordered.RunFault.TheVariants.{Memory, Merge}
+use Rattle.sim_base.specs.declared.fault.Fault.{Fault}
+use Rattle.sim_base.specs.declared.fault.Fault.TheVariants.{Memory, Merge}
 
 -- the run of the same machine over the same traces, further on, and not past a limit
 pub record IsFurther (sim : SimView) (limit : ℕ) (after : SimView) : Type 0 where
@@ -45,16 +45,23 @@ pub record DoNotFit (may_give : ℕ → List JobView → List JobView → Type 0
   pub fault_is : merge_fault phase (map (λ (d : JobView). d.name) arranged) ≡ Some cause
 
 -- Where results do not fit a run tells why. Want of memory is the same want of memory.
-abbrev pub run_fault : MergeFault → RunFault
+abbrev pub run_fault : MergeFault → Fault
 run_fault (merging.Missing unit) = Merge (merging.Missing unit)
 run_fault (merging.Double place) = Merge (merging.Double place)
 run_fault (merging.Stranger place) = Merge (merging.Stranger place)
 run_fault merging.Memory = Memory
 
+-- a phase on the way has results that do not fit as the order gives them, and the fault says why
+pub record StopsAtMisfit (may_give : ℕ → List JobView → List JobView → Type 0) (sim : SimView) (limit : ℕ) (fault : Fault) : Type 0 where
+  pub phase : PhaseView
+  pub cause : MergeFault
+  pub on_the_way : IsOnTheWay sim limit phase
+  pub misfit : DoNotFit may_give phase cause
+  pub fault_is : fault ≡ Merge cause
+
 -- a run stops before its limit for want of memory, or at a phase whose results do not fit as the order gives them
-abbrev pub IsWhyStopped : (ℕ → List JobView → List JobView → Type 0) → SimView → ℕ → RunFault → Type 0
-IsWhyStopped may_give sim limit Memory = Unit
-IsWhyStopped may_give sim limit (Merge cause) = (phase : PhaseView) × IsOnTheWay sim limit phase × DoNotFit may_give phase cause
+abbrev pub IsWhyStopped : (ℕ → List JobView → List JobView → Type 0) → SimView → ℕ → Fault → Type 0
+IsWhyStopped may_give sim limit fault = (fault ≡ Memory) ⊎ StopsAtMisfit may_give sim limit fault
 
 -- what is given for the results of a phase are these in some order
 abbrev pub OnlyPermutes : (ℕ → List JobView → List JobView → Type 0) → Type 0

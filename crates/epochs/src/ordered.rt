@@ -1,72 +1,39 @@
 //! A run in one thread, in which the results of each phase come in an order that someone chooses.
 
 ghost use Rattle.std.specs.Prelude.{◌≡◌, ◌≢◌, ◌<◌, ◌≤◌, ◌^◌, All, Any, IfOk, IfErr};
-ghost use Rattle.epochs.specs.Ordered.{IsFurther, HasReached, IsWhyStopped, OnlyPermutes};
+ghost use Rattle.epochs.specs.Ordered.{IsFurther, HasReached, IsWhyStopped, OnlyPermutes, run_fault};
 
 use crate::job::{Done, Job};
 use crate::merging::merge;
 use crate::planning::{Planned, plan};
 use crate::sim::Sim;
-use sim_base::fault::MergeFault;
+use sim_base::fault::{Fault, MergeFault};
 use sim_base::message::Cycle;
 use std::alloc::{AllocError, Global};
-use std::fmt;
 
 /// An order in which the results of a phase come back.
 pub trait Order {
-    ghost use Rattle.std.specs.Prelude.{◌≡◌, ℕ, List, All, Any, ⊤};
+    ghost use Rattle.std.specs.Prelude.{◌≡◌, ℕ, List, All, Any};
     ghost use Rattle.epochs.specs.Views.{JobView};
 
-    // Which lists it may give for the results of the phase with a number.
-    ghost may_give: { ℕ → List JobView → List JobView → Type 0 } = { λ _ _ _. ⊤ };
+    // Which lists it may give for the results of the phase with a number. Each order says it: this default lets none through.
+    ghost may_give: { ℕ → List JobView → List JobView → Type 0 } = { λ _ _ _. ⊥ };
 
-    /// The results of a phase in their order. None is made up: each is one of those that are given.
+    /// The results of a phase in their order. None of this phase is made up: each is one of those that are given. Results of other
+    /// phases may stand among them.
     fn arrange(&mut self, phase: u64, results: Vec<Done>) -> Vec<Done>
         ensures may { may_give phase results.items result.items }
-        ensures given { All (λ d. Any (λ r. r ≡ d) results.items) result.items };
+        ensures given { All (λ d. d.name.phase ≡ phase → Any (λ r. r ≡ d) results.items) result.items };
 }
 
-/// Why a run did not come to its limit.
-#[derive(Clone, Copy, PartialEq, Eq, Debug)]
-pub enum RunFault {
-    /// There is no memory.
-    Memory,
-    /// The results of a phase could not be put together.
-    Merge(MergeFault),
-}
-
-impl From<AllocError> for RunFault {
-    ghost use Rattle.epochs.specs.declared.ordered.RunFault.TheVariants.{Memory};
-
-    ghost from_gives = { λ _ fault. fault ≡ Memory };
-
-    fn from(_error: AllocError) -> RunFault {
-        RunFault::Memory
-    }
-}
-
-impl From<MergeFault> for RunFault {
-    ghost use Rattle.epochs.specs.Ordered.{run_fault};
-
-    ghost from_gives = { λ cause fault. fault ≡ run_fault cause };
-
-    fn from(cause: MergeFault) -> RunFault {
-        match cause {
-            MergeFault::Memory => RunFault::Memory,
-            MergeFault::Missing(_) | MergeFault::Double(_) | MergeFault::Stranger(_) => {
-                RunFault::Merge(cause)
-            }
-        }
-    }
-}
-
-impl fmt::Display for RunFault {
-    fn fmt<W: fmt::Write>(&self, f: &mut fmt::Formatter<W>) -> fmt::Result {
-        match self {
-            RunFault::Memory => write!(f, "there is no memory"),
-            RunFault::Merge(fault) => {
-                write!(f, "the results of a phase do not go together: {fault}")
-            }
+/// What a run says where the results of a phase are no whole of it.
+fn fault_of(cause: MergeFault) -> Fault
+    ensures { result ≡ run_fault cause }
+{
+    match cause {
+        MergeFault::Memory => Fault::Memory,
+        MergeFault::Missing(_) | MergeFault::Double(_) | MergeFault::Stranger(_) => {
+            Fault::Merge(cause)
         }
     }
 }
@@ -83,43 +50,41 @@ pub(crate) fn results_of(alloc: Global, jobs: Vec<Job>) -> Result<Vec<Done>, All
 }
 
 /// A simulator one phase further.
-fn one_phase<O: Order>(
-    sim: Sim,
-    alloc: Global,
-    limit: Cycle,
-    order: &mut O,
-) -> Result<Sim, RunFault>
+fn one_phase<O: Order>(sim: Sim, alloc: Global, limit: Cycle, order: &mut O) -> Result<Sim, Fault>
     requires before { sim.now < limit }
     requires early { limit ≤ 10 ^ 12 }
     ensures ok { IfOk result (IsFurther sim limit) }
     ensures stopped { IfErr result (IsWhyStopped O.may_give sim limit) }
-    ensures not_memory { IfErr result (λ fault. fault ≢ RunFault.Merge MergeFault.Memory) }
+    ensures not_memory { IfErr result (λ fault. fault ≢ Fault.Merge MergeFault.Memory) }
 {
     match plan(sim, alloc, limit)? {
         Planned::Quiet(after) => Ok(after),
         Planned::Work(phase, jobs) => {
             let results = order.arrange(phase.number(), results_of(alloc, jobs)?);
-            Ok(merge(phase, alloc, results)?)
+            match merge(phase, alloc, results) {
+                Ok(sim) => Ok(sim),
+                Err(cause) => Err(fault_of(cause)),
+            }
         }
     }
 }
 
 /// Runs a simulator up to a limit, at most 10^12 cycles. What comes of each job is put together in the order that is given,
 /// and the simulator that comes back does not depend on it. What the order gives for the results of a phase may not be one of
-/// each job: the run then stops at this phase, and the fault says what is wrong. Only memory is another, and the only one with
-/// an order that leaves no result out and repeats none.
+/// each job: the run then stops at this phase, and fault 16 says what is wrong, as `merge` finds it. Only memory (fault 10) is another,
+/// and the only one with an order that leaves no result out, repeats none, and brings none of another phase.
 pub fn run_in_order<O: Order>(
     sim: Sim,
     alloc: Global,
     limit: Cycle,
     order: &mut O,
-) -> Result<Sim, RunFault>
+) -> Result<Sim, Fault>
     requires not_past { sim.now ≤ limit }
     requires early { limit ≤ 10 ^ 12 }
     ensures ok { IfOk result (HasReached sim limit) }
     ensures stopped { IfErr result (IsWhyStopped O.may_give sim limit) }
-    ensures not_memory { IfErr result (λ fault. fault ≢ RunFault.Merge MergeFault.Memory) }
-    ensures whole { OnlyPermutes O.may_give → IfErr result (λ fault. fault ≡ RunFault.Memory) }
+    ensures not_memory { IfErr result (λ fault. fault ≢ Fault.Merge MergeFault.Memory) }
+    ensures whole { OnlyPermutes O.may_give → IfErr result (λ fault. fault ≡ Fault.Memory) }
 {
     let mut sim = sim;
     while sim.now() < limit {
