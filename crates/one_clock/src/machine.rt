@@ -64,7 +64,6 @@ fn next_step_of_core(
     cores::core_step(s, core, trace, past.rows(), past.sent(), past.inbox())
 }
 
-#[tactic(auto, using(crate::proofs::Units::length_units, crate::proofs::Units::at_unit_of, crate::proofs::Units::map_below_more))]
 fn next_steps_of_cores(
     alloc: Global,
     s: &Config,
@@ -132,7 +131,6 @@ fn next_step_of_channel(
     )
 }
 
-#[tactic(auto, using(crate::proofs::Units::length_units, crate::proofs::Units::at_unit_of, crate::proofs::Units::map_below_more))]
 fn next_steps_of_channels(
     alloc: Global,
     s: &Config,
@@ -287,7 +285,6 @@ fn note_flight(
 }
 
 /// The commands of all channels, one cycle later.
-#[tactic(auto, using(crate::proofs::Units::length_units, crate::proofs::Units::at_unit_of, crate::proofs::Next::issued_none, crate::proofs::Next::issued_more, crate::proofs::Next::issued_all))]
 fn note_commands(
     s: &Config,
     traces: &[Trace],

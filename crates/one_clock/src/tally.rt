@@ -87,7 +87,6 @@ fn count_core(
 }
 
 /// The statistics of each core, one cycle later.
-#[tactic(auto, using(crate::proofs::Units::length_units, crate::proofs::Units::at_unit_of, crate::proofs::Units::map_below_more))]
 pub fn core_counts(
     alloc: Global,
     s: &Config,
@@ -140,7 +139,6 @@ fn count_channel(
 }
 
 /// The statistics of each channel, one cycle later.
-#[tactic(auto, using(crate::proofs::Units::length_units, crate::proofs::Units::at_unit_of, crate::proofs::Units::map_below_more))]
 pub fn channel_counts(
     alloc: Global,
     s: &Config,
