@@ -21,7 +21,6 @@ use statistics::cores::CoreStats;
 use std::alloc::{AllocError, Global};
 
 /// The statistics of each core before the first cycle.
-#[tactic(auto, using(crate::proofs::Joined::no_core_stats, crate::proofs::Units::map_below_more))]
 pub fn no_core_counts(
     alloc: Global,
     s: &Config,
@@ -37,7 +36,6 @@ pub fn no_core_counts(
 }
 
 /// The statistics of each channel before the first cycle.
-#[tactic(auto, using(crate::proofs::Joined::no_channel_stats, crate::proofs::Units::map_below_more))]
 pub fn no_channel_counts(
     alloc: Global,
     s: &Config,
