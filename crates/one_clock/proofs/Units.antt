@@ -24,6 +24,9 @@ at_unit f n i d l = get_or-map-range_with_len f 0 n i i d l (zero-add i)
 pub at_unit_of : {X : Type 0} (xs : List X) (f : ℕ → X) (n i : ℕ) (d : X) → xs ≡ map f (below n) → i < n → get_or xs i d ≡ f i
 at_unit_of xs f n i d e l = ap (λ x. get_or x i d) e ∙ at_unit f n i d l
 
+pub below_units : {X : Type 0} (xs : List X) (f : ℕ → X) (n i : ℕ) → xs ≡ map f (below n) → i < n → i < length xs
+below_units xs f n i e l = subst (λ k. i < k) (sym (length_units xs f n e)) l
+
 pub map_below_more : {X : Type 0} (f : ℕ → X) (n : ℕ) → map f (below (n + 1)) ≡ map f (below n) ++ f n ∷ []
 map_below_more f n = map-range_with_len_more f 0 n n (zero-add n)
 

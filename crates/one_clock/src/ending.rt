@@ -163,7 +163,6 @@ pub fn channel_left(
 }
 
 /// The state in which each core is left, by number.
-#[tactic(auto, using(crate::proofs::Units::length_units, crate::proofs::Units::at_unit_of, crate::proofs::Units::map_below_more))]
 pub fn cores_left(
     alloc: Global,
     s: &Config,
@@ -184,7 +183,6 @@ pub fn cores_left(
 }
 
 /// The state in which each channel is left, by number.
-#[tactic(auto, using(crate::proofs::Units::length_units, crate::proofs::Units::at_unit_of, crate::proofs::Units::map_below_more))]
 pub fn channels_left(
     alloc: Global,
     s: &Config,

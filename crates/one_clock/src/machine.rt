@@ -7,7 +7,7 @@ ghost use Rattle.sim_base.specs.Machine.{next_core_row, next_row, run, is_retire
 ghost use Rattle.sim_base.specs.Sends.{sends};
 ghost use Rattle.sim_base.specs.Counts.{in_flight};
 ghost use Rattle.plain_steps.specs.Plain.{core_view, channel_view, channel_step_of, is_late};
-ghost use Rattle.statistics.specs.Runs.{outcome_of};
+ghost use Rattle.statistics.specs.Runs.{stats_of_core, stats_of_channel, outcome_of};
 ghost use Rattle.laws.specs.Credits.{QueuesAreBounded};
 ghost use Rattle.laws.specs.Refreshes.{RefreshesAreInTime};
 ghost use Rattle.laws.specs.Tables.{IsOrdered, IsLegalTable, IsRefreshedTable};
@@ -64,7 +64,6 @@ fn next_step_of_core(
     cores::core_step(s, core, trace, past.rows(), past.sent(), past.inbox())
 }
 
-#[tactic(auto, using(crate::proofs::Units::length_units, crate::proofs::Units::at_unit_of, crate::proofs::Units::map_below_more))]
 fn next_steps_of_cores(
     alloc: Global,
     s: &Config,
@@ -132,7 +131,6 @@ fn next_step_of_channel(
     )
 }
 
-#[tactic(auto, using(crate::proofs::Units::length_units, crate::proofs::Units::at_unit_of, crate::proofs::Units::map_below_more))]
 fn next_steps_of_channels(
     alloc: Global,
     s: &Config,
@@ -152,6 +150,45 @@ fn next_steps_of_channels(
         steps.push(next_step_of_channel(alloc, s, gaps, traces, cycle, channel, past)?)?;
     }
     Ok(steps)
+}
+
+fn count_cores(
+    alloc: Global,
+    s: &Config,
+    traces: &[Trace],
+    cycle: u64,
+    cores: &[CorePast],
+    steps: &[(CoreRow, Stop)],
+    counts: &mut Vec<CoreStats>,
+) -> Result<(), AllocError>
+    requires traces { length traces.now ≡ s.now.cores }
+    requires early { cycle ≤ 10 ^ 12 }
+    requires cores { cores.now ≡ map (core_view s.now traces.now (run s.now traces.now cycle)) (below s.now.cores) }
+    requires steps { steps.now ≡ map (core_step_of s.now traces.now (run s.now traces.now cycle)) (below s.now.cores) }
+    requires counts { counts.old.items ≡ map (stats_of_core s.now traces.now (run s.now traces.now cycle)) (below s.now.cores) }
+    ensures { OnOk result (counts.new.items ≡ map (stats_of_core s.now traces.now (run s.now traces.now (cycle + 1))) (below s.now.cores)) }
+{
+    *counts = tally::core_counts(alloc, s, traces, cycle, cores, steps, counts)?;
+    Ok(())
+}
+
+fn count_channels(
+    alloc: Global,
+    s: &Config,
+    traces: &[Trace],
+    cycle: u64,
+    channels: &[ChannelPast],
+    steps: &[ChannelStep],
+    counts: &mut Vec<ChannelStats>,
+) -> Result<(), AllocError>
+    requires early { cycle ≤ 10 ^ 12 }
+    requires channels { channels.now ≡ map (channel_view s.now traces.now (run s.now traces.now cycle)) (below s.now.channels) }
+    requires steps { steps.now ≡ map (channel_step_of s.now traces.now (run s.now traces.now cycle)) (below s.now.channels) }
+    requires counts { counts.old.items ≡ map (stats_of_channel s.now traces.now (run s.now traces.now cycle)) (below s.now.channels) }
+    ensures { OnOk result (counts.new.items ≡ map (stats_of_channel s.now traces.now (run s.now traces.now (cycle + 1))) (below s.now.channels)) }
+{
+    *counts = tally::channel_counts(alloc, s, traces, cycle, channels, steps, counts)?;
+    Ok(())
 }
 
 #[tactic(auto, using(crate::proofs::Next::core_view_next))]
@@ -287,7 +324,6 @@ fn note_flight(
 }
 
 /// The commands of all channels, one cycle later.
-#[tactic(auto, using(crate::proofs::Units::length_units, crate::proofs::Units::at_unit_of, crate::proofs::Next::issued_none, crate::proofs::Next::issued_more, crate::proofs::Next::issued_all))]
 fn note_commands(
     s: &Config,
     traces: &[Trace],
@@ -416,7 +452,6 @@ fn ends_here(
     }
 }
 
-#[tactic(auto, using(crate::proofs::Next::core_view_none, crate::proofs::Units::map_below_more))]
 fn start_cores(alloc: Global, s: &Config, traces: &[Trace]) -> Result<Vec<CorePast>, AllocError>
     ensures { IfOk result (λ v. v.items ≡ map (core_view s.now traces.now (run s.now traces.now 0)) (below s.now.cores)) }
 {
@@ -427,7 +462,6 @@ fn start_cores(alloc: Global, s: &Config, traces: &[Trace]) -> Result<Vec<CorePa
     Ok(cores)
 }
 
-#[tactic(auto, using(crate::proofs::Next::channel_view_none, crate::proofs::Units::map_below_more))]
 fn start_channels(
     alloc: Global,
     s: &Config,
@@ -458,6 +492,51 @@ impl Machine {
         })
     }
 
+    /// Takes in what all do and send in one cycle.
+    fn note(
+        &mut self,
+        alloc: Global,
+        s: &Config,
+        traces: &[Trace],
+        cycle: u64,
+        core_steps: &[(CoreRow, Stop)],
+        rows: &[CoreRow],
+        steps: &[ChannelStep],
+        fresh: &[Message],
+    ) -> Result<(), AllocError>
+        requires traces { length traces.now ≡ s.now.cores }
+        requires early { cycle ≤ 10 ^ 12 }
+        requires core_steps { core_steps.now ≡ map (core_step_of s.now traces.now (run s.now traces.now cycle)) (below s.now.cores) }
+        requires rows { rows.now ≡ map (next_core_row s.now traces.now (run s.now traces.now cycle)) (below s.now.cores) }
+        requires steps { steps.now ≡ map (channel_step_of s.now traces.now (run s.now traces.now cycle)) (below s.now.channels) }
+        requires fresh { fresh.now ≡ sends s.now traces.now (run s.now traces.now cycle) (next_row s.now traces.now (run s.now traces.now cycle)) }
+        requires machine { HoldsRun s.now traces.now cycle self.old }
+        ensures { OnOk result (HoldsRun s.now traces.now (cycle + 1) self.new) }
+    {
+        count_cores(
+            alloc,
+            s,
+            traces,
+            cycle,
+            &self.cores,
+            core_steps,
+            &mut self.core_counts,
+        )?;
+        count_channels(
+            alloc,
+            s,
+            traces,
+            cycle,
+            &self.channels,
+            steps,
+            &mut self.channel_counts,
+        )?;
+        note_cores(alloc, s, traces, cycle, rows, fresh, &mut self.cores)?;
+        note_channels(alloc, s, traces, cycle, steps, fresh, &mut self.channels)?;
+        note_commands(s, traces, cycle, steps, &mut self.commands)?;
+        note_flight(alloc, s, traces, cycle, fresh, &mut self.flight)
+    }
+
     /// Runs one cycle.
     fn advance(
         &mut self,
@@ -477,28 +556,7 @@ impl Machine {
         let rows = rows_of_cores(alloc, s, traces, cycle, &core_steps)?;
         let steps = next_steps_of_channels(alloc, s, gaps, traces, cycle, &self.channels)?;
         let fresh = sending::all_sends(alloc, s, traces, cycle, &self.cores, &rows, &steps)?;
-        self.core_counts = tally::core_counts(
-            alloc,
-            s,
-            traces,
-            cycle,
-            &self.cores,
-            &core_steps,
-            &self.core_counts,
-        )?;
-        self.channel_counts = tally::channel_counts(
-            alloc,
-            s,
-            traces,
-            cycle,
-            &self.channels,
-            &steps,
-            &self.channel_counts,
-        )?;
-        note_cores(alloc, s, traces, cycle, &rows, &fresh, &mut self.cores)?;
-        note_channels(alloc, s, traces, cycle, &steps, &fresh, &mut self.channels)?;
-        note_commands(s, traces, cycle, &steps, &mut self.commands)?;
-        note_flight(alloc, s, traces, cycle, &fresh, &mut self.flight)
+        self.note(alloc, s, traces, cycle, &core_steps, &rows, &steps, &fresh)
     }
 
     /// What the run leaves, where it ends after so many cycles.
@@ -534,7 +592,6 @@ impl Machine {
     }
 }
 
-#[tactic(auto, using(crate::proofs::Runs::cycles_run_none, crate::proofs::Runs::cycles_run_more, crate::proofs::Runs::cycles_run_ends))]
 fn run_machine(
     alloc: Global,
     s: &Config,

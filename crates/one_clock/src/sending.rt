@@ -54,7 +54,6 @@ pub fn requests_of_core(
     )
 }
 
-#[tactic(auto, using(crate::proofs::Units::length_units, crate::proofs::Units::at_unit_of, crate::proofs::Units::flat_map_below_more))]
 fn requests_of_cores(
     alloc: Global,
     s: &Config,
@@ -156,7 +155,6 @@ fn messages_of_choice(
     }
 }
 
-#[tactic(auto, unfolding(sim_base::specs::Sends::channel_sends), using(crate::proofs::Units::length_units, crate::proofs::Units::at_unit_of, crate::proofs::Units::flat_map_below_more, crate::proofs::Next::channel_row_is, crate::proofs::Next::length_run))]
 fn messages_of_channels(
     alloc: Global,
     s: &Config,

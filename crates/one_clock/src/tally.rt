@@ -21,7 +21,6 @@ use statistics::cores::CoreStats;
 use std::alloc::{AllocError, Global};
 
 /// The statistics of each core before the first cycle.
-#[tactic(auto, using(crate::proofs::Joined::no_core_stats, crate::proofs::Units::map_below_more))]
 pub fn no_core_counts(
     alloc: Global,
     s: &Config,
@@ -37,7 +36,6 @@ pub fn no_core_counts(
 }
 
 /// The statistics of each channel before the first cycle.
-#[tactic(auto, using(crate::proofs::Joined::no_channel_stats, crate::proofs::Units::map_below_more))]
 pub fn no_channel_counts(
     alloc: Global,
     s: &Config,
@@ -87,7 +85,6 @@ fn count_core(
 }
 
 /// The statistics of each core, one cycle later.
-#[tactic(auto, using(crate::proofs::Units::length_units, crate::proofs::Units::at_unit_of, crate::proofs::Units::map_below_more))]
 pub fn core_counts(
     alloc: Global,
     s: &Config,
@@ -140,7 +137,6 @@ fn count_channel(
 }
 
 /// The statistics of each channel, one cycle later.
-#[tactic(auto, using(crate::proofs::Units::length_units, crate::proofs::Units::at_unit_of, crate::proofs::Units::map_below_more))]
 pub fn channel_counts(
     alloc: Global,
     s: &Config,

@@ -4,7 +4,7 @@ use Rattle.std.proofs.Math.ListN.{set}
 use Rattle.std.specs.Prelude.{slice_index_or}
 use Rattle.sim_base.specs.Machine.{run}
 use Rattle.plain_steps.specs.Plain.{channel_view}
-use Rattle.one_clock.proofs.Units.{halfway, halfway_none, halfway_at, halfway_more, halfway_all}
+use Rattle.one_clock.proofs.Units.{at_unit_of, below_units, halfway, halfway_none, halfway_at, halfway_more, halfway_all}
 use Rattle.one_clock.proofs.machine.note_channels.Goals as goal
 
 pub loop-channel-init : goal.loop-channel-init
@@ -12,6 +12,12 @@ loop-channel-init c =
     let before = channel_view c.args.s.now c.args.traces.now (run c.args.s.now c.args.traces.now c.args.cycle) in
     let after = channel_view c.args.s.now c.args.traces.now (run c.args.s.now c.args.traces.now (c.args.cycle + 1)) in
     c.requires.channels ∙ sym (halfway_none after before c.args.s.now.channels)
+
+pub bounds-steps-i : goal.bounds-steps-i
+bounds-steps-i c = below_units _ _ _ _ c.requires.steps (omega arith)
+
+pub note_channel-requires-clause-step : goal.note_channel-requires-clause-step
+note_channel-requires-clause-step c = at_unit_of _ _ _ _ _ c.requires.steps (omega arith)
 
 pub note_channel-requires-clause-past : goal.note_channel-requires-clause-past
 note_channel-requires-clause-past c =

@@ -4,7 +4,7 @@ use Rattle.std.proofs.Math.ListN.{set}
 use Rattle.std.specs.Prelude.{slice_index_or}
 use Rattle.sim_base.specs.Machine.{run}
 use Rattle.plain_steps.specs.Plain.{core_view}
-use Rattle.one_clock.proofs.Units.{halfway, halfway_none, halfway_at, halfway_more, halfway_all}
+use Rattle.one_clock.proofs.Units.{at_unit_of, below_units, halfway, halfway_none, halfway_at, halfway_more, halfway_all}
 use Rattle.one_clock.proofs.machine.note_cores.Goals as goal
 
 pub loop-core-init : goal.loop-core-init
@@ -12,6 +12,12 @@ loop-core-init c =
     let before = core_view c.args.s.now c.args.traces.now (run c.args.s.now c.args.traces.now c.args.cycle) in
     let after = core_view c.args.s.now c.args.traces.now (run c.args.s.now c.args.traces.now (c.args.cycle + 1)) in
     c.requires.cores ∙ sym (halfway_none after before c.args.s.now.cores)
+
+pub bounds-rows-i : goal.bounds-rows-i
+bounds-rows-i c = below_units _ _ _ _ c.requires.rows c.loop-core-test.true
+
+pub note_core-requires-clause-row : goal.note_core-requires-clause-row
+note_core-requires-clause-row c = at_unit_of _ _ _ _ _ c.requires.rows c.loop-core-test.true
 
 pub note_core-requires-clause-past : goal.note_core-requires-clause-past
 note_core-requires-clause-past c =

@@ -1,8 +1,9 @@
--- Where the run is over, it has just the cycles that are done.
-use Rattle.std.proofs.Common.{sym, ap, ◌∙◌, arith}
+-- The run has the cycles that are done, and no more where it is over.
+use Rattle.std.proofs.Common.{◌≡◌, sym, ap, subst, ◌∙◌, arith}
 use Rattle.std.proofs.lemmas.Result.{IfOk-weaker}
+use Rattle.sim_base.specs.Machine.{cycles_run}
 use Rattle.statistics.specs.Runs.{outcome_of}
-use Rattle.one_clock.proofs.Runs.{cycles_run_ends}
+use Rattle.one_clock.proofs.Runs.{cycles_run_none, cycles_run_more, cycles_run_ends}
 use Rattle.one_clock.proofs.machine.run_machine.Goals as goal
 
 pub returns-then-branch : goal.returns-then-branch
@@ -12,3 +13,20 @@ returns-then-branch c =
     IfOk-weaker c.outcome.result _ _
     (λ o e. e ∙ ap (outcome_of c.args.s.now c.args.traces.now) (sym (cycles_run_ends c.args.s.now c.args.traces.now here c.args.cycles c.loop-cycle.invariant.goes_on over (omega arith))))
     c.outcome.ensures
+
+pub loop-cycle-init : goal.loop-cycle-init
+loop-cycle-init c = record { holds = c.in_ok-machine.ensures {u = tt}; goes_on = cycles_run_none c.args.s.now c.args.traces.now }
+
+pub loop-cycle-preserved : goal.loop-cycle-preserved
+loop-cycle-preserved c = record {
+  holds = c.in_ok-advance.ensures {u = tt};
+  goes_on =
+      cycles_run_more c.args.s.now c.args.traces.now c.loop-cycle.cycle c.loop-cycle.invariant.goes_on
+      (sym (c.in_ok-ends_here.ensures {u = tt}) ∙ c.if-branch.false);
+}
+
+pub returns : goal.returns
+returns c =
+    let all : c.loop-cycle.cycle ≡ c.args.cycles = omega arith in
+    let on = subst (λ n. cycles_run c.args.s.now c.args.traces.now n ≡ n) all c.loop-cycle.invariant.goes_on in
+    IfOk-weaker c.outcome-2.result _ _ (λ o e. e ∙ ap (outcome_of c.args.s.now c.args.traces.now) (sym on)) c.outcome-2.ensures

@@ -1,0 +1,16 @@
+-- Each channel is where the lists have it.
+use Rattle.std.proofs.Common.{[], ◌∷◌, ◌++◌, sym, ap₂, ◌∙◌, arith}
+use Rattle.one_clock.proofs.Units.{at_unit_of, below_units, map_below_more}
+use Rattle.one_clock.proofs.ending.channels_left.Goals as goal
+
+pub bounds-channels-channel : goal.bounds-channels-channel
+bounds-channels-channel c = below_units _ _ _ _ c.requires.channels (omega arith)
+
+pub channel_left-requires-clause-past : goal.channel_left-requires-clause-past
+channel_left-requires-clause-past c = c.index-channels-channel.is ∙ at_unit_of _ _ _ _ _ c.requires.channels (omega arith)
+
+pub loop-channel-preserved : goal.loop-channel-preserved
+loop-channel-preserved c =
+    (c.in_ok-push.ensures {u = tt}).items
+    ∙ ap₂ (λ xs x. xs ++ x ∷ []) c.loop-channel.invariant (c.in_ok-channel_left.ensures {u = tt})
+    ∙ sym (map_below_more _ c.loop-channel.channel)

@@ -1,0 +1,22 @@
+-- Each core is where the lists have it.
+use Rattle.std.proofs.Common.{◌++◌, sym, ap₂, ◌∙◌}
+use Rattle.one_clock.proofs.Units.{at_unit_of, below_units, flat_map_below_more}
+use Rattle.one_clock.proofs.sending.requests_of_cores.Goals as goal
+
+pub bounds-cores-i : goal.bounds-cores-i
+bounds-cores-i c = below_units _ _ _ _ c.requires.cores c.loop-core-test.true
+
+pub bounds-rows-i : goal.bounds-rows-i
+bounds-rows-i c = below_units _ _ _ _ c.requires.rows c.loop-core-test.true
+
+pub requests_of_core-requires-clause-past : goal.requests_of_core-requires-clause-past
+requests_of_core-requires-clause-past c = c.index-cores-i.is ∙ at_unit_of _ _ _ _ _ c.requires.cores c.loop-core-test.true
+
+pub requests_of_core-requires-clause-row : goal.requests_of_core-requires-clause-row
+requests_of_core-requires-clause-row c = at_unit_of _ _ _ _ _ c.requires.rows c.loop-core-test.true
+
+pub loop-core-preserved : goal.loop-core-preserved
+loop-core-preserved c =
+    (c.in_ok-extend_from_slice.ensures {u = tt}).items
+    ∙ ap₂ (λ xs ys. xs ++ ys) c.loop-core.invariant (c.deref.ensures.value ∙ c.in_ok-more.ensures {u = tt})
+    ∙ sym (flat_map_below_more _ c.loop-core.core)
