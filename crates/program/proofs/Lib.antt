@@ -1,7 +1,9 @@
 pub mod AskLemmas
 pub mod CommandLemmas
+pub mod HeldTexts
 pub mod LevelFacts
 pub mod MatchLemmas
+pub mod Places
 pub mod RowFacts
 pub mod TakenLemmas
 pub mod WalkFacts

@@ -1,2 +1,5 @@
 pub mod CommandLine
 pub mod Ask
+pub mod Files
+pub mod Tables
+pub mod Answered

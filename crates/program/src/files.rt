@@ -1,5 +1,8 @@
 //! The files that the program reads and writes.
 
+ghost use Rattle.std.specs.Prelude.{◌≡◌, ◌++◌, ◌∷◌, [], Some, None, IfOk, OnOk, OnErr, List, ℕ};
+ghost use Rattle.program.specs.Files.{Held, SameFiles, SameBut, IsRenamed};
+
 use sim_base::fault::Fault;
 use std::alloc::Global;
 use std::fs;
@@ -7,19 +10,59 @@ use std::io::{self, BufWriter, ErrorKind, Write};
 use std::rt::Files;
 
 /// Files by their paths, as the program sees them. Tests put memory in their place.
+///
+/// A set that *tells* says by its clauses what each path holds, and what was opened to be written. The files of the host do not
+/// tell, since no clause can say what a file system gives: nothing is claimed of them here.
 pub trait FileSet {
     /// A file that is being written.
     type Out: Write + Drop;
 
+    /// The set tells what its paths hold.
+    ghost tells: { Type 0 } = { ⊥ };
+
+    /// What each path holds: the bytes of a file, or `None` where there is none.
+    ghost held: { Self → Held } = { λ _ _. None };
+
+    /// The paths that were opened to be written, in their order.
+    ghost opened: { Self → List (List ℕ) } = { λ _. [] };
+
     /// The whole of a file. Refuses by `Fault::Read` where it cannot be read, and by `Fault::Memory`.
-    fn read(&mut self, alloc: Global, path: &str) -> Result<Vec<u8>, Fault>;
+    fn read(&mut self, alloc: Global, path: &str) -> Result<Vec<u8>, Fault>
+        ensures bytes { IfOk result (λ v. tells → held self.old path.now ≡ Some v.items) }
+        ensures same { tells → SameFiles (held self.old) (held self.new) }
+        ensures unopened { tells → opened self.new ≡ opened self.old };
 
     /// Opens a file to be written from its beginning; what it held is gone. Refuses by `Fault::Write` where it cannot be
     /// opened, and by `Fault::Memory`.
-    fn create(&mut self, alloc: Global, path: &str) -> Result<Self::Out, Fault>;
+    fn create(&mut self, alloc: Global, path: &str) -> Result<Self::Out, Fault>
+        ensures empty { IfOk result (λ out. tells → Self.Out.contents out ≡ Some []) }
+        ensures noted { OnOk result (tells → opened self.new ≡ opened self.old ++ path.now ∷ []) }
+        ensures others { tells → SameBut path.now (held self.old) (held self.new) };
 
     /// Ends the writing of a file. Refuses by `Fault::Write` where what is left cannot be written, and by `Fault::Memory`.
-    fn close(&mut self, alloc: Global, path: &str, out: Self::Out) -> Result<(), Fault>;
+    fn close(&mut self, alloc: Global, path: &str, out: Self::Out) -> Result<(), Fault>
+        ensures written { OnOk result (tells → held self.new path.now ≡ Self.Out.contents out) }
+        ensures others { tells → SameBut path.now (held self.old) (held self.new) }
+        ensures unopened { tells → opened self.new ≡ opened self.old };
+
+    /// Tests whether a file could be given this path. Refuses by `Fault::Write` where something stands there that no file
+    /// replaces, as a folder, or where that cannot be told.
+    fn test_place(&mut self, path: &str) -> Result<(), Fault>
+        ensures same { tells → SameFiles (held self.old) (held self.new) }
+        ensures unopened { tells → opened self.new ≡ opened self.old };
+
+    /// Gives a file another path, in one step: what that path held is gone, or, where it refuses, nothing has changed. Refuses by
+    /// `Fault::Write`, and by `Fault::Memory`.
+    fn rename(&mut self, alloc: Global, from: &str, to: &str) -> Result<(), Fault>
+        ensures renamed { OnOk result (tells → IsRenamed from.now to.now (held self.old) (held self.new)) }
+        ensures refused { OnErr result (tells → SameFiles (held self.old) (held self.new)) }
+        ensures unopened { tells → opened self.new ≡ opened self.old };
+
+    /// Removes a file. Refuses by `Fault::Write` where it cannot, or where there is none.
+    fn remove(&mut self, path: &str) -> Result<(), Fault>
+        ensures removed { OnOk result (tells → held self.new path.now ≡ None) }
+        ensures others { tells → SameBut path.now (held self.old) (held self.new) }
+        ensures unopened { tells → opened self.new ≡ opened self.old };
 }
 
 /// The files of the host.
@@ -32,6 +75,13 @@ fn read_fault(error: &io::Error) -> Fault {
     match error.kind() {
         ErrorKind::OutOfMemory => Fault::Memory,
         _ => Fault::Read,
+    }
+}
+
+fn written(answer: io::Result<()>) -> Result<(), Fault> {
+    match answer {
+        Ok(()) => Ok(()),
+        Err(_) => Err(Fault::Write),
     }
 }
 
@@ -61,9 +111,23 @@ impl<R: Files + AllocGlobal> FileSet for HostFiles<'_, R> {
         _path: &str,
         mut out: BufWriter<R::File>,
     ) -> Result<(), Fault> {
-        match out.flush() {
-            Ok(()) => Ok(()),
+        written(out.flush())
+    }
+
+    fn test_place(&mut self, path: &str) -> Result<(), Fault> {
+        match fs::symlink_metadata(self.rt, path) {
+            Ok(found) if found.is_dir() => Err(Fault::Write),
+            Ok(_) => Ok(()),
+            Err(error) if error.kind() == ErrorKind::NotFound => Ok(()),
             Err(_) => Err(Fault::Write),
         }
+    }
+
+    fn rename(&mut self, _alloc: Global, from: &str, to: &str) -> Result<(), Fault> {
+        written(fs::rename(self.rt, from, to))
+    }
+
+    fn remove(&mut self, path: &str) -> Result<(), Fault> {
+        written(fs::remove_file(self.rt, path))
     }
 }

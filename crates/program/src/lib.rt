@@ -4,4 +4,5 @@
 pub mod command_line;
 pub mod files;
 pub mod perform;
+mod tables;
 pub mod words;

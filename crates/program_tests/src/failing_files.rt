@@ -1,51 +1,142 @@
-//! Tables that cannot be written.
+//! Tables that cannot be written or be given their places: what stood there stands there, or the tables are torn and all there.
 
+use crate::expect::expect_at;
 use crate::files_in_memory::{Failure, MemoryFiles};
-use crate::program_runs::{assert_text, said_to_run};
+use crate::program_runs::{assert_text, files_by, said_to_run};
 use crate::worked_runs::ONE_READ;
+use std::alloc::{AllocError, Global};
 use std::process::Abort;
 use std::sync::Wait;
 use std::test::Fail;
 use std::thread::Threads;
 
-// The tables, and the files that are opened where one of them fails.
-static OPENED: [(&str, &str); 3] = [
-    ("d/commands.csv", "d/commands.csv "),
-    ("d/stats.csv", "d/commands.csv d/stats.csv "),
-    ("d/final.csv", "d/commands.csv d/stats.csv d/final.csv "),
+const OLD: &str = "of an earlier run\n";
+
+// The tables, and the names under which they are written.
+static TABLES: [(&str, &str); 3] = [
+    ("d/commands.csv", "d/commands.csv.part"),
+    ("d/stats.csv", "d/stats.csv.part"),
+    ("d/final.csv", "d/final.csv.part"),
 ];
 
-// Asserts that a run is refused where a table fails.
+// A folder with the tables of an earlier run, of which one was left under the name under which it was written.
+fn old_folder(alloc: Global) -> Result<MemoryFiles, AllocError> {
+    let mut files = MemoryFiles::new(alloc);
+    for (table, _) in &TABLES {
+        files.add(alloc, table, OLD)?;
+    }
+    files.add(alloc, "d/stats.csv.part", OLD)?;
+    Ok(files)
+}
+
+// What stands under a path: nothing, an earlier table, the new one, or a part of it.
+fn standing(files: &MemoryFiles, path: &str, new: &str) -> &'static str {
+    match files.text_at(path) {
+        None => "nothing",
+        Some(text) if text == OLD => "old",
+        Some(text) if text == new => "new",
+        Some(_) => "cut",
+    }
+}
+
+// What goes wrong with a run into the folder.
+type Case = (Failure, &'static str);
+
+// What the folder is left with: what stands in each table's place and beside it.
+type Left = [(&'static str, &'static str); 3];
+
+// Asserts what stands in the folder after a run that is refused.
+fn assert_left(rt: &impl Abort, name: &str, files: &MemoryFiles, good: &MemoryFiles, left: &Left) {
+    for ((table, part), want) in TABLES.iter().zip(left) {
+        let new = good.text_at(table).unwrap_or("no table");
+        let found = (standing(files, table, new), standing(files, part, new));
+        expect_at(rt, &(name, table), &found, want);
+    }
+}
+
+// Asserts what a run tells of errors that is refused where a file fails, and what it opened and left.
 fn assert_refused<R: Abort + Threads + Wait + Sync + AllocGlobal>(
     rt: &R,
-    failure: Failure,
-    path: &'static str,
+    case: &Case,
+    told: &str,
     opened: &str,
+    left: &Left,
 ) -> Result<(), Fail> {
-    let mut files = MemoryFiles::new(rt.alloc());
-    files.failing = Some((failure, path));
+    let good = files_by(rt, &ONE_READ, 1)?;
+    let mut files = old_folder(rt.alloc())?;
+    files.failing = Some(*case);
     let said = said_to_run(rt, &mut files, &ONE_READ, "--cycles 16 --workers 1")?;
-    said.assert_is(rt, path, (2, "", "fault 12: write\n"));
-    assert_text(rt, path, files.opened.as_str(), opened);
+    said.assert_is(rt, case.1, (2, "", told));
+    assert_text(rt, case.1, files.opened.as_str(), opened);
+    assert_left(rt, case.1, &files, &good, left);
     Ok(())
 }
 
-fn assert_each_refused<R: Abort + Threads + Wait + Sync + AllocGlobal>(
-    rt: &R,
-    failure: Failure,
-) -> Result<(), Fail> {
-    for (path, opened) in &OPENED {
-        assert_refused(rt, failure, path, opened)?;
-    }
-    Ok(())
-}
+const KEPT: Left = [("old", "nothing"), ("old", "nothing"), ("old", "nothing")];
 
-static FAILURES: [Failure; 3] = [Failure::Opening, Failure::Writing, Failure::Closing];
+const ONE_OPENED: &str = "d/commands.csv.part ";
+
+const TWO_OPENED: &str = "d/commands.csv.part d/stats.csv.part ";
+
+const ALL_OPENED: &str = "d/commands.csv.part d/stats.csv.part d/final.csv.part ";
+
+// What goes wrong before the first table has its place, and what is opened until then.
+static EARLY: [(Case, &str); 13] = [
+    ((Failure::Opening, "d/commands.csv.part"), ONE_OPENED),
+    ((Failure::Opening, "d/stats.csv.part"), TWO_OPENED),
+    ((Failure::Opening, "d/final.csv.part"), ALL_OPENED),
+    ((Failure::Writing, "d/commands.csv.part"), ONE_OPENED),
+    ((Failure::Writing, "d/stats.csv.part"), TWO_OPENED),
+    ((Failure::Writing, "d/final.csv.part"), ALL_OPENED),
+    ((Failure::Closing, "d/commands.csv.part"), ONE_OPENED),
+    ((Failure::Closing, "d/stats.csv.part"), TWO_OPENED),
+    ((Failure::Closing, "d/final.csv.part"), ALL_OPENED),
+    ((Failure::Placing, "d/commands.csv"), ALL_OPENED),
+    ((Failure::Placing, "d/stats.csv"), ALL_OPENED),
+    ((Failure::Placing, "d/final.csv"), ALL_OPENED),
+    ((Failure::Renaming, "d/commands.csv"), ALL_OPENED),
+];
 
 #[test]
-fn tells_of_tables_that_fail(rt: HostRuntime) -> Result<(), Fail> {
-    for failure in &FAILURES {
-        assert_each_refused(&rt, *failure)?;
+fn keeps_old_tables(rt: HostRuntime) -> Result<(), Fail> {
+    for (case, opened) in &EARLY {
+        assert_refused(&rt, case, "fault 12: write\n", opened, &KEPT)?;
     }
+    Ok(())
+}
+
+const TORN: &str = "fault 12: write
+the tables are of two runs: what is missing of this one stands beside them under names that end in .part
+";
+
+// What goes wrong after the first table has its place, and what is left then.
+static LATE: [(Case, Left); 2] = [
+    (
+        (Failure::Renaming, "d/stats.csv"),
+        [("new", "nothing"), ("old", "new"), ("old", "new")],
+    ),
+    (
+        (Failure::Renaming, "d/final.csv"),
+        [("new", "nothing"), ("new", "nothing"), ("old", "new")],
+    ),
+];
+
+#[test]
+fn tells_of_torn_tables(rt: HostRuntime) -> Result<(), Fail> {
+    for (case, left) in &LATE {
+        assert_refused(&rt, case, TORN, ALL_OPENED, left)?;
+    }
+    Ok(())
+}
+
+const NEW: Left = [("new", "nothing"), ("new", "nothing"), ("new", "nothing")];
+
+#[test]
+fn replaces_old_tables(rt: HostRuntime) -> Result<(), Fail> {
+    let good = files_by(&rt, &ONE_READ, 1)?;
+    let mut files = old_folder(rt.alloc())?;
+    let said = said_to_run(&rt, &mut files, &ONE_READ, "--cycles 16 --workers 1")?;
+    said.assert_is(&rt, "old tables", (0, "", ""));
+    assert_left(&rt, "old tables", &files, &good, &NEW);
     Ok(())
 }

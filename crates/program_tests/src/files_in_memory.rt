@@ -3,21 +3,18 @@
 use program::files::FileSet;
 use sim_base::fault::Fault;
 use std::alloc::{AllocError, Global};
+use std::collections::BTreeMap;
 use std::io;
 use std::io::{ErrorKind, Write};
 
-#[derive(Drop)]
-struct MemoryFile {
-    path: String,
-    bytes: Vec<u8>,
-}
-
-// What goes wrong with a file.
+// What goes wrong with a file. A placing or a renaming fails by the path that the file is to have.
 #[derive(Clone, Copy, PartialEq, Eq, Debug)]
 pub(crate) enum Failure {
     Opening,
     Writing,
     Closing,
+    Placing,
+    Renaming,
 }
 
 // A file in memory that is being written.
@@ -41,10 +38,10 @@ impl Write for MemoryOut {
     }
 }
 
-// Files in memory. What is written is kept when it is closed. One file may fail.
+// Files in memory. What is written stands in a file from its opening on, as far as it came. One file may fail.
 #[derive(Drop)]
 pub(crate) struct MemoryFiles {
-    files: Vec<MemoryFile>,
+    files: BTreeMap<String, Vec<u8>>,
     pub(crate) opened: String,
     pub(crate) failing: Option<(Failure, &'static str)>,
 }
@@ -52,38 +49,32 @@ pub(crate) struct MemoryFiles {
 impl MemoryFiles {
     pub(crate) fn new(alloc: Global) -> Self {
         MemoryFiles {
-            files: Vec::new(alloc),
+            files: BTreeMap::new(alloc),
             opened: String::new(alloc),
             failing: None,
         }
     }
 
-    pub(crate) fn add(&mut self, alloc: Global, path: &str, text: &str) -> Result<(), AllocError> {
+    fn put(&mut self, alloc: Global, path: &str, bytes: Vec<u8>) -> Result<(), AllocError> {
         let path = String::from_str(alloc, path)?;
-        let bytes = Vec::from_slice(alloc, text.as_bytes())?;
-        self.files.push(MemoryFile { path, bytes })?;
+        self.files.insert(path, bytes)?;
         Ok(())
     }
 
-    // The bytes of a file that was added or written.
-    fn bytes_at(&self, path: &str) -> Option<&[u8]> {
-        for file in &self.files {
-            if file.path.as_str() == path {
-                return Some(file.bytes.as_slice());
-            }
-        }
-        None
+    pub(crate) fn add(&mut self, alloc: Global, path: &str, text: &str) -> Result<(), AllocError> {
+        let bytes = Vec::from_slice(alloc, text.as_bytes())?;
+        self.put(alloc, path, bytes)
     }
 
-    // Its text, if it is one.
+    // The text of a file that was added or written, if it is one.
     pub(crate) fn text_at(&self, path: &str) -> Option<&str> {
-        str::from_utf8(self.bytes_at(path)?).ok()
+        str::from_utf8(self.files.get(path)?).ok()
     }
 
-    fn fails(&self, failure: Failure, path: &str) -> bool {
+    fn test(&self, failure: Failure, path: &str) -> Result<(), Fault> {
         match self.failing {
-            Some((kind, name)) => kind == failure && name == path,
-            None => false,
+            Some((kind, name)) if kind == failure && name == path => Err(Fault::Write),
+            _ => Ok(()),
         }
     }
 }
@@ -92,7 +83,7 @@ impl FileSet for MemoryFiles {
     type Out = MemoryOut;
 
     fn read(&mut self, alloc: Global, path: &str) -> Result<Vec<u8>, Fault> {
-        match self.bytes_at(path) {
+        match self.files.get(path) {
             Some(bytes) => Ok(Vec::from_slice(alloc, bytes)?),
             None => Err(Fault::Read),
         }
@@ -101,24 +92,35 @@ impl FileSet for MemoryFiles {
     fn create(&mut self, alloc: Global, path: &str) -> Result<MemoryOut, Fault> {
         self.opened.push_str(path)?;
         self.opened.push_str(" ")?;
-        if self.fails(Failure::Opening, path) {
-            return Err(Fault::Write);
-        }
+        self.test(Failure::Opening, path)?;
+        self.put(alloc, path, Vec::new(alloc))?;
         Ok(MemoryOut {
             bytes: Vec::new(alloc),
-            fails: self.fails(Failure::Writing, path),
+            fails: self.test(Failure::Writing, path).is_err(),
         })
     }
 
     fn close(&mut self, alloc: Global, path: &str, out: MemoryOut) -> Result<(), Fault> {
-        if self.fails(Failure::Closing, path) {
-            return Err(Fault::Write);
+        self.test(Failure::Closing, path)?;
+        Ok(self.put(alloc, path, out.bytes)?)
+    }
+
+    fn test_place(&mut self, path: &str) -> Result<(), Fault> {
+        self.test(Failure::Placing, path)
+    }
+
+    fn rename(&mut self, alloc: Global, from: &str, to: &str) -> Result<(), Fault> {
+        self.test(Failure::Renaming, to)?;
+        match self.files.remove(from) {
+            Some(bytes) => Ok(self.put(alloc, to, bytes)?),
+            None => Err(Fault::Write),
         }
-        let path = String::from_str(alloc, path)?;
-        let file = MemoryFile {
-            path,
-            bytes: out.bytes,
-        };
-        self.files.push(file).map_err(|_| Fault::Memory)
+    }
+
+    fn remove(&mut self, path: &str) -> Result<(), Fault> {
+        match self.files.remove(path) {
+            Some(_) => Ok(()),
+            None => Err(Fault::Write),
+        }
     }
 }

@@ -44,6 +44,8 @@ mod same;
 #[cfg(test)]
 mod table_lines;
 #[cfg(test)]
+mod told_files;
+#[cfg(test)]
 mod whole_tables;
 #[cfg(test)]
 mod worked_runs;

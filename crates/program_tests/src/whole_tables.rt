@@ -174,7 +174,7 @@ due,,0,,,,,0
 
 // Asserts the tables of a run, and that they are opened one after the other.
 fn assert_tables(rt: &impl Abort, files: &MemoryFiles, name: &str, want: &Tables<'_>) {
-    let opened = "d/commands.csv d/stats.csv d/final.csv ";
+    let opened = "d/commands.csv.part d/stats.csv.part d/final.csv.part ";
     assert_text(rt, name, files.opened.as_str(), opened);
     for (path, text) in [
         ("d/commands.csv", want.commands),

@@ -1,0 +1,16 @@
+use Rattle.std.proofs.Common.{inr}
+use Rattle.std.proofs.lemmas.Result.{on_ok_weaker, on_err_weaker}
+use Rattle.program.proofs.Places.{written_from, unplaced_from}
+use Rattle.program.proofs.perform.perform_run.Goals as goal
+
+pub returns-clause-done : goal.returns-clause-done
+returns-clause-done g c =
+    on_ok_weaker c.write_tables.result
+    (λ h tells. record { run = c.in_ok-run.run'; outcome = c.in_ok-run.ensures.outcome tells; written = written_from _ _ _ _ _ (c.run_files.ensures.same tells) (h tells) })
+    c.write_tables.ensures.written
+
+pub returns-clause-refused : goal.returns-clause-refused
+returns-clause-refused g c =
+    on_err_weaker c.write_tables.result
+    (λ h tells. inr (record { run = c.in_ok-run.run'; outcome = c.in_ok-run.ensures.outcome tells; unplaced = unplaced_from _ _ _ _ _ (c.run_files.ensures.same tells) (h tells) }))
+    c.write_tables.ensures.refused

@@ -1,0 +1,139 @@
+//! Files in memory that tell what they hold, so that what the program promises of files is promised of them.
+
+ghost use Rattle.std.specs.Prelude.{◌≡◌, ◌≢◌, map, option_map, string_bytes, Some};
+ghost use Rattle.std.specs.BTreeMap.{get_by_text};
+ghost use Rattle.program.specs.Answered.{seen, IsAnswered, IsRefused};
+
+use fixtures::small::SMALL;
+use program::files::FileSet;
+use program::perform::perform;
+use sim_base::fault::Fault;
+use std::alloc::{AllocError, Global};
+use std::collections::BTreeMap;
+use std::sync::Wait;
+use std::test::Fail;
+use std::thread::Threads;
+
+/// Files in memory, of which what is written is there once it is closed.
+#[derive(Drop)]
+struct ToldFiles {
+    files: BTreeMap<String, Vec<u8>>,
+    opened: Vec<String>,
+}
+
+impl FileSet for ToldFiles {
+    type Out = Vec<u8>;
+
+    ghost tells = { Unit {0} };
+
+    ghost held = { λ set path. option_map (λ v. v.items) (get_by_text set.files path) };
+
+    ghost opened = { λ set. map string_bytes set.opened.items };
+
+    fn read(&mut self, alloc: Global, path: &str) -> Result<Vec<u8>, Fault> {
+        match self.files.get(path) {
+            Some(bytes) => match Vec::from_slice(alloc, bytes) {
+                Ok(bytes) => Ok(bytes),
+                Err(_) => Err(Fault::Memory),
+            },
+            None => Err(Fault::Read),
+        }
+    }
+
+    fn create(&mut self, alloc: Global, path: &str) -> Result<Vec<u8>, Fault> {
+        let name = String::from_str(alloc, path)?;
+        match self.opened.push(name) {
+            Ok(()) => Ok(Vec::new(alloc)),
+            Err(_) => Err(Fault::Memory),
+        }
+    }
+
+    fn close(&mut self, alloc: Global, path: &str, out: Vec<u8>) -> Result<(), Fault> {
+        let key = String::from_str(alloc, path)?;
+        match self.files.insert(key, out) {
+            Ok(_) => Ok(()),
+            Err(_) => Err(Fault::Memory),
+        }
+    }
+
+    fn test_place(&mut self, _path: &str) -> Result<(), Fault> {
+        Ok(())
+    }
+
+    fn rename(&mut self, alloc: Global, from: &str, to: &str) -> Result<(), Fault> {
+        let key = String::from_str(alloc, to)?;
+        let Some(bytes) = self.files.get(from) else {
+            return Err(Fault::Write);
+        };
+        let copy = Vec::from_slice(alloc, bytes)?;
+        let Ok(_) = self.files.insert(key, copy) else {
+            return Err(Fault::Memory);
+        };
+        if from != to {
+            let _ = self.files.remove(from);
+        }
+        Ok(())
+    }
+
+    fn remove(&mut self, path: &str) -> Result<(), Fault> {
+        match self.files.remove(path) {
+            Some(_) => Ok(()),
+            None => Err(Fault::Write),
+        }
+    }
+}
+
+// What the program promises of files that tell, and of a list that is printed to, without a premise.
+fn perform_told<R: Threads + Wait + Sync>(
+    rt: &R,
+    alloc: Global,
+    words: &[&str],
+    files: &mut ToldFiles,
+    print: &mut Vec<u8>,
+    errors: &mut Vec<u8>,
+) -> u8
+    ensures answered { result ≢ 2 → IsAnswered (map (λ w. w.now) words.now) result (seen (⟦<ToldFiles as FileSet>⟧.held files.old) (⟦<ToldFiles as FileSet>⟧.opened files.old) (Some print.old.items)) (seen (⟦<ToldFiles as FileSet>⟧.held files.new) (⟦<ToldFiles as FileSet>⟧.opened files.new) (Some print.new.items)) }
+    ensures refused { result ≡ 2 → IsRefused (map (λ w. w.now) words.now) (seen (⟦<ToldFiles as FileSet>⟧.held files.old) (⟦<ToldFiles as FileSet>⟧.opened files.old) (Some print.old.items)) (seen (⟦<ToldFiles as FileSet>⟧.held files.new) (⟦<ToldFiles as FileSet>⟧.opened files.new) (Some print.new.items)) }
+{
+    perform(rt, alloc, words, files, print, errors)
+}
+
+fn files_of(alloc: Global, texts: &[(&str, &str)]) -> Result<ToldFiles, AllocError> {
+    let mut files = BTreeMap::new(alloc);
+    for (path, text) in texts {
+        let key = String::from_str(alloc, path)?;
+        let bytes = Vec::from_slice(alloc, text.as_bytes())?;
+        files.insert(key, bytes)?;
+    }
+    Ok(ToldFiles {
+        files,
+        opened: Vec::new(alloc),
+    })
+}
+
+static RUN: [&str; 10] = [
+    "dramsim",
+    "run",
+    "c.toml",
+    "--cycles",
+    "16",
+    "--workers",
+    "1",
+    "--out",
+    "d",
+    "t0",
+];
+
+#[test]
+fn tells_of_a_run(rt: HostRuntime) -> Result<(), Fail> {
+    let alloc = rt.alloc();
+    let mut files = files_of(alloc, &[("c.toml", SMALL), ("t0", "0 0\n")])?;
+    let mut print = Vec::new(alloc);
+    let mut errors = Vec::new(alloc);
+    let status = perform_told(&rt, alloc, &RUN, &mut files, &mut print, &mut errors);
+    assert_eq!(rt; status, 0);
+    assert_eq!(rt; files.files.len(), 5);
+    assert_eq!(rt; files.opened.len(), 3);
+    assert_eq!(rt; print.len(), 0);
+    Ok(())
+}
