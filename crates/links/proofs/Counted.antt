@@ -81,7 +81,7 @@ room_there ch j i x d rings ms h l e at =
     let one = counted ch (ring_to ch m) m (drop (j + 1) ms) (eq-eqb _ _ refl) in
     let has = k (ring_to ch m) (omega (arith, one)) in
     let here : get_or rings (ring_to ch m) (buffer [] 0) ≡ d =
-        ap (λ n. get_or rings n (buffer [] 0)) (sym e) ∙ any_default i d rings (subst (λ n. n < length rings) (sym e) has.exists) ∙ sym at in
+    ap (λ n. get_or rings n (buffer [] 0)) (sym e) ∙ any_default i d rings (subst (λ n. n < length rings) (sym e) has.exists) ∙ sym at in
     let room = subst (λ ring. length ring.items + count_to ch (ring_to ch m) (m ∷ drop (j + 1) ms) ≤ ring.capacity) here has.room in
     omega (arith, one, room)
 
