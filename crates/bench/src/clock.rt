@@ -1,6 +1,7 @@
 //! How long calls take.
 
-use anyhow::Result;
+use anyhow::{Context, Result};
+use std::io;
 use std::rt::Clock;
 use std::time::Instant;
 
@@ -22,6 +23,37 @@ impl Effort {
 /// The nanoseconds since the start, at most 2^64 - 1.
 pub fn nanoseconds_since(rt: &impl Clock, start: Instant) -> Result<u64> {
     Ok(u64::try_from(start.elapsed(rt)?.as_nanos()).unwrap_or(u64::MAX))
+}
+
+/// Adds up how long calls take. Where the clock fails, that is told as it is read, so that nothing large is held then.
+#[derive(Clone, Copy)]
+pub struct Stopwatch {
+    nanoseconds: Option<u64>,
+}
+
+impl Stopwatch {
+    pub fn new() -> Self {
+        Stopwatch {
+            nanoseconds: Some(0),
+        }
+    }
+
+    /// Adds the time since a call began.
+    pub fn stop(&mut self, rt: &impl Clock, start: io::Result<Instant>) {
+        let spent = match start {
+            Ok(start) => nanoseconds_since(rt, start).ok(),
+            Err(_) => None,
+        };
+        self.nanoseconds = match (self.nanoseconds, spent) {
+            (Some(sum), Some(spent)) => Some(sum.wrapping_add(spent)),
+            _ => None,
+        };
+    }
+
+    /// The nanoseconds of all calls.
+    pub fn read(self) -> Result<u64> {
+        self.nanoseconds.context("the clock fails")
+    }
 }
 
 /// The share of each of so many, rounded down.

@@ -3,6 +3,7 @@
 //! cycles. Prints how many entries it retired in how many cycles, and how long that took.
 
 mod busy;
+mod running;
 mod spans;
 mod traces;
 

@@ -5,7 +5,7 @@ use program::words::{Ask, read_words};
 use sim_base::fault::Fault;
 use std::test::Fail;
 
-static RUN: [&str; 11] = [
+const RUN: &[&str] = &[
     "dramsim",
     "run",
     "c.toml",
@@ -35,14 +35,7 @@ fn is_run(ask: &Ask<'_>) -> bool {
     }
 }
 
-#[test]
-fn reads_a_run(rt: HostRuntime) -> Result<(), Fail> {
-    let ask = read_words(rt.alloc(), &RUN)?;
-    expect_at(&rt, &ask, &is_run(&ask), &true);
-    Ok(())
-}
-
-static CHECK: [&str; 4] = ["dramsim", "check", "c.toml", "commands.csv"];
+const CHECK: &[&str] = &["dramsim", "check", "c.toml", "commands.csv"];
 
 fn is_check(ask: &Ask<'_>) -> bool {
     match ask {
@@ -51,14 +44,7 @@ fn is_check(ask: &Ask<'_>) -> bool {
     }
 }
 
-#[test]
-fn reads_a_check(rt: HostRuntime) -> Result<(), Fail> {
-    let ask = read_words(rt.alloc(), &CHECK)?;
-    expect_at(&rt, &ask, &is_check(&ask), &true);
-    Ok(())
-}
-
-static MAP: [&str; 4] = ["dramsim", "map", "c.toml", "0x2000"];
+const MAP: &[&str] = &["dramsim", "map", "c.toml", "0x2000"];
 
 fn is_map(ask: &Ask<'_>) -> bool {
     match ask {
@@ -67,15 +53,6 @@ fn is_map(ask: &Ask<'_>) -> bool {
     }
 }
 
-#[test]
-fn reads_a_map(rt: HostRuntime) -> Result<(), Fail> {
-    let ask = read_words(rt.alloc(), &MAP)?;
-    expect_at(&rt, &ask, &is_map(&ask), &true);
-    Ok(())
-}
-
-static HELP: [&[&str]; 2] = [&["dramsim", "--help"], &["dramsim", "help", "run"]];
-
 fn is_help(ask: &Ask<'_>) -> bool {
     match ask {
         Ask::Help(text) => text.as_str().contains("Usage:"),
@@ -83,11 +60,37 @@ fn is_help(ask: &Ask<'_>) -> bool {
     }
 }
 
+/// What words ask for.
+#[derive(Clone, Copy)]
+enum Want {
+    Run,
+    Check,
+    Map,
+    Help,
+}
+
+fn is_right(ask: &Ask<'_>, want: Want) -> bool {
+    match want {
+        Want::Run => is_run(ask),
+        Want::Check => is_check(ask),
+        Want::Map => is_map(ask),
+        Want::Help => is_help(ask),
+    }
+}
+
+static WORDS: [(&[&str], Want); 5] = [
+    (RUN, Want::Run),
+    (CHECK, Want::Check),
+    (MAP, Want::Map),
+    (&["dramsim", "--help"], Want::Help),
+    (&["dramsim", "help", "run"], Want::Help),
+];
+
 #[test]
-fn answers_calls_for_help(rt: HostRuntime) -> Result<(), Fail> {
-    for words in &HELP {
+fn reads_words(rt: HostRuntime) -> Result<(), Fail> {
+    for (words, want) in &WORDS {
         let ask = read_words(rt.alloc(), words)?;
-        expect_at(&rt, &(words, &ask), &is_help(&ask), &true);
+        expect_at(&rt, &(words, &ask), &is_right(&ask, *want), &true);
     }
     Ok(())
 }

@@ -35,7 +35,15 @@ fn assert_counts<R: Abort + Threads + Wait + Sync + AllocGlobal>(
     Ok(())
 }
 
-static COUNTS: [Counts<'static>; 17] = [
+/// Refreshes as often as they may come.
+const OFTEN: Run = Run {
+    name: "refreshes often",
+    changes: &["nREFI = 35"],
+    cycles: 64,
+    ..ONE_READ
+};
+
+static COUNTS: [Counts<'static>; 18] = [
     (
         HITS,
         &[
@@ -90,6 +98,7 @@ static COUNTS: [Counts<'static>; 17] = [
         &[],
     ),
     (RANK_REFRESHES, &["channel,0,refreshing,8"], &[]),
+    (OFTEN, &["run,0,cycles,64"], &[]),
     (DRAIN_AT_TWO, &["channel,0,draining,0"], &[]),
     (
         DRAIN_AT_ONE,

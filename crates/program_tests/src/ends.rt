@@ -1,17 +1,22 @@
 //! The first and the last of what a run did and left.
 
 use command_table::table::CommandTable;
+use sim_base::command::CommandRow;
 use sim_base::message::{Cycle, Message};
 use std::alloc::{AllocError, Global};
 
 /// A number of things, and the cycles of the first and of the last.
 pub(crate) type Ends = (usize, Option<Cycle>, Option<Cycle>);
 
-pub(crate) fn ends_of_commands(alloc: Global, commands: &CommandTable) -> Result<Ends, AllocError> {
-    let rows = commands.to_vec(alloc)?;
+pub(crate) fn ends_of_rows(rows: &[CommandRow]) -> Ends {
     let first = rows.first().map(|row| row.cycle);
     let last = rows.last().map(|row| row.cycle);
-    Ok((rows.len(), first, last))
+    (rows.len(), first, last)
+}
+
+pub(crate) fn ends_of_commands(alloc: Global, commands: &CommandTable) -> Result<Ends, AllocError> {
+    let rows = commands.to_vec(alloc)?;
+    Ok(ends_of_rows(&rows))
 }
 
 /// The cycles are those in which they arrive.

@@ -1,9 +1,8 @@
 //! Runs that are refused where two things are wrong at once: the first of them in the order of the tests is told, by the machine
 //! with workers and by the plain one.
 
-use crate::expect::{expect, expect_at};
-use fixtures::small::small_text;
-use fixtures::texts::texts_of;
+use crate::expect::expect_at;
+use crate::outcomes::Texts;
 use sim_base::fault::{Fault, LineCause};
 use sim_base::key::Key;
 use sim_base::message::Cycle;
@@ -30,27 +29,26 @@ struct Case<'x> {
 fn refused<R: Threads + Wait + Sync>(
     rt: &R,
     alloc: Global,
-    config: &str,
     case: &Case<'_>,
 ) -> Result<[Option<Fault>; 2], AllocError> {
-    let texts = texts_of(alloc, case.traces)?;
-    let bytes = config.as_bytes();
-    let by_workers = simulate(rt, alloc, &Open, bytes, &texts, case.cycles, case.workers).err();
-    let plain = simulate_plain(rt, alloc, bytes, &texts, case.cycles, case.workers).err();
+    let texts = Texts::of(alloc, case.changes, "", case.traces)?;
+    let run = texts.run(case.cycles);
+    let bytes = run.config.as_bytes();
+    let by_workers = simulate(rt, alloc, &Open, bytes, run.texts, run.cycles, case.workers).err();
+    let plain = simulate_plain(rt, alloc, bytes, run.texts, run.cycles, case.workers).err();
     Ok([by_workers, plain])
 }
 
-fn refused_of_small<R: Threads + Wait + Sync>(
-    rt: &R,
-    alloc: Global,
-    case: &Case<'_>,
-) -> Result<[Option<Fault>; 2], AllocError> {
-    let config = small_text(alloc, case.changes, "")?;
-    refused(rt, alloc, config.as_str(), case)
-}
-
-static CASES: [Case<'static>; 12] = [
-    // The configuration comes first.
+static CASES: [Case<'static>; 13] = [
+    // No document comes first, with all else that is wrong.
+    Case {
+        changes: &["cores = = 1"],
+        traces: &[],
+        cycles: TOO_LONG,
+        workers: 0,
+        want: Fault::ConfigSyntax,
+    },
+    // Then comes the configuration.
     Case {
         changes: &["request_latency = 0"],
         traces: &["x\n"],
@@ -151,7 +149,7 @@ static CASES: [Case<'static>; 12] = [
 #[test]
 fn the_first_fault_is_told(rt: HostRuntime) -> Result<(), Fail> {
     for case in &CASES {
-        let found = refused_of_small(&rt, rt.alloc(), case)?;
+        let found = refused(&rt, rt.alloc(), case)?;
         expect_at(
             &rt,
             &(case.changes, case.traces),
@@ -159,25 +157,5 @@ fn the_first_fault_is_told(rt: HostRuntime) -> Result<(), Fail> {
             &[Some(case.want), Some(case.want)],
         );
     }
-    Ok(())
-}
-
-/// No document, with all else that is wrong.
-static NO_DOCUMENT: Case<'static> = Case {
-    changes: &[],
-    traces: &[],
-    cycles: TOO_LONG,
-    workers: 0,
-    want: Fault::ConfigSyntax,
-};
-
-#[test]
-fn the_document_comes_first(rt: HostRuntime) -> Result<(), Fail> {
-    let found = refused(&rt, rt.alloc(), "cores = = 1\n", &NO_DOCUMENT)?;
-    expect(
-        &rt,
-        &found,
-        &[Some(NO_DOCUMENT.want), Some(NO_DOCUMENT.want)],
-    );
     Ok(())
 }

@@ -5,13 +5,10 @@
 //! come as the phase has jobs, or all of them.
 
 use crate::expect::{expect, expect_at};
-use crate::outcomes::{Run, Tables, is_plain, plain_tables};
-use fixtures::small::small_text;
-use fixtures::texts::texts_of;
+use crate::outcomes::{Run, Texts, is_plain, plain_tables, tables_by};
 use sim_base::fault::Fault;
 use sim_base::job::JobName;
 use sim_base::message::Unit;
-use simulation::runs::simulate;
 use std::alloc::{AllocError, Global};
 use std::process::Abort;
 use std::sync::Wait;
@@ -24,91 +21,65 @@ use workers::gate::Gate;
 /// How often a job that is held looks whether it may go on, where something is wrong.
 const TURNS: u64 = 1_000_000;
 
-/// How often a job was entered, and left.
-#[derive(Drop)]
-struct Passes {
-    entered: AtomicU64,
-    left: AtomicU64,
-}
-
-impl Passes {
-    fn new() -> Self {
-        Passes {
-            entered: AtomicU64::new(0),
-            left: AtomicU64::new(0),
-        }
-    }
-
-    fn are(&self, count: u64) -> bool {
-        self.entered() == count && self.left() == count
-    }
-
-    fn entered(&self) -> u64 {
-        self.entered.load(Ordering::SeqCst)
-    }
-
-    fn left(&self) -> u64 {
-        self.left.load(Ordering::SeqCst)
-    }
-}
-
-/// The jobs of a phase of two cores and one channel.
-#[derive(Drop)]
-struct PhasePasses {
-    /// How many jobs it has, as far as is known.
-    jobs: u64,
-    all: Passes,
-    first_core: Passes,
-    second_core: Passes,
-    channel: Passes,
-}
-
-impl PhasePasses {
-    fn new(jobs: u64) -> Self {
-        PhasePasses {
-            jobs,
-            all: Passes::new(),
-            first_core: Passes::new(),
-            second_core: Passes::new(),
-            channel: Passes::new(),
-        }
-    }
-
-    fn of(&self, unit: Unit) -> Option<&Passes> {
-        match unit {
-            Unit::Core(0) => Some(&self.first_core),
-            Unit::Core(1) => Some(&self.second_core),
-            Unit::Channel(0) => Some(&self.channel),
-            _ => None,
-        }
-    }
-
-    /// Whether each of its jobs was entered once and left once.
-    fn are_whole(&self) -> bool {
-        let each = [&self.first_core, &self.second_core, &self.channel];
-        self.all.are(self.jobs) && each.iter().all(|passes| passes.are(0) || passes.are(1))
-    }
-}
-
-/// Holds each job that enters until as many of its phase have entered as there are workers, or as it has jobs.
+/// Holds each job that enters until as many of its phase have entered as there are workers, or as it has jobs. A phase has jobs of
+/// two cores and one channel.
 #[derive(Drop)]
 struct Meeting {
     workers: u64,
-    phases: Vec<PhasePasses>,
+    /// How many jobs each phase has, as far as is known.
+    jobs: Vec<u64>,
+    /// How often each job was entered, and left: three of each phase.
+    entered: Vec<AtomicU64>,
+    left: Vec<AtomicU64>,
     /// Jobs of no unit, and jobs that were held for ever.
     faults: AtomicU64,
+}
+
+fn zeros(alloc: Global, count: usize) -> Result<Vec<AtomicU64>, AllocError> {
+    let mut zeros = Vec::new(alloc);
+    for _ in 0..count {
+        zeros.push(AtomicU64::new(0))?;
+    }
+    Ok(zeros)
+}
+
+/// The place of a job, if it is of one of the units.
+fn place_of(job: JobName) -> Option<usize> {
+    let unit = match job.unit {
+        Unit::Core(0) => 0,
+        Unit::Core(1) => 1,
+        Unit::Channel(0) => 2,
+        _ => return None,
+    };
+    let phase = usize::try_from(job.phase).ok()?;
+    phase.checked_mul(3)?.checked_add(unit)
+}
+
+/// The counts of a phase's three jobs.
+fn counts_of(counts: &[AtomicU64], phase: usize) -> [u64; 3] {
+    let first = phase.saturating_mul(3);
+    [0, 1, 2].map(|unit: usize| match counts.get(first.saturating_add(unit)) {
+        Some(count) => count.load(Ordering::SeqCst),
+        None => 0,
+    })
+}
+
+fn sum_of(counts: [u64; 3]) -> u64 {
+    let [first, second, third] = counts;
+    first.wrapping_add(second).wrapping_add(third)
 }
 
 impl Meeting {
     /// A gate for phases of so many jobs each.
     fn new(alloc: Global, workers: u64, jobs: &[u64]) -> Result<Self, AllocError> {
-        let mut phases = Vec::new(alloc);
-        for count in jobs {
-            phases.push(PhasePasses::new(*count))?;
-        }
+        let count = jobs.len().saturating_mul(3);
+        let jobs = jobs.to_vec(alloc)?;
+        let entered = zeros(alloc, count)?;
         Ok(Meeting {
             workers,
-            phases,
+            jobs,
+            entered,
+            left: zeros(alloc, count)?,
             faults: AtomicU64::new(0),
         })
     }
@@ -116,8 +87,8 @@ impl Meeting {
     /// How many jobs were entered of each phase.
     fn jobs(&self, alloc: Global) -> Result<Vec<u64>, AllocError> {
         let mut jobs = Vec::new(alloc);
-        for phase in &self.phases {
-            jobs.push(phase.all.entered())?;
+        for phase in 0..self.jobs.len() {
+            jobs.push(sum_of(counts_of(&self.entered, phase)))?;
         }
         Ok(jobs)
     }
@@ -126,17 +97,25 @@ impl Meeting {
         self.faults.load(Ordering::SeqCst)
     }
 
+    /// Whether each job of a phase was entered once and left once.
+    fn is_whole(&self, phase: usize, jobs: u64) -> bool {
+        let entered = counts_of(&self.entered, phase);
+        let once = entered.iter().all(|count| *count <= 1);
+        once && entered == counts_of(&self.left, phase) && sum_of(entered) == jobs
+    }
+
     fn are_whole(&self) -> bool {
-        self.phases.iter().all(|phase| phase.are_whole())
+        for (phase, jobs) in self.jobs.iter().enumerate() {
+            if !self.is_whole(phase, *jobs) {
+                return false;
+            }
+        }
+        true
     }
 
-    fn phase_of(&self, job: JobName) -> Option<&PhasePasses> {
-        self.phases.get(usize::try_from(job.phase).ok()?)
-    }
-
-    fn is_met(&self, phase: &PhasePasses) -> bool {
+    fn is_met(&self, phase: usize, jobs: u64) -> bool {
         for _ in 0..TURNS {
-            if phase.all.entered() >= self.workers.min(phase.jobs) {
+            if sum_of(counts_of(&self.entered, phase)) >= self.workers.min(jobs) {
                 return true;
             }
             thread::yield_now();
@@ -146,17 +125,17 @@ impl Meeting {
 
     /// Whether a job is of a unit, and goes on.
     fn enters(&self, job: JobName) -> Option<bool> {
-        let phase = self.phase_of(job)?;
-        phase.of(job.unit)?.entered.fetch_add(1, Ordering::SeqCst);
-        phase.all.entered.fetch_add(1, Ordering::SeqCst);
-        Some(self.is_met(phase))
+        let phase = usize::try_from(job.phase).ok()?;
+        let jobs = *self.jobs.get(phase)?;
+        let place = self.entered.get(place_of(job)?)?;
+        place.fetch_add(1, Ordering::SeqCst);
+        Some(self.is_met(phase, jobs))
     }
 
     /// Whether a job is of a unit, and has left.
     fn leaves(&self, job: JobName) -> Option<bool> {
-        let phase = self.phase_of(job)?;
-        phase.of(job.unit)?.left.fetch_add(1, Ordering::SeqCst);
-        phase.all.left.fetch_add(1, Ordering::SeqCst);
+        let place = self.left.get(place_of(job)?)?;
+        place.fetch_add(1, Ordering::SeqCst);
         Some(true)
     }
 
@@ -181,38 +160,50 @@ impl Gate for Meeting {
     }
 }
 
-/// How many jobs each phase of a run has, up to a number of phases. One worker runs them, and is held by nothing.
+/// How many jobs were entered of each phase of a run by one worker, who is held by nothing.
+fn jobs_entered<R: Threads + Wait + Sync>(
+    rt: &R,
+    alloc: Global,
+    gate: &Meeting,
+    run: &Run<'_>,
+) -> Result<Vec<u64>, Fault> {
+    tables_by(rt, alloc, gate, run, 1)?;
+    Ok(gate.jobs(alloc)?)
+}
+
+/// How many jobs each phase of a run has, of its first phases.
 fn jobs_of_phases<R: Threads + Wait + Sync>(
     rt: &R,
     alloc: Global,
     run: &Run<'_>,
-    phases: usize,
 ) -> Result<Vec<u64>, Fault> {
-    let none = Vec::from_elem(alloc, 0, phases)?;
-    let gate = Meeting::new(alloc, 1, &none)?;
-    let bytes = run.config.as_bytes();
-    simulate(rt, alloc, &gate, bytes, run.texts, run.cycles, 1)?;
-    Ok(gate.jobs(alloc)?)
+    let gate = Meeting::new(alloc, 1, &[0; 32])?;
+    jobs_entered(rt, alloc, &gate, run)
+}
+
+/// What a gate saw of a run: whether the tables are the plain machine's, the faults, and whether each job was run once.
+fn met<R: Threads + Wait + Sync>(
+    rt: &R,
+    alloc: Global,
+    gate: &Meeting,
+    run: &Run<'_>,
+    plain: &[u8],
+) -> Result<(bool, u64, bool), Fault> {
+    let same = is_plain(rt, alloc, gate, run, gate.workers, plain)?;
+    Ok((same, gate.faults(), gate.are_whole()))
 }
 
 /// So many workers are at work at once in each phase, and each job is run once.
-fn assert_met<R: Abort + Threads + Wait + Sync>(
+fn met_by<R: Threads + Wait + Sync>(
     rt: &R,
     alloc: Global,
     run: &Run<'_>,
     workers: u64,
     jobs: &[u64],
-    plain: &Tables,
-) -> Result<(), Fault> {
+    plain: &[u8],
+) -> Result<(bool, u64, bool), Fault> {
     let gate = Meeting::new(alloc, workers, jobs)?;
-    let same = is_plain(rt, alloc, &gate, run, workers, plain)?;
-    expect_at(
-        rt,
-        &("workers", workers),
-        &(same, gate.faults(), gate.are_whole()),
-        &(true, 0, true),
-    );
-    Ok(())
+    met(rt, alloc, &gate, run, plain)
 }
 
 /// Some phase has a job for each of the three units.
@@ -221,11 +212,12 @@ fn assert_all_met<R: Abort + Threads + Wait + Sync>(
     alloc: Global,
     run: &Run<'_>,
     jobs: &[u64],
-) -> Result<(), Fault> {
+    plain: &[u8],
+) -> Result<(), Fail> {
     expect(rt, &jobs.iter().any(|count| *count == 3), &true);
-    let plain = plain_tables(rt, alloc, run)?;
     for workers in [1, 2, 3] {
-        assert_met(rt, alloc, run, workers, jobs, &plain)?;
+        let saw = met_by(rt, alloc, run, workers, jobs, plain)?;
+        expect_at(rt, &("workers", workers), &saw, &(true, 0, true));
     }
     Ok(())
 }
@@ -234,29 +226,24 @@ fn assert_meetings<R: Abort + Threads + Wait + Sync>(
     rt: &R,
     alloc: Global,
     run: &Run<'_>,
-) -> Result<(), Fault> {
-    let jobs = jobs_of_phases(rt, alloc, run, 32)?;
-    assert_all_met(rt, alloc, run, &jobs)
+) -> Result<(), Fail> {
+    let jobs = jobs_of_phases(rt, alloc, run)?;
+    let plain = plain_tables(rt, alloc, run)?;
+    assert_all_met(rt, alloc, run, &jobs, &plain)
 }
 
 #[test]
 fn workers_meet_in_every_phase(rt: HostRuntime) -> Result<(), Fail> {
-    let config = small_text(rt.alloc(), &["cores = 2"], "")?;
-    let texts = texts_of(rt.alloc(), &["0 0\n", "0 64\n"])?;
-    let run = Run {
-        config: config.as_str(),
-        texts: &texts,
-        cycles: 32,
-    };
-    assert_meetings(&rt, rt.alloc(), &run)?;
-    Ok(())
+    let texts = Texts::of(rt.alloc(), &["cores = 2"], "", &["0 0\n", "0 64\n"])?;
+    assert_meetings(&rt, rt.alloc(), &texts.run(32))
 }
 
 /// Holds the first job of phase 0 until so many others of it have left. Each job is a group of its own, so that none waits behind it.
 #[derive(Drop)]
 struct Holding {
     others: u64,
-    passes: Passes,
+    entered: AtomicU64,
+    left: AtomicU64,
     released: AtomicU64,
 }
 
@@ -266,11 +253,11 @@ impl Gate for Holding {
     }
 
     fn enter(&self, _worker: usize, job: JobName) {
-        if job.phase != 0 || self.passes.entered.fetch_add(1, Ordering::SeqCst) != 0 {
+        if job.phase != 0 || self.entered.fetch_add(1, Ordering::SeqCst) != 0 {
             return;
         }
         for _ in 0..TURNS {
-            if self.passes.left.load(Ordering::SeqCst) == self.others {
+            if self.left.load(Ordering::SeqCst) == self.others {
                 self.released.store(1, Ordering::SeqCst);
                 return;
             }
@@ -280,7 +267,7 @@ impl Gate for Holding {
 
     fn leave(&self, _worker: usize, job: JobName) {
         if job.phase == 0 {
-            self.passes.left.fetch_add(1, Ordering::SeqCst);
+            self.left.fetch_add(1, Ordering::SeqCst);
         }
     }
 }
@@ -295,30 +282,34 @@ fn held<R: Abort + Threads + Wait + Sync>(
     run: &Run<'_>,
     workers: u64,
     others: u64,
-    plain: &Tables,
+    plain: &[u8],
 ) -> Result<Held, Fault> {
     let gate = Holding {
         others,
-        passes: Passes::new(),
+        entered: AtomicU64::new(0),
+        left: AtomicU64::new(0),
         released: AtomicU64::new(0),
     };
     let same = is_plain(rt, alloc, &gate, run, workers, plain)?;
     expect_at(rt, &("workers", workers), &same, &true);
-    let released = gate.released.load(Ordering::SeqCst);
-    Ok((gate.passes.entered(), gate.passes.left(), released))
+    Ok((
+        gate.entered.load(Ordering::SeqCst),
+        gate.left.load(Ordering::SeqCst),
+        gate.released.load(Ordering::SeqCst),
+    ))
 }
 
 fn assert_claims<R: Abort + Threads + Wait + Sync>(
     rt: &R,
     alloc: Global,
     run: &Run<'_>,
-    plain: &Tables,
-) -> Result<(), Fault> {
-    let (jobs, _, _) = held(rt, alloc, run, 1, 0, plain)?;
+) -> Result<(), Fail> {
+    let plain = plain_tables(rt, alloc, run)?;
+    let (jobs, _, _) = held(rt, alloc, run, 1, 0, &plain)?;
     expect(rt, &(jobs >= 4), &true);
     for workers in [2, 3] {
         let others = jobs.saturating_sub(1);
-        let saw = held(rt, alloc, run, workers, others, plain)?;
+        let saw = held(rt, alloc, run, workers, others, &plain)?;
         expect_at(rt, &("workers", workers), &saw, &(jobs, jobs, 1));
     }
     Ok(())
@@ -328,14 +319,11 @@ fn assert_claims<R: Abort + Threads + Wait + Sync>(
 /// cores and two channels.
 #[test]
 fn workers_claim_their_jobs(rt: HostRuntime) -> Result<(), Fail> {
-    let config = small_text(rt.alloc(), &["cores = 4", "channels = 2"], "")?;
-    let texts = texts_of(rt.alloc(), &["0 0\n"; 4])?;
-    let run = Run {
-        config: config.as_str(),
-        texts: &texts,
-        cycles: 32,
-    };
-    let plain = plain_tables(&rt, rt.alloc(), &run)?;
-    assert_claims(&rt, rt.alloc(), &run, &plain)?;
-    Ok(())
+    let texts = Texts::of(
+        rt.alloc(),
+        &["cores = 4", "channels = 2"],
+        "",
+        &["0 0\n"; 4],
+    )?;
+    assert_claims(&rt, rt.alloc(), &texts.run(32))
 }

@@ -1,28 +1,33 @@
 //! Machines and traces that are made up by seeds: three workers give what the plain machine gives.
 
-use crate::outcomes::assert_same;
+use crate::outcomes::{Run, Texts, assert_same};
 use fixtures::generated::made_up;
-use fixtures::small::small_text;
-use fixtures::texts::texts_of;
 use sim_base::fault::Fault;
+use std::alloc::Global;
 use std::process::Abort;
 use std::sync::Wait;
 use std::test::Fail;
 use std::thread::Threads;
 
 /// Compares the runs of the machine of a seed.
-fn assert_seed<R: Abort + Threads + Wait + Sync + AllocGlobal>(
+fn assert_seed<R: Abort + Threads + Wait + Sync>(
     rt: &R,
+    alloc: Global,
     seed: u64,
 ) -> Result<(), Fault> {
-    let made = made_up(rt.alloc(), seed)?;
-    assert_same(rt, made.config.as_str(), &made.traces, made.limit, &[3])
+    let made = made_up(alloc, seed)?;
+    let run = Run {
+        config: made.config.as_str(),
+        texts: &made.traces,
+        cycles: made.limit,
+    };
+    assert_same(rt, alloc, &run, &[3])
 }
 
 #[test]
 fn generated_machines(rt: HostRuntime) -> Result<(), Fail> {
     for seed in 0..40 {
-        assert_seed(&rt, seed)?;
+        assert_seed(&rt, rt.alloc(), seed)?;
     }
     Ok(())
 }
@@ -42,9 +47,9 @@ static TRACES: [&str; 24] = [
 /// Twenty-four cores and two channels: in some phases so many units wake that each has a job, in others the caller runs them.
 #[test]
 fn a_large_machine_does_not_show_its_workers(rt: HostRuntime) -> Result<(), Fail> {
-    let alloc = rt.alloc();
-    let config = small_text(alloc, &["cores = 24", "channels = 2"], "")?;
-    let texts = texts_of(alloc, &TRACES)?;
-    assert_same(&rt, config.as_str(), &texts, 400, &[1, 2, 3, 7])?;
-    Ok(())
+    let changes = ["cores = 24", "channels = 2"];
+    let texts = Texts::of(rt.alloc(), &changes, "", &TRACES)?;
+    let same = assert_same(&rt, rt.alloc(), &texts.run(400), &[1, 2, 3, 7]);
+    drop(texts);
+    Ok(same?)
 }

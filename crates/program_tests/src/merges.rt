@@ -1,10 +1,10 @@
 //! Results of phases that go together, or do not, and orders of results that do not matter.
 
-ghost use Rattle.std.specs.Prelude.{◌≡◌, ◌<◌, ◌∷◌, [], All, IfOk};
+ghost use Rattle.std.specs.Prelude.{◌≡◌, ◌<◌, ◌∷◌, ◌++◌, [], All, IfOk};
 ghost use Rattle.sim_base.specs.declared.trace.Entry.TheVariants as entry;
 ghost use Rattle.epochs.specs.Views.{jobs_of};
 
-use crate::ends::{ends_of_commands, ends_of_messages};
+use crate::ends::{ends_of_messages, ends_of_rows};
 use crate::expect::{expect, expect_at};
 use crate::result_orders::{AsTheyCome, Leaves, Reversed, Turned, exchange};
 use cpu_trace::trace::Trace;
@@ -15,10 +15,12 @@ use epochs::phase::Phase;
 use epochs::planning::{Planned, plan};
 use epochs::sim::Sim;
 use fixtures::small::{RANK_FIELD, small};
+use sim_base::command::CommandRow;
 use sim_base::config::Config;
 use sim_base::fault::MergeFault;
-use sim_base::message::{Cycle, Unit};
+use sim_base::message::{Cycle, Message, Unit};
 use sim_base::trace::Entry;
+use statistics::cores::CoreStats;
 use statistics::outcome::Outcome;
 use std::alloc::{AllocError, Global};
 use std::process::Abort;
@@ -133,30 +135,59 @@ fn picked(
     results
 }
 
+/// The results of the phase that begins in a cycle.
+fn results_at(alloc: Global, config: &Config, cycle: Cycle) -> Result<Vec<Done>, RunFault>
+    requires cores { config.now.cores ≡ 2 }
+    requires early { cycle < 16 }
+    ensures { let line = entry.Read 0 ∷ [] in IfOk result (λ results. All (λ d. (d.machine ≡ config.now) × (d.traces ≡ line ∷ line ∷ [])) results.items) }
+{
+    let found = phase_at(alloc, config, cycle)?;
+    Ok(found.results)
+}
+
+fn joined(mut first: Vec<Done>, mut second: Vec<Done>) -> Result<Vec<Done>, AllocError>
+    ensures { IfOk result (λ all. all.items ≡ first.items ++ second.items) }
+{
+    first.append(&mut second)?;
+    Ok(first)
+}
+
+/// The results of the phase after the first one behind those of the first one.
+fn others(alloc: Global, config: &Config) -> Result<Vec<Done>, RunFault>
+    requires cores { config.now.cores ≡ 2 }
+    ensures { let line = entry.Read 0 ∷ [] in IfOk result (λ results. All (λ d. (d.machine ≡ config.now) × (d.traces ≡ line ∷ line ∷ [])) results.items) }
+{
+    let twins = results_at(alloc, config, 0)?;
+    let later = results_at(alloc, config, 2)?;
+    let all = joined(twins, later)?;
+    Ok(all)
+}
+
 /// What is said of results of the first phase. They are picked out of those of its jobs (places 0 to 2), those of the jobs of the
 /// same phase of another, equal simulator (3 to 5), and those of the phase after it (6 to 8).
+fn told_by(
+    alloc: Global,
+    config: &Config,
+    pairs: &[(usize, usize)],
+    count: usize,
+) -> Result<Option<MergeFault>, RunFault>
+    requires cores { config.now.cores ≡ 2 }
+{
+    let others = others(alloc, config)?;
+    let found = phase_at(alloc, config, 0)?;
+    let Found { phase, results } = found;
+    let all = joined(results, others)?;
+    let results = picked(&phase, all, pairs, count);
+    Ok(merge(phase, alloc, results).err())
+}
+
 fn told(
     alloc: Global,
     pairs: &[(usize, usize)],
     count: usize,
 ) -> Result<Option<MergeFault>, RunFault> {
     let config = cores_of(alloc)?;
-    let first = phase_at(alloc, &config, 0)?;
-    let second = phase_at(alloc, &config, 0)?;
-    let third = phase_at(alloc, &config, 2)?;
-    let Found { phase, mut results } = first;
-    let Found {
-        results: mut twins,
-        ..
-    } = second;
-    let Found {
-        results: mut later,
-        ..
-    } = third;
-    results.append(&mut twins)?;
-    results.append(&mut later)?;
-    let results = picked(&phase, results, pairs, count);
-    Ok(merge(phase, alloc, results).err())
+    told_by(alloc, &config, pairs, count)
 }
 
 /// Pairs of results to exchange, how many to keep, and what is said of them.
@@ -189,10 +220,17 @@ fn faults_are_found(rt: HostRuntime) -> Result<(), Fail> {
     Ok(())
 }
 
+/// Two cores that read one line each, before their first cycle.
+fn started(alloc: Global) -> Result<Sim, AllocError>
+    ensures { IfOk result (λ sim. sim.now ≡ 0) }
+{
+    let config = cores_of(alloc)?;
+    two_cores(alloc, &config)
+}
+
 /// Why a run stops whose order loses results.
 fn stopped(alloc: Global, left: usize) -> Result<Option<RunFault>, AllocError> {
-    let config = cores_of(alloc)?;
-    let sim = two_cores(alloc, &config)?;
+    let sim = started(alloc)?;
     Ok(run_in_order(sim, alloc, 16, &mut Leaves(left)).err())
 }
 
@@ -207,68 +245,43 @@ fn lost_results_stop_a_run(rt: HostRuntime) -> Result<(), Fail> {
     Ok(())
 }
 
+/// The commands of a run, what it counted of cores, and its messages in flight.
+type Did = (Vec<CommandRow>, Vec<CoreStats>, Vec<Message>);
+
+fn did(alloc: Global, outcome: &Outcome) -> Result<Did, RunFault> {
+    let commands = outcome.commands.to_vec(alloc)?;
+    let cores = outcome.stats.cores.to_vec(alloc)?;
+    let flight = outcome.last.in_flight.to_vec(alloc)?;
+    Ok((commands, cores, flight))
+}
+
 /// What two cores that read one line each did and left before cycle 16.
-fn outcome_by<O: Order>(alloc: Global, order: &mut O) -> Result<Outcome, RunFault> {
-    let config = cores_of(alloc)?;
-    let sim = two_cores(alloc, &config)?;
+fn did_by<O: Order>(alloc: Global, order: &mut O) -> Result<Did, RunFault> {
+    let sim = started(alloc)?;
     let sim = run_in_order(sim, alloc, 16, order)?;
-    Ok(sim.outcome(alloc)?)
-}
-
-/// Two outcomes have the same commands, counts of cores, and messages in flight.
-fn assert_same(
-    rt: &impl Abort,
-    alloc: Global,
-    found: &Outcome,
-    want: &Outcome,
-) -> Result<(), AllocError> {
-    expect(
-        rt,
-        &(
-            found.commands.to_vec(alloc)?.as_slice(),
-            found.stats.cores.as_slice(),
-            found.last.in_flight.as_slice(),
-        ),
-        &(
-            want.commands.to_vec(alloc)?.as_slice(),
-            want.stats.cores.as_slice(),
-            want.last.in_flight.as_slice(),
-        ),
-    );
-    Ok(())
-}
-
-fn assert_order<O: Order>(
-    rt: &impl Abort,
-    alloc: Global,
-    order: &mut O,
-    want: &Outcome,
-) -> Result<(), Fail> {
-    let outcome = outcome_by(alloc, order)?;
-    assert_same(rt, alloc, &outcome, want)?;
-    Ok(())
+    let outcome = sim.outcome(alloc)?;
+    did(alloc, &outcome)
 }
 
 /// ACT 2, RD 5, and RD 10, as a burst of the same group comes 5 cycles after another at the soonest. The replies arrive in the
 /// cycles 15 and 20.
-fn assert_worked(rt: &impl Abort, alloc: Global, outcome: &Outcome) -> Result<(), AllocError> {
-    let commands = ends_of_commands(alloc, &outcome.commands)?;
-    let flight = ends_of_messages(&outcome.last.in_flight);
-    let retired = outcome.stats.cores.first().map(|core| core.retired);
+fn assert_worked(rt: &impl Abort, did: &Did) {
+    let (commands, cores, flight) = did;
+    let retired = cores.first().map(|core| core.retired);
     expect(
         rt,
-        &(commands, flight, retired),
+        &(ends_of_rows(commands), ends_of_messages(flight), retired),
         &((3, Some(2), Some(10)), (1, Some(20), Some(20)), Some(1)),
     );
-    Ok(())
 }
 
 #[test]
 fn orders_do_not_matter(rt: HostRuntime) -> Result<(), Fail> {
-    let alloc = rt.alloc();
-    let outcome = outcome_by(alloc, &mut AsTheyCome)?;
-    let whole = &outcome;
-    assert_worked(&rt, alloc, whole)?;
-    assert_order(&rt, alloc, &mut Reversed, whole)?;
-    assert_order(&rt, alloc, &mut Turned, whole)
+    let whole = did_by(rt.alloc(), &mut AsTheyCome)?;
+    assert_worked(&rt, &whole);
+    let reversed = did_by(rt.alloc(), &mut Reversed)?;
+    expect(&rt, &reversed, &whole);
+    let turned = did_by(rt.alloc(), &mut Turned)?;
+    expect(&rt, &turned, &whole);
+    Ok(())
 }

@@ -1,6 +1,8 @@
 //! Outcomes of runs, compared by the tables that are written of them.
 
 use crate::expect::expect_at;
+use fixtures::small::small_text;
+use fixtures::texts::texts_of;
 use reports::{write_commands, write_final, write_stats};
 use sim_base::fault::Fault;
 use sim_base::job::JobName;
@@ -26,42 +28,53 @@ impl Gate for Watching {
     fn leave(&self, _worker: usize, _job: JobName) {}
 }
 
-/// The bytes of a run's tables.
-#[derive(Drop)]
-pub(crate) struct Tables {
-    commands: Vec<u8>,
-    stats: Vec<u8>,
-    last: Vec<u8>,
-}
-
-impl Tables {
-    pub(crate) fn of(alloc: Global, outcome: &Outcome) -> Result<Self, Fault> {
-        let mut commands = Vec::new(alloc);
-        write_commands(alloc, outcome.ranks, &outcome.commands, &mut commands)?;
-        let mut stats = Vec::new(alloc);
-        write_stats(alloc, &outcome.stats, &mut stats)?;
-        let mut last = Vec::new(alloc);
-        write_final(alloc, &outcome.last, outcome.ranks, &mut last)?;
-        Ok(Tables {
-            commands,
-            stats,
-            last,
-        })
-    }
-
-    pub(crate) fn is(&self, other: &Tables) -> bool {
-        self.commands.as_slice() == other.commands.as_slice()
-            && self.stats.as_slice() == other.stats.as_slice()
-            && self.last.as_slice() == other.last.as_slice()
-    }
+/// The bytes of an outcome's tables, one behind the other.
+fn tables_of(alloc: Global, outcome: &Outcome) -> Result<Vec<u8>, Fault> {
+    let mut tables = Vec::new(alloc);
+    write_commands(alloc, outcome.ranks, &outcome.commands, &mut tables)?;
+    write_stats(alloc, &outcome.stats, &mut tables)?;
+    write_final(alloc, &outcome.last, outcome.ranks, &mut tables)?;
+    Ok(tables)
 }
 
 /// What is run.
-#[derive(Drop)]
+#[derive(Clone, Copy)]
 pub(crate) struct Run<'a> {
     pub(crate) config: &'a str,
     pub(crate) texts: &'a [Vec<u8>],
     pub(crate) cycles: Cycle,
+}
+
+/// The texts of a run.
+#[derive(Drop)]
+pub(crate) struct Texts {
+    pub(crate) config: String,
+    pub(crate) traces: Vec<Vec<u8>>,
+}
+
+impl Texts {
+    /// Those of the small machine with other lines for some keys and more lines at its end, and of these traces.
+    pub(crate) fn of(
+        alloc: Global,
+        changes: &[&str],
+        more: &str,
+        traces: &[&str],
+    ) -> Result<Self, AllocError> {
+        let config = small_text(alloc, changes, more)?;
+        Ok(Texts {
+            config,
+            traces: texts_of(alloc, traces)?,
+        })
+    }
+
+    /// The run up to a limit.
+    pub(crate) fn run(&self, cycles: Cycle) -> Run<'_> {
+        Run {
+            config: self.config.as_str(),
+            texts: &self.traces,
+            cycles,
+        }
+    }
 }
 
 /// The tables of a run by the plain machine.
@@ -69,23 +82,23 @@ pub(crate) fn plain_tables<R: Threads + Sync>(
     rt: &R,
     alloc: Global,
     run: &Run<'_>,
-) -> Result<Tables, Fault> {
+) -> Result<Vec<u8>, Fault> {
     let bytes = run.config.as_bytes();
     let outcome = simulate_plain(rt, alloc, bytes, run.texts, run.cycles, 1)?;
-    Tables::of(alloc, &outcome)
+    tables_of(alloc, &outcome)
 }
 
 /// The tables of a run by so many workers.
-fn tables_by<R: Threads + Wait + Sync, G: Gate + Sync>(
+pub(crate) fn tables_by<R: Threads + Wait + Sync, G: Gate + Sync>(
     rt: &R,
     alloc: Global,
     gate: &G,
     run: &Run<'_>,
     workers: u64,
-) -> Result<Tables, Fault> {
+) -> Result<Vec<u8>, Fault> {
     let bytes = run.config.as_bytes();
     let outcome = simulate(rt, alloc, gate, bytes, run.texts, run.cycles, workers)?;
-    Tables::of(alloc, &outcome)
+    tables_of(alloc, &outcome)
 }
 
 /// Whether a run by so many workers has the tables of the plain machine.
@@ -95,10 +108,10 @@ pub(crate) fn is_plain<R: Threads + Wait + Sync, G: Gate + Sync>(
     gate: &G,
     run: &Run<'_>,
     workers: u64,
-    plain: &Tables,
+    plain: &[u8],
 ) -> Result<bool, Fault> {
     let tables = tables_by(rt, alloc, gate, run, workers)?;
-    Ok(tables.is(plain))
+    Ok(tables.as_slice() == plain)
 }
 
 /// The same by each of these numbers of workers, by jobs and as it is run where nothing watches.
@@ -107,7 +120,7 @@ fn assert_plain<R: Abort + Threads + Wait + Sync>(
     alloc: Global,
     run: &Run<'_>,
     workers: &[u64],
-    plain: &Tables,
+    plain: &[u8],
 ) -> Result<(), Fault> {
     for count in workers {
         let by_jobs = is_plain(rt, alloc, &Watching, run, *count, plain)?;
@@ -124,18 +137,12 @@ fn assert_plain<R: Abort + Threads + Wait + Sync>(
 
 /// A run has the same tables by each of these numbers of workers as by the plain machine, by jobs and as it is run where nothing
 /// watches.
-pub(crate) fn assert_same<R: Abort + Threads + Wait + Sync + AllocGlobal>(
+pub(crate) fn assert_same<R: Abort + Threads + Wait + Sync>(
     rt: &R,
-    config: &str,
-    texts: &[Vec<u8>],
-    cycles: Cycle,
+    alloc: Global,
+    run: &Run<'_>,
     workers: &[u64],
 ) -> Result<(), Fault> {
-    let run = Run {
-        config,
-        texts,
-        cycles,
-    };
-    let plain = plain_tables(rt, rt.alloc(), &run)?;
-    assert_plain(rt, rt.alloc(), &run, workers, &plain)
+    let plain = plain_tables(rt, alloc, run)?;
+    assert_plain(rt, alloc, run, workers, &plain)
 }

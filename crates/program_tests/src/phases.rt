@@ -3,8 +3,8 @@
 ghost use Rattle.std.specs.Prelude.{◌≡◌, ◌+◌, ◌<◌, ◌≤◌, ◌^◌, [], length, vec_len, IfOk};
 ghost use Rattle.crew.specs.Rule.{put_view};
 
-use crate::expect::expect;
-use crate::outcomes::assert_same;
+use crate::expect::{expect, expect_at};
+use crate::outcomes::{Texts, assert_same};
 use cpu_trace::trace::Trace;
 use crew::bell::Patience;
 use crew::caller::Phases;
@@ -16,8 +16,8 @@ use crew::work::{DoneOf, Work};
 use epochs::job::Job;
 use epochs::planning::{Planned, plan};
 use epochs::sim::Sim;
-use fixtures::small::{RANK_FIELD, SMALL, small};
-use fixtures::texts::texts_of;
+use fixtures::small::{RANK_FIELD, small};
+use sim_base::command::CommandRow;
 use sim_base::config::Config;
 use sim_base::fault::Fault;
 use sim_base::job::JobName;
@@ -26,52 +26,43 @@ use sim_base::trace::Entry;
 use statistics::outcome::Outcome;
 use std::alloc::{AllocError, Global};
 use std::marker::Brand;
-use std::process::Abort;
 use std::sync::Wait;
 use std::sync::atomic::{AtomicU64, Ordering};
 use std::test::Fail;
-use std::thread;
 use std::thread::Threads;
 use workers::gate::{Gate, Open};
 use workers::group::{AtGate, Group, Results};
 use workers::machine::run_machine;
 use workers::runner::{Claims, Runner};
 
-/// Four cores and two channels; the end of the run is a line of its own.
-fn config(alloc: Global, end: &str) -> Result<Config, Fault>
-    ensures { IfOk result (λ config. config.cores ≡ 4) }
-{
-    let config = small(alloc, &[RANK_FIELD, "cores = 4", "channels = 2"], end)?;
-    if config.cores != 4 {
-        return Err(Fault::TraceCount);
-    }
-    Ok(config)
-}
+/// Four cores and two channels.
+static FOUR_CORES: [&str; 3] = [RANK_FIELD, "cores = 4", "channels = 2"];
 
-/// One line for each of four cores to read.
-fn traces(alloc: Global) -> Result<Vec<Trace>, AllocError>
-    ensures { IfOk result (λ traces. length traces.items ≡ 4) }
-{
-    let line = [Entry::Read(0)];
-    let traces = Vec::from_array(
-        alloc,
-        [
-            Trace::from_entries(alloc, &line)?,
-            Trace::from_entries(alloc, &line)?,
-            Trace::from_entries(alloc, &line)?,
-            Trace::from_entries(alloc, &line)?,
-        ],
-    )?;
+/// One line to read for each of some cores.
+fn lines(alloc: Global, cores: u16) -> Result<Vec<Trace>, AllocError> {
+    let mut traces = Vec::new(alloc);
+    for _ in 0..cores {
+        traces.push(Trace::from_entries(alloc, &[Entry::Read(0)])?)?;
+    }
     Ok(traces)
 }
 
-/// Four cores that read one line each, before their first cycle.
-fn machine(alloc: Global) -> Result<Sim, Fault>
+/// The small machine with other lines for some keys, whose cores read one line each, before its first cycle.
+fn machine(alloc: Global, changes: &[&str]) -> Result<Sim, Fault>
     ensures { IfOk result (λ sim. sim.now ≡ 0) }
 {
-    let config = config(alloc, "")?;
-    let traces = traces(alloc)?;
-    Ok(Sim::start(alloc, &config, traces)?)
+    let config = small(alloc, changes, "")?;
+    start(alloc, &config)
+}
+
+fn start(alloc: Global, config: &Config) -> Result<Sim, Fault>
+    ensures { IfOk result (λ sim. sim.now ≡ 0) }
+{
+    let traces = lines(alloc, config.cores)?;
+    if traces.len() != usize::from(config.cores) {
+        return Err(Fault::TraceCount);
+    }
+    Ok(Sim::start(alloc, config, traces)?)
 }
 
 /// The jobs of the first phase of a machine that is before its first cycle.
@@ -84,41 +75,10 @@ fn jobs_of(alloc: Global, sim: Sim) -> Result<Vec<Job>, AllocError>
     }
 }
 
-/// The six jobs of the first phase.
-fn first_jobs(alloc: Global) -> Result<Vec<Job>, Fault> {
-    let sim = machine(alloc)?;
+/// The jobs of its first phase.
+fn first_jobs(alloc: Global, changes: &[&str]) -> Result<Vec<Job>, Fault> {
+    let sim = machine(alloc, changes)?;
     Ok(jobs_of(alloc, sim)?)
-}
-
-/// Holds the first job that enters until five others have left, for at most 1,000,000 turns. There are six, each a group of its own.
-#[derive(Drop)]
-struct Holding {
-    entered: AtomicU64,
-    left: AtomicU64,
-    released: AtomicU64,
-}
-
-impl Gate for Holding {
-    fn watches(&self) -> bool {
-        true
-    }
-
-    fn enter(&self, _worker: usize, _job: JobName) {
-        if self.entered.fetch_add(1, Ordering::SeqCst) != 0 {
-            return;
-        }
-        for _ in 0..1_000_000 {
-            if self.left.load(Ordering::SeqCst) == 5 {
-                self.released.store(1, Ordering::SeqCst);
-                return;
-            }
-            thread::yield_now();
-        }
-    }
-
-    fn leave(&self, _worker: usize, _job: JobName) {
-        self.left.fetch_add(1, Ordering::SeqCst);
-    }
 }
 
 /// One phase, of which the number of results is told.
@@ -143,30 +103,11 @@ impl Course<Group, Results, usize> for OnePhase {
     }
 }
 
-/// While one worker holds its first job, the other takes all others: jobs are not shared out in advance.
-#[test]
-fn jobs_are_claimed(rt: HostRuntime) -> Result<(), Fail> {
-    let gate = Holding {
-        entered: AtomicU64::new(0),
-        left: AtomicU64::new(0),
-        released: AtomicU64::new(0),
-    };
-    let jobs = first_jobs(rt.alloc())?;
-    let work = AtGate { gate: &gate };
-    let results = with_crew(&rt, rt.alloc(), &work, 16, 2, PATIENCE, OnePhase { jobs });
-    let saw = (
-        gate.released.load(Ordering::SeqCst),
-        gate.left.load(Ordering::SeqCst),
-    );
-    expect(&rt, &(results, saw), &(Ok(6), (1, 6)));
-    Ok(())
-}
-
 #[test]
 fn any_number_of_workers_runs_a_phase(rt: HostRuntime) -> Result<(), Fail> {
     let work = AtGate { gate: &Open };
     for workers in [1, 2, 5, 64] {
-        let jobs = first_jobs(rt.alloc())?;
+        let jobs = first_jobs(rt.alloc(), &FOUR_CORES)?;
         let results = with_crew(
             &rt,
             rt.alloc(),
@@ -204,22 +145,50 @@ impl Gate for Counting {
     fn leave(&self, _worker: usize, _job: JobName) {}
 }
 
-/// The outcome of a run of the four cores. The end of the run is a line of its own.
-fn outcome_by<R: Threads + Wait + Sync, G: Gate + Sync>(
+/// The commands of a run, its cycles, and how many messages it leaves in flight.
+type Did = (Vec<CommandRow>, Cycle, usize);
+
+fn did(alloc: Global, outcome: &Outcome) -> Result<Did, Fault> {
+    let commands = outcome.commands.to_vec(alloc)?;
+    Ok((commands, outcome.stats.cycles, outcome.last.in_flight.len()))
+}
+
+/// What a run of a machine does whose cores read one line each.
+fn did_under<R: Threads + Wait + Sync, G: Gate + Sync>(
+    rt: &R,
+    alloc: Global,
+    gate: &G,
+    workers: usize,
+    config: &Config,
+    limit: Cycle,
+) -> Result<Did, Fault>
+    requires some { 1 ≤ workers }
+    requires few { workers ≤ 64 }
+    requires limit { limit ≤ 10 ^ 12 }
+{
+    let traces = lines(alloc, config.cores)?;
+    if traces.len() != usize::from(config.cores) {
+        return Err(Fault::TraceCount);
+    }
+    let outcome = run_machine(rt, alloc, gate, workers, config, traces, limit)?;
+    did(alloc, &outcome)
+}
+
+/// What a run of the four cores does. The end of the run is a line of its own.
+fn did_by<R: Threads + Wait + Sync, G: Gate + Sync>(
     rt: &R,
     alloc: Global,
     gate: &G,
     workers: usize,
     end: &str,
     limit: Cycle,
-) -> Result<Outcome, Fault>
+) -> Result<Did, Fault>
     requires some { 1 ≤ workers }
     requires few { workers ≤ 64 }
     requires limit { limit ≤ 10 ^ 12 }
 {
-    let config = config(alloc, end)?;
-    let traces = traces(alloc)?;
-    run_machine(rt, alloc, gate, workers, &config, traces, limit)
+    let config = small(alloc, &FOUR_CORES, end)?;
+    did_under(rt, alloc, gate, workers, &config, limit)
 }
 
 /// How many cycles a run has, and how many phases with a job.
@@ -234,9 +203,8 @@ fn phases_of<R: Threads + Wait + Sync>(
         next: AtomicU64::new(0),
         phases: AtomicU64::new(0),
     };
-    let outcome = outcome_by(rt, alloc, &counting, 1, "", limit)?;
-    let ended = &outcome;
-    Ok((ended.stats.cycles, counting.phases.load(Ordering::SeqCst)))
+    let (_, cycles, _) = did_by(rt, alloc, &counting, 1, "", limit)?;
+    Ok((cycles, counting.phases.load(Ordering::SeqCst)))
 }
 
 /// Four cores read one line each, up to a cycle far off. The requests come in cycle 2, where the row is opened. It is read in the
@@ -251,89 +219,26 @@ fn a_machine_works_where_something_happens(rt: HostRuntime) -> Result<(), Fail> 
     Ok(())
 }
 
-/// Two outcomes have the same commands, cycles and number of messages in flight.
-fn assert_alike(
-    rt: &impl Abort,
-    alloc: Global,
-    more: &Outcome,
-    one: &Outcome,
-) -> Result<(), AllocError> {
-    expect(
-        rt,
-        &(
-            more.commands.to_vec(alloc)?.as_slice(),
-            more.stats.cycles,
-            more.last.in_flight.len(),
-        ),
-        &(
-            one.commands.to_vec(alloc)?.as_slice(),
-            one.stats.cycles,
-            one.last.in_flight.len(),
-        ),
-    );
-    Ok(())
-}
-
-/// So many workers give this outcome.
-fn assert_by<R: Abort + Threads + Wait + Sync>(
-    rt: &R,
-    alloc: Global,
-    workers: usize,
-    one: &Outcome,
-) -> Result<(), Fault>
-    requires some { 1 ≤ workers }
-    requires few { workers ≤ 64 }
-{
-    let more = outcome_by(rt, alloc, &Open, workers, "", 30)?;
-    assert_alike(rt, alloc, &more, one)?;
-    Ok(())
-}
-
-/// This outcome has an ACT and four RDs, and two and three workers give it.
-fn assert_workers<R: Abort + Threads + Wait + Sync>(
-    rt: &R,
-    alloc: Global,
-    one: &Outcome,
-) -> Result<(), Fault> {
-    let commands = one.commands.to_vec(alloc)?;
-    expect(rt, &commands.len(), &5);
-    assert_by(rt, alloc, 2, one)?;
-    assert_by(rt, alloc, 3, one)
-}
-
-/// Four cores read one line each, up to cycle 30: each worker count gives the same commands.
+/// Four cores read one line each, up to cycle 30: each worker count gives the same ACT and four RDs.
 #[test]
 fn a_machine_does_not_show_its_workers(rt: HostRuntime) -> Result<(), Fail> {
-    let one = outcome_by(&rt, rt.alloc(), &Open, 1, "", 30)?;
-    assert_workers(&rt, rt.alloc(), &one)?;
+    let one = did_by(&rt, rt.alloc(), &Open, 1, "", 30)?;
+    expect(&rt, &one.0.len(), &5);
+    for workers in [2, 3] {
+        let more = did_by(&rt, rt.alloc(), &Open, workers, "", 30)?;
+        expect_at(&rt, &("workers", workers), &more, &one);
+    }
     Ok(())
 }
 
-/// How many commands a run has that ends drained, how many cycles, and how many messages it leaves in flight.
-fn drained_by<R: Threads + Wait + Sync>(
-    rt: &R,
-    alloc: Global,
-    workers: usize,
-) -> Result<(usize, Cycle, usize), Fault>
-    requires some { 1 ≤ workers }
-    requires few { workers ≤ 64 }
-{
-    let outcome = outcome_by(rt, alloc, &Open, workers, "end = \"drained\"\n", 1_000)?;
-    let ended = &outcome;
-    let commands = ended.commands.to_vec(alloc)?;
-    Ok((
-        commands.len(),
-        ended.stats.cycles,
-        ended.last.in_flight.len(),
-    ))
-}
+const DRAINED: &str = "end = \"drained\"\n";
 
 /// Where the machine ends drained, it stops long before its limit, with nothing in flight.
 #[test]
 fn a_machine_ends_drained(rt: HostRuntime) -> Result<(), Fail> {
     for workers in [1, 2, 3] {
-        let (commands, cycles, flight) = drained_by(&rt, rt.alloc(), workers)?;
-        expect(&rt, &(commands, cycles < 100, flight), &(5, true, 0));
+        let (commands, cycles, flight) = did_by(&rt, rt.alloc(), &Open, workers, DRAINED, 1_000)?;
+        expect(&rt, &(commands.len(), cycles < 100, flight), &(5, true, 0));
     }
     Ok(())
 }
@@ -341,9 +246,10 @@ fn a_machine_ends_drained(rt: HostRuntime) -> Result<(), Fail> {
 /// A core and a channel, with more workers than they have jobs in all phases.
 #[test]
 fn most_workers_have_nothing_to_do(rt: HostRuntime) -> Result<(), Fail> {
-    let texts = texts_of(rt.alloc(), &["0 0\n7 4096\n3 64 128\n0 8192\n"])?;
-    assert_same(&rt, SMALL, &texts, 200, &[2, 3, 64])?;
-    Ok(())
+    let texts = Texts::of(rt.alloc(), &[], "", &["0 0\n7 4096\n3 64 128\n0 8192\n"])?;
+    let same = assert_same(&rt, rt.alloc(), &texts.run(200), &[2, 3, 64]);
+    drop(texts);
+    Ok(same?)
 }
 
 /// How long threads look for tasks before they sleep.
@@ -539,37 +445,9 @@ fn take_in_turn<R: Wait, B: Room>(
     )
 }
 
-/// Two cores that read one line each, and one channel, before their first cycle.
-fn three_units(alloc: Global) -> Result<Sim, Fault>
-    ensures { IfOk result (λ sim. sim.now ≡ 0) }
-{
-    let config = small(alloc, &["cores = 2"], "")?;
-    if config.cores != 2 {
-        return Err(Fault::TraceCount);
-    }
-    let traces = two_traces(alloc)?;
-    Ok(Sim::start(alloc, &config, traces)?)
-}
-
-fn two_traces(alloc: Global) -> Result<Vec<Trace>, AllocError>
-    ensures { IfOk result (λ traces. length traces.items ≡ 2) }
-{
-    let line = [Entry::Read(0)];
-    let first = Trace::from_entries(alloc, &line)?;
-    let second = Trace::from_entries(alloc, &line)?;
-    let traces = Vec::from_array(alloc, [first, second])?;
-    Ok(traces)
-}
-
-/// The jobs of their first phase.
-fn three_jobs(alloc: Global) -> Result<Vec<Job>, Fault> {
-    let sim = three_units(alloc)?;
-    Ok(jobs_of(alloc, sim)?)
-}
-
 #[test]
 fn seats_take_jobs_in_their_order(rt: HostRuntime) -> Result<(), Fail> {
-    let jobs = three_jobs(rt.alloc())?;
+    let jobs = first_jobs(rt.alloc(), &["cores = 2"])?;
     let room = jobs.len().max(1);
     let blank = Blank::open(rt.alloc(), room)?;
     let (units, missing) = take_in_turn::<HostRuntime, Brand>(&rt, blank, jobs);

@@ -79,8 +79,9 @@ fn read_up_to_16(alloc: Global) -> Result<Did, Fail> {
     let read = [Entry::Read(0)];
     let sim = run_to(alloc, &[RANK_FIELD], &read, 16, &mut AsTheyCome)?;
     let now = sim.now();
-    let counts = counts_of(alloc, &sim)?;
-    Ok((now, counts, commands_of(alloc, sim)?))
+    let counts = counts_of(alloc, &sim);
+    let commands = commands_of(alloc, sim)?;
+    Ok((now, counts?, commands))
 }
 
 /// One read, which is sent in cycle 0 and in the queue from cycle 2 on: ACT 2, RD 5.
@@ -104,31 +105,60 @@ fn units_of(last: &FinalState) -> Units {
     (core, channel)
 }
 
-/// What a run did and left: its cycles and its ranks, its commands, its messages in flight, and its units.
-type Left = (Cycle, u32, Ends, Ends, Units);
+/// When the first core finished, how long its reads took and how long it was at its end, and how long the first channel was
+/// idle.
+type Waits = (Option<(Option<Cycle>, u128, u64)>, Option<u64>);
 
-fn left_by(alloc: Global, outcome: &Outcome) -> Result<Left, AllocError> {
-    let commands = ends_of_commands(alloc, &outcome.commands)?;
-    let flight = ends_of_messages(&outcome.last.in_flight);
-    let units = units_of(&outcome.last);
-    Ok((outcome.stats.cycles, outcome.ranks, commands, flight, units))
+fn waits_of(stats: &Stats) -> Waits {
+    let core = stats
+        .cores
+        .first()
+        .map(|c| (c.finish, c.read_latency, c.stop_end));
+    let channel = stats.channels.first().map(|c| c.idle);
+    (core, channel)
 }
 
-fn read_up_to_6(alloc: Global) -> Result<Left, Fail> {
+/// What a run did and left: its cycles and its ranks, its commands, its messages in flight, its units, and what they waited for.
+#[derive(Clone, Copy)]
+struct Left {
+    cycles: (Cycle, u32),
+    commands: Ends,
+    flight: Ends,
+    units: Units,
+    waits: Waits,
+}
+
+fn left_by(alloc: Global, outcome: &Outcome) -> Result<Left, Fail> {
+    Ok(Left {
+        cycles: (outcome.stats.cycles, outcome.ranks),
+        commands: ends_of_commands(alloc, &outcome.commands)?,
+        flight: ends_of_messages(&outcome.last.in_flight),
+        units: units_of(&outcome.last),
+        waits: waits_of(&outcome.stats),
+    })
+}
+
+/// What is left of one read at a cycle.
+fn read_up_to(alloc: Global, changes: &[&str], cycle: Cycle) -> Result<Left, Fail>
+    requires early { cycle ≤ 10 ^ 12 }
+{
     let read = [Entry::Read(0)];
-    let sim = run_to(alloc, &[RANK_FIELD], &read, 6, &mut AsTheyCome)?;
+    let sim = run_to(alloc, changes, &read, cycle, &mut AsTheyCome)?;
     let outcome = sim.outcome(alloc)?;
-    let whole = &outcome;
-    Ok(left_by(alloc, whole)?)
+    left_by(alloc, &outcome)
 }
 
 /// The same read, up to cycle 6: its row is open, its reply and its credit are in flight, and the credit comes first.
 #[test]
 fn one_line_is_left(rt: HostRuntime) -> Result<(), Fail> {
-    let left = read_up_to_6(rt.alloc())?;
+    let left = read_up_to(rt.alloc(), &[RANK_FIELD], 6)?;
     let (commands, flight) = ((2, Some(2), Some(5)), (2, Some(7), Some(15)));
     let units = (Some((1, 0)), Some((1, 0)));
-    expect(&rt, &left, &(6, 1, commands, flight, units));
+    expect(
+        &rt,
+        &(left.cycles, left.commands, left.flight, left.units),
+        &((6, 1), commands, flight, units),
+    );
     Ok(())
 }
 
@@ -170,9 +200,10 @@ fn assert_ends(
     Ok(())
 }
 
-/// The same read: the credit arrives in cycle 7 and the reply in cycle 15, in which the read retires.
+/// The same read: the credit arrives in cycle 7 and the reply in cycle 15, in which the read retires. And nine entries that need no
+/// memory, which are issued in the cycles from 0 to 4, and each retires in the cycle after.
 #[test]
-fn one_line_ends(rt: HostRuntime) -> Result<(), Fail> {
+fn runs_end(rt: HostRuntime) -> Result<(), Fail> {
     let ends = [
         (0, 100, (false, Some(1))),
         (6, 100, (false, Some(8))),
@@ -180,12 +211,7 @@ fn one_line_ends(rt: HostRuntime) -> Result<(), Fail> {
         (15, 100, (false, Some(16))),
         (16, 100, (true, None)),
     ];
-    assert_ends(&rt, rt.alloc(), &[Entry::Read(0)], &ends)
-}
-
-/// Nine entries that need no memory are issued in the cycles from 0 to 4, and each retires in the cycle after.
-#[test]
-fn plain_entries_end(rt: HostRuntime) -> Result<(), Fail> {
+    assert_ends(&rt, rt.alloc(), &[Entry::Read(0)], &ends)?;
     let ends = [
         (0, 100, (false, Some(5))),
         (5, 100, (false, Some(6))),
@@ -197,10 +223,14 @@ fn plain_entries_end(rt: HostRuntime) -> Result<(), Fail> {
 /// The cycle at which a run stands, how many phases it took, and the spans of the first eight.
 type Noted = (Cycle, u64, [(Cycle, Cycle); 8]);
 
-fn noted(alloc: Global, changes: &[&str], entries: &[Entry], cycle: Cycle) -> Result<Noted, Fail>
-    requires long { length entries.now ≤ 2 ^ 62 }
-    requires early { cycle ≤ 10 ^ 12 }
-{
+/// Other lines of the small machine, the entries of its core, and a cycle; and up to it the phases, and the spans of the first eight.
+type Phases<'x> = (&'x [&'x str], &'x [Entry], Cycle, u64, &'x [(Cycle, Cycle)]);
+
+fn noted(alloc: Global, case: &Phases<'_>) -> Result<Noted, Fail> {
+    let (changes, entries, cycle, _, _) = *case;
+    if entries.len() > 8 || cycle > LONGEST {
+        return Err(Fail::from("too long"));
+    }
     let mut noting = Noting::new();
     let sim = run_to(alloc, changes, entries, cycle, &mut noting)?;
     let spans = noting.spans;
@@ -210,79 +240,80 @@ fn noted(alloc: Global, changes: &[&str], entries: &[Entry], cycle: Cycle) -> Re
 /// The span of no phase.
 const NONE: (Cycle, Cycle) = (0, 0);
 
-/// The same read, up to cycle 40. It is sent in cycle 0 and comes in 2, where its row is opened; the row is ready in 5, and the
-/// line is read. The credit comes in 7 and the reply in 15. In the other cycles nothing happens.
-#[test]
-fn a_read_takes_five_phases(rt: HostRuntime) -> Result<(), Fail> {
-    let found = noted(rt.alloc(), &[RANK_FIELD], &[Entry::Read(0)], 40)?;
-    let spans = [(0, 2), (2, 4), (5, 7), (7, 9), (15, 17), NONE, NONE, NONE];
-    expect(&rt, &found, &(40, 5, spans));
-    Ok(())
-}
-
-/// Without a trace there are only refreshes, due in the cycles 100 and 200.
-#[test]
-fn two_refreshes_take_two_phases(rt: HostRuntime) -> Result<(), Fail> {
-    let found = noted(rt.alloc(), &[RANK_FIELD, "nREFI = 100"], &[], 250)?;
-    let (first, second) = ((100, 102), (200, 202));
-    let spans = [first, second, NONE, NONE, NONE, NONE, NONE, NONE];
-    expect(&rt, &found, &(250, 2, spans));
-    Ok(())
-}
-
 /// The limit of the longest run.
 const LONGEST: Cycle = 1_000_000_000_000;
 
 /// Links of a million cycles.
-static SLOW_LINKS: [&str; 4] = [
+const SLOW_LINKS: &[&str] = &[
     RANK_FIELD,
     "request_latency = 1000000",
     "reply_latency = 1000000",
     "credit_latency = 1000000",
 ];
 
-/// The same read over slow links, up to the last cycle: it comes in cycle 1,000,000 and is read in 1,000,003, the credit comes in
-/// 2,000,003, and the reply in 2,000,011, in the same phase.
+static PHASES: [Phases<'static>; 3] = [
+    // The same read, up to cycle 40. It is sent in cycle 0 and comes in 2, where its row is opened; the row is ready in 5, and the
+    // line is read. The credit comes in 7 and the reply in 15. In the other cycles nothing happens.
+    (
+        &[RANK_FIELD],
+        &[Entry::Read(0)],
+        40,
+        5,
+        &[(0, 2), (2, 4), (5, 7), (7, 9), (15, 17), NONE, NONE, NONE],
+    ),
+    // Without a trace there are only refreshes, due in the cycles 100 and 200.
+    (
+        &[RANK_FIELD, "nREFI = 100"],
+        &[],
+        250,
+        2,
+        &[(100, 102), (200, 202), NONE, NONE, NONE, NONE, NONE, NONE],
+    ),
+    // The same read over slow links, up to the last cycle: it comes in cycle 1,000,000 and is read in 1,000,003, the credit comes in
+    // 2,000,003, and the reply in 2,000,011, in the same phase.
+    (
+        SLOW_LINKS,
+        &[Entry::Read(0)],
+        LONGEST,
+        3,
+        &[
+            (0, 1_000_000),
+            (1_000_000, 2_000_000),
+            (2_000_003, 3_000_003),
+            NONE,
+            NONE,
+            NONE,
+            NONE,
+            NONE,
+        ],
+    ),
+];
+
 #[test]
-fn a_slow_read_takes_three_phases(rt: HostRuntime) -> Result<(), Fail> {
-    let found = noted(rt.alloc(), &SLOW_LINKS, &[Entry::Read(0)], LONGEST)?;
-    let (first, second) = ((0, 1_000_000), (1_000_000, 2_000_000));
-    let third = (2_000_003, 3_000_003);
-    let spans = [first, second, third, NONE, NONE, NONE, NONE, NONE];
-    expect(&rt, &found, &(LONGEST, 3, spans));
+fn runs_take_few_phases(rt: HostRuntime) -> Result<(), Fail> {
+    for case in &PHASES {
+        let (now, phases, spans) = noted(rt.alloc(), case)?;
+        expect_at(
+            &rt,
+            &("up to", case.2),
+            &(now, phases, spans.as_slice()),
+            &(case.2, case.3, case.4),
+        );
+    }
     Ok(())
-}
-
-/// When the first core finished, how long its reads took and how long it was at its end, and how long the first channel was
-/// idle.
-type Waits = (Option<(Option<Cycle>, u128, u64)>, Option<u64>);
-
-fn waits_of(stats: &Stats) -> Waits {
-    let core = stats
-        .cores
-        .first()
-        .map(|c| (c.finish, c.read_latency, c.stop_end));
-    let channel = stats.channels.first().map(|c| c.idle);
-    (core, channel)
-}
-
-/// The cycles of the slow read's run, its commands, and what it waited for.
-fn slow_read(alloc: Global) -> Result<(Cycle, Ends, Waits), Fail> {
-    let read = [Entry::Read(0)];
-    let sim = run_to(alloc, &SLOW_LINKS, &read, LONGEST, &mut AsTheyCome)?;
-    let outcome = sim.outcome(alloc)?;
-    let whole = &outcome;
-    let commands = ends_of_commands(alloc, &whole.commands)?;
-    Ok((whole.stats.cycles, commands, waits_of(&whole.stats)))
 }
 
 /// The core has no more entries from cycle 0 on, and the queue is empty but for four cycles.
 #[test]
 fn a_slow_read_is_counted(rt: HostRuntime) -> Result<(), Fail> {
-    let found = slow_read(rt.alloc())?;
+    let left = read_up_to(rt.alloc(), SLOW_LINKS, LONGEST)?;
     let core = (Some(2_000_011), 2_000_011, LONGEST);
     let commands = (2, Some(1_000_000), Some(1_000_003));
     let waits = (Some(core), Some(999_999_999_996));
-    expect(&rt, &found, &(LONGEST, commands, waits));
+    expect(
+        &rt,
+        &(left.cycles.0, left.commands, left.waits),
+        &(LONGEST, commands, waits),
+    );
     Ok(())
 }

@@ -1,7 +1,7 @@
 //! What the program refuses, and places of addresses.
 
 use crate::files_in_memory::MemoryFiles;
-use crate::program_runs::{Said, add_machine, assert_text, files_by, said_to, said_to_run};
+use crate::program_runs::{Said, add_machine, assert_text, said_to, said_to_run};
 use crate::worked_runs::{ONE_READ, Run};
 use std::alloc::AllocError;
 use std::process::Abort;
@@ -147,20 +147,6 @@ static REFUSED: [Refused<'static>; 12] = [
 #[test]
 fn refuses_runs(rt: HostRuntime) -> Result<(), Fail> {
     assert_all_refused(&rt, &REFUSED)
-}
-
-// As often as they may come.
-static REFRESHES: Run = Run {
-    name: "refreshes often",
-    changes: &["nREFI = 35"],
-    cycles: 64,
-    ..ONE_READ
-};
-
-#[test]
-fn takes_refreshes_as_often_as_they_may_come(rt: HostRuntime) -> Result<(), Fail> {
-    let _files = files_by(&rt, &REFRESHES, 1)?;
-    Ok(())
 }
 
 // What the program says to a line of words beside the small machine.

@@ -11,11 +11,11 @@ use sim_base::message::{Cycle, Message, Unit};
 use std::alloc::{AllocError, Global};
 use std::test::Fail;
 
-/// All units of a machine, and what they did.
+/// All units of a machine, and what they did. A unit is gone where a run of it failed.
 #[derive(Drop)]
 pub(crate) struct Units {
-    pub cores: Vec<FedCore>,
-    pub channels: Vec<FedChannel>,
+    pub cores: Vec<Option<FedCore>>,
+    pub channels: Vec<Option<FedChannel>>,
     pub links: Links,
     /// The commands, span by span, and in a span by channel.
     pub commands: Vec<CommandRow>,
@@ -24,90 +24,104 @@ pub(crate) struct Units {
     pub longest: u64,
 }
 
-fn cores(alloc: Global, config: &Config, traces: &[Trace]) -> Result<Vec<FedCore>, Fail> {
-    let mut cores = Vec::new(alloc);
-    let mut id = 0;
-    for trace in traces {
-        cores.push(FedCore::start(alloc, config, id, trace.copy()?)?)?;
-        id = id.wrapping_add(1);
-    }
-    Ok(cores)
-}
-
-fn channels(alloc: Global, config: &Config) -> Result<Vec<FedChannel>, Fail> {
-    let mut channels = Vec::new(alloc);
-    for number in 0..u32::from(config.channels) {
-        channels.push(FedChannel::start(alloc, config, number)?)?;
-    }
-    Ok(channels)
-}
-
 impl Units {
-    /// The units before the first cycle, with a trace for each core.
-    pub(crate) fn start(alloc: Global, config: &Config, traces: &[Trace]) -> Result<Self, Fail> {
+    /// A machine that has no unit yet.
+    pub(crate) fn none(alloc: Global, config: &Config) -> Result<Self, AllocError> {
+        let links = Links::start(alloc, config)?;
         Ok(Units {
-            cores: cores(alloc, config, traces)?,
-            channels: channels(alloc, config)?,
-            links: Links::start(alloc, config)?,
+            cores: Vec::new(alloc),
+            channels: Vec::new(alloc),
+            links,
             commands: Vec::new(alloc),
             now: 0,
             longest: shortest(config),
         })
     }
 
+    /// Adds the cores before their first cycle, with a trace for each.
+    pub(crate) fn add_cores(
+        &mut self,
+        alloc: Global,
+        config: &Config,
+        traces: &[Trace],
+    ) -> Result<(), AllocError> {
+        let mut id = 0;
+        for trace in traces {
+            let core = FedCore::start(alloc, config, id, trace.copy()?)?;
+            self.cores.push(Some(core))?;
+            id = id.wrapping_add(1);
+        }
+        Ok(())
+    }
+
+    /// Adds the channels before their first cycle.
+    pub(crate) fn add_channels(
+        &mut self,
+        alloc: Global,
+        config: &Config,
+    ) -> Result<(), AllocError> {
+        for number in 0..u32::from(config.channels) {
+            let channel = FedChannel::start(alloc, config, number)?;
+            self.channels.push(Some(channel))?;
+        }
+        Ok(())
+    }
+
     /// Runs each unit alone up to a cycle.
-    pub(crate) fn run_span(mut self, alloc: Global, until: Cycle) -> Result<Self, Fail> {
+    pub(crate) fn run_span(&mut self, alloc: Global, until: Cycle) -> Result<(), Fail> {
         let mut sent = Vec::new(alloc);
-        let cores = run_cores(
-            alloc,
-            self.cores,
-            &mut self.links,
-            self.now,
-            until,
-            &mut sent,
-        )?;
-        let channels = run_channels(
-            alloc,
-            self.channels,
-            &mut self.links,
-            self.now,
-            until,
-            &mut sent,
-            &mut self.commands,
-        )?;
+        self.run_cores(alloc, until, &mut sent)?;
+        self.run_channels(alloc, until, &mut sent)?;
         self.links.accept(&mut sent)?;
-        Ok(Units {
-            cores,
-            channels,
-            links: self.links,
-            commands: self.commands,
-            now: until,
-            longest: self.longest,
-        })
+        self.now = until;
+        Ok(())
+    }
+
+    fn run_cores(
+        &mut self,
+        alloc: Global,
+        until: Cycle,
+        sent: &mut Vec<Message>,
+    ) -> Result<(), Fail> {
+        let mut id = 0;
+        for core in &mut self.cores {
+            let inbox = self.links.take_due(alloc, Unit::Core(id), self.now, until)?;
+            run_core(alloc, core, &inbox, until, sent)?;
+            id = id.wrapping_add(1);
+        }
+        Ok(())
+    }
+
+    fn run_channels(
+        &mut self,
+        alloc: Global,
+        until: Cycle,
+        sent: &mut Vec<Message>,
+    ) -> Result<(), Fail> {
+        let mut number = 0;
+        for channel in &mut self.channels {
+            let inbox = self
+                .links
+                .take_due(alloc, Unit::Channel(number), self.now, until)?;
+            run_channel(alloc, channel, &inbox, until, sent, &mut self.commands)?;
+            number = number.wrapping_add(1);
+        }
+        Ok(())
     }
 
     /// The first cycle in which a unit acts or a message arrives.
     pub(crate) fn next_event(&mut self) -> Option<Cycle> {
-        let mut first = self.links.next_arrival();
-        for core in &self.cores {
-            first = earlier(first, core.next_act());
-        }
-        for channel in &mut self.channels {
-            first = earlier(first, channel.next_act());
-        }
-        first
+        let cores = act_of_cores(&self.cores);
+        let channels = act_of_channels(&mut self.channels);
+        earlier(self.links.next_arrival(), earlier(cores, channels))
     }
 
     /// Moves all units on to a cycle before which none acts and nothing arrives.
-    pub(crate) fn skip(self, alloc: Global, until: Cycle) -> Result<Self, Fail> {
-        Ok(Units {
-            cores: skip_cores(alloc, self.cores, until)?,
-            channels: skip_channels(alloc, self.channels, until)?,
-            links: self.links,
-            commands: self.commands,
-            now: until,
-            longest: self.longest,
-        })
+    pub(crate) fn skip(&mut self, until: Cycle) -> Result<(), Fail> {
+        skip_cores(&mut self.cores, until)?;
+        skip_channels(&mut self.channels, until)?;
+        self.now = until;
+        Ok(())
     }
 }
 
@@ -119,96 +133,75 @@ fn earlier(a: Option<Cycle>, b: Option<Cycle>) -> Option<Cycle> {
     }
 }
 
+/// When the first of the cores acts next.
+fn act_of_cores(cores: &[Option<FedCore>]) -> Option<Cycle> {
+    let mut first = None;
+    for core in cores {
+        if let Some(core) = core {
+            first = earlier(first, core.next_act());
+        }
+    }
+    first
+}
+
+/// When the first of the channels acts next.
+fn act_of_channels(channels: &mut [Option<FedChannel>]) -> Option<Cycle> {
+    let mut first = None;
+    for channel in channels {
+        if let Some(channel) = channel {
+            first = earlier(first, channel.next_act());
+        }
+    }
+    first
+}
+
+/// Why a unit does not run.
+const GONE: &str = "a unit is gone";
+
+/// Runs a core up to a cycle, and keeps what it sends.
 fn run_core(
     alloc: Global,
-    core: FedCore,
+    place: &mut Option<FedCore>,
     inbox: &[Message],
     until: Cycle,
     sent: &mut Vec<Message>,
-) -> Result<FedCore, Fail> {
-    let Ok(done) = core.run(alloc, inbox, until) else {
-        return Err(Fail::from("a message does not fit a core"));
-    };
+) -> Result<(), Fail> {
+    let core = place.take().ok_or(GONE)?;
+    let done = core.run(alloc, inbox, until)?;
+    place.insert(done.core);
     sent.extend_from_slice(&done.messages)?;
-    Ok(done.core)
-}
-
-fn run_cores(
-    alloc: Global,
-    cores: Vec<FedCore>,
-    links: &mut Links,
-    from: Cycle,
-    until: Cycle,
-    sent: &mut Vec<Message>,
-) -> Result<Vec<FedCore>, Fail> {
-    let mut after = Vec::new(alloc);
-    let mut id = 0;
-    for core in cores {
-        let inbox = links.take_due(alloc, Unit::Core(id), from, until)?;
-        after.push(run_core(alloc, core, &inbox, until, sent)?)?;
-        id = id.wrapping_add(1);
-    }
-    Ok(after)
+    Ok(())
 }
 
 /// Runs a channel up to a cycle, and keeps what it sends and issues.
-pub(crate) fn run_channel(
+fn run_channel(
     alloc: Global,
-    channel: FedChannel,
+    place: &mut Option<FedChannel>,
     inbox: &[Message],
     until: Cycle,
     sent: &mut Vec<Message>,
     commands: &mut Vec<CommandRow>,
-) -> Result<FedChannel, Fail> {
-    let Ok(done) = channel.run(alloc, inbox, until) else {
-        return Err(Fail::from("a message does not fit a channel"));
-    };
+) -> Result<(), Fail> {
+    let channel = place.take().ok_or(GONE)?;
+    let done = channel.run(alloc, inbox, until)?;
+    place.insert(done.channel);
     sent.extend_from_slice(&done.messages)?;
     commands.extend_from_slice(&done.commands)?;
-    Ok(done.channel)
+    Ok(())
 }
 
-fn run_channels(
-    alloc: Global,
-    channels: Vec<FedChannel>,
-    links: &mut Links,
-    from: Cycle,
-    until: Cycle,
-    sent: &mut Vec<Message>,
-    commands: &mut Vec<CommandRow>,
-) -> Result<Vec<FedChannel>, Fail> {
-    let mut after = Vec::new(alloc);
-    let mut number = 0;
-    for channel in channels {
-        let inbox = links.take_due(alloc, Unit::Channel(number), from, until)?;
-        after.push(run_channel(alloc, channel, &inbox, until, sent, commands)?)?;
-        number = number.wrapping_add(1);
+fn skip_cores(cores: &mut [Option<FedCore>], until: Cycle) -> Result<(), Fail> {
+    for place in cores {
+        let core = place.take().ok_or(GONE)?;
+        place.insert(core.skip(until)?);
     }
-    Ok(after)
+    Ok(())
 }
 
-fn skip_cores(alloc: Global, cores: Vec<FedCore>, until: Cycle) -> Result<Vec<FedCore>, Fail> {
-    let mut after = Vec::new(alloc);
-    for core in cores {
-        let Ok(core) = core.skip(until) else {
-            return Err(Fail::from("a core can not skip"));
-        };
-        after.push(core)?;
+fn skip_channels(channels: &mut [Option<FedChannel>], until: Cycle) -> Result<(), Fail> {
+    for place in channels {
+        let channel = place.take().ok_or(GONE)?;
+        place.insert(channel.skip(until)?);
     }
-    Ok(after)
-}
-
-fn skip_channels(
-    alloc: Global,
-    channels: Vec<FedChannel>,
-    until: Cycle,
-) -> Result<Vec<FedChannel>, Fail> {
-    let mut after = Vec::new(alloc);
-    for channel in channels {
-        let Ok(channel) = channel.skip(until) else {
-            return Err(Fail::from("a channel can not skip"));
-        };
-        after.push(channel)?;
-    }
-    Ok(after)
+    Ok(())
 }

@@ -5,7 +5,8 @@ ghost use Rattle.channel_step.specs.Fit.{IsFit};
 ghost use Rattle.channel_step.specs.Past.{CarriesRequest};
 ghost use Rattle.channel_step.specs.Channels.{HasRank, HasBank};
 
-use crate::expect::expect;
+use crate::expect::{expect, expect_at};
+use crate::none::NO_CHANNEL;
 use channel_step::channel::Channel;
 use command_table::list::CommandList;
 use fixtures::small::{RANK_FIELD, small};
@@ -14,7 +15,9 @@ use sim_base::config::Config;
 use sim_base::fault::Fault;
 use sim_base::message::{Cycle, Load, Message, Request};
 use sim_base::place::{BankId, Place};
+use statistics::channels::ChannelStats;
 use std::alloc::{AllocError, Global};
+use std::process::Abort;
 use std::test::Fail;
 
 const BANK: BankId = BankId {
@@ -67,6 +70,16 @@ fn run_alone(
     })
 }
 
+/// Runs a channel to which nothing comes, with an interval of refreshes.
+fn idle(alloc: Global, n_refi: &str, until: Cycle) -> Result<ChannelDone, Fault>
+    requires until { until ≤ 2 ^ 62 }
+    ensures rank { IfOk result (λ done. HasRank done.channel 0) }
+    ensures bank { IfOk result (λ done. HasBank done.channel BANK) }
+{
+    let config = config(alloc, n_refi)?;
+    Ok(run_alone(alloc, &config, &[], until)?)
+}
+
 /// A read of the first line, which arrives in cycle 2.
 fn first_read(config: &Config) -> Message
     ensures carries { CarriesRequest config.now 0 result }
@@ -95,57 +108,94 @@ fn first_read(config: &Config) -> Message
     }
 }
 
-/// No requests and no refreshes, for a million million cycles.
-#[test]
-fn idle_span_is_skipped(rt: HostRuntime) -> Result<(), Fail> {
-    let config = config(rt.alloc(), "nREFI = 0")?;
-    let done = run_alone(rt.alloc(), &config, &[], 1_000_000_000_000)?;
-    let channel = &done.channel;
-    let stats = channel.stats();
-    let counts = (stats.idle, stats.queued, stats.refreshing);
-    let did = (done.commands.len(), done.messages.len());
-    let stands = (channel.now(), channel.due(0), channel.open_row(BANK));
-    expect(
-        &rt,
-        &(counts, did, stands),
-        &(
-            (1_000_000_000_000, 0, 0),
-            (0, 0),
-            (1_000_000_000_000, 0, None),
-        ),
-    );
-    Ok(())
+/// Runs a channel to which one read comes.
+fn served(alloc: Global) -> Result<ChannelDone, Fault>
+    ensures rank { IfOk result (λ done. HasRank done.channel 0) }
+    ensures bank { IfOk result (λ done. HasBank done.channel BANK) }
+{
+    let config = config(alloc, "nREFI = 0")?;
+    let inbox = [first_read(&config)];
+    Ok(run_alone(alloc, &config, &inbox, 16)?)
 }
 
-static REFRESHES: [CommandRow; 2] = [
-    CommandRow {
-        cycle: 100,
-        channel: 0,
-        command: Command::Ref { rank: 0 },
-    },
-    CommandRow {
-        cycle: 200,
-        channel: 0,
-        command: Command::Ref { rank: 0 },
-    },
+/// What a channel counted; where it stands, the refreshes that are due, the row that is open, and how many requests wait.
+type Stands = (ChannelStats, Cycle, u64, Option<u32>, usize);
+
+fn stands(channel: &Channel) -> Stands
+    requires rank { HasRank channel.now 0 }
+    requires bank { HasBank channel.now BANK }
+{
+    (
+        channel.stats(),
+        channel.now(),
+        channel.due(0),
+        channel.open_row(BANK),
+        channel.requests().len(),
+    )
+}
+
+/// The interval of refreshes and a number of cycles; the commands, and what is counted.
+type Idle<'x> = (&'x str, Cycle, &'x [CommandRow], ChannelStats);
+
+/// No refresh for a million million cycles, and one every 100 cycles: REF 100, REF 200.
+static IDLE: [Idle<'static>; 2] = [
+    (
+        "nREFI = 0",
+        1_000_000_000_000,
+        &[],
+        ChannelStats {
+            idle: 1_000_000_000_000,
+            ..NO_CHANNEL
+        },
+    ),
+    (
+        "nREFI = 100",
+        250,
+        &[
+            CommandRow {
+                cycle: 100,
+                channel: 0,
+                command: Command::Ref { rank: 0 },
+            },
+            CommandRow {
+                cycle: 200,
+                channel: 0,
+                command: Command::Ref { rank: 0 },
+            },
+        ],
+        ChannelStats {
+            refs: 2,
+            refreshing: 2,
+            idle: 250,
+            ..NO_CHANNEL
+        },
+    ),
 ];
 
-/// No requests, and a refresh every 100 cycles: REF 100, REF 200.
-#[test]
-fn idle_channel_is_refreshed(rt: HostRuntime) -> Result<(), Fail> {
-    let config = config(rt.alloc(), "nREFI = 100")?;
-    let done = run_alone(rt.alloc(), &config, &[], 250)?;
-    let stats = done.channel.stats();
-    expect(
-        &rt,
+fn assert_idle(rt: &impl Abort, done: &ChannelDone, case: &Idle<'_>)
+    requires rank { HasRank done.now.channel 0 }
+    requires bank { HasBank done.now.channel BANK }
+{
+    let (n_refi, until, commands, stats) = *case;
+    expect_at(
+        rt,
+        &n_refi,
         &(
             done.commands.as_slice(),
-            stats.refs,
-            stats.refreshing,
-            stats.idle,
+            done.messages.len(),
+            stands(&done.channel),
         ),
-        &(REFRESHES.as_slice(), 2, 2, 250),
+        &(commands, 0, (stats, until, 0, None, 0)),
     );
+}
+
+#[test]
+fn idle_channels(rt: HostRuntime) -> Result<(), Fail> {
+    for case in &IDLE {
+        let until = case.1.min(1_000_000_000_000);
+        let done = idle(rt.alloc(), case.0, until)?;
+        assert_idle(&rt, &done, case);
+    }
     Ok(())
 }
 
@@ -170,35 +220,33 @@ fn cycles_of(done: &ChannelDone) -> (Ends, Ends) {
     )
 }
 
-/// One read, which is in the queue from cycle 2 on: ACT 2, RD 5. Its credit is back in cycle 7, and its data in cycle 15.
-#[test]
-fn one_read_is_served(rt: HostRuntime) -> Result<(), Fail> {
-    let config = config(rt.alloc(), "nREFI = 0")?;
-    let inbox = [first_read(&config)];
-    let done = run_alone(rt.alloc(), &config, &inbox, 16)?;
-    let channel = &done.channel;
-    let stats = channel.stats();
-    let ends = (
-        channel.now(),
-        channel.open_row(BANK),
-        channel.requests().len(),
-    );
-    let counts = (
-        stats.queued,
-        stats.queued_max,
-        stats.idle,
-        stats.act,
-        stats.rd,
-        stats.hits,
-    );
+static ONE_READ: ChannelStats = ChannelStats {
+    act: 1,
+    rd: 1,
+    queued: 4,
+    queued_max: 1,
+    idle: 12,
+    ..NO_CHANNEL
+};
+
+fn assert_served(rt: &impl Abort, done: &ChannelDone)
+    requires rank { HasRank done.now.channel 0 }
+    requires bank { HasBank done.now.channel BANK }
+{
     expect(
-        &rt,
-        &(ends, counts, cycles_of(&done)),
+        rt,
+        &(stands(&done.channel), cycles_of(done)),
         &(
-            (16, Some(0), 0),
-            (4, 1, 12, 1, 1, 0),
+            (ONE_READ, 16, 0, Some(0), 0),
             ((2, Some(2), Some(5)), (2, Some(15), Some(7))),
         ),
     );
+}
+
+/// One read, which is in the queue from cycle 2 on: ACT 2, RD 5. Its credit is back in cycle 7, and its data in cycle 15.
+#[test]
+fn one_read_is_served(rt: HostRuntime) -> Result<(), Fail> {
+    let done = served(rt.alloc())?;
+    assert_served(&rt, &done);
     Ok(())
 }

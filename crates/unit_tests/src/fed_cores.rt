@@ -3,16 +3,14 @@
 use crate::expect::{expect, expect_at};
 use crate::none::NO_CORE;
 use core_feed::done::CoreDone;
-use core_feed::fed::{FedCore, FedCoreDone, FeedFault};
+use core_feed::fed::{FedCore, FeedFault};
 use cpu_trace::trace::Trace;
 use fixtures::small::small;
-use sim_base::config::Config;
 use sim_base::message::{Cycle, LinkId, Load, Message, Request};
 use sim_base::place::Place;
 use sim_base::trace::Entry;
 use statistics::cores::CoreStats;
 use std::alloc::{AllocError, Global};
-use std::process::Abort;
 use std::test::Fail;
 
 fn reply(entry: u64, arrival: Cycle) -> Message {
@@ -100,27 +98,96 @@ fn between(
         .collect(alloc)
 }
 
-/// What a core counted that was fed with these messages, in spans up to each of these cycles.
-fn counted(
-    alloc: Global,
-    config: &Config,
-    entries: &[Entry],
-    mail: &[Message],
-    cuts: &[Cycle],
-) -> Result<CoreStats, Fail> {
-    let mut core = FedCore::start(alloc, config, 0, trace_of(alloc, entries)?)?;
-    for cut in cuts {
-        let inbox = between(alloc, mail, core.now(), *cut)?;
-        core = core.run(alloc, &inbox, *cut)?.core;
-    }
-    Ok(core.stats())
-}
-
 fn trace_of(alloc: Global, entries: &[Entry]) -> Result<Trace, Fail> {
     if entries.len() > 8 {
         return Err(Fail::from("too long"));
     }
     Ok(Trace::from_entries(alloc, entries)?)
+}
+
+/// What a core is told: to run up to a cycle, with these messages, or to go over the cycles before one.
+#[derive(Clone, Copy)]
+enum Step<'x> {
+    Run(&'x [Mail], Cycle),
+    Skip(Cycle),
+}
+
+/// A core that is fed span by span, and what it sent; no core, where a span was refused.
+#[derive(Drop)]
+struct Feeding {
+    core: Option<FedCore>,
+    sent: Vec<Message>,
+}
+
+impl Feeding {
+    /// The core of the small machine, with other lines for some keys.
+    fn start(alloc: Global, changes: &[&str], entries: &[Entry]) -> Result<Self, Fail> {
+        let config = small(alloc, changes, "")?;
+        let core = FedCore::start(alloc, &config, 0, trace_of(alloc, entries)?)?;
+        Ok(Feeding {
+            core: Some(core),
+            sent: Vec::new(alloc),
+        })
+    }
+
+    fn core(&self) -> Result<&FedCore, FeedFault> {
+        self.core.as_ref().ok_or(FeedFault::Memory)
+    }
+
+    fn run(&mut self, alloc: Global, inbox: &[Message], until: Cycle) -> Result<(), FeedFault> {
+        let core = self.core.take().ok_or(FeedFault::Memory)?;
+        let done = core.run(alloc, inbox, until)?;
+        self.core.insert(done.core);
+        let sent = self.sent.extend_from_slice(&done.messages);
+        sent.map_err(|_| FeedFault::Memory)
+    }
+
+    fn skip(&mut self, until: Cycle) -> Result<(), FeedFault> {
+        let core = self.core.take().ok_or(FeedFault::Memory)?;
+        self.core.insert(core.skip(until)?);
+        Ok(())
+    }
+
+    fn take(&mut self, alloc: Global, step: Step<'_>) -> Result<(), FeedFault> {
+        match step {
+            Step::Run(mail, until) => {
+                let inbox = mail_of(alloc, mail).map_err(|_| FeedFault::Memory)?;
+                self.run(alloc, &inbox, until)
+            }
+            Step::Skip(until) => self.skip(until),
+        }
+    }
+
+    /// Runs spans with these ends, with the messages that arrive in each.
+    fn run_spans(&mut self, alloc: Global, mail: &[Message], cuts: &[Cycle]) -> Result<(), Fail> {
+        for cut in cuts {
+            let inbox = between(alloc, mail, self.core()?.now(), *cut)?;
+            self.run(alloc, &inbox, *cut)?;
+        }
+        Ok(())
+    }
+}
+
+/// What a core counted, where it stands, and what it sent.
+type Did = (CoreStats, Cycle, Vec<Message>);
+
+/// What a core did that was run in one span.
+fn did_at_once(done: CoreDone) -> Did {
+    (done.core.stats(), done.core.now(), done.messages)
+}
+
+/// What a core did in spans with these ends, and anew in one span.
+fn did_by(
+    alloc: Global,
+    feeding: &mut Feeding,
+    mail: &[Message],
+    cuts: &[Cycle],
+) -> Result<(Did, Did), Fail> {
+    feeding.run_spans(alloc, mail, cuts)?;
+    let core = feeding.core()?;
+    let replay = did_at_once(core.replay(alloc)?);
+    let sent = feeding.sent.to_vec(alloc)?;
+    Ok(((core.stats(), core.now(), sent), replay))
 }
 
 /// Other lines of the small machine, the entries of its core's trace, the messages to it and the ends of spans; and what the core
@@ -231,192 +298,211 @@ static CASES: [Case<'static>; 6] = [
     },
 ];
 
-fn did(alloc: Global, case: &Case<'_>) -> Result<CoreStats, Fail> {
-    let config = small(alloc, case.changes, "")?;
+fn did(alloc: Global, case: &Case<'_>) -> Result<(Did, Did), Fail> {
     let mail = mail_of(alloc, case.mail)?;
-    counted(alloc, &config, case.entries, &mail, case.cuts)
+    let mut feeding = Feeding::start(alloc, case.changes, case.entries)?;
+    did_by(alloc, &mut feeding, &mail, case.cuts)
 }
 
 #[test]
 fn counts_of_fed_cores(rt: HostRuntime) -> Result<(), Fail> {
     for case in &CASES {
-        expect_at(
-            &rt,
-            &("in spans up to", case.cuts),
-            &did(rt.alloc(), case)?,
-            &case.did,
-        );
+        let (spans, replay) = did(rt.alloc(), case)?;
+        expect_at(&rt, &("in spans up to", case.cuts), &spans.0, &case.did);
+        expect_at(&rt, &("in one span", case.cuts), &replay, &spans);
     }
     Ok(())
 }
 
-/// A core after spans up to each of these cycles, and what it sent.
-fn fed_up_to(
-    alloc: Global,
-    start: FedCore,
-    mail: &[Message],
-    cuts: &[Cycle],
-) -> Result<FedCoreDone, Fail> {
-    let mut core = start;
-    let mut sent = Vec::new(alloc);
-    for cut in cuts {
-        let inbox = between(alloc, mail, core.now(), *cut)?;
-        let done = core.run(alloc, &inbox, *cut)?;
-        sent.extend_from_slice(&done.messages)?;
-        core = done.core;
-    }
-    Ok(FedCoreDone {
-        core,
-        messages: sent,
-    })
-}
-
-/// A core with one credit, after four spans in which it sent two reads.
-fn fed_in_four_spans(alloc: Global) -> Result<FedCoreDone, Fail> {
-    let config = small(alloc, &["read_credits = 1"], "")?;
-    let trace = trace_of(alloc, &[Entry::Read(0), Entry::Plain, Entry::Read(64)])?;
-    let start = FedCore::start(alloc, &config, 0, trace)?;
-    let mail = [credit(0, 7), credit(2, 12), reply(0, 15), reply(2, 20)];
-    fed_up_to(alloc, start, &mail, &[7, 8, 18, 32])
-}
-
-fn assert_replayed(rt: &impl Abort, fed: &FedCoreDone, replay: &CoreDone) {
-    let stats = replay.core.stats();
-    let ends = (fed.messages.len(), replay.core.now());
-    expect(
-        rt,
-        &(replay.messages.as_slice(), stats, stats.finish, ends),
-        &(fed.messages.as_slice(), fed.core.stats(), Some(20), (2, 32)),
-    );
-}
+/// A core with one credit, in four spans in which it sends two reads.
+static FOUR_SPANS: Case<'static> = Case {
+    changes: &["read_credits = 1"],
+    entries: &[Entry::Read(0), Entry::Plain, Entry::Read(64)],
+    mail: &[
+        Mail::Credit(0, 7),
+        Mail::Credit(2, 12),
+        Mail::Reply(0, 15),
+        Mail::Reply(2, 20),
+    ],
+    cuts: &[7, 8, 18, 32],
+    did: NO_CORE,
+};
 
 #[test]
 fn a_replay_does_the_same_in_one_span(rt: HostRuntime) -> Result<(), Fail> {
-    let fed = fed_in_four_spans(rt.alloc())?;
-    let replay = fed.core.replay(rt.alloc())?;
-    assert_replayed(&rt, &fed, &replay);
+    let (spans, replay) = did(rt.alloc(), &FOUR_SPANS)?;
+    expect(
+        &rt,
+        &(spans.0.finish, spans.1, spans.2.len()),
+        &(Some(20), 32, 2),
+    );
+    expect(&rt, &replay, &spans);
     Ok(())
 }
 
-/// A core that issued a Plain entry and a Read in cycle 0 and a Read in cycle 1, and has two Reads more, at cycle 2.
-fn core_at_two(alloc: Global) -> Result<FedCore, Fail> {
-    let config = small(alloc, &[], "")?;
-    let entries = [
-        Entry::Plain,
-        Entry::Read(0),
-        Entry::Read(64),
-        Entry::Read(128),
-        Entry::Read(192),
-    ];
-    let core = FedCore::start(alloc, &config, 0, trace_of(alloc, &entries)?)?;
-    Ok(core.run(alloc, &[], 2)?.core)
+/// On which links messages arrive, and when.
+fn arrivals_of(alloc: Global, messages: &[Message]) -> Result<Vec<(LinkId, Cycle)>, AllocError> {
+    messages
+        .iter()
+        .map(|message| (message.link, message.arrival))
+        .collect(alloc)
 }
 
-/// Whether these messages are refused of a core at cycle 2, in a span up to a cycle.
-fn is_refused(alloc: Global, mail: &[Mail], until: Cycle) -> Result<bool, Fail> {
-    let inbox = mail_of(alloc, mail)?;
-    match core_at_two(alloc)?.run(alloc, &inbox, until) {
-        Ok(_) => Ok(false),
-        Err(fault) => Ok(fault == FeedFault::Unfit),
-    }
+/// A core with one credit, which comes back in cycle 7.
+static ONE_CREDIT: Case<'static> = Case {
+    changes: &["read_credits = 1"],
+    entries: &[Entry::Read(0), Entry::Read(64)],
+    mail: &[Mail::Credit(0, 7), Mail::Reply(0, 15)],
+    cuts: &[7, 16],
+    did: CoreStats {
+        issued: 2,
+        retired: 1,
+        reads: 2,
+        replies: 1,
+        read_latency: 15,
+        stop_end: 9,
+        stop_memory: 1,
+        stop_credit: 6,
+        ..NO_CORE
+    },
+};
+
+static SENT: [(LinkId, Cycle); 2] = [(0, 2), (0, 9)];
+
+#[test]
+fn a_credit_lets_the_next_read_go(rt: HostRuntime) -> Result<(), Fail> {
+    let (spans, replay) = did(rt.alloc(), &ONE_CREDIT)?;
+    let sent = arrivals_of(rt.alloc(), &spans.2)?;
+    expect(
+        &rt,
+        &(spans.0, sent.as_slice()),
+        &(ONE_CREDIT.did, SENT.as_slice()),
+    );
+    expect(&rt, &replay, &spans);
+    Ok(())
 }
 
-/// Messages, the end of the span in which they come, and what is wrong with them; none, where they are taken.
-type Refusal<'x> = (&'x [Mail], Cycle, Option<&'x str>);
+/// The entries of a core that issues a Plain entry and a Read in cycle 0 and a Read in cycle 1, and has two Reads more, at cycle 2.
+static TO_TWO: [Entry; 5] = [
+    Entry::Plain,
+    Entry::Read(0),
+    Entry::Read(64),
+    Entry::Read(128),
+    Entry::Read(192),
+];
 
-static REFUSALS: [Refusal<'static>; 16] = [
+/// Why the core does not take a step at cycle 2; none, where it does.
+fn refusal_of(
+    alloc: Global,
+    feeding: &mut Feeding,
+    step: Step<'_>,
+) -> Result<Option<FeedFault>, Fail> {
+    feeding.run(alloc, &[], 2)?;
+    Ok(feeding.take(alloc, step).err())
+}
+
+fn refusal(alloc: Global, step: Step<'_>) -> Result<Option<FeedFault>, Fail> {
+    let mut feeding = Feeding::start(alloc, &[], &TO_TWO)?;
+    refusal_of(alloc, &mut feeding, step)
+}
+
+/// A step, and what is wrong with it; none, where it is taken.
+type Refusal<'x> = (Step<'x>, Option<&'x str>);
+
+static REFUSALS: [Refusal<'static>; 17] = [
     (
-        &[
-            Mail::Credit(1, 7),
-            Mail::Credit(2, 7),
-            Mail::Reply(1, 14),
-            Mail::Reply(2, 14),
-        ],
-        32,
+        Step::Run(
+            &[
+                Mail::Credit(1, 7),
+                Mail::Credit(2, 7),
+                Mail::Reply(1, 14),
+                Mail::Reply(2, 14),
+            ],
+            32,
+        ),
         None,
     ),
-    (&[], 2, None),
+    (Step::Run(&[], 2), None),
     (
-        &[Mail::Reply(1, 14), Mail::Reply(1, 15)],
-        32,
+        Step::Run(&[Mail::Reply(1, 14), Mail::Reply(1, 15)], 32),
         Some("a reply twice"),
     ),
-    (&[Mail::Reply(0, 14)], 32, Some("a reply of a Plain entry")),
     (
-        &[Mail::Reply(3, 2)],
-        32,
+        Step::Run(&[Mail::Reply(0, 14)], 32),
+        Some("a reply of a Plain entry"),
+    ),
+    (
+        Step::Run(&[Mail::Reply(3, 2)], 32),
         Some("a reply of an entry not issued yet"),
     ),
-    (&[Mail::Reply(9, 14)], 32, Some("a reply of no entry")),
     (
-        &[Mail::Credit(1, 2), Mail::Credit(2, 2), Mail::Credit(3, 2)],
-        32,
+        Step::Run(&[Mail::Reply(9, 14)], 32),
+        Some("a reply of no entry"),
+    ),
+    (
+        Step::Run(
+            &[Mail::Credit(1, 2), Mail::Credit(2, 2), Mail::Credit(3, 2)],
+            32,
+        ),
         Some("one credit too many"),
     ),
     (
-        &[Mail::CreditOn(2, true)],
-        32,
+        Step::Run(&[Mail::CreditOn(2, true)], 32),
         Some("a credit of a kind of which none is spent"),
     ),
     (
-        &[Mail::CreditOn(5, false)],
-        32,
+        Step::Run(&[Mail::CreditOn(5, false)], 32),
         Some("a credit on another core's link"),
     ),
     (
-        &[Mail::CreditOn(1, false)],
-        32,
+        Step::Run(&[Mail::CreditOn(1, false)], 32),
         Some("a credit on the link of replies"),
     ),
     (
-        &[Mail::Reply(2, 15), Mail::Reply(1, 14)],
-        32,
+        Step::Run(&[Mail::Reply(2, 15), Mail::Reply(1, 14)], 32),
         Some("out of order"),
     ),
-    (&[Mail::Reply(1, 1)], 32, Some("before the span")),
-    (&[Mail::Reply(1, 32)], 32, Some("after the span")),
-    (&[], 1, Some("a span that ends before it begins")),
-    (&[], 1 << 62, Some("a span that ends too late")),
-    (&[Mail::Request], 32, Some("a request")),
+    (Step::Run(&[Mail::Reply(1, 1)], 32), Some("before the span")),
+    (Step::Run(&[Mail::Reply(1, 32)], 32), Some("after the span")),
+    (Step::Run(&[], 1), Some("a span that ends before it begins")),
+    (Step::Run(&[], 1 << 62), Some("a span that ends too late")),
+    (Step::Run(&[Mail::Request], 32), Some("a request")),
+    (Step::Skip(3), Some("a cycle in which it acts")),
 ];
 
 #[test]
-fn messages_are_taken_or_refused(rt: HostRuntime) -> Result<(), Fail> {
-    for (mail, until, why) in &REFUSALS {
-        let refused = is_refused(rt.alloc(), mail, *until)?;
-        expect_at(&rt, &why, &refused, &why.is_some());
+fn steps_are_taken_or_refused(rt: HostRuntime) -> Result<(), Fail> {
+    for (step, why) in &REFUSALS {
+        let found = refusal(rt.alloc(), *step)?;
+        expect_at(&rt, &why, &found, &why.map(|_| FeedFault::Unfit));
     }
     Ok(())
 }
 
-/// A core with one Read, at cycle 0.
-fn core_with_a_read(alloc: Global) -> Result<FedCore, Fail> {
-    let config = small(alloc, &[], "")?;
-    let trace = trace_of(alloc, &[Entry::Read(0)])?;
-    Ok(FedCore::start(alloc, &config, 0, trace)?)
+/// When a core acts next, before and after its first cycle; where it stands that skipped, and its channels; and when it finished.
+type Rested = (Option<Cycle>, Option<Cycle>, (Cycle, usize), Option<Cycle>);
+
+fn rest(alloc: Global, feeding: &mut Feeding) -> Result<Rested, FeedFault> {
+    let first = feeding.core()?.next_act();
+    feeding.run(alloc, &[], 1)?;
+    let next = feeding.core()?.next_act();
+    feeding.skip(15)?;
+    let skipped = feeding.core()?;
+    let stands = (skipped.now(), skipped.core().credits().len());
+    feeding.run(alloc, &[credit(0, 15), reply(0, 15)], 16)?;
+    let finish = feeding.core()?.stats().finish;
+    Ok((first, next, stands, finish))
+}
+
+/// What a core does with one Read.
+fn rested(alloc: Global) -> Result<Result<Rested, FeedFault>, Fail> {
+    let mut feeding = Feeding::start(alloc, &[], &[Entry::Read(0)])?;
+    Ok(rest(alloc, &mut feeding))
 }
 
 #[test]
 fn a_core_at_rest_skips(rt: HostRuntime) -> Result<(), Fail> {
-    let core = core_with_a_read(rt.alloc())?;
-    let first = core.next_act();
-    let waits = core.run(rt.alloc(), &[], 1)?.core;
-    let next = waits.next_act();
-    let skipped = waits.skip(15)?;
-    let stands = (skipped.now(), skipped.core().credits().len());
-    let mail = [credit(0, 15), reply(0, 15)];
-    let finish = skipped.run(rt.alloc(), &mail, 16)?.core.stats().finish;
-    expect(
-        &rt,
-        &(first, next, stands, finish),
-        &(Some(0), None, (15, 1), Some(15)),
-    );
-    Ok(())
-}
-
-#[test]
-fn a_core_that_acts_does_not_skip(rt: HostRuntime) -> Result<(), Fail> {
-    let core = core_at_two(rt.alloc())?;
-    expect(&rt, &core.skip(3).err(), &Some(FeedFault::Unfit));
+    let found = rested(rt.alloc())?;
+    expect(&rt, &found, &Ok((Some(0), None, (15, 1), Some(15))));
     Ok(())
 }

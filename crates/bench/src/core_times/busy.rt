@@ -1,8 +1,9 @@
 //! A core over a trace of random lines, in spans of six cycles, whose requests are answered in a random order.
 
+use crate::core_times::running::Running;
 use crate::core_times::traces::{next_of, random_trace};
 use crate::machines::ddr4_2400;
-use anyhow::{Context, Result};
+use anyhow::Result;
 use core_feed::fed::FedCore;
 use sim_base::config::Config;
 use sim_base::message::{Cycle, Load, Message};
@@ -97,37 +98,33 @@ impl Pending {
     }
 }
 
-/// Moves a core on to a cycle before which nothing comes to it and it does nothing.
-fn skip(core: FedCore, until: Cycle) -> Result<FedCore> {
-    core.skip(until).ok().context("it can be skipped")
-}
-
-/// Runs a core up to a cycle, and answers its requests.
+/// Runs a core up to a cycle, and answers its requests. Says whether it did anything.
 fn run_span(
     alloc: Global,
-    core: FedCore,
+    running: &mut Running,
     pending: &mut Pending,
     config: &Config,
-    inbox: &[Message],
     until: Cycle,
-) -> Result<FedCore> {
-    let done = core
-        .run(alloc, inbox, until)
-        .ok()
-        .context("a message is unfit")?;
-    pending.answer(config, &done.messages)?;
-    Ok(done.core)
+) -> Result<bool> {
+    let inbox = pending.take(alloc, until)?;
+    let acts = running.core()?.next_act().is_some_and(|act| act < until);
+    if inbox.is_empty() && !acts {
+        running.skip(until)?;
+        return Ok(false);
+    }
+    let sent = running.run(alloc, &inbox, until)?;
+    pending.answer(config, &sent)?;
+    Ok(true)
 }
 
 /// Runs a core span by span until it has retired as many entries, for at most so many spans. Says for how many it was run.
 fn run_spans(
     alloc: Global,
     config: &Config,
-    start: FedCore,
+    running: &mut Running,
     most: u64,
     len: u64,
-) -> Result<(FedCore, u64)> {
-    let mut core = start;
+) -> Result<u64> {
     let mut pending = Pending {
         messages: Vec::new(alloc),
         state: 7,
@@ -135,19 +132,31 @@ fn run_spans(
     let mut spans = 0u64;
     for span in 1..most {
         let until = span.wrapping_mul(SPAN);
-        let inbox = pending.take(alloc, until)?;
-        let acts = core.next_act().is_some_and(|act| act < until);
-        if inbox.is_empty() && !acts {
-            core = skip(core, until)?;
-            continue;
-        }
-        spans = spans.wrapping_add(1);
-        core = run_span(alloc, core, &mut pending, config, &inbox, until)?;
-        if core.stats().retired == len {
+        let did = run_span(alloc, running, &mut pending, config, until)?;
+        spans = spans.wrapping_add(u64::from(did));
+        if did && running.core()?.stats().retired == len {
             break;
         }
     }
-    Ok((core, spans))
+    Ok(spans)
+}
+
+/// Runs a core over its trace, of so many lines and entries.
+fn run_trace(
+    alloc: Global,
+    config: &Config,
+    running: &mut Running,
+    lines: u64,
+    len: u64,
+) -> Result<Busy> {
+    let spans = run_spans(alloc, config, running, lines.wrapping_mul(1000), len)?;
+    let core = running.core()?;
+    let stats = core.stats();
+    Ok(Busy {
+        spans,
+        cycles: core.now(),
+        memory: stats.reads.wrapping_add(stats.writes),
+    })
 }
 
 /// Runs a core over a random trace of so many lines.
@@ -155,12 +164,6 @@ pub fn run_busy<R: Threads + Sync>(rt: &R, alloc: Global, lines: u64) -> Result<
     let config = ddr4_2400(alloc, MACHINE)?;
     let trace = random_trace(rt, alloc, lines)?;
     let len = trace.len();
-    let core = FedCore::start(alloc, &config, 0, trace)?;
-    let (core, spans) = run_spans(alloc, &config, core, lines.wrapping_mul(1000), len)?;
-    let stats = core.stats();
-    Ok(Busy {
-        spans,
-        cycles: core.now(),
-        memory: stats.reads.wrapping_add(stats.writes),
-    })
+    let mut running = Running::new(FedCore::start(alloc, &config, 0, trace)?);
+    run_trace(alloc, &config, &mut running, lines, len)
 }

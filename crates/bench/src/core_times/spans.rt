@@ -1,10 +1,12 @@
 //! A core that is run span by span, and then anew in one span.
 
-use crate::clock::nanoseconds_since;
+use crate::clock::{Stopwatch, nanoseconds_since};
+use crate::core_times::running::Running;
 use crate::core_times::traces::sparse_trace;
 use crate::machines::ddr4_2400;
-use anyhow::{Context, Result};
-use core_feed::fed::{FedCore, FedCoreDone};
+use anyhow::Result;
+use core_feed::done::CoreDone;
+use core_feed::fed::FedCore;
 use sim_base::config::Config;
 use sim_base::message::{Cycle, Load, Message};
 use std::alloc::{AllocError, Global};
@@ -69,37 +71,39 @@ fn answers(
     Ok(answers)
 }
 
-/// Runs a core up to a cycle.
-fn run_span(alloc: Global, core: FedCore, inbox: &[Message], until: Cycle) -> Result<FedCoreDone> {
-    core.run(alloc, inbox, until)
-        .ok()
-        .context("a message is unfit")
-}
-
 /// Runs a core until it has retired as many entries, span by span.
-fn run_spans(alloc: Global, config: &Config, start: FedCore, len: u64) -> Result<FedCore> {
-    let mut core = start;
+fn run_spans(alloc: Global, config: &Config, running: &mut Running, len: u64) -> Result<()> {
     let mut inbox = Vec::new(alloc);
     for span in 1..len.saturating_add(2) {
         let until = span.wrapping_mul(SPAN);
-        let done = run_span(alloc, core, &inbox, until)?;
-        core = done.core;
-        if core.stats().retired == len {
+        let sent = running.run(alloc, &inbox, until)?;
+        if running.core()?.stats().retired == len {
             break;
         }
-        inbox = answers(alloc, config, &done.messages, until)?;
+        inbox = answers(alloc, config, &sent, until)?;
     }
-    Ok(core)
+    Ok(())
+}
+
+/// What a core did that was run in one span, with no time.
+fn did_of(done: CoreDone) -> Did {
+    Did {
+        retired: done.core.stats().retired,
+        cycles: done.core.now(),
+        nanoseconds: 0,
+    }
 }
 
 /// Runs a core anew over all cycles that were run, in one span.
 fn run_at_once(rt: &impl Clock, alloc: Global, core: &FedCore) -> Result<Did> {
-    let start = Instant::now(rt)?;
-    let done = core.replay(alloc)?;
+    let mut watch = Stopwatch::new();
+    let start = Instant::now(rt);
+    let replay = core.replay(alloc);
+    watch.stop(rt, start);
+    let did = did_of(replay?);
     Ok(Did {
-        retired: done.core.stats().retired,
-        cycles: done.core.now(),
-        nanoseconds: nanoseconds_since(rt, start)?,
+        nanoseconds: watch.read()?,
+        ..did
     })
 }
 
@@ -118,23 +122,25 @@ fn run_both(
     rt: &impl Clock,
     alloc: Global,
     config: &Config,
-    core: FedCore,
+    running: &mut Running,
     len: u64,
 ) -> Result<Runs> {
     let start = Instant::now(rt)?;
-    let core = run_spans(alloc, config, core, len)?;
+    run_spans(alloc, config, running, len)?;
+    let nanoseconds = nanoseconds_since(rt, start)?;
+    let core = running.core()?;
     let fed = Did {
         retired: core.stats().retired,
         cycles: core.now(),
-        nanoseconds: nanoseconds_since(rt, start)?,
+        nanoseconds,
     };
-    let at_once = run_at_once(rt, alloc, &core)?;
+    let at_once = run_at_once(rt, alloc, core)?;
     Ok(Runs { fed, at_once })
 }
 
 /// Runs a core until it has retired a trace of so many lines, span by span, and then one anew over all these cycles, in one span.
 pub fn run_lines<R: Clock + Threads + Sync>(rt: &R, alloc: Global, lines: u64) -> Result<Runs> {
     let config = ddr4_2400(alloc, MACHINE)?;
-    let core = start_core(rt, alloc, &config, lines)?;
-    run_both(rt, alloc, &config, core, lines.wrapping_mul(1001))
+    let mut running = Running::new(start_core(rt, alloc, &config, lines)?);
+    run_both(rt, alloc, &config, &mut running, lines.wrapping_mul(1001))
 }
