@@ -6,18 +6,18 @@ ghost use Rattle.epochs.specs.Views.{jobs_of};
 
 use crate::ends::{ends_of_messages, ends_of_rows};
 use crate::expect::{expect, expect_at};
-use crate::result_orders::{AsTheyCome, Leaves, Reversed, Turned, exchange};
+use crate::result_orders::{AsTheyCome, Brings, Leaves, Reversed, Turned, exchange};
 use cpu_trace::trace::Trace;
 use epochs::job::{Done, Job};
 use epochs::merging::merge;
-use epochs::ordered::{Order, RunFault, run_in_order};
+use epochs::ordered::{Order, run_in_order};
 use epochs::phase::Phase;
 use epochs::planning::{Planned, plan};
 use epochs::sim::Sim;
 use fixtures::small::{RANK_FIELD, small};
 use sim_base::command::CommandRow;
 use sim_base::config::Config;
-use sim_base::fault::MergeFault;
+use sim_base::fault::{Fault, MergeFault};
 use sim_base::message::{Cycle, Message, Unit};
 use sim_base::trace::Entry;
 use statistics::cores::CoreStats;
@@ -63,23 +63,6 @@ fn faults_are_told(rt: HostRuntime) -> Result<(), Fail> {
     Ok(())
 }
 
-static RUN_FAULTS: [(RunFault, &str); 2] = [
-    (
-        RunFault::Merge(MergeFault::Missing(Unit::Channel(0))),
-        "the results of a phase do not go together: no result of channel 0",
-    ),
-    (RunFault::Memory, "there is no memory"),
-];
-
-#[test]
-fn faults_of_runs_are_told(rt: HostRuntime) -> Result<(), Fail> {
-    for (fault, text) in &RUN_FAULTS {
-        let told = fault.to_string(rt.alloc())?;
-        expect(&rt, &told.as_str(), text);
-    }
-    Ok(())
-}
-
 /// Two cores that read one line each, before their first cycle.
 fn two_cores(alloc: Global, config: &Config) -> Result<Sim, AllocError>
     requires cores { config.now.cores ≡ 2 }
@@ -100,7 +83,7 @@ struct Found {
 }
 
 /// The phase of their run that begins in this cycle. A fault stands for one that has no work, too.
-fn phase_at(alloc: Global, config: &Config, cycle: Cycle) -> Result<Found, RunFault>
+fn phase_at(alloc: Global, config: &Config, cycle: Cycle) -> Result<Found, Fault>
     requires cores { config.now.cores ≡ 2 }
     requires early { cycle < 16 }
     ensures machine { IfOk result (λ found. found.phase.machine ≡ config.now) }
@@ -110,7 +93,7 @@ fn phase_at(alloc: Global, config: &Config, cycle: Cycle) -> Result<Found, RunFa
     let sim = two_cores(alloc, config)?;
     let sim = run_in_order(sim, alloc, cycle, &mut AsTheyCome)?;
     match plan(sim, alloc, 16)? {
-        Planned::Quiet(_) => Err(RunFault::Memory),
+        Planned::Quiet(_) => Err(Fault::Memory),
         Planned::Work(phase, jobs) => {
             let results = results_of(alloc, jobs)?;
             Ok(Found { phase, results })
@@ -136,7 +119,7 @@ fn picked(
 }
 
 /// The results of the phase that begins in a cycle.
-fn results_at(alloc: Global, config: &Config, cycle: Cycle) -> Result<Vec<Done>, RunFault>
+fn results_at(alloc: Global, config: &Config, cycle: Cycle) -> Result<Vec<Done>, Fault>
     requires cores { config.now.cores ≡ 2 }
     requires early { cycle < 16 }
     ensures { let line = entry.Read 0 ∷ [] in IfOk result (λ results. All (λ d. (d.machine ≡ config.now) × (d.traces ≡ line ∷ line ∷ [])) results.items) }
@@ -153,7 +136,7 @@ fn joined(mut first: Vec<Done>, mut second: Vec<Done>) -> Result<Vec<Done>, Allo
 }
 
 /// The results of the phase after the first one behind those of the first one.
-fn others(alloc: Global, config: &Config) -> Result<Vec<Done>, RunFault>
+fn others(alloc: Global, config: &Config) -> Result<Vec<Done>, Fault>
     requires cores { config.now.cores ≡ 2 }
     ensures { let line = entry.Read 0 ∷ [] in IfOk result (λ results. All (λ d. (d.machine ≡ config.now) × (d.traces ≡ line ∷ line ∷ [])) results.items) }
 {
@@ -170,7 +153,7 @@ fn told_by(
     config: &Config,
     pairs: &[(usize, usize)],
     count: usize,
-) -> Result<Option<MergeFault>, RunFault>
+) -> Result<Option<MergeFault>, Fault>
     requires cores { config.now.cores ≡ 2 }
 {
     let others = others(alloc, config)?;
@@ -185,7 +168,7 @@ fn told(
     alloc: Global,
     pairs: &[(usize, usize)],
     count: usize,
-) -> Result<Option<MergeFault>, RunFault> {
+) -> Result<Option<MergeFault>, Fault> {
     let config = cores_of(alloc)?;
     told_by(alloc, &config, pairs, count)
 }
@@ -229,9 +212,30 @@ fn started(alloc: Global) -> Result<Sim, AllocError>
 }
 
 /// Why a run stops whose order loses results.
-fn stopped(alloc: Global, left: usize) -> Result<Option<RunFault>, AllocError> {
+fn stopped(alloc: Global, left: usize) -> Result<Option<Fault>, AllocError> {
     let sim = started(alloc)?;
     Ok(run_in_order(sim, alloc, 16, &mut Leaves(left)).err())
+}
+
+/// The results of the first phase, of which one is to be handed in again in a later one.
+fn first_results(alloc: Global) -> Result<Vec<Done>, Fault> {
+    let config = cores_of(alloc)?;
+    results_at(alloc, &config, 0)
+}
+
+/// Why a run stops whose order hands in a result of the first phase in each later one, too.
+fn brought(alloc: Global) -> Result<Option<Fault>, Fault> {
+    let first = first_results(alloc)?;
+    let sim = started(alloc)?;
+    Ok(run_in_order(sim, alloc, 16, &mut Brings(first)).err())
+}
+
+/// The second phase has three results of its own, and the stranger stands behind them.
+#[test]
+fn a_stranger_stops_a_run(rt: HostRuntime) -> Result<(), Fail> {
+    let fault = brought(rt.alloc())?;
+    expect(&rt, &fault, &Some(Fault::Merge(MergeFault::Stranger(3))));
+    Ok(())
 }
 
 /// Core 0's result and the channel's are left, or none.
@@ -239,7 +243,7 @@ fn stopped(alloc: Global, left: usize) -> Result<Option<RunFault>, AllocError> {
 fn lost_results_stop_a_run(rt: HostRuntime) -> Result<(), Fail> {
     for (left, core) in [(2, 1), (0, 0)] {
         let fault = stopped(rt.alloc(), left)?;
-        let missing = RunFault::Merge(MergeFault::Missing(Unit::Core(core)));
+        let missing = Fault::Merge(MergeFault::Missing(Unit::Core(core)));
         expect_at(&rt, &("are left", left), &fault, &Some(missing));
     }
     Ok(())
@@ -248,7 +252,7 @@ fn lost_results_stop_a_run(rt: HostRuntime) -> Result<(), Fail> {
 /// The commands of a run, what it counted of cores, and its messages in flight.
 type Did = (Vec<CommandRow>, Vec<CoreStats>, Vec<Message>);
 
-fn did(alloc: Global, outcome: &Outcome) -> Result<Did, RunFault> {
+fn did(alloc: Global, outcome: &Outcome) -> Result<Did, Fault> {
     let commands = outcome.commands.to_vec(alloc)?;
     let cores = outcome.stats.cores.to_vec(alloc)?;
     let flight = outcome.last.in_flight.to_vec(alloc)?;
@@ -256,7 +260,7 @@ fn did(alloc: Global, outcome: &Outcome) -> Result<Did, RunFault> {
 }
 
 /// What two cores that read one line each did and left before cycle 16.
-fn did_by<O: Order>(alloc: Global, order: &mut O) -> Result<Did, RunFault> {
+fn did_by<O: Order>(alloc: Global, order: &mut O) -> Result<Did, Fault> {
     let sim = started(alloc)?;
     let sim = run_in_order(sim, alloc, 16, order)?;
     let outcome = sim.outcome(alloc)?;

@@ -11,6 +11,10 @@ use sim_base::message::Cycle;
 pub(crate) struct AsTheyCome;
 
 impl Order for AsTheyCome {
+    ghost use Rattle.std.specs.Prelude.{◌≡◌};
+
+    ghost may_give = { λ _ results arranged. arranged ≡ results };
+
     fn arrange(&mut self, _phase: u64, results: Vec<Done>) -> Vec<Done> {
         results
     }
@@ -33,6 +37,10 @@ impl Noting {
 }
 
 impl Order for Noting {
+    ghost use Rattle.std.specs.Prelude.{◌≡◌};
+
+    ghost may_give = { λ _ results arranged. arranged ≡ results };
+
     fn arrange(&mut self, phase: u64, results: Vec<Done>) -> Vec<Done> {
         if let Some(done) = results.first() {
             let name = done.name();
@@ -84,10 +92,36 @@ impl Order for Turned {
 pub(crate) struct Leaves(pub(crate) usize);
 
 impl Order for Leaves {
+    ghost use Rattle.std.specs.Prelude.{◌≡◌, All, Any};
+
+    ghost may_give = { λ phase results arranged. All (λ d. d.name.phase ≡ phase → Any (λ r. r ≡ d) results) arranged };
+
     fn arrange(&mut self, _phase: u64, mut results: Vec<Done>) -> Vec<Done> {
         let count = results.len();
         exchange(&mut results, count / 2, count.saturating_sub(1));
         results.truncate(self.0);
+        results
+    }
+}
+
+/// The results as they come, and behind them one that is kept, in a phase of which it is not.
+#[derive(Drop)]
+pub(crate) struct Brings(pub(crate) Vec<Done>);
+
+impl Order for Brings {
+    ghost use Rattle.std.specs.Prelude.{◌≡◌, All, Any};
+
+    ghost may_give = { λ phase results arranged. All (λ d. d.name.phase ≡ phase → Any (λ r. r ≡ d) results) arranged };
+
+    fn arrange(&mut self, phase: u64, mut results: Vec<Done>) -> Vec<Done> {
+        let Some(done) = self.0.pop() else {
+            return results;
+        };
+        if done.name().phase == phase {
+            let _kept = self.0.push(done);
+        } else {
+            let _brought = results.push(done);
+        }
         results
     }
 }
