@@ -7,7 +7,7 @@ ghost use Rattle.sim_base.specs.Machine.{next_core_row, next_row, run, is_retire
 ghost use Rattle.sim_base.specs.Sends.{sends};
 ghost use Rattle.sim_base.specs.Counts.{in_flight};
 ghost use Rattle.plain_steps.specs.Plain.{core_view, channel_view, channel_step_of, is_late};
-ghost use Rattle.statistics.specs.Runs.{stats_of_core, stats_of_channel, outcome_of};
+ghost use Rattle.statistics.specs.Runs.{stats_of_core, stats_of_channel, last_of_core, last_of_channel, outcome_of};
 ghost use Rattle.laws.specs.Credits.{QueuesAreBounded};
 ghost use Rattle.laws.specs.Refreshes.{RefreshesAreInTime};
 ghost use Rattle.laws.specs.Tables.{IsOrdered, IsLegalTable, IsRefreshedTable};
@@ -29,7 +29,7 @@ use sim_base::message::{ChannelId, CoreId, Message, Unit};
 use sim_base::trace::Stop;
 use statistics::channels::ChannelStats;
 use statistics::cores::CoreStats;
-use statistics::final_state::FinalState;
+use statistics::final_state::{ChannelState, CoreState, FinalState};
 use statistics::outcome::Outcome;
 use statistics::stats::Stats;
 use std::alloc::{AllocError, Global};
@@ -476,6 +476,24 @@ fn start_channels(
     Ok(channels)
 }
 
+/// What is left of each core and of each channel after so many cycles.
+fn units_left(
+    alloc: Global,
+    s: &Config,
+    traces: &[Trace],
+    cycle: u64,
+    machine: &Machine,
+) -> Result<(Vec<CoreState>, Vec<ChannelState>), AllocError>
+    requires early { cycle ≤ 10 ^ 12 }
+    requires machine { HoldsRun s.now traces.now cycle machine.now }
+    ensures cores { IfOk result (λ left. left.0.items ≡ map (last_of_core s.now traces.now (run s.now traces.now cycle)) (below s.now.cores)) }
+    ensures channels { IfOk result (λ left. left.1.items ≡ map (last_of_channel s.now traces.now (run s.now traces.now cycle)) (below s.now.channels)) }
+{
+    let cores = ending::cores_left(alloc, s, traces, cycle, &machine.cores)?;
+    let channels = ending::channels_left(alloc, s, traces, cycle, &machine.channels)?;
+    Ok((cores, channels))
+}
+
 impl Machine {
     /// The machine before its first cycle.
     #[tactic(auto, using(crate::proofs::Next::commands_none, crate::proofs::Next::flight_none))]
@@ -573,9 +591,10 @@ impl Machine {
         requires machine { HoldsRun s.now traces.now cycle self }
         ensures { IfOk result (λ o. o ≡ outcome_of s.now traces.now cycle) }
     {
+        let (cores, channels) = units_left(alloc, s, traces, cycle, &self)?;
         let last = FinalState {
-            cores: ending::cores_left(alloc, s, traces, cycle, &self.cores)?,
-            channels: ending::channels_left(alloc, s, traces, cycle, &self.channels)?,
+            cores,
+            channels,
             in_flight: self.flight,
         };
         let stats = Stats {
