@@ -215,7 +215,6 @@ fn note_core(
     past.note(row, &requests, &arrivals)
 }
 
-#[tactic(auto, using(crate::proofs::Units::length_units, crate::proofs::Units::at_unit_of))]
 fn note_cores(
     alloc: Global,
     s: &Config,
@@ -260,7 +259,6 @@ fn note_channel(
     past.note(alloc, channel, cycle, step, &arrivals)
 }
 
-#[tactic(auto, using(crate::proofs::Units::length_units, crate::proofs::Units::at_unit_of))]
 fn note_channels(
     alloc: Global,
     s: &Config,
@@ -353,7 +351,6 @@ fn is_core_retired(s: &Config, traces: &[Trace], cycle: u64, core: CoreId, past:
     cores::retired_count(past.rows()) == trace_of_core(traces, core).len()
 }
 
-#[tactic(auto, using(crate::proofs::Units::length_units, crate::proofs::Units::at_unit_of, crate::proofs::Units::list_all_below_more))]
 fn are_cores_retired(s: &Config, traces: &[Trace], cycle: u64, cores: &[CorePast]) -> bool
     requires traces { length traces.now ≡ s.now.cores }
     requires early { cycle ≤ 10 ^ 12 }
@@ -384,7 +381,6 @@ fn has_channel_served(
     Ok(waiting.len() == 0)
 }
 
-#[tactic(auto, using(crate::proofs::Units::length_units, crate::proofs::Units::at_unit_of, crate::proofs::Units::list_all_below_more))]
 fn have_channels_served(
     alloc: Global,
     s: &Config,
