@@ -1,5 +1,5 @@
 -- A list with one element for each unit, in which the units below i have what they get next, and the others what they had.
-use Rattle.std.proofs.Common.{◌≡◌, ℕ, suc, Bool, true, false, ◌&&◌, Option, Some, None, ◌+◌, ◌<◌, List, [], ◌∷◌, ◌++◌, length, map, get_or, drop, refl, sym, ap, ap₂, subst, ◌∙◌, append_assoc, zero-add, add-one, drop-cons, arith}
+use Rattle.std.proofs.Common.{◌≡◌, ℕ, suc, Bool, true, false, ◌&&◌, Option, Some, None, ◌+◌, ◌<◌, List, [], ◌∷◌, ◌++◌, length, map, get_or, drop, refl, sym, ap, ap₂, subst, ◌∙◌, ◌-◌, append_assoc, length-append, length-drop, zero-add, add-one, drop-cons, arith}
 use Rattle.std.proofs.Math.ListN.{set, drop_of_length-le}
 use Rattle.std.proofs.Math.Seq.{set-append_seam, get_or-append_seam}
 use Rattle.std.proofs.lemmas.List.{length-map, append-nil}
@@ -49,6 +49,16 @@ halfway_at new old n i d l =
     ap (λ x. get_or x i d) (halfway_here new old n i d l)
     ∙ ap (λ k. get_or (map new (below i) ++ old i ∷ drop (i + 1) (map old (below n))) k d) (sym (length-units new i))
     ∙ get_or-append_seam (map new (below i)) (old i) _ d
+
+pub below_halfway : {X : Type 0} (xs : List X) (new old : ℕ → X) (n i : ℕ) → xs ≡ halfway new old n i → i < n → i < length xs
+unfolding halfway
+below_halfway xs new old n i e l =
+    let a : length (map new (below i)) ≡ i = length-units new i in
+    let b : length (map old (below n)) ≡ n = length-units old n in
+    let c : length (drop i (map old (below n))) ≡ length (map old (below n)) - i = length-drop i (map old (below n)) in
+    let d : length (map new (below i) ++ drop i (map old (below n))) ≡ length (map new (below i)) + length (drop i (map old (below n))) = length-append (map new (below i)) _ in
+    let h : length xs ≡ length (map new (below i) ++ drop i (map old (below n))) = ap length e in
+    omega arith
 
 pub halfway_more : {X : Type 0} (new old : ℕ → X) (n i : ℕ) (d : X) → i < n → set (halfway new old n i) i (new i) ≡ halfway new old n (i + 1)
 unfolding halfway

@@ -94,7 +94,6 @@ fn group_of_banks(alloc: Global, rank: u32, group: u32) -> Result<Vec<BankId>, A
         .collect(alloc)
 }
 
-#[tactic(auto, using(crate::proofs::Units::flat_map_below_more))]
 fn rank_of_banks(alloc: Global, s: &Config, rank: u32) -> Result<Vec<BankId>, AllocError>
     ensures { IfOk result (λ v. v.items ≡ banks_of_rank s.now rank) }
 {
@@ -106,7 +105,7 @@ fn rank_of_banks(alloc: Global, s: &Config, rank: u32) -> Result<Vec<BankId>, Al
 }
 
 /// The banks of a channel, by rank, group and number.
-#[tactic(auto, unfolding(sim_base::specs::Final::banks), using(crate::proofs::Units::flat_map_below_more))]
+#[tactic(auto, unfolding(sim_base::specs::Final::banks))]
 fn all_banks(alloc: Global, s: &Config) -> Result<Vec<BankId>, AllocError>
     ensures { IfOk result (λ v. v.items ≡ banks s.now) }
 {

@@ -7,7 +7,7 @@ ghost use Rattle.sim_base.specs.Machine.{next_core_row, next_row, run, is_retire
 ghost use Rattle.sim_base.specs.Sends.{sends};
 ghost use Rattle.sim_base.specs.Counts.{in_flight};
 ghost use Rattle.plain_steps.specs.Plain.{core_view, channel_view, channel_step_of, is_late};
-ghost use Rattle.statistics.specs.Runs.{stats_of_core, stats_of_channel, outcome_of};
+ghost use Rattle.statistics.specs.Runs.{stats_of_core, stats_of_channel, last_of_core, last_of_channel, outcome_of};
 ghost use Rattle.laws.specs.Credits.{QueuesAreBounded};
 ghost use Rattle.laws.specs.Refreshes.{RefreshesAreInTime};
 ghost use Rattle.laws.specs.Tables.{IsOrdered, IsLegalTable, IsRefreshedTable};
@@ -29,7 +29,7 @@ use sim_base::message::{ChannelId, CoreId, Message, Unit};
 use sim_base::trace::Stop;
 use statistics::channels::ChannelStats;
 use statistics::cores::CoreStats;
-use statistics::final_state::FinalState;
+use statistics::final_state::{ChannelState, CoreState, FinalState};
 use statistics::outcome::Outcome;
 use statistics::stats::Stats;
 use std::alloc::{AllocError, Global};
@@ -215,7 +215,6 @@ fn note_core(
     past.note(row, &requests, &arrivals)
 }
 
-#[tactic(auto, using(crate::proofs::Units::length_units, crate::proofs::Units::at_unit_of))]
 fn note_cores(
     alloc: Global,
     s: &Config,
@@ -260,7 +259,6 @@ fn note_channel(
     past.note(alloc, channel, cycle, step, &arrivals)
 }
 
-#[tactic(auto, using(crate::proofs::Units::length_units, crate::proofs::Units::at_unit_of))]
 fn note_channels(
     alloc: Global,
     s: &Config,
@@ -353,7 +351,6 @@ fn is_core_retired(s: &Config, traces: &[Trace], cycle: u64, core: CoreId, past:
     cores::retired_count(past.rows()) == trace_of_core(traces, core).len()
 }
 
-#[tactic(auto, using(crate::proofs::Units::length_units, crate::proofs::Units::at_unit_of, crate::proofs::Units::list_all_below_more))]
 fn are_cores_retired(s: &Config, traces: &[Trace], cycle: u64, cores: &[CorePast]) -> bool
     requires traces { length traces.now ≡ s.now.cores }
     requires early { cycle ≤ 10 ^ 12 }
@@ -384,7 +381,6 @@ fn has_channel_served(
     Ok(waiting.len() == 0)
 }
 
-#[tactic(auto, using(crate::proofs::Units::length_units, crate::proofs::Units::at_unit_of, crate::proofs::Units::list_all_below_more))]
 fn have_channels_served(
     alloc: Global,
     s: &Config,
@@ -474,6 +470,24 @@ fn start_channels(
         channels.push(ChannelPast::new(alloc))?;
     }
     Ok(channels)
+}
+
+/// What is left of each core and of each channel after so many cycles.
+fn units_left(
+    alloc: Global,
+    s: &Config,
+    traces: &[Trace],
+    cycle: u64,
+    machine: &Machine,
+) -> Result<(Vec<CoreState>, Vec<ChannelState>), AllocError>
+    requires early { cycle ≤ 10 ^ 12 }
+    requires machine { HoldsRun s.now traces.now cycle machine.now }
+    ensures cores { IfOk result (λ left. left.0.items ≡ map (last_of_core s.now traces.now (run s.now traces.now cycle)) (below s.now.cores)) }
+    ensures channels { IfOk result (λ left. left.1.items ≡ map (last_of_channel s.now traces.now (run s.now traces.now cycle)) (below s.now.channels)) }
+{
+    let cores = ending::cores_left(alloc, s, traces, cycle, &machine.cores)?;
+    let channels = ending::channels_left(alloc, s, traces, cycle, &machine.channels)?;
+    Ok((cores, channels))
 }
 
 impl Machine {
@@ -573,9 +587,10 @@ impl Machine {
         requires machine { HoldsRun s.now traces.now cycle self }
         ensures { IfOk result (λ o. o ≡ outcome_of s.now traces.now cycle) }
     {
+        let (cores, channels) = units_left(alloc, s, traces, cycle, &self)?;
         let last = FinalState {
-            cores: ending::cores_left(alloc, s, traces, cycle, &self.cores)?,
-            channels: ending::channels_left(alloc, s, traces, cycle, &self.channels)?,
+            cores,
+            channels,
             in_flight: self.flight,
         };
         let stats = Stats {

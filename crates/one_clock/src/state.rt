@@ -132,10 +132,7 @@ impl ChannelPast {
         ensures { OnOk result (self.new ≡ (let issued = self.old.commands ++ option_to_list (issued_at channel now step.command) in record { commands = issued; pending = fold insert_by_age (filter (is_left_by step.command) self.old.pending) (filter (is_left issued) arrivals.now); draining = step.draining })) }
     {
         push_row(&mut self.commands, issued_row(channel, now, step.command))?;
-        let mut pending = messages_left(alloc, step.command, &self.pending)?;
-        let more = scheduling::unserved(alloc, &self.commands, arrivals)?;
-        mail::insert_all(&mut pending, &more)?;
-        self.pending = pending;
+        self.pending = pending_next(alloc, step.command, &self.pending, &self.commands, arrivals)?;
         self.draining = step.draining;
         Ok(())
     }
@@ -190,4 +187,20 @@ fn messages_left(
         .copied()
         .filter(|m| is_still_left(command, *m))
         .collect(alloc)
+}
+
+/// The requests that are pending after a cycle, by what the channel issued in it and by what was sent to it.
+fn pending_next(
+    alloc: Global,
+    command: Option<Command>,
+    pending: &[Message],
+    commands: &[CommandRow],
+    arrivals: &[Message],
+) -> Result<Vec<Message>, AllocError>
+    ensures { IfOk result (λ v. v.items ≡ fold insert_by_age (filter (is_left_by command) pending.now) (filter (is_left commands.now) arrivals.now)) }
+{
+    let mut left = messages_left(alloc, command, pending)?;
+    let more = scheduling::unserved(alloc, commands, arrivals)?;
+    mail::insert_all(&mut left, &more)?;
+    Ok(left)
 }

@@ -1,10 +1,10 @@
 -- Each channel in turn is taken a cycle further.
-use Rattle.std.proofs.Common.{◌≡◌, ◌+◌, sym, ap, ◌∙◌, arith}
+use Rattle.std.proofs.Common.{◌≡◌, ◌+◌, ◌<◌, length, sym, ap, ◌∙◌, arith}
 use Rattle.std.proofs.Math.ListN.{set}
 use Rattle.std.specs.Prelude.{slice_index_or}
 use Rattle.sim_base.specs.Machine.{run}
 use Rattle.plain_steps.specs.Plain.{channel_view}
-use Rattle.one_clock.proofs.Units.{at_unit_of, below_units, halfway, halfway_none, halfway_at, halfway_more, halfway_all}
+use Rattle.one_clock.proofs.Units.{at_unit_of, below_units, below_halfway, halfway, halfway_none, halfway_at, halfway_more, halfway_all}
 use Rattle.one_clock.proofs.machine.note_channels.Goals as goal
 
 pub loop-channel-init : goal.loop-channel-init
@@ -18,6 +18,11 @@ bounds-steps-i c = below_units _ _ _ _ c.requires.steps (omega arith)
 
 pub note_channel-requires-clause-step : goal.note_channel-requires-clause-step
 note_channel-requires-clause-step c = at_unit_of _ _ _ _ _ c.requires.steps (omega arith)
+
+pub index_mut-requires : goal.index_mut-requires
+index_mut-requires c =
+    let l : c.loop-channel.channel < length c.loop-channel.channels.items = below_halfway _ _ _ _ _ c.loop-channel.invariant (omega arith) in
+    omega (arith, l, c.loop-channel.channels.ok.0)
 
 pub note_channel-requires-clause-past : goal.note_channel-requires-clause-past
 note_channel-requires-clause-past c =

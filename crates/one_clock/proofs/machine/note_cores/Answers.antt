@@ -1,10 +1,10 @@
 -- Each core in turn is taken a cycle further.
-use Rattle.std.proofs.Common.{◌≡◌, ◌+◌, sym, ap, ◌∙◌, arith}
+use Rattle.std.proofs.Common.{◌≡◌, ◌+◌, ◌<◌, length, sym, ap, ◌∙◌, arith}
 use Rattle.std.proofs.Math.ListN.{set}
 use Rattle.std.specs.Prelude.{slice_index_or}
 use Rattle.sim_base.specs.Machine.{run}
 use Rattle.plain_steps.specs.Plain.{core_view}
-use Rattle.one_clock.proofs.Units.{at_unit_of, below_units, halfway, halfway_none, halfway_at, halfway_more, halfway_all}
+use Rattle.one_clock.proofs.Units.{at_unit_of, below_units, below_halfway, halfway, halfway_none, halfway_at, halfway_more, halfway_all}
 use Rattle.one_clock.proofs.machine.note_cores.Goals as goal
 
 pub loop-core-init : goal.loop-core-init
@@ -18,6 +18,11 @@ bounds-rows-i c = below_units _ _ _ _ c.requires.rows c.loop-core-test.true
 
 pub note_core-requires-clause-row : goal.note_core-requires-clause-row
 note_core-requires-clause-row c = at_unit_of _ _ _ _ _ c.requires.rows c.loop-core-test.true
+
+pub index_mut-requires : goal.index_mut-requires
+index_mut-requires c =
+    let l : c.loop-core.core < length c.loop-core.cores.items = below_halfway _ _ _ _ _ c.loop-core.invariant c.loop-core-test.true in
+    omega (arith, l, c.loop-core.cores.ok.0)
 
 pub note_core-requires-clause-past : goal.note_core-requires-clause-past
 note_core-requires-clause-past c =
