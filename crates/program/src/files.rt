@@ -5,7 +5,7 @@ ghost use Rattle.program.specs.Files.{Held, SameFiles, SameBut, IsRenamed};
 
 use sim_base::fault::Fault;
 use std::alloc::Global;
-use std::fs;
+use std::fs::{self, OpenOptions};
 use std::io::{self, BufWriter, ErrorKind, Write};
 use std::rt::Files;
 
@@ -46,7 +46,7 @@ pub trait FileSet {
         ensures unopened { tells → opened self.new ≡ opened self.old };
 
     /// Tests whether a file could be given this path. Refuses by `Fault::Write` where something stands there that no file
-    /// replaces, as a folder, or where that cannot be told.
+    /// replaces, as a folder, or that is not to be replaced, as a file that may not be written, or where that cannot be told.
     fn test_place(&mut self, path: &str) -> Result<(), Fault>
         ensures same { tells → SameFiles (held self.old) (held self.new) }
         ensures unopened { tells → opened self.new ≡ opened self.old };
@@ -85,6 +85,16 @@ fn written(answer: io::Result<()>) -> Result<(), Fault> {
     }
 }
 
+// Opens a file as if to write it, and leaves it as it is: one that is protected, as by its mode or its folder's, refuses that.
+fn test_writing(files: &impl Files, path: &str) -> Result<(), Fault> {
+    let mut options = OpenOptions::new();
+    options.write(true);
+    match options.open(files, path) {
+        Ok(_) => Ok(()),
+        Err(_) => Err(Fault::Write),
+    }
+}
+
 impl<R: Files + AllocGlobal> FileSet for HostFiles<'_, R> {
     type Out = BufWriter<R::File>;
 
@@ -117,6 +127,7 @@ impl<R: Files + AllocGlobal> FileSet for HostFiles<'_, R> {
     fn test_place(&mut self, path: &str) -> Result<(), Fault> {
         match fs::symlink_metadata(self.rt, path) {
             Ok(found) if found.is_dir() => Err(Fault::Write),
+            Ok(found) if found.is_file() => test_writing(self.rt, path),
             Ok(_) => Ok(()),
             Err(error) if error.kind() == ErrorKind::NotFound => Ok(()),
             Err(_) => Err(Fault::Write),
