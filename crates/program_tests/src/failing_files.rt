@@ -43,11 +43,17 @@ fn standing(files: &MemoryFiles, path: &str, new: &str) -> &'static str {
 type Case = (Failure, &'static str);
 
 // What the folder is left with: what stands in each table's place and beside it.
-type Left = [(&'static str, &'static str); 3];
+type Left<'x> = &'x [(&'x str, &'x str)];
 
 // Asserts what stands in the folder after a run that is refused.
-fn assert_left(rt: &impl Abort, name: &str, files: &MemoryFiles, good: &MemoryFiles, left: &Left) {
-    for ((table, part), want) in TABLES.iter().zip(left) {
+fn assert_left(
+    rt: &impl Abort,
+    name: &str,
+    files: &MemoryFiles,
+    good: &MemoryFiles,
+    left: Left<'_>,
+) {
+    for ((table, part), want) in TABLES.iter().zip(left.iter()) {
         let new = good.text_at(table).unwrap_or("no table");
         let found = (standing(files, table, new), standing(files, part, new));
         expect_at(rt, &(name, table), &found, want);
@@ -60,7 +66,7 @@ fn assert_refused<R: Abort + Threads + Wait + Sync + AllocGlobal>(
     case: &Case,
     told: &str,
     opened: &str,
-    left: &Left,
+    left: Left<'_>,
 ) -> Result<(), Fail> {
     let good = files_by(rt, &ONE_READ, 1)?;
     let mut files = old_folder(rt.alloc())?;
@@ -72,7 +78,7 @@ fn assert_refused<R: Abort + Threads + Wait + Sync + AllocGlobal>(
     Ok(())
 }
 
-const KEPT: Left = [("old", "nothing"), ("old", "nothing"), ("old", "nothing")];
+static KEPT: [(&str, &str); 3] = [("old", "nothing"), ("old", "nothing"), ("old", "nothing")];
 
 const ONE_OPENED: &str = "d/commands.csv.part ";
 
@@ -110,14 +116,14 @@ the tables are of two runs: what is missing of this one stands beside them under
 ";
 
 // What goes wrong after the first table has its place, and what is left then.
-static LATE: [(Case, Left); 2] = [
+static LATE: [(Case, Left<'static>); 2] = [
     (
         (Failure::Renaming, "d/stats.csv"),
-        [("new", "nothing"), ("old", "new"), ("old", "new")],
+        &[("new", "nothing"), ("old", "new"), ("old", "new")],
     ),
     (
         (Failure::Renaming, "d/final.csv"),
-        [("new", "nothing"), ("new", "nothing"), ("old", "new")],
+        &[("new", "nothing"), ("new", "nothing"), ("old", "new")],
     ),
 ];
 
@@ -129,7 +135,7 @@ fn tells_of_torn_tables(rt: HostRuntime) -> Result<(), Fail> {
     Ok(())
 }
 
-const NEW: Left = [("new", "nothing"), ("new", "nothing"), ("new", "nothing")];
+static NEW: [(&str, &str); 3] = [("new", "nothing"), ("new", "nothing"), ("new", "nothing")];
 
 #[test]
 fn replaces_old_tables(rt: HostRuntime) -> Result<(), Fail> {
