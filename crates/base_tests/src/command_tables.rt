@@ -1,14 +1,9 @@
 //! The table of a few commands, to writers that take all, little or nothing.
 
-use crate::expect::{expect, expect_at};
-use crate::slow::Slow;
+use crate::written::{Report, assert_slow, assert_text};
 use command_table::table::CommandTable;
-use reports::write_commands;
 use sim_base::command::{Command, CommandRow, Source};
-use sim_base::fault::Fault;
 use sim_base::place::BankId;
-use std::alloc::{AllocError, Global};
-use std::process::Abort;
 use std::test::Fail;
 
 const FIRST: BankId = BankId {
@@ -154,43 +149,13 @@ static TABLES: [(u32, &[CommandRow], &str); 3] = [
 fn writes_commands(rt: HostRuntime) -> Result<(), Fail> {
     for (ranks, rows, want) in &TABLES {
         let table = CommandTable::of_rows(rt.alloc(), rows)?;
-        let mut text = Vec::new(rt.alloc());
-        write_commands(rt.alloc(), *ranks, &table, &mut text)?;
-        expect(&rt, &str::from_utf8(text.as_slice()), &Ok(*want));
-    }
-    Ok(())
-}
-
-// What is written of one read by a writer that takes a byte a call, in so many calls, and how that ends.
-fn slowly(
-    alloc: Global,
-    calls: usize,
-    fails: bool,
-) -> Result<(Vec<u8>, Result<(), Fault>), AllocError> {
-    let mut slow = Slow::new(alloc, 200, calls, fails)?;
-    let table = CommandTable::of_rows(alloc, &OF_ONE_READ)?;
-    let ended = write_commands(alloc, 1, &table, &mut slow);
-    Ok((slow.taken, ended))
-}
-
-fn assert_refused(rt: &impl Abort, alloc: Global, calls: usize) -> Result<(), Fail> {
-    for fails in [false, true] {
-        let (_, ended) = slowly(alloc, calls, fails)?;
-        expect_at(rt, &("after calls", calls), &ended, &Err(Fault::Write));
+        assert_text(&rt, rt.alloc(), Report::Commands(*ranks, &table), want)?;
     }
     Ok(())
 }
 
 #[test]
 fn writes_byte_by_byte(rt: HostRuntime) -> Result<(), Fail> {
-    let (text, ended) = slowly(rt.alloc(), 200, false)?;
-    expect(
-        &rt,
-        &(str::from_utf8(text.as_slice()), ended),
-        &(Ok(ONE_READ), Ok(())),
-    );
-    for calls in 0..ONE_READ.len() {
-        assert_refused(&rt, rt.alloc(), calls)?;
-    }
-    Ok(())
+    let table = CommandTable::of_rows(rt.alloc(), &OF_ONE_READ)?;
+    assert_slow(&rt, rt.alloc(), Report::Commands(1, &table), ONE_READ)
 }

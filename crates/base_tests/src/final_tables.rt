@@ -1,9 +1,6 @@
 //! The states in which small runs end, found by hand.
 
-use crate::expect::{expect, expect_at};
-use crate::slow::Slow;
-use reports::write_final;
-use sim_base::fault::Fault;
+use crate::written::{Report, assert_slow, assert_text};
 use sim_base::message::{Load, Message, Request};
 use sim_base::place::{BankId, Place};
 use statistics::final_state::{ChannelState, CoreState, Credits, FinalState, OpenRow};
@@ -108,13 +105,6 @@ fn state_of(alloc: Global, case: &Case<'_>) -> Result<FinalState, AllocError> {
         channels: channels(alloc, case.channels)?,
         in_flight: case.in_flight.to_vec(alloc)?,
     })
-}
-
-fn text_of(alloc: Global, case: &Case<'_>) -> Result<Vec<u8>, Fault> {
-    let state = state_of(alloc, case)?;
-    let mut text = Vec::new(alloc);
-    write_final(alloc, &state, case.ranks, &mut text)?;
-    Ok(text)
 }
 
 // All credits of one core and one channel, and all but a read's.
@@ -257,49 +247,15 @@ flight_credit_write,1,0,,,,4,51,8
 
 static CASES: [Case<'static>; 4] = [ONE_READ, A_REPLY, A_QUEUE, RANKS];
 
+fn assert_case(rt: &impl Abort, alloc: Global, case: &Case<'_>) -> Result<(), Fail> {
+    let state = state_of(alloc, case)?;
+    assert_text(rt, alloc, Report::Last(case.ranks, &state), case.table)
+}
+
 #[test]
 fn writes_states(rt: HostRuntime) -> Result<(), Fail> {
     for case in &CASES {
-        let text = text_of(rt.alloc(), case)?;
-        expect(&rt, &str::from_utf8(text.as_slice()), &Ok(case.table));
-    }
-    Ok(())
-}
-
-// What is written of a state by a writer that takes a byte a call, in so many calls, and how that ends.
-fn slowly(
-    alloc: Global,
-    state: &FinalState,
-    calls: usize,
-    fails: bool,
-) -> Result<(Vec<u8>, Result<(), Fault>), AllocError> {
-    let mut slow = Slow::new(alloc, 600, calls, fails)?;
-    let ended = write_final(alloc, state, 1, &mut slow);
-    Ok((slow.taken, ended))
-}
-
-fn assert_refused(
-    rt: &impl Abort,
-    alloc: Global,
-    state: &FinalState,
-    calls: usize,
-) -> Result<(), Fail> {
-    for fails in [false, true] {
-        let (_, ended) = slowly(alloc, state, calls, fails)?;
-        expect_at(rt, &("after calls", calls), &ended, &Err(Fault::Write));
-    }
-    Ok(())
-}
-
-fn assert_slow(rt: &impl Abort, alloc: Global, state: &FinalState, want: &str) -> Result<(), Fail> {
-    let (text, ended) = slowly(alloc, state, 600, false)?;
-    expect(
-        rt,
-        &(str::from_utf8(text.as_slice()), ended),
-        &(Ok(want), Ok(())),
-    );
-    for calls in 0..want.len() {
-        assert_refused(rt, alloc, state, calls)?;
+        assert_case(&rt, rt.alloc(), case)?;
     }
     Ok(())
 }
@@ -309,5 +265,5 @@ static WRITTEN: Case<'static> = ONE_READ;
 #[test]
 fn writes_byte_by_byte(rt: HostRuntime) -> Result<(), Fail> {
     let state = state_of(rt.alloc(), &WRITTEN)?;
-    assert_slow(&rt, rt.alloc(), &state, WRITTEN.table)
+    assert_slow(&rt, rt.alloc(), Report::Last(1, &state), WRITTEN.table)
 }

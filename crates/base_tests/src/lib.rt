@@ -27,3 +27,5 @@ mod stats_tables;
 mod trace_texts;
 #[cfg(test)]
 mod verdicts;
+#[cfg(test)]
+mod written;

@@ -1,14 +1,10 @@
 //! The statistics of small runs whose counts were found by hand.
 
-use crate::expect::{expect, expect_at};
-use crate::slow::Slow;
-use reports::write_stats;
-use sim_base::fault::Fault;
+use crate::written::{Report, assert_slow, assert_text};
 use statistics::channels::ChannelStats;
 use statistics::cores::CoreStats;
 use statistics::stats::Stats;
 use std::alloc::{AllocError, Global};
-use std::process::Abort;
 use std::test::Fail;
 
 // A core that reads the first line, in a run of so many cycles. Its reply arrives in cycle 15.
@@ -132,31 +128,14 @@ channel,0,idle,2
 channel,0,refreshing,0
 ";
 
-// The table of some statistics.
-fn text_of(alloc: Global, stats: &Stats) -> Result<Vec<u8>, Fault> {
-    let mut text = Vec::new(alloc);
-    write_stats(alloc, stats, &mut text)?;
-    Ok(text)
-}
-
-fn text_of_one_read(alloc: Global, cycles: u64) -> Result<Vec<u8>, Fault> {
-    let stats = one_read(alloc, cycles)?;
-    text_of(alloc, &stats)
-}
-
 // The limit of a run of one read, and its table.
 static READS: [(u64, &str); 3] = [(16, ONE_READ), (15, UNFINISHED), (3, SHORT)];
 
 #[test]
 fn writes_one_read(rt: HostRuntime) -> Result<(), Fail> {
     for (cycles, want) in &READS {
-        let text = text_of_one_read(rt.alloc(), *cycles)?;
-        expect_at(
-            &rt,
-            &("after cycles", cycles),
-            &str::from_utf8(text.as_slice()),
-            &Ok(*want),
-        );
+        let stats = one_read(rt.alloc(), *cycles)?;
+        assert_text(&rt, rt.alloc(), Report::Stats(&stats), want)?;
     }
     Ok(())
 }
@@ -189,7 +168,7 @@ channel,1,draining,5
 ";
 
 // Two channels, of which the second may drain its writes, and counts past 64 bits.
-fn text_of_drains(alloc: Global) -> Result<Vec<u8>, Fault> {
+fn drains(alloc: Global) -> Result<Stats, AllocError> {
     let plain = ChannelStats {
         queued: 1 << 64,
         ..ChannelStats::new()
@@ -201,52 +180,17 @@ fn text_of_drains(alloc: Global) -> Result<Vec<u8>, Fault> {
         draining: Some(5),
         ..ChannelStats::new()
     };
-    let stats = Stats::of_parts(alloc, 64, &[], &[plain, drains])?;
-    text_of(alloc, &stats)
+    Stats::of_parts(alloc, 64, &[], &[plain, drains])
 }
 
 #[test]
 fn shows_drains_and_wide_counts(rt: HostRuntime) -> Result<(), Fail> {
-    let text = text_of_drains(rt.alloc())?;
-    expect(&rt, &str::from_utf8(text.as_slice()), &Ok(DRAINED));
-    Ok(())
-}
-
-// What is written of statistics by a writer that takes a byte a call, in so many calls, and how that ends.
-fn slowly(
-    alloc: Global,
-    stats: &Stats,
-    calls: usize,
-    fails: bool,
-) -> Result<(Vec<u8>, Result<(), Fault>), AllocError> {
-    let mut slow = Slow::new(alloc, 600, calls, fails)?;
-    let ended = write_stats(alloc, stats, &mut slow);
-    Ok((slow.taken, ended))
-}
-
-fn assert_refused(rt: &impl Abort, alloc: Global, stats: &Stats, calls: usize) -> Result<(), Fail> {
-    for fails in [false, true] {
-        let (_, ended) = slowly(alloc, stats, calls, fails)?;
-        expect_at(rt, &("after calls", calls), &ended, &Err(Fault::Write));
-    }
-    Ok(())
-}
-
-fn assert_slow(rt: &impl Abort, alloc: Global, stats: &Stats, want: &str) -> Result<(), Fail> {
-    let (text, ended) = slowly(alloc, stats, 600, false)?;
-    expect(
-        rt,
-        &(str::from_utf8(text.as_slice()), ended),
-        &(Ok(want), Ok(())),
-    );
-    for calls in 0..want.len() {
-        assert_refused(rt, alloc, stats, calls)?;
-    }
-    Ok(())
+    let stats = drains(rt.alloc())?;
+    assert_text(&rt, rt.alloc(), Report::Stats(&stats), DRAINED)
 }
 
 #[test]
 fn writes_byte_by_byte(rt: HostRuntime) -> Result<(), Fail> {
     let stats = one_read(rt.alloc(), 16)?;
-    assert_slow(&rt, rt.alloc(), &stats, ONE_READ)
+    assert_slow(&rt, rt.alloc(), Report::Stats(&stats), ONE_READ)
 }

@@ -69,18 +69,6 @@ fn read<R: Abort + Threads + Sync>(rt: &R, alloc: Global, text: &[u8]) -> Result
     whole
 }
 
-// The line of the fault by which a trace of core 0 is refused.
-fn fault<R: Abort + Threads + Sync>(
-    rt: &R,
-    alloc: Global,
-    text: &[u8],
-) -> Result<String, AllocError> {
-    match read(rt, alloc, text) {
-        Ok(_) => String::from_str(alloc, "no fault"),
-        Err(fault) => fault.to_string(alloc),
-    }
-}
-
 // A bad line of core 0's trace.
 fn at_line(line: u64, cause: LineCause) -> Fault {
     Fault::TraceLine {
@@ -121,33 +109,48 @@ fn assert_entries(rt: &impl Abort, trace: &Trace, wanted: &[Entry]) {
     );
 }
 
-// Asserts which entries these texts mean.
-fn assert_traces<R: Abort + Threads + Sync>(
+// The entries that a text means, or what is said of it.
+type Read<'x> = Result<&'x [Entry], &'x str>;
+
+// Asserts what comes of a text, whatever the size of the pieces.
+fn assert_read<R: Abort + Threads + Sync>(
     rt: &R,
     alloc: Global,
-    cases: &[(&[u8], &[Entry])],
-) -> Result<(), Fault> {
-    for (text, wanted) in cases {
-        let trace = read(rt, alloc, text)?;
-        assert_entries(rt, &trace, wanted);
+    text: &[u8],
+    found: &Result<Trace, Fault>,
+    want: &Read<'_>,
+) -> Result<(), AllocError> {
+    assert_pieces(rt, alloc, text, found)?;
+    match (found, want) {
+        (Ok(trace), Ok(wanted)) => assert_entries(rt, trace, wanted),
+        (Err(fault), Err(wanted)) => {
+            let said = fault.to_string(alloc)?;
+            expect_at(rt, &text, &said.as_str(), wanted);
+        }
+        _ => expect_at(rt, &text, &found.is_ok(), &want.is_ok()),
     }
     Ok(())
 }
 
-// Asserts what is said of a text.
-fn assert_said(rt: &impl Abort, text: &[u8], said: &str, want: &str) {
-    expect_at(rt, &text, &said, &want);
-}
-
-// Asserts by which faults these texts are refused.
-fn assert_faults<R: Abort + Threads + Sync>(
+// Asserts what core 0's trace is.
+fn assert_text<R: Abort + Threads + Sync>(
     rt: &R,
     alloc: Global,
-    cases: &[(&[u8], &str)],
+    text: &[u8],
+    want: &Read<'_>,
+) -> Result<(), AllocError> {
+    let found = read_trace(rt, alloc, 0, text);
+    assert_read(rt, alloc, text, &found, want)
+}
+
+// Asserts what these texts are.
+fn assert_texts<R: Abort + Threads + Sync>(
+    rt: &R,
+    alloc: Global,
+    cases: &[(&[u8], Read<'_>)],
 ) -> Result<(), AllocError> {
     for (text, want) in cases {
-        let said = fault(rt, alloc, text)?;
-        assert_said(rt, text, said.as_str(), want);
+        assert_text(rt, alloc, text, want)?;
     }
     Ok(())
 }
@@ -155,15 +158,15 @@ fn assert_faults<R: Abort + Threads + Sync>(
 // A trace of three lines, of which the second is blank and the last has no end.
 const THREE_LINES: &[u8] = b"0\t0x40\r\n\n 1  128";
 
-static LINES: [(&[u8], &[Entry]); 3] = [
+static LINES: [(&[u8], Read<'static>); 3] = [
     (
         THREE_LINES,
-        &[Entry::Read(64), Entry::Plain, Entry::Read(128)],
+        Ok(&[Entry::Read(64), Entry::Plain, Entry::Read(128)]),
     ),
-    (b" \t\r\n\r\n", &[]),
+    (b" \t\r\n\r\n", Ok(&[])),
     (
         b"1 0X1f 007\n",
-        &[Entry::Plain, Entry::Read(31), Entry::Write(7)],
+        Ok(&[Entry::Plain, Entry::Read(31), Entry::Write(7)]),
     ),
 ];
 
@@ -196,74 +199,57 @@ fn entries_of_copies(rt: HostRuntime) -> Result<(), Fail> {
     Ok(())
 }
 
-static BAD_LINES: [(&[u8], &str); 10] = [
-    (b"3", "fault 5: trace 0 line 1 too-few"),
-    (b"1 2 3 4", "fault 5: trace 0 line 1 too-many"),
-    (b"1 x", "fault 5: trace 0 line 1 not-a-number"),
+static BAD_LINES: [(&[u8], Read<'static>); 10] = [
+    (b"3", Err("fault 5: trace 0 line 1 too-few")),
+    (b"1 2 3 4", Err("fault 5: trace 0 line 1 too-many")),
+    (b"1 x", Err("fault 5: trace 0 line 1 not-a-number")),
     (
         b"0 18446744073709551616",
-        "fault 5: trace 0 line 1 too-large",
+        Err("fault 5: trace 0 line 1 too-large"),
     ),
-    (b"#x", "fault 5: trace 0 line 1 too-few"),
-    (b"# a", "fault 5: trace 0 line 1 not-a-number"),
-    (b"# a b c", "fault 5: trace 0 line 1 too-many"),
-    (b"0 \xff", "fault 5: trace 0 line 1 not-a-number"),
-    (b"\xef\xbb\xbf0 0", "fault 5: trace 0 line 1 not-a-number"),
+    (b"#x", Err("fault 5: trace 0 line 1 too-few")),
+    (b"# a", Err("fault 5: trace 0 line 1 not-a-number")),
+    (b"# a b c", Err("fault 5: trace 0 line 1 too-many")),
+    (b"0 \xff", Err("fault 5: trace 0 line 1 not-a-number")),
+    (
+        b"\xef\xbb\xbf0 0",
+        Err("fault 5: trace 0 line 1 not-a-number"),
+    ),
     (
         b"\n0 0\r\n \n0 0x\n5",
-        "fault 5: trace 0 line 4 not-a-number",
+        Err("fault 5: trace 0 line 4 not-a-number"),
     ),
 ];
 
-// The beginnings of the three lines that are a trace, and those that are none.
-static GOOD_BEGINNINGS: [(&[u8], &[Entry]); 11] = [
-    (b"", &[]),
-    (b"0\t0", &[Entry::Read(0)]),
-    (b"0\t0x4", &[Entry::Read(4)]),
-    (b"0\t0x40", &[Entry::Read(64)]),
-    (b"0\t0x40\r", &[Entry::Read(64)]),
-    (b"0\t0x40\r\n", &[Entry::Read(64)]),
-    (b"0\t0x40\r\n\n", &[Entry::Read(64)]),
-    (b"0\t0x40\r\n\n ", &[Entry::Read(64)]),
-    (
-        b"0\t0x40\r\n\n 1  1",
-        &[Entry::Read(64), Entry::Plain, Entry::Read(1)],
-    ),
-    (
-        b"0\t0x40\r\n\n 1  12",
-        &[Entry::Read(64), Entry::Plain, Entry::Read(12)],
-    ),
-    (
-        b"0\t0x40\r\n\n 1  128",
-        &[Entry::Read(64), Entry::Plain, Entry::Read(128)],
-    ),
+// The beginnings of the three lines, by their lengths.
+static BEGINNINGS: [Read<'static>; 17] = [
+    Ok(&[]),
+    Err("fault 5: trace 0 line 1 too-few"),
+    Err("fault 5: trace 0 line 1 too-few"),
+    Ok(&[Entry::Read(0)]),
+    Err("fault 5: trace 0 line 1 not-a-number"),
+    Ok(&[Entry::Read(4)]),
+    Ok(&[Entry::Read(64)]),
+    Ok(&[Entry::Read(64)]),
+    Ok(&[Entry::Read(64)]),
+    Ok(&[Entry::Read(64)]),
+    Ok(&[Entry::Read(64)]),
+    Err("fault 5: trace 0 line 3 too-few"),
+    Err("fault 5: trace 0 line 3 too-few"),
+    Err("fault 5: trace 0 line 3 too-few"),
+    Ok(&[Entry::Read(64), Entry::Plain, Entry::Read(1)]),
+    Ok(&[Entry::Read(64), Entry::Plain, Entry::Read(12)]),
+    Ok(&[Entry::Read(64), Entry::Plain, Entry::Read(128)]),
 ];
 
-static BAD_BEGINNINGS: [(&[u8], &str); 6] = [
-    (b"0", "fault 5: trace 0 line 1 too-few"),
-    (b"0\t", "fault 5: trace 0 line 1 too-few"),
-    (b"0\t0x", "fault 5: trace 0 line 1 not-a-number"),
-    (b"0\t0x40\r\n\n 1", "fault 5: trace 0 line 3 too-few"),
-    (b"0\t0x40\r\n\n 1 ", "fault 5: trace 0 line 3 too-few"),
-    (b"0\t0x40\r\n\n 1  ", "fault 5: trace 0 line 3 too-few"),
-];
-
-fn is_good(text: &[u8]) -> bool {
-    GOOD_BEGINNINGS.iter().any(|(good, _)| *good == text)
-}
-
-fn is_bad(text: &[u8]) -> bool {
-    BAD_BEGINNINGS.iter().any(|(bad, _)| *bad == text)
-}
-
-// The two tables have each of the 17 beginnings once.
 #[test]
-fn beginnings_of_each_length(rt: HostRuntime) {
+fn beginnings_of_each_length(rt: HostRuntime) -> Result<(), Fail> {
     expect(&rt, &THREE_LINES.len(), &16);
-    for len in 0..=16 {
+    for (len, want) in BEGINNINGS.iter().enumerate() {
         let cut = THREE_LINES.get(..len).unwrap_or(b"none");
-        expect_at(&rt, &len, &(is_good(cut) != is_bad(cut)), &true);
+        assert_text(&rt, rt.alloc(), cut, want)?;
     }
+    Ok(())
 }
 
 // Many bytes of one kind between a beginning and an end.
@@ -393,16 +379,22 @@ fn runs_are_counts(rt: HostRuntime) -> Result<(), Fail> {
     Ok(())
 }
 
-static LONG_RUNS: [(&[u8], &str); 4] = [
-    (b"4611686018427387903 0\n0 0", "fault 6: trace 0 too long"),
-    (b"4611686018427387902 0 0\n0 0", "fault 6: trace 0 too long"),
+static LONG_RUNS: [(&[u8], Read<'static>); 4] = [
+    (
+        b"4611686018427387903 0\n0 0",
+        Err("fault 6: trace 0 too long"),
+    ),
+    (
+        b"4611686018427387902 0 0\n0 0",
+        Err("fault 6: trace 0 too long"),
+    ),
     (
         b"18446744073709551615 0\n18446744073709551615 0",
-        "fault 6: trace 0 too long",
+        Err("fault 6: trace 0 too long"),
     ),
     (
         b"18446744073709551615 0\n18446744073709551615 0\n1",
-        "fault 5: trace 0 line 3 too-few",
+        Err("fault 5: trace 0 line 3 too-few"),
     ),
 ];
 
@@ -497,32 +489,30 @@ const TWO_LINES: &[Entry] = &[
     Entry::Write(3),
 ];
 
-static GOOD_CUTS: [(&[u8], &[Entry]); 5] = [
-    (b"0 1\n1 2 3", TWO_LINES),
-    (b"0 1\n1 2 3\n", TWO_LINES),
-    (b"0 1\r\n1 2 3\r\n", TWO_LINES),
-    (b"\n0 1\n\n\n1 2 3\n\n", TWO_LINES),
-    (b"\r\n0 1\r\n\r\n \t\r\n1 2 3", TWO_LINES),
+static GOOD_CUTS: [(&[u8], Read<'static>); 5] = [
+    (b"0 1\n1 2 3", Ok(TWO_LINES)),
+    (b"0 1\n1 2 3\n", Ok(TWO_LINES)),
+    (b"0 1\r\n1 2 3\r\n", Ok(TWO_LINES)),
+    (b"\n0 1\n\n\n1 2 3\n\n", Ok(TWO_LINES)),
+    (b"\r\n0 1\r\n\r\n \t\r\n1 2 3", Ok(TWO_LINES)),
 ];
 
-static BAD_CUTS: [(&[u8], &str); 2] = [
-    (b"\n\n1\n\n2\n", "fault 5: trace 0 line 3 too-few"),
-    (b"0 1\n0 2\n0 3\n4", "fault 5: trace 0 line 4 too-few"),
+static BAD_CUTS: [(&[u8], Read<'static>); 2] = [
+    (b"\n\n1\n\n2\n", Err("fault 5: trace 0 line 3 too-few")),
+    (b"0 1\n0 2\n0 3\n4", Err("fault 5: trace 0 line 4 too-few")),
 ];
 
-// The traces of good texts; the cuts have blank lines, line ends of two bytes and no last line end.
+// The cuts have blank lines, line ends of two bytes and no last line end.
 #[test]
-fn entries_of_texts(rt: HostRuntime) -> Result<(), Fail> {
-    assert_traces(&rt, rt.alloc(), &LINES)?;
-    assert_traces(&rt, rt.alloc(), &GOOD_BEGINNINGS)?;
-    assert_traces(&rt, rt.alloc(), &GOOD_CUTS)?;
-    Ok(())
-}
-
-#[test]
-fn faults_of_texts(rt: HostRuntime) -> Result<(), Fail> {
-    for cases in [BAD_LINES.as_slice(), &BAD_BEGINNINGS, &LONG_RUNS, &BAD_CUTS] {
-        assert_faults(&rt, rt.alloc(), cases)?;
+fn texts_are_read_or_refused(rt: HostRuntime) -> Result<(), Fail> {
+    for cases in [
+        LINES.as_slice(),
+        &GOOD_CUTS,
+        &BAD_LINES,
+        &LONG_RUNS,
+        &BAD_CUTS,
+    ] {
+        assert_texts(&rt, rt.alloc(), cases)?;
     }
     Ok(())
 }

@@ -4,7 +4,6 @@ use crate::expect::expect;
 use fixtures::small::small;
 use links::flight::Links;
 use links::latency::shortest;
-use sim_base::config::Config;
 use sim_base::fault::Fault;
 use sim_base::message::{CoreId, Cycle, LinkId, Load, Message, Unit};
 use std::alloc::{AllocError, Global};
@@ -94,32 +93,35 @@ fn come_by_link(alloc: Global, links: &mut Links) -> Result<[bool; 2], AllocErro
     Ok([core, channel])
 }
 
-// The links of a machine, with a message on each.
-fn filled(alloc: Global) -> Result<Links, Fault> {
-    let config = small(alloc, &["cores = 64", "channels = 16"], "")?;
-    let mut links = Links::start(alloc, &config)?;
+// The links of the small machine with other lines for some keys and more lines at its end, and how long the shortest takes.
+fn links_of_small(alloc: Global, changes: &[&str], more: &str) -> Result<(Links, Cycle), Fault> {
+    let config = small(alloc, changes, more)?;
+    let shortest = shortest(&config);
+    Ok((Links::start(alloc, &config)?, shortest))
+}
+
+// When a message arrives before and after what is due of core 5 and of channel 3, and whether that comes by its links.
+type Filled = (Option<Cycle>, [bool; 2], Option<Cycle>);
+
+// Sends a message on each link.
+fn fill(alloc: Global, links: &mut Links) -> Result<Filled, AllocError> {
     let mut sent = sent_on_all(alloc)?;
-    accept_again(&mut links, &mut sent)?;
-    Ok(links)
+    accept_again(links, &mut sent)?;
+    let before = links.next_arrival();
+    let come = come_by_link(alloc, links)?;
+    Ok((before, come, links.next_arrival()))
+}
+
+fn filled(alloc: Global) -> Result<Result<Filled, AllocError>, Fault> {
+    let (mut links, _) = links_of_small(alloc, &["cores = 64", "channels = 16"], "")?;
+    Ok(fill(alloc, &mut links))
 }
 
 #[test]
 fn many_links_of_one_arrival(rt: HostRuntime) -> Result<(), Fail> {
-    let mut links = filled(rt.alloc())?;
-    let before = links.next_arrival();
-    let come = come_by_link(rt.alloc(), &mut links)?;
-    expect(
-        &rt,
-        &(before, come, links.next_arrival()),
-        &(Some(7), [true, true], Some(7)),
-    );
+    let found = filled(rt.alloc())?;
+    expect(&rt, &found, &Ok((Some(7), [true, true], Some(7))));
     Ok(())
-}
-
-// The links of the small machine, of which one is slow and one is fast.
-fn uneven(alloc: Global) -> Result<Config, Fault> {
-    let own = "[[link]]\nid = 1\nlatency = 9\n[[link]]\nid = 2\nlatency = 1\n";
-    small(alloc, &[], own)
 }
 
 // Sends a reply in cycle 10, and a credit and a request in cycle 11.
@@ -135,11 +137,13 @@ fn state_of(links: &Links) -> (bool, Option<Cycle>) {
 }
 
 // The states before and after the three, and whether core 0 gets the credit and the reply, and channel 0 the request.
-fn overtaken(
+type Overtaken = ([(bool, Option<Cycle>); 4], [bool; 2]);
+
+fn overtake(
     alloc: Global,
     links: &mut Links,
     sent: &[Message; 3],
-) -> Result<([(bool, Option<Cycle>); 4], [bool; 2]), AllocError> {
+) -> Result<Overtaken, AllocError> {
     let [reply, credit, request] = *sent;
     let before = state_of(links);
     send_three(links, sent)?;
@@ -152,21 +156,31 @@ fn overtaken(
     Ok(([before, all, one, state_of(links)], [is_both, is_last]))
 }
 
-// The reply and the credit that are sent in cycles 10 and 11, and a request.
-fn three(config: &Config) -> [Message; 3] {
+const UNEVEN: &str = "[[link]]\nid = 1\nlatency = 9\n[[link]]\nid = 2\nlatency = 1\n";
+
+// The reply and the credit that are sent in cycles 10 and 11, and a request, on links of which one is slow and one is fast.
+fn three(alloc: Global) -> Result<[Message; 3], Fault> {
+    let config = small(alloc, &[], UNEVEN)?;
     let reply = message(1, 10 + u64::from(config.latency(1)), 0);
     let credit = message(2, 11 + u64::from(config.latency(2)), 1);
     let request = message(0, 11 + u64::from(config.latency(0)), 2);
-    [reply, credit, request]
+    Ok([reply, credit, request])
+}
+
+// How long the shortest link takes, and what comes of the three.
+fn overtaken(
+    alloc: Global,
+    sent: &[Message; 3],
+) -> Result<(Cycle, Result<Overtaken, AllocError>), Fault> {
+    let (mut links, shortest) = links_of_small(alloc, &[], UNEVEN)?;
+    Ok((shortest, overtake(alloc, &mut links, sent)))
 }
 
 #[test]
 fn short_links_overtake(rt: HostRuntime) -> Result<(), Fail> {
-    let config = uneven(rt.alloc())?;
-    let mut links = Links::start(rt.alloc(), &config)?;
-    let sent = three(&config);
-    let (states, are) = overtaken(rt.alloc(), &mut links, &sent)?;
-    let wanted = [
+    let sent = three(rt.alloc())?;
+    let found = overtaken(rt.alloc(), &sent)?;
+    let states = [
         (true, None),
         (false, Some(12)),
         (false, Some(13)),
@@ -174,8 +188,8 @@ fn short_links_overtake(rt: HostRuntime) -> Result<(), Fail> {
     ];
     expect(
         &rt,
-        &(shortest(&config), sent[0].arrival, states, are),
-        &(1, 19, wanted, [true, true]),
+        &(sent[0].arrival, found),
+        &(19, (1, Ok((states, [true, true])))),
     );
     Ok(())
 }
@@ -210,6 +224,7 @@ static SPANS: [(CoreId, Cycle, Cycle, &[Message]); 7] = [
 ];
 
 fn assert_spans(rt: &impl Abort, alloc: Global, links: &mut Links) -> Result<(), AllocError> {
+    accept_again(links, &mut [LATE, OTHER, EARLY])?;
     for (core, from, until, wanted) in &SPANS {
         let inbox = take_again(alloc, links, Unit::Core(*core), *from, *until)?;
         expect(rt, &inbox.as_slice(), wanted);
@@ -217,12 +232,14 @@ fn assert_spans(rt: &impl Abort, alloc: Global, links: &mut Links) -> Result<(),
     Ok(())
 }
 
+fn assert_small(rt: &impl Abort, alloc: Global) -> Result<Result<(), AllocError>, Fault> {
+    let (mut links, shortest) = links_of_small(alloc, &["cores = 2"], "")?;
+    expect(rt, &shortest, &2);
+    Ok(assert_spans(rt, alloc, &mut links))
+}
+
 #[test]
 fn spans_have_no_last_cycle(rt: HostRuntime) -> Result<(), Fail> {
-    let config = small(rt.alloc(), &["cores = 2"], "")?;
-    expect(&rt, &shortest(&config), &2);
-    let mut links = Links::start(rt.alloc(), &config)?;
-    accept_again(&mut links, &mut [LATE, OTHER, EARLY])?;
-    assert_spans(&rt, rt.alloc(), &mut links)?;
+    assert_small(&rt, rt.alloc())??;
     Ok(())
 }

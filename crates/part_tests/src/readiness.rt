@@ -8,22 +8,22 @@ use crate::expect::expect;
 use bank_ready::banks::Banks;
 use fixtures::small::{RANK_FIELD, small};
 use sim_base::command::{Command, Kind, Source};
-use sim_base::config::Config;
 use sim_base::fault::Fault;
 use sim_base::message::Cycle;
 use sim_base::place::BankId;
 use std::alloc::Global;
 use std::test::Fail;
 
-/// Two ranks, which take turns without a pause.
-fn config(alloc: Global, n_cwl: &str) -> Result<Config, Fault>
-    ensures { IfOk result (λ config. config.ranks ≡ 2) }
+/// The banks of two ranks, which take turns without a pause.
+fn banks(alloc: Global, n_cwl: &str) -> Result<Banks, Fault>
+    ensures { IfOk result (λ banks. rank_count banks ≡ 2) }
 {
     let config = small(alloc, &[RANK_FIELD, n_cwl], "ranks = 2\n")?;
     if config.ranks != 2 {
         return Err(Fault::TraceCount);
     }
-    Ok(config)
+    let banks = Banks::new(alloc, &config)?;
+    Ok(banks)
 }
 
 fn bank(rank: u32, group: u32, bank: u32) -> BankId
@@ -55,8 +55,7 @@ fn act(bank: BankId) -> Command
 /// it to a REF.
 #[test]
 fn act_holds_back_its_bank_group_and_rank(rt: HostRuntime) -> Result<(), Fail> {
-    let config = config(rt.alloc(), "nCWL = 3")?;
-    let mut banks = Banks::new(rt.alloc(), &config)?;
+    let mut banks = banks(rt.alloc(), "nCWL = 3")?;
     banks.note(act(bank(0, 0, 0)), 2);
     let own = [
         earliest(&banks, Kind::Rd, bank(0, 0, 0)),
@@ -78,8 +77,7 @@ fn act_holds_back_its_bank_group_and_rank(rt: HostRuntime) -> Result<(), Fail> {
 /// Four ACTs in cycles 2 to 8: a fifth one in the rank comes 12 cycles after the first, and another rank is free.
 #[test]
 fn fifth_act_waits_for_the_window(rt: HostRuntime) -> Result<(), Fail> {
-    let config = config(rt.alloc(), "nCWL = 3")?;
-    let mut banks = Banks::new(rt.alloc(), &config)?;
+    let mut banks = banks(rt.alloc(), "nCWL = 3")?;
     banks.note(act(bank(0, 0, 0)), 2);
     banks.note(act(bank(0, 1, 0)), 4);
     banks.note(act(bank(0, 0, 1)), 6);
@@ -95,8 +93,7 @@ fn fifth_act_waits_for_the_window(rt: HostRuntime) -> Result<(), Fail> {
 /// change neither.
 #[test]
 fn floors_are_the_least_of_all_banks(rt: HostRuntime) -> Result<(), Fail> {
-    let config = config(rt.alloc(), "nCWL = 3")?;
-    let mut banks = Banks::new(rt.alloc(), &config)?;
+    let mut banks = banks(rt.alloc(), "nCWL = 3")?;
     let at_first = banks.data_floor(Kind::Rd);
     banks.note(act(bank(0, 0, 0)), 2);
     let opened = banks.data_floor(Kind::Rd);
@@ -122,8 +119,7 @@ fn floors_are_the_least_of_all_banks(rt: HostRuntime) -> Result<(), Fail> {
 /// in its own cycle.
 #[test]
 fn distance_of_no_cycles_holds_back_too(rt: HostRuntime) -> Result<(), Fail> {
-    let config = config(rt.alloc(), "nCWL = 8")?;
-    let mut banks = Banks::new(rt.alloc(), &config)?;
+    let mut banks = banks(rt.alloc(), "nCWL = 8")?;
     let read = Command::Rd {
         bank: bank(0, 0, 0),
         row: 0,

@@ -1,0 +1,93 @@
+//! Reports of machines, as they are written to writers that take all, little or nothing.
+
+use crate::expect::{expect, expect_at};
+use crate::slow::Slow;
+use command_table::table::CommandTable;
+use reports::{write_commands, write_final, write_stats};
+use sim_base::fault::Fault;
+use statistics::final_state::FinalState;
+use statistics::stats::Stats;
+use std::alloc::{AllocError, Global};
+use std::io::Write;
+use std::process::Abort;
+use std::test::Fail;
+
+/// A report; those of commands and of the last state have a number of ranks.
+#[derive(Clone, Copy)]
+pub(crate) enum Report<'a> {
+    Commands(u32, &'a CommandTable),
+    Stats(&'a Stats),
+    Last(u32, &'a FinalState),
+}
+
+fn write<W: Write>(alloc: Global, report: Report<'_>, writer: &mut W) -> Result<(), Fault> {
+    match report {
+        Report::Commands(ranks, table) => write_commands(alloc, ranks, table, writer),
+        Report::Stats(stats) => write_stats(alloc, stats, writer),
+        Report::Last(ranks, state) => write_final(alloc, state, ranks, writer),
+    }
+}
+
+/// The text of a report.
+fn text_of(alloc: Global, report: Report<'_>) -> Result<Vec<u8>, Fault> {
+    let mut text = Vec::new(alloc);
+    write(alloc, report, &mut text)?;
+    Ok(text)
+}
+
+/// Asserts the text of a report.
+pub(crate) fn assert_text(
+    rt: &impl Abort,
+    alloc: Global,
+    report: Report<'_>,
+    want: &str,
+) -> Result<(), Fail> {
+    let text = text_of(alloc, report)?;
+    expect(rt, &str::from_utf8(text.as_slice()), &Ok(want));
+    Ok(())
+}
+
+/// What is written of a report by a writer that takes a byte a call, in so many calls, and how that ends.
+fn slowly(
+    alloc: Global,
+    report: Report<'_>,
+    calls: usize,
+    fails: bool,
+) -> Result<(Vec<u8>, Result<(), Fault>), AllocError> {
+    let mut slow = Slow::new(alloc, 600, calls, fails)?;
+    let ended = write(alloc, report, &mut slow);
+    Ok((slow.taken, ended))
+}
+
+/// A writer that takes too little, or fails, is told.
+fn assert_refused(
+    rt: &impl Abort,
+    alloc: Global,
+    report: Report<'_>,
+    calls: usize,
+) -> Result<(), Fail> {
+    for fails in [false, true] {
+        let (_, ended) = slowly(alloc, report, calls, fails)?;
+        expect_at(rt, &("after calls", calls), &ended, &Err(Fault::Write));
+    }
+    Ok(())
+}
+
+/// Asserts the text of a report that is written byte by byte, and that it is refused where a byte is not taken.
+pub(crate) fn assert_slow(
+    rt: &impl Abort,
+    alloc: Global,
+    report: Report<'_>,
+    want: &str,
+) -> Result<(), Fail> {
+    let (text, ended) = slowly(alloc, report, 600, false)?;
+    expect(
+        rt,
+        &(str::from_utf8(text.as_slice()), ended),
+        &(Ok(want), Ok(())),
+    );
+    for calls in 0..want.len() {
+        assert_refused(rt, alloc, report, calls)?;
+    }
+    Ok(())
+}
