@@ -21,10 +21,10 @@ pub fn show(rt: &(impl Clock + Print), alloc: Global, effort: Effort) -> Result<
     let times = run_phases(rt, alloc, phases)?;
     println!(rt; "{} messages", times.arrived)?;
     if effort.is_timed() {
-        let accept = share(times.accept, times.arrived);
-        let take_due = share(times.take_due, UNITS * MANY);
-        let next_arrival = share(times.next_arrival, MANY);
-        let idle = share(times.idle, MANY);
+        let accept = share(times.accept.read()?, times.arrived);
+        let take_due = share(times.take_due.read()?, UNITS * MANY);
+        let next_arrival = share(times.next_arrival.read()?, MANY);
+        let idle = share(times.idle.read()?, MANY);
         println!(rt; "accept {accept} ns a message")?;
         println!(rt; "take_due {take_due} ns a call")?;
         println!(rt; "next_arrival {next_arrival} ns a call")?;

@@ -102,15 +102,32 @@ fn three_of(list: &CommandList) -> [Option<CommandRow>; 3] {
     [list.get(0), list.get(1), list.get(2)]
 }
 
+// How many commands a list has, and whether it has none; those of two commands, and all of them.
+type Kept = ((usize, bool), [Option<CommandRow>; 3], Vec<CommandRow>);
+
+fn kept(alloc: Global) -> Result<Kept, AllocError> {
+    let list = list_of(alloc, act(3), rd(9))?;
+    let size = (list.len(), list.is_empty());
+    let three = three_of(&list);
+    Ok((size, three, list.to_vec(alloc)?))
+}
+
 #[test]
 fn keeps_commands(rt: HostRuntime) -> Result<(), Fail> {
     let none = CommandList::new(rt.alloc());
-    let list = list_of(rt.alloc(), act(3), rd(9))?;
-    let sizes = [(none.len(), none.is_empty()), (list.len(), list.is_empty())];
-    expect(&rt, &sizes, &[(0, true), (2, false)]);
-    expect(&rt, &three_of(&list), &[Some(act(3)), Some(rd(9)), None]);
-    let rows = list.to_vec(rt.alloc())?;
-    expect(&rt, &(rows.as_slice() == [act(3), rd(9)].as_slice()), &true);
+    let size = (none.len(), none.is_empty());
+    let (sizes, three, rows) = kept(rt.alloc())?;
+    let are_all = rows.as_slice() == [act(3), rd(9)].as_slice();
+    expect(
+        &rt,
+        &(size, sizes, three, are_all),
+        &(
+            (0, true),
+            (2, false),
+            [Some(act(3)), Some(rd(9)), None],
+            true,
+        ),
+    );
     Ok(())
 }
 
@@ -119,22 +136,38 @@ fn next_three(rows: &mut Rows<'_>) -> [Option<CommandRow>; 3] {
     [rows.next(), rows.next(), rows.next()]
 }
 
+fn table_of_two(alloc: Global) -> Result<CommandTable, AllocError> {
+    let first = list_of(alloc, act(3), rd(9))?;
+    let second = list_of(alloc, pre(3), refresh(5))?;
+    table_of(alloc, first, second)
+}
+
+// Three commands, where there are so many.
+type Three = [Option<CommandRow>; 3];
+
+// The commands of two lists, three and three, and all of them.
+type Merged = ((Three, Three), Vec<CommandRow>);
+
+fn merged(alloc: Global, table: &CommandTable) -> Result<Merged, AllocError> {
+    let mut rows = table.rows(alloc)?;
+    let read = (next_three(&mut rows), next_three(&mut rows));
+    Ok((read, table.to_vec(alloc)?))
+}
+
 /// Of one cycle, the command of the first list comes first.
 #[test]
 fn reads_two_lists_by_cycle(rt: HostRuntime) -> Result<(), Fail> {
-    let first = list_of(rt.alloc(), act(3), rd(9))?;
-    let second = list_of(rt.alloc(), pre(3), refresh(5))?;
-    let table = table_of(rt.alloc(), first, second)?;
-    let mut rows = table.rows(rt.alloc())?;
-    let read = (next_three(&mut rows), next_three(&mut rows));
+    let table = table_of_two(rt.alloc())?;
+    let merged = merged(rt.alloc(), &table);
+    drop(table);
+    let (read, all) = merged?;
+    let by_cycle = [act(3), pre(3), refresh(5), rd(9)];
+    let are_all = all.as_slice() == by_cycle.as_slice();
     let wanted = (
         [Some(act(3)), Some(pre(3)), Some(refresh(5))],
         [Some(rd(9)), None, None],
     );
-    expect(&rt, &read, &wanted);
-    let all = table.to_vec(rt.alloc())?;
-    let by_cycle = [act(3), pre(3), refresh(5), rd(9)];
-    expect(&rt, &(all.as_slice() == by_cycle.as_slice()), &true);
+    expect(&rt, &(read, are_all), &(wanted, true));
     Ok(())
 }
 
@@ -148,14 +181,15 @@ fn table_of_rows(
     CommandTable::of_rows(alloc, &[first, second])
 }
 
+fn rows_of_a_table(alloc: Global) -> Result<Vec<CommandRow>, AllocError> {
+    let table = table_of_rows(alloc, pre(3), refresh(3))?;
+    table.to_vec(alloc)
+}
+
 #[test]
 fn reads_a_table_of_rows(rt: HostRuntime) -> Result<(), Fail> {
-    let table = table_of_rows(rt.alloc(), pre(3), refresh(3))?;
-    let rows = table.to_vec(rt.alloc())?;
-    expect(
-        &rt,
-        &(rows.as_slice() == [pre(3), refresh(3)].as_slice()),
-        &true,
-    );
+    let rows = rows_of_a_table(rt.alloc())?;
+    let are_all = rows.as_slice() == [pre(3), refresh(3)].as_slice();
+    expect(&rt, &are_all, &true);
     Ok(())
 }

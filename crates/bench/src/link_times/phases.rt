@@ -1,6 +1,6 @@
 //! Phases of messages.
 
-use crate::clock::nanoseconds_since;
+use crate::clock::Stopwatch;
 use anyhow::Result;
 use config_reader::read_config;
 use links::flight::Links;
@@ -49,15 +49,15 @@ pub const UNITS: u64 = 256 + 16;
 /// Cycles of a phase, and of a message's travel.
 const SPAN: u64 = 2;
 
-/// What arrived, and the nanoseconds that the calls of each kind took.
+/// What arrived, and how long the calls of each kind took.
 #[derive(Clone, Copy)]
 pub struct Times {
     pub arrived: u64,
-    pub accept: u64,
-    pub take_due: u64,
-    pub next_arrival: u64,
+    pub accept: Stopwatch,
+    pub take_due: Stopwatch,
+    pub next_arrival: Stopwatch,
     /// Of `next_arrival`, with nothing in flight.
-    pub idle: u64,
+    pub idle: Stopwatch,
 }
 
 fn message(link: LinkId, arrival: Cycle) -> Message {
@@ -114,24 +114,22 @@ impl Times {
         alloc: Global,
         messages: &mut [Message],
         now: Cycle,
-    ) -> Result<()> {
-        let start = Instant::now(rt)?;
+    ) -> Result<(), AllocError> {
+        let start = Instant::now(rt);
         let none = links.next_arrival();
-        self.idle = self.idle.wrapping_add(nanoseconds_since(rt, start)?);
-        let start = Instant::now(rt)?;
+        self.idle.stop(rt, start);
+        let start = Instant::now(rt);
         links.accept(messages)?;
-        self.accept = self.accept.wrapping_add(nanoseconds_since(rt, start)?);
-        let start = Instant::now(rt)?;
+        self.accept.stop(rt, start);
+        let start = Instant::now(rt);
         let some = links.next_arrival();
-        self.next_arrival = self
-            .next_arrival
-            .wrapping_add(nanoseconds_since(rt, start)?);
-        let start = Instant::now(rt)?;
+        self.next_arrival.stop(rt, start);
+        let start = Instant::now(rt);
         if none.is_none() && some == Some(now) {
             let arrived = take_all(alloc, links, now, now.wrapping_add(SPAN))?;
             self.arrived = self.arrived.wrapping_add(arrived);
         }
-        self.take_due = self.take_due.wrapping_add(nanoseconds_since(rt, start)?);
+        self.take_due.stop(rt, start);
         Ok(())
     }
 }
@@ -147,10 +145,10 @@ pub fn run_phases(rt: &impl Clock, alloc: Global, phases: u64) -> Result<Times> 
     let mut links = start_links(alloc)?;
     let mut times = Times {
         arrived: 0,
-        accept: 0,
-        take_due: 0,
-        next_arrival: 0,
-        idle: 0,
+        accept: Stopwatch::new(),
+        take_due: Stopwatch::new(),
+        next_arrival: Stopwatch::new(),
+        idle: Stopwatch::new(),
     };
     for phase in 0..phases {
         let now = phase.wrapping_mul(SPAN);
