@@ -39,8 +39,8 @@ impl fmt::Display for Unit {
 #[derive(Clone, Copy, PartialEq, Eq, Debug)]
 pub struct Request {
     pub core: CoreId,
-    pub entry: u64,
     pub write: bool,
+    pub entry: u64,
     pub address: u64,
     pub place: Place,
     pub arrival: Cycle,
