@@ -8,7 +8,7 @@ ghost use Rattle.sim_base.specs.Sends.{sends};
 ghost use Rattle.sim_base.specs.Counts.{in_flight};
 ghost use Rattle.plain_steps.specs.Plain.{core_view, channel_view, channel_step_of, is_late};
 ghost use Rattle.statistics.specs.Runs.{stats_of_core, stats_of_channel, last_of_core, last_of_channel, outcome_of};
-ghost use Rattle.laws.specs.Credits.{QueuesAreBounded};
+ghost use Rattle.laws.specs.Credits.{CreditsAreNeverOverspent, CreditsComeBackOnce, QueuesAreBounded};
 ghost use Rattle.laws.specs.Refreshes.{RefreshesAreInTime};
 ghost use Rattle.laws.specs.Tables.{IsOrdered, IsLegalTable, IsRefreshedTable};
 ghost use Rattle.one_clock.specs.Kept.{SharesDataBus, IsRefreshedInTime, QueuesFit};
@@ -635,7 +635,8 @@ fn run_machine(
 ///
 /// The commands stand in order, and each keeps the timing rules over those of its channel before it. No cycle of a channel's
 /// data bus belongs to two of them. Where ranks are refreshed, the n-th REF of each stands at cycle `n * nREFI` and the slack,
-/// or earlier, and no command comes while one is overdue. No channel's queue is ever longer than
+/// or earlier, and no command comes while one is overdue. No core sends a channel more requests of a kind than the credits that it held
+/// and those that came back allow, and no more come back than were spent; so no channel's queue is ever longer than
 /// `cores * (read_credits + write_credits)`.
 pub fn run_plain(
     alloc: Global,
@@ -653,6 +654,8 @@ pub fn run_plain(
     ensures refreshed_in_time { IfOk result (λ o. IsRefreshedInTime s.now o.stats.cycles o.commands) }
     ensures in_time { RefreshesAreInTime s.now traces.now (cycles_run s.now traces.now cycles) }
     ensures queues { IfOk result (λ o. QueuesFit s.now o.stats.channels) }
+    ensures spent { CreditsAreNeverOverspent s.now traces.now (cycles_run s.now traces.now cycles) }
+    ensures back { CreditsComeBackOnce s.now traces.now (cycles_run s.now traces.now cycles) }
     ensures bounded { QueuesAreBounded s.now traces.now (cycles_run s.now traces.now cycles) }
 {
     run_machine(alloc, s, traces, cycles)
