@@ -10,8 +10,8 @@ use sim_base::message::Request;
 use std::alloc::{AllocError, Global};
 use std::marker::Model;
 
-/// A move of this many places or more is left to the one that is fast on long ones.
-const LONG_MOVE: usize = 12;
+/// Up to so many places are gone through item by item, all lists at once; more of them move list by list, each as one block.
+const LONG_MOVE: usize = 8;
 
 /// Takes out the first items.
 fn remove_front<T: Copy + Drop>(items: &mut Vec<T>, count: usize)
@@ -29,7 +29,7 @@ fn remove_front<T: Copy + Drop>(items: &mut Vec<T>, count: usize)
     items.truncate(len);
 }
 
-/// Moves all words but the last one up by a place, over it.
+/// Moves all items but the last one up by a place, over it, as one block.
 #[inline(always)]
 fn move_up<T: Copy>(items: &mut [T])
     requires { 0 < length items.old }
@@ -39,31 +39,13 @@ fn move_up<T: Copy>(items: &mut [T])
     items.copy_within(..last, 1);
 }
 
-/// Moves all words but the first one down by a place, over it.
+/// Moves all items but the first one down by a place, over it, as one block.
 #[inline(always)]
 fn move_down<T: Copy>(items: &mut [T])
     requires { 0 < length items.old }
     ensures { IsMovedDown items.old items.new }
 {
     items.copy_within(1.., 0);
-}
-
-/// Moves all requests but the last one up by a place, over it. They are long, and turned as one block.
-#[inline(always)]
-fn move_requests_up(requests: &mut [Request])
-    requires { 0 < length requests.old }
-    ensures { IsMovedUp requests.old requests.new }
-{
-    requests.rotate_right(1);
-}
-
-/// Moves all requests but the first one down by a place, over it. They are long, and turned as one block.
-#[inline(always)]
-fn move_requests_down(requests: &mut [Request])
-    requires { 0 < length requests.old }
-    ensures { IsMovedDown requests.old requests.new }
-{
-    requests.rotate_left(1);
 }
 
 /// Moves all items of each list but the last one up by a place, over it.
@@ -79,7 +61,7 @@ fn move_each_up(requests: &mut [Request], eligible: &mut [u64], tags: &mut [u8],
     ensures prints { IsMovedUp prints.old prints.new }
 {
     if LONG_MOVE < requests.len() {
-        move_requests_up(requests);
+        move_up(requests);
         move_up(eligible);
         move_up(tags);
         move_up(prints);
@@ -114,7 +96,7 @@ fn move_each_down(
     ensures prints { IsMovedDown prints.old prints.new }
 {
     if LONG_MOVE < requests.len() {
-        move_requests_down(requests);
+        move_down(requests);
         move_down(eligible);
         move_down(tags);
         move_down(prints);
