@@ -29,7 +29,7 @@ fn remove_front<T: Copy + Drop>(items: &mut Vec<T>, count: usize)
     items.truncate(len);
 }
 
-/// Moves all items but the last one up by a place, over it, as one block.
+/// Moves all items but the last one up by a place, over it.
 #[inline(always)]
 fn move_up<T: Copy>(items: &mut [T])
     requires { 0 < length items.old }
@@ -39,13 +39,31 @@ fn move_up<T: Copy>(items: &mut [T])
     items.copy_within(..last, 1);
 }
 
-/// Moves all items but the first one down by a place, over it, as one block.
+/// Moves all items but the first one down by a place, over it.
 #[inline(always)]
 fn move_down<T: Copy>(items: &mut [T])
     requires { 0 < length items.old }
     ensures { IsMovedDown items.old items.new }
 {
     items.copy_within(1.., 0);
+}
+
+/// Moves all requests but the last one up by a place, over it. Out of line it is one block to the compiler too.
+#[inline(never)]
+fn move_requests_up(requests: &mut [Request])
+    requires { 0 < length requests.old }
+    ensures { IsMovedUp requests.old requests.new }
+{
+    move_up(requests);
+}
+
+/// Moves all requests but the first one down by a place, over it. Out of line it is one block to the compiler too.
+#[inline(never)]
+fn move_requests_down(requests: &mut [Request])
+    requires { 0 < length requests.old }
+    ensures { IsMovedDown requests.old requests.new }
+{
+    move_down(requests);
 }
 
 /// Moves all items of each list but the last one up by a place, over it.
@@ -61,7 +79,7 @@ fn move_each_up(requests: &mut [Request], eligible: &mut [u64], tags: &mut [u8],
     ensures prints { IsMovedUp prints.old prints.new }
 {
     if LONG_MOVE < requests.len() {
-        move_up(requests);
+        move_requests_up(requests);
         move_up(eligible);
         move_up(tags);
         move_up(prints);
@@ -96,7 +114,7 @@ fn move_each_down(
     ensures prints { IsMovedDown prints.old prints.new }
 {
     if LONG_MOVE < requests.len() {
-        move_down(requests);
+        move_requests_down(requests);
         move_down(eligible);
         move_down(tags);
         move_down(prints);
