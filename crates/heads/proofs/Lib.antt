@@ -2,6 +2,7 @@ pub mod Bits
 pub mod Positions
 pub mod Entries
 pub mod Searches
+pub mod Hits
 pub mod Calm
 pub mod SomeKind
 pub mod OneBank

@@ -145,3 +145,26 @@ past_else n (Some k) b is = elim (cases_lt k n) [
 past_else n None None is = refl
 past_else n None (Some k) is =
     let there : n + suc k - 1 ≡ n + k = omega arith in ap Some (cond-true (ltb n (n + suc k)) (n + suc k - 1) (n + suc k) (lt-ltb n (n + suc k) (omega arith)) ∙ there)
+
+-- a place that has moved past one that has gone stood before it, or did not
+pub past_front : (slot place : ℕ) (was : Option ℕ) → past slot was ≡ Some place → place < slot → was ≡ Some place
+past_front slot place None is sooner = cc
+past_front slot place (Some k) is sooner = elim (cases_lt slot k) [
+  | inl behind ↦
+      let back : Some (k - 1) ≡ Some place = sym (ap Some (cond-true (ltb slot k) (k - 1) k (lt-ltb slot k behind))) ∙ is in
+      let same : k - 1 ≡ place = cc in absurd (omega arith)
+  | inr front ↦ sym (ap Some (cond-false (ltb slot k) (k - 1) k (le-ltb slot k front))) ∙ is
+]
+
+pub past_late : (slot place : ℕ) (was : Option ℕ) → past slot was ≡ Some place → slot ≤ place → before slot was ≡ None
+past_late slot place None is late = refl
+past_late slot place (Some k) is late = elim (cases_lt slot k) [
+  | inl behind ↦ before_past slot k (omega arith)
+  | inr front ↦
+      let stays : Some k ≡ Some place = sym (ap Some (cond-false (ltb slot k) (k - 1) k (le-ltb slot k front))) ∙ is in
+      let same : k ≡ place = cc in before_past slot k (omega arith)
+]
+
+pub past_none : (slot : ℕ) (was : Option ℕ) → past slot was ≡ None → was ≡ None
+past_none slot None is = refl
+past_none slot (Some k) is = cc

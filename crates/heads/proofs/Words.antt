@@ -138,3 +138,8 @@ moved_agrees least old new sets more each agree bank number d few =
       where
         known : (k : ℕ) → suc k - min (suc k - least) 1 ≡ suc (k - min (suc k - least) 1)
         known k = omega arith
+
+-- the word of a place is the one that is looked for
+pub word_there : (slot word : ℕ) → word < 2 ^ 16 → head_of word ≡ Some slot → word ≡ min slot 65534 + 1
+word_there slot zero short is = cc
+word_there slot (suc k) short is = let same : k ≡ slot = cc in omega arith

@@ -4,10 +4,11 @@
 --     before slot head      a place, if it stands before another
 --     earlier a b      the first of two places, if there is one
 --     NoneBefore test requests slot      no request before a place may be served and passes a test
-use Rattle.std.specs.Prelude.{◌≡◌, ℕ, ◌-◌, ◌<◌, nat_lt, min, Bool, false, List, length, slice_index_or, Option, Some, None, option_map, if◌then◌else◌}
+--     OnlyMoves kind slot earlier head      a head of a kind only moves, once the request at a place has left
+use Rattle.std.specs.Prelude.{◌≡◌, ◌≢◌, ℕ, ◌-◌, ◌<◌, nat_lt, min, Bool, false, List, length, slice_index_or, Option, Some, None, option_map, if◌then◌else◌}
 use Rattle.sim_base.specs.declared.message.Request.{Request}
 use Rattle.heads.specs.declared.entry.KindHeads.{KindHeads}
-use Rattle.heads.specs.Heads.{passes, entries}
+use Rattle.heads.specs.Heads.{passes, entries, NoneWaits}
 
 -- a place, once the request at another place has left
 abbrev pub past : ℕ → Option ℕ → Option ℕ
@@ -31,3 +32,8 @@ earlier (Some a) (Some b) = Some (min a b)
 -- no request before a place may be served and passes a test
 abbrev pub NoneBefore : (Request → Bool) → List Request → ℕ → Type 0
 NoneBefore test requests slot = (k : ℕ) (d : Request × ℕ) → k < slot → k < length requests → passes test (slice_index_or (entries requests) k d) ≡ false
+
+-- A head of a bank and a kind only moves, once the request at a place has left: none of these waited for an older one of its
+-- line, and the head was not that request.
+abbrev pub OnlyMoves : ℕ → ℕ → List Request → Option ℕ → Type 0
+OnlyMoves kind slot earlier head = NoneWaits kind earlier × (head ≢ Some slot)

@@ -1,14 +1,14 @@
 //! The heads of one bank.
 
-ghost use Rattle.std.specs.Prelude.{◌≡◌, ◌≢◌, ℕ, ◌-◌, ◌<◌, ◌^◌, true, List, length, remove, Some};
+ghost use Rattle.std.specs.Prelude.{◌≡◌, ◌-◌, ◌<◌, ◌^◌, true, false, List, length, remove};
 ghost use Rattle.sim_base.specs.Rules.{is_row};
 ghost use Rattle.sim_base.specs.declared.message.Request.{Request};
 ghost use Rattle.queue_columns.specs.Columns.{bank_number};
-ghost use Rattle.heads.specs.Heads.{number_of, kind_number, kind_count, NoneWaits, AreFirst};
-ghost use Rattle.heads.specs.Moves.{past};
+ghost use Rattle.heads.specs.Heads.{number_of, kind_number, AreFirst};
+ghost use Rattle.heads.specs.Moves.{kind_past, OnlyMoves};
 ghost use Rattle.heads.specs.Places.{IsShort};
 
-use crate::search::{Gap, next_place};
+use crate::search::{Gap, next_hit, next_place};
 use queue_columns::Columns;
 use sim_base::place::{BankId, Place};
 
@@ -54,20 +54,13 @@ pub(crate) fn number_of(bank: BankId) -> usize
     (bank.rank as usize * 4 + bank.group as usize) * 4 + bank.bank as usize
 }
 
-/// A place, once the request at another place has left.
-pub(crate) fn past(slot: usize, head: Option<usize>) -> Option<usize>
-    ensures { result ≡ past slot head }
+/// Whether a head only moves: no request of its bank and kind waits for an older one of its line, and it did not leave.
+#[inline(always)]
+pub(crate) fn only_moves(calm: bool, left: bool) -> bool
+    ensures calm { result ≡ true → calm ≡ true }
+    ensures left { result ≡ true → left ≡ false }
 {
-    match head {
-        Some(place) => {
-            if slot < place {
-                Some(place - 1)
-            } else {
-                Some(place)
-            }
-        }
-        None => None,
-    }
+    calm && !left
 }
 
 /// Whether a row is the open one.
@@ -82,18 +75,7 @@ pub(crate) fn is_open(open_row: Option<u32>, row: u32) -> bool
 }
 
 impl KindHeads {
-    /// Whether the heads of a kind only move, once a request of the bank has left: neither was that request, and no other has
-    /// its turn.
-    #[inline(always)]
-    pub(crate) fn stay(self, gap: Gap) -> bool
-        ensures calm { result ≡ true → gap.calm ≡ true }
-        ensures oldest { result ≡ true → self.oldest ≢ Some gap.slot }
-        ensures hit { result ≡ true → self.hit ≢ Some gap.slot }
-    {
-        gap.calm && self.oldest != Some(gap.slot) && self.hit != Some(gap.slot)
-    }
-
-    /// Once a request of the same bank has left its place in the queue.
+    /// Once a request of the same bank has left its place in the queue, and they have moved past it.
     #[inline(always)]
     pub(crate) fn after(
         self,
@@ -105,20 +87,15 @@ impl KindHeads {
         requires oldest { IsShort self.oldest }
         requires hit { IsShort self.hit }
         requires queue { length queue.now.requests.now < 2 ^ 16 - 1 }
-        ensures first { (earlier : List Request) → gap.slot < length earlier → queue.now.requests.now ≡ remove earlier gap.slot
-            → (gap.calm ≡ true → NoneWaits (kind_number gap.bank write) earlier) → (gap.empty ≡ true → kind_count (kind_number gap.bank write) queue.now.requests.now ≡ 0) → AreFirst earlier gap.bank write row self → AreFirst queue.now.requests.now gap.bank write row result }
+        ensures first { (earlier : List Request) (was : KindHeads) → gap.slot < length earlier → queue.now.requests.now ≡ remove earlier gap.slot → self ≡ kind_past gap.slot was
+            → (gap.oldest ≡ true → OnlyMoves (kind_number gap.bank write) gap.slot earlier was.oldest) → (gap.hit ≡ true → OnlyMoves (kind_number gap.bank write) gap.slot earlier was.hit)
+            → AreFirst earlier gap.bank write row was → AreFirst queue.now.requests.now gap.bank write row result }
         ensures oldest { IsShort result.oldest }
         ensures hit { IsShort result.hit }
     {
-        if gap.empty {
-            return KindHeads {
-                oldest: None,
-                hit: None,
-            };
-        }
-        let oldest = next_place(self.oldest, queue, gap, 0, write, None);
+        let oldest = next_place(self.oldest, gap.oldest, queue, gap, 0, write, None);
         let hit = match (row, oldest) {
-            (Some(row), Some(least)) => next_place(self.hit, queue, gap, least, write, Some(row)),
+            (Some(row), Some(oldest)) => next_hit(self.hit, queue, gap, oldest, write, row),
             _ => None,
         };
         KindHeads { oldest, hit }

@@ -2,7 +2,9 @@
 
 ghost use Rattle.std.specs.Prelude.{◌≡◌, ◌*◌, ◌≤◌, length};
 
-use crate::entry::{BankHeads, KindHeads, bank_number, is_open, kind_number, number_of};
+use crate::entry::{
+    BankHeads, KindHeads, bank_number, is_open, kind_number, number_of, only_moves,
+};
 use crate::places::Places;
 use crate::search::Gap;
 use crate::sets::BankSet;
@@ -193,33 +195,36 @@ impl Heads {
     {
         let _short = queue.len();
         let bank = bank_number(request.place);
+        let write = request.write;
         let row = self.rows[bank];
-        let reads = self.places.of_kind(bank, false);
-        let writes = self.places.of_kind(bank, true);
+        let oldest_left = self.places.is_at(bank, write, false, slot);
+        let hit_left = self.places.is_at(bank, write, true, slot);
         self.places.move_past(slot);
-        let kind = kind_number(bank, request.write);
+        let kind = kind_number(bank, write);
         let left = self.counts[kind].saturating_sub(1);
         self.counts[kind] = left;
-        let none_left = left == 0;
-        let calm = self.is_calm(bank, false);
-        let empty = none_left && !request.write;
+        let empty = left == 0;
+        let calm = self.is_calm(bank, write);
+        let oldest = only_moves(calm, oldest_left);
+        let hit = only_moves(calm, hit_left);
         let gap = Gap {
             slot,
             bank,
-            calm,
+            oldest,
+            hit,
             empty,
         };
-        self.places.leave(reads, queue, gap, false, row);
-        let calm = self.is_calm(bank, true);
-        let empty = none_left && request.write;
+        self.places.leave(queue, gap, write, row);
+        let calm = self.is_calm(bank, !write);
         let gap = Gap {
             slot,
             bank,
-            calm,
-            empty,
+            oldest: calm,
+            hit: calm,
+            empty: false,
         };
-        self.places.leave(writes, queue, gap, true, row);
-        self.note_none(bank, request.write, none_left);
+        self.places.leave(queue, gap, !write, row);
+        self.note_none(bank, write, empty);
     }
 
     /// Takes note of a row that has been opened in a bank.

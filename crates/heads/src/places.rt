@@ -1,6 +1,6 @@
 //! The places of the heads of all banks.
 
-ghost use Rattle.std.specs.Prelude.{◌≡◌, ℕ, ◌+◌, ◌*◌, ◌^◌, ◌<◌, ◌≤◌, length, slice_index_or, is_some};
+ghost use Rattle.std.specs.Prelude.{◌≡◌, ◌≢◌, ℕ, ◌+◌, ◌*◌, ◌^◌, ◌<◌, ◌≤◌, min, false, length, slice_index_or, Some, is_some};
 ghost use Rattle.heads.specs.declared.sets.BankSet.{BankSet};
 ghost use Rattle.heads.specs.Sets.{is_in};
 ghost use Rattle.heads.specs.Places.{head_of, word_of, IsShort, column, head_in, moved};
@@ -50,6 +50,22 @@ fn word_of(head: Option<usize>) -> u16
     }
 }
 
+/// The word of a place, or of the last place that has a word, if that comes first: those of all places behind it are greater.
+#[inline(always)]
+fn word_behind(slot: usize) -> u16
+    ensures { result ≡ min slot 65534 + 1 }
+{
+    slot.min(65534) as u16 + 1
+}
+
+/// Whether a word may tell a place.
+#[inline(always)]
+fn tells(word: u16, slot: usize) -> bool
+    ensures { result ≡ false → head_of word ≢ Some slot }
+{
+    word == word_behind(slot)
+}
+
 /// Which word of a bank, and which set.
 #[inline(always)]
 fn column(write: bool, hit: bool) -> usize
@@ -73,8 +89,8 @@ impl Places {
     ghost use Rattle.std.specs.Prelude.{ℕ, ◌≡◌, ◌≢◌, ◌+◌, ◌*◌, ◌<◌, ◌≤◌, ◌^◌, ◌-◌, Bool, true, false, not, length, Option, Some, None, is_some, IfOk, List, remove, if◌then◌else◌};
     ghost use Rattle.sim_base.specs.Scheduling.{or_else};
     ghost use Rattle.sim_base.specs.declared.message.Request.{Request};
-    ghost use Rattle.heads.specs.Heads.{kind_number, kind_count, AreFirst, NoneWaits};
-    ghost use Rattle.heads.specs.Moves.{kind_past};
+    ghost use Rattle.heads.specs.Heads.{kind_number, kind_count, AreFirst};
+    ghost use Rattle.heads.specs.Moves.{kind_past, OnlyMoves};
     ghost use Rattle.heads.specs.Places.{kind_in};
 
     /// The places of the heads of an empty queue.
@@ -186,13 +202,21 @@ impl Places {
         self.set(bank, true, true, None);
     }
 
+    /// Whether a head of a bank may be the request at a place.
+    #[inline(always)]
+    pub(crate) fn is_at(&self, bank: usize, write: bool, hit: bool, slot: usize) -> bool
+        requires { 4 * bank + 3 < length self.now.words.items }
+        ensures { result ≡ false → head_in self.now.words.items (kind_number bank write) hit ≢ Some slot }
+    {
+        tells(self.words[4 * bank + column(write, hit)], slot)
+    }
+
     /// Moves all heads past a place that a request has left.
     pub(crate) fn move_past(&mut self, slot: usize)
         ensures room { length self.new.words.items ≡ length self.old.words.items }
         ensures moved { (kind : ℕ) → kind_in self.new.words.items kind ≡ kind_past slot (kind_in self.old.words.items kind) }
     {
-        let place = slot.min(65534) as u16;
-        move_words(&mut self.words, place + 1);
+        move_words(&mut self.words, word_behind(slot));
     }
 
     /// Takes note of a row that is open in a bank, for its requests to write, or to read.
@@ -211,29 +235,21 @@ impl Places {
         }
     }
 
-    /// Takes note that a request of a bank has left the queue, once all heads have moved past its place. Those to write, or to
-    /// read, are the ones given as they were before they moved.
+    /// Takes note that a request of a bank has left the queue, once all heads have moved past its place, for the requests to write,
+    /// or to read.
     #[inline(always)]
-    pub(crate) fn leave(
-        &mut self,
-        before: KindHeads,
-        queue: &Columns<'_>,
-        gap: Gap,
-        write: bool,
-        row: Option<u32>,
-    )
+    pub(crate) fn leave(&mut self, queue: &Columns<'_>, gap: Gap, write: bool, row: Option<u32>)
         requires bank { 4 * gap.bank + 3 < length self.old.words.items }
-        requires oldest { IsShort before.oldest }
-        requires hit { IsShort before.hit }
         requires queue { length queue.now.requests.now < 2 ^ 16 - 1 }
         ensures room { length self.new.words.items ≡ length self.old.words.items }
-        ensures own { (earlier : List Request) → gap.slot < length earlier → queue.now.requests.now ≡ remove earlier gap.slot
-            → (gap.calm ≡ true → NoneWaits (kind_number gap.bank write) earlier) → (gap.empty ≡ true → kind_count (kind_number gap.bank write) queue.now.requests.now ≡ 0) → AreFirst earlier gap.bank write row before
-            → kind_in self.old.words.items (kind_number gap.bank write) ≡ kind_past gap.slot before
+        ensures own { (earlier : List Request) (was : KindHeads) → gap.slot < length earlier → queue.now.requests.now ≡ remove earlier gap.slot
+            → kind_in self.old.words.items (kind_number gap.bank write) ≡ kind_past gap.slot was
+            → (gap.oldest ≡ true → OnlyMoves (kind_number gap.bank write) gap.slot earlier was.oldest) → (gap.hit ≡ true → OnlyMoves (kind_number gap.bank write) gap.slot earlier was.hit)
+            → (gap.empty ≡ true → kind_count (kind_number gap.bank write) queue.now.requests.now ≡ 0) → AreFirst earlier gap.bank write row was
             → AreFirst queue.now.requests.now gap.bank write row (kind_in self.new.words.items (kind_number gap.bank write)) }
         ensures others { (kind : ℕ) → kind ≢ kind_number gap.bank write → kind_in self.new.words.items kind ≡ kind_in self.old.words.items kind }
     {
-        if before.stay(gap) {
+        if gap.stay() {
             return;
         }
         if gap.empty {
@@ -241,21 +257,7 @@ impl Places {
             self.set(gap.bank, write, true, None);
             return;
         }
-        // copies, so that what is handed on is written only where it is
-        let KindHeads { oldest, hit } = before;
-        let Gap {
-            slot,
-            bank,
-            calm,
-            empty,
-        } = gap;
-        let gap = Gap {
-            slot,
-            bank,
-            calm,
-            empty,
-        };
-        let heads = KindHeads { oldest, hit }.after(queue, gap, write, row);
-        self.set_kind(bank, write, heads);
+        let heads = self.of_kind(gap.bank, write).after(queue, gap, write, row);
+        self.set_kind(gap.bank, write, heads);
     }
 }

@@ -2,25 +2,38 @@
 
 ghost use Rattle.std.specs.Prelude.{◌≡◌, ℕ, ◌-◌, ◌<◌, ◌^◌, ◌==◌, true, false, List, length, remove, Option, Some, IfSome};
 ghost use Rattle.sim_base.specs.declared.message.Request.{Request};
-ghost use Rattle.heads.specs.Heads.{asks, wants, first_place, NoneWaits, kind_number};
-ghost use Rattle.heads.specs.Moves.{NoneBefore};
+ghost use Rattle.heads.specs.Heads.{asks, wants, first_place, kind_number};
+ghost use Rattle.heads.specs.Moves.{past, NoneBefore, OnlyMoves};
 ghost use Rattle.heads.specs.Places.{IsShort};
 
-use crate::entry::{bank_number, past};
+use crate::entry::bank_number;
 use memchr::memchr;
 use queue_columns::Columns;
 use queue_columns::words::tag_word;
 use sim_base::message::Request;
 
-/// The place that a request of a bank has left.
+/// The place that a request of a bank has left, and what is known of the requests of the bank and a kind.
 #[derive(Clone, Copy)]
 pub(crate) struct Gap {
     pub(crate) slot: usize,
     pub(crate) bank: usize,
-    /// Whether it is known that no request of the bank and a kind waited for an older one of its line.
-    pub(crate) calm: bool,
-    /// Whether it is known that no request of the bank and a kind is left.
+    /// Whether it is known that the oldest one only moves.
+    pub(crate) oldest: bool,
+    /// Whether it is known that the first hit only moves.
+    pub(crate) hit: bool,
+    /// Whether it is known that none is left.
     pub(crate) empty: bool,
+}
+
+impl Gap {
+    /// Whether it is known that both heads only move.
+    #[inline(always)]
+    pub(crate) fn stay(self) -> bool
+        ensures oldest { result ≡ true → self.oldest ≡ true }
+        ensures hit { result ≡ true → self.hit ≡ true }
+    {
+        self.oldest && self.hit
+    }
 }
 
 /// Whether a request is of a bank and a kind, and asks for a row if one is given.
@@ -92,11 +105,11 @@ pub(crate) fn first_hit(
     first_from(queue, oldest + 1, bank, write, Some(row))
 }
 
-/// The first such request, once one of its bank has left the queue: the same as before, if that stands before the place that
-/// became free, and else none before that place nor before `least`. Where none of the bank and the kind waited, no other has
-/// its turn.
+/// The first such request, once one of its bank has left the queue, and the head has moved past its place: the head, where it only
+/// moves or stands before that place, and else none before that place nor before `least`.
 pub(crate) fn next_place(
     head: Option<usize>,
+    stays: bool,
     queue: &Columns<'_>,
     gap: Gap,
     least: usize,
@@ -105,16 +118,41 @@ pub(crate) fn next_place(
 ) -> Option<usize>
     requires short { IsShort head }
     requires queue { length queue.now.requests.now < 2 ^ 16 - 1 }
-    ensures first { (earlier : List Request) → gap.slot < length earlier → queue.now.requests.now ≡ remove earlier gap.slot
-        → (gap.calm ≡ true → NoneWaits (kind_number gap.bank write) earlier) → NoneBefore (wants gap.bank write row) queue.now.requests.now least
-        → head ≡ first_place (wants gap.bank write row) earlier → result ≡ first_place (wants gap.bank write row) queue.now.requests.now }
+    ensures first { (earlier : List Request) (was : Option ℕ) → gap.slot < length earlier → queue.now.requests.now ≡ remove earlier gap.slot
+        → head ≡ past gap.slot was → (stays ≡ true → OnlyMoves (kind_number gap.bank write) gap.slot earlier was) → NoneBefore (wants gap.bank write row) queue.now.requests.now least
+        → was ≡ first_place (wants gap.bank write row) earlier → result ≡ first_place (wants gap.bank write row) queue.now.requests.now }
     ensures short { IsShort result }
 {
-    if gap.calm && head != Some(gap.slot) {
-        return past(gap.slot, head);
+    if stays {
+        return head;
     }
     match head {
         Some(place) if place < gap.slot => Some(place),
         _ => first_from(queue, gap.slot.max(least), gap.bank, write, row),
     }
+}
+
+/// The first such request that asks for a row, likewise, where the first of them all is known: that one, or one behind it.
+#[inline(always)]
+pub(crate) fn next_hit(
+    head: Option<usize>,
+    queue: &Columns<'_>,
+    gap: Gap,
+    oldest: usize,
+    write: bool,
+    row: u32,
+) -> Option<usize>
+    requires short { IsShort head }
+    requires oldest { oldest < 2 ^ 16 - 1 }
+    requires queue { length queue.now.requests.now < 2 ^ 16 - 1 }
+    ensures first { (earlier : List Request) (was : Option ℕ) → gap.slot < length earlier → queue.now.requests.now ≡ remove earlier gap.slot
+        → head ≡ past gap.slot was → (gap.hit ≡ true → OnlyMoves (kind_number gap.bank write) gap.slot earlier was) → Some oldest ≡ first_place (asks gap.bank write) queue.now.requests.now
+        → was ≡ first_place (wants gap.bank write (Some row)) earlier → result ≡ first_place (wants gap.bank write (Some row)) queue.now.requests.now }
+    ensures short { IsShort result }
+{
+    let requests = queue.requests();
+    if oldest < requests.len() && asks_for_row(requests[oldest], row) {
+        return Some(oldest);
+    }
+    next_place(head, gap.hit, queue, gap, oldest + 1, write, Some(row))
 }

@@ -1,21 +1,40 @@
--- All heads move past the request's place, and those of its bank are searched for again where it was one of them.
-use Rattle.std.proofs.Common.{◌≡◌, ℕ, ◌-◌, ◌<◌, eqb, arith, Bool, true, false, not, None, length, get_or, set, refl, sym, ap, subst, ◌∙◌}
-use Rattle.std.proofs.lemmas.Bool.{eq-eqb, ne_eqb, eqb-true, true≢false, false≢true}
+-- All heads move past the request's place, and those of its bank are searched for again where more is new of them.
+use Rattle.std.proofs.Common.{◌≡◌, ℕ, ◌-◌, ◌<◌, eqb, arith, Bool, true, false, not, cond, ◌&&◌, None, length, get_or, set, refl, sym, ap, subst, ◌∙◌}
+use Rattle.std.proofs.lemmas.Bool.{eq-eqb, eqb-true, true≢false, false≢true}
 use Rattle.std.proofs.lemmas.List.{get_or_default, length-set, get_or-set_same}
 use Rattle.std.specs.List.{remove}
+use Rattle.sim_base.specs.Rules.{is_row}
 use Rattle.queue_columns.specs.Columns.{bank_number}
-use Rattle.heads.specs.Heads.{AreFirst, NoneWaits, kind_number, kind_of, kind_count}
-use Rattle.heads.specs.Moves.{kind_past}
+use Rattle.heads.specs.Heads.{asks, hits, AreFirst, NoneWaits, kind_number, kind_of, kind_count}
+use Rattle.heads.specs.Moves.{kind_past, OnlyMoves}
 use Rattle.heads.specs.Places.{kind_in}
 use Rattle.heads.proofs.Calm.{kind_bank, kind_write}
 use Rattle.heads.proofs.Counted.{AreCounted, counted_removed, kind_below}
+use Rattle.heads.proofs.Hits.{not_there}
 use Rattle.heads.proofs.Stood.{AreStanding, to_parts, from_parts, served_stand}
 use Rattle.heads.proofs.heads.Heads.served.Goals as goal
-use Rattle.heads.proofs.heads.Heads.served.Goals.{then-none_left, else-none_left, then-none_left-2, else-none_left-2}
 
 not_true : (b : Bool) → not b ≡ true → b ≡ false
 not_true true is = sym is
 not_true false is = refl
+
+not_self : (b : Bool) → b ≡ not b → ⊥
+not_self true same = true≢false same
+not_self false same = false≢true same
+
+not_and : (a b : Bool) → b ≡ false → (a && b) ≡ false
+not_and true b none = none
+not_and false b none = refl
+
+other_kind : (b : Bool) → cond (not b) b (not b) ≡ false
+other_kind true = refl
+other_kind false = refl
+
+either : (P : Bool → Type 0) (w : Bool) → P w → P (not w) → (v : Bool) → P v
+either P true own other true = own
+either P true own other false = other
+either P false own other true = other
+either P false own other false = own
 
 -- what the heads stand for once all have moved, and those of the bank were searched for
 pub returns-clause-stands : goal.returns-clause-stands
@@ -53,38 +72,34 @@ returns-clause-stands c earlier open_rows within request left stands =
     ap (λ n. kind_count (kind_number n r.write) rs) number
     ∙ sym (counted_own (kind_of r) (omega (arith, below, length-set counts (kind_of r) more)))
     ∙ get_or-set_same counts (kind_of r) more 0 below ∙ eqb-true more 0 on in
-    let no_read : c.if-none_left.empty ≡ true → kind_count (kind_number bank false) rs ≡ 0 =
-    λ on. elim c.if-none_left.branch [
-      | then-none_left w ↦
-          let reads : r.write ≡ false = not_true r.write (sym w.empty-is ∙ on) in
-          subst (λ v. kind_count (kind_number bank v) rs ≡ 0) reads (none (eq-eqb more 0 w.if-none_left.true))
-      | else-none_left w ↦ absurd (true≢false (sym on ∙ w.empty-is ∙ ne_eqb more 0 w.if-none_left.false))
-    ] in
-    let no_write : c.if-none_left-2.empty ≡ true → kind_count (kind_number bank true) rs ≡ 0 =
-    λ on. elim c.if-none_left-2.branch [
-      | then-none_left-2 w ↦
-          let writes : r.write ≡ true = sym w.empty-is ∙ on in
-          subst (λ v. kind_count (kind_number bank v) rs ≡ 0) writes (none (eq-eqb more 0 w.if-none_left-2.true))
-      | else-none_left-2 w ↦ absurd (true≢false (sym on ∙ w.empty-is ∙ ne_eqb more 0 w.if-none_left-2.false))
-    ] in
-    let reads : AreFirst rs bank false row (kind_in now (kind_number bank false)) =
-    subst (AreFirst rs bank false row) (sym (c.leave-2.ensures.others (kind_number bank false) (λ e. false≢true (kind_write bank bank false true e))))
-    (c.leave.ensures.own earlier within left (calm false c.is_calm-calm.result c.is_calm-calm.ensures) no_read (subst (AreFirst earlier bank false row) (sym c.of_kind-reads.ensures.heads) (first false))
-    (c.move_past.ensures.moved (kind_number bank false) ∙ ap (kind_past slot) (sym c.of_kind-reads.ensures.heads))) in
-    let writes : AreFirst rs bank true row (kind_in now (kind_number bank true)) =
-    c.leave-2.ensures.own earlier within left (calm true c.is_calm-calm-2.result c.is_calm-calm-2.ensures) no_write (subst (AreFirst earlier bank true row) (sym c.of_kind-writes.ensures.heads) (first true))
-    (c.leave.ensures.others (kind_number bank true) (λ e. true≢false (kind_write bank bank true false e))
-    ∙ c.move_past.ensures.moved (kind_number bank true) ∙ ap (kind_past slot) (sym c.of_kind-writes.ensures.heads)) in
+    let own_calm = calm r.write c.is_calm-calm.result c.is_calm-calm.ensures in
+    let own_first : AreFirst rs bank r.write row (kind_in now (kind_number bank r.write)) =
+    subst (AreFirst rs bank r.write row) (sym (c.leave-2.ensures.others (kind_number bank r.write) (λ e. not_self r.write (kind_write bank bank r.write (not r.write) e))))
+    (c.leave.ensures.own earlier (kind_in was (kind_number bank r.write)) within left (c.move_past.ensures.moved (kind_number bank r.write))
+    (λ on. (own_calm (c.only_moves-oldest.ensures.calm on), c.is_at-oldest_left.ensures (c.only_moves-oldest.ensures.left on)))
+    (λ on. (own_calm (c.only_moves-hit.ensures.calm on), c.is_at-hit_left.ensures (c.only_moves-hit.ensures.left on)))
+    none (first r.write)) in
+    let write = not r.write in
+    let other_calm = calm write c.is_calm-calm-2.result c.is_calm-calm-2.ensures in
+    let other_first = first write in
+    let not_asked : asks bank write r ≡ false = not_and (eqb own bank) (cond write r.write write) (other_kind r.write) in
+    let not_hit : hits bank write row r ≡ false = ap (λ b. b && is_row r.place.row row) not_asked in
+    let other : AreFirst rs bank write row (kind_in now (kind_number bank write)) =
+    c.leave-2.ensures.own earlier (kind_in was (kind_number bank write)) within left
+    (c.leave.ensures.others (kind_number bank write) (λ e. not_self r.write (sym (kind_write bank bank write r.write e))) ∙ c.move_past.ensures.moved (kind_number bank write))
+    (λ on. (other_calm on, λ there. not_there (asks bank write) earlier slot r within (request r) not_asked (sym other_first.oldest_is ∙ there)))
+    (λ on. (other_calm on, λ there. not_there (hits bank write row) earlier slot r within (request r) not_hit (sym other_first.hit_is ∙ there)))
+    (λ on. absurd (false≢true on)) other_first in
     let found : (write : Bool) → AreFirst rs bank write row (kind_in now (kind_number bank write)) =
-    λ write. elim write as (λ w. AreFirst rs bank w row (kind_in now (kind_number bank w))) [ true ↦ writes | false ↦ reads ] in
+    either (λ w. AreFirst rs bank w row (kind_in now (kind_number bank w))) r.write own_first other in
     let here : (write : Bool) → AreFirst (remove earlier slot) own write (open_rows own) (kind_in now (kind_number own write)) =
     λ write. subst (λ n. AreFirst (remove earlier slot) n write (open_rows n) (kind_in now (kind_number n write))) number
     (subst (λ xs. AreFirst xs bank write (open_rows bank) (kind_in now (kind_number bank write))) left
     (subst (λ o. AreFirst rs bank write o (kind_in now (kind_number bank write))) row_is (found write))) in
     let others : (other : ℕ) (write : Bool) → (other ≡ own → ⊥) → kind_in now (kind_number other write) ≡ kind_past slot (kind_in was (kind_number other write)) =
     λ other write apart.
-    c.leave-2.ensures.others (kind_number other write) (λ e. apart (kind_bank other bank write true e ∙ number))
-    ∙ c.leave.ensures.others (kind_number other write) (λ e. apart (kind_bank other bank write false e ∙ number))
+    c.leave-2.ensures.others (kind_number other write) (λ e. apart (kind_bank other bank write (not r.write) e ∙ number))
+    ∙ c.leave.ensures.others (kind_number other write) (λ e. apart (kind_bank other bank write r.write e ∙ number))
     ∙ c.move_past.ensures.moved (kind_number other write) in
     c.note_none.ensures.stands rs open_rows none
     (from_parts _ rs open_rows

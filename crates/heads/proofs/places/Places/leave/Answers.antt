@@ -13,27 +13,27 @@ hits_kind : (bank : ℕ) (write : Bool) (row : Option ℕ) (x : Request) → hit
 hits_kind bank write row x is = wants_kind bank write None x (and_parts (asks bank write x) (is_row x.place.row row) is).0
 
 pub returns-then-gap-clause-own : goal.returns-then-gap-clause-own
-returns-then-gap-clause-own c earlier within left calm empty first moved =
+returns-then-gap-clause-own c earlier was within left moved oldest_moves hit_moves empty first =
     no_first c.args.queue.now.requests.now c.args.gap.bank c.args.write c.args.row _ (empty c.if-gap.true) (c.set-then-gap.ensures.beside ∙ c.set.ensures.same) c.set-then-gap.ensures.same
 
 pub returns-clause-own : goal.returns-clause-own
-returns-clause-own c earlier within left calm empty first moved =
-    subst (AreFirst c.args.queue.now.requests.now c.args.gap.bank c.args.write c.args.row) (sym c.set_kind.ensures.same) (c.after-heads.ensures.first earlier within left calm empty first)
+returns-clause-own c earlier was within left moved oldest_moves hit_moves empty first =
+    subst (AreFirst c.args.queue.now.requests.now c.args.gap.bank c.args.write c.args.row) (sym c.set_kind.ensures.same)
+    (c.after-heads.ensures.first earlier was within left (c.of_kind.ensures.heads ∙ moved) oldest_moves hit_moves first)
 
 pub returns-then-stay-clause-own : goal.returns-then-stay-clause-own
-returns-then-stay-clause-own c earlier within left calm empty first moved =
+returns-then-stay-clause-own c earlier was within left moved oldest_moves hit_moves empty first =
     let slot = c.args.gap.slot in
     let bank = c.args.gap.bank in
     let write = c.args.write in
     let row = c.args.row in
-    let before = c.args.before in
     let item = item_at earlier slot within in
-    let stays : c.stay.result ≡ true = c.if-stay.true in
-    let none = calm (c.stay.ensures.calm stays) in
+    let oldest = oldest_moves (c.stay.ensures.oldest c.if-stay.true) in
+    let hit = hit_moves (c.stay.ensures.hit c.if-stay.true) in
     subst (AreFirst c.args.queue.now.requests.now bank write row) (sym moved)
     (record {
-      oldest_is = calm_place (kind_number bank write) (asks bank write) earlier slot item.0 before.oldest within item.1 (wants_kind bank write None) none first.oldest_is (c.stay.ensures.oldest stays)
+      oldest_is = calm_place (kind_number bank write) (asks bank write) earlier slot item.0 was.oldest within item.1 (wants_kind bank write None) oldest.0 first.oldest_is oldest.1
           ∙ ap (first_place (asks bank write)) (sym left);
-      hit_is = calm_place (kind_number bank write) (hits bank write row) earlier slot item.0 before.hit within item.1 (hits_kind bank write row) none first.hit_is (c.stay.ensures.hit stays)
+      hit_is = calm_place (kind_number bank write) (hits bank write row) earlier slot item.0 was.hit within item.1 (hits_kind bank write row) hit.0 first.hit_is hit.1
           ∙ ap (first_place (hits bank write row)) (sym left);
     })

@@ -13,8 +13,8 @@ invariant_of-self-clause-agree c =
     let same : length more ≡ length old.words.items = omega (arith, ap length c.deref_mut.ensures.value, c.move_words.auto.words) in
     let items_are : (with_items old.words more).items ≡ more = take_at more (drop (length more) old.words.items) old.words.len (omega (arith, old.words.ok.0, same)) in
     subst (λ xs. Agree xs old.sets) (sym items_are)
-    (moved_agrees (c.min-place.result + 1) old.words.items more old.sets (omega arith)
-    (λ k. c.move_words.ensures.moved k ∙ ap (λ xs. moved (c.min-place.result + 1) (get_or xs k 0)) c.deref_mut.ensures.value) old.agree)
+    (moved_agrees c.word_behind.result old.words.items more old.sets (omega arith)
+    (λ k. c.move_words.ensures.moved k ∙ ap (λ xs. moved c.word_behind.result (get_or xs k 0)) c.deref_mut.ensures.value) old.agree)
 
 pub returns-clause-moved : goal.returns-clause-moved
 returns-clause-moved c kind =
@@ -24,5 +24,5 @@ returns-clause-moved c kind =
     let items_are : (with_items old.words more).items ≡ more = take_at more (drop (length more) old.words.items) old.words.len (omega (arith, old.words.ok.0, same)) in
     let short : (k : ℕ) → get_or old.words.items k 0 < 2 ^ 16 = λ k. subst (λ xs. get_or xs k 0 < 2 ^ 16) c.deref_mut.ensures.value (c.move_words.ensures.fits k) in
     ap (λ xs. kind_in xs kind) items_are
-    ∙ kind_moves c.args.slot (c.min-place.result + 1) old.words.items more (ap (λ n. n + 1) c.min-place.ensures) short
-    (λ k. c.move_words.ensures.moved k ∙ ap (λ xs. moved (c.min-place.result + 1) (get_or xs k 0)) c.deref_mut.ensures.value) kind
+    ∙ kind_moves c.args.slot c.word_behind.result old.words.items more c.word_behind.ensures short
+    (λ k. c.move_words.ensures.moved k ∙ ap (λ xs. moved c.word_behind.result (get_or xs k 0)) c.deref_mut.ensures.value) kind
