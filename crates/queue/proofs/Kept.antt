@@ -1,7 +1,6 @@
 -- The columns of a queue with one request more and with one less.
-use Rattle.std.proofs.Common.{◌≡◌, ℕ, zero, suc, ◌+◌, ◌<◌, ◌≤◌, Bool, true, false, not, cond, eqb, inl, inr, List, [], ◌∷◌, ◌++◌, length, map, take, drop, get_or, set, refl, sym, ap, ◌∙◌, arith}
+use Rattle.std.proofs.Common.{◌≡◌, ℕ, zero, suc, ◌+◌, ◌<◌, ◌≤◌, Bool, true, false, not, cond, eqb, inl, inr, List, [], ◌∷◌, ◌++◌, length, get_or, set, refl, sym, ap, ◌∙◌, arith}
 use Rattle.std.proofs.lemmas.Bool.{cases_Bool, eqb-true}
-use Rattle.std.proofs.lemmas.List.{map_push, map-append, take-map, drop-map}
 use Rattle.std.proofs.lemmas.List.Sums.{sum_by-cons, sum_by_push, sum_by-remove}
 use Rattle.std.specs.List.{remove}
 use mir.Val.{bool_byte}
@@ -11,11 +10,6 @@ use Rattle.std.specs.Simd.Lanes.{zip2}
 use Rattle.queue_columns.specs.Marks.{mark, is_marked}
 use Rattle.queue_columns.specs.Columns.{eligible_column, tag_column, tag_of, tags_of, waiting_count, write_count}
 use Rattle.queue_columns.proofs.Eligible.{eligible_push}
-
-pub map_pushed : (f : Request → ℕ) (column longer : List ℕ) (rs more : List Request) (r : Request) (word : ℕ) → column ≡ map f rs → longer ≡ column ++ word ∷ [] → word ≡ f r
-    → more ≡ rs ++ r ∷ [] → longer ≡ map f more
-map_pushed f column longer rs more r word is pushed word_is more_is =
-    pushed ∙ (λ i. is i ++ word_is i ∷ []) ∙ sym (map_push f rs r) ∙ ap (map f) (sym more_is)
 
 pub eligible_pushed : (column longer : List ℕ) (rs more : List Request) (r : Request) (word : ℕ) (asked : Bool) → column ≡ eligible_column rs → longer ≡ column ++ word ∷ []
     → word ≡ mark (not asked) → asked ≡ asks_for_line r.place rs → more ≡ rs ++ r ∷ [] → longer ≡ eligible_column more
@@ -33,15 +27,6 @@ byte_is false = refl
 pub writes_pushed : (rs more : List Request) (r : Request) (writes : ℕ) → writes ≡ write_count rs → more ≡ rs ++ r ∷ [] → writes + cond r.write 1 0 ≡ write_count more
 writes_pushed rs more r writes is more_is =
     ap (λ n. n + cond r.write 1 0) is ∙ sym (sum_by_push (λ x. cond x.write 1 0) rs r) ∙ ap write_count (sym more_is)
-
-map-remove : (f : Request → ℕ) (rs : List Request) (i : ℕ) → map f (remove rs i) ≡ remove (map f rs) i
-map-remove f rs n =
-    map-append f (take n rs) (drop (suc n) rs) ∙ (λ i. sym (take-map f n rs) i ++ sym (drop-map f (suc n) rs) i)
-
-pub map_removed : (f : Request → ℕ) (column shorter : List ℕ) (rs fewer : List Request) (n : ℕ) → column ≡ map f rs → shorter ≡ remove column n → fewer ≡ remove rs n
-    → shorter ≡ map f fewer
-map_removed f column shorter rs fewer n is shorter_is fewer_is =
-    shorter_is ∙ ap (λ xs. remove xs n) is ∙ sym (map-remove f rs n) ∙ ap (map f) (sym fewer_is)
 
 pub writes_removed : (rs fewer : List Request) (r : Request) (n writes : ℕ) → n < length rs → r ≡ get_or rs n r → writes ≡ write_count rs → fewer ≡ remove rs n
     → write_count fewer + cond r.write 1 0 ≡ writes

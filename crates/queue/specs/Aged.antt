@@ -5,7 +5,7 @@
 use Rattle.std.specs.Prelude.{◌≡◌, ◌-◌, ◌≤◌, ℕ, List, drop, take, length, vec_capacity}
 use Rattle.sim_base.specs.declared.message.Request.{Request}
 use Rattle.queue.specs.declared.aged.Aged.TheInside.{Inside}
-use Rattle.queue_columns.specs.Columns.{tags_of, print_column}
+use Rattle.queue_columns.specs.Columns.{tags_of}
 
 -- requests, the oldest first, with the mark of each, how many there is room for, and how many places are free behind the youngest
 pub record AgedRequests : Type 0 where
@@ -18,16 +18,13 @@ pub record AgedRequests : Type 0 where
 pub record IsAged (a : Inside) : Type 0 where
   pub begun : a.start ≤ length a.requests.items
   pub tags_are : drop a.start a.tags.items ≡ tags_of (drop a.start a.requests.items) (drop a.start a.eligible.items)
-  pub prints_are : drop a.start a.prints.items ≡ print_column (drop a.start a.requests.items)
   pub eligible_long : length a.eligible.items ≡ length a.requests.items
   pub tags_long : length a.tags.items ≡ length a.requests.items
-  pub prints_long : length a.prints.items ≡ length a.requests.items
   pub within : length a.requests.items ≤ a.places
   pub enough : a.room ≤ a.places
   pub request_room : a.places ≤ vec_capacity a.requests
   pub eligible_room : a.places ≤ vec_capacity a.eligible
   pub tag_room : a.places ≤ vec_capacity a.tags
-  pub print_room : a.places ≤ vec_capacity a.prints
 
 -- all items but the last stand a place further
 abbrev pub IsMovedUp : {X : Type 0} → List X → List X → Type 0

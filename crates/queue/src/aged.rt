@@ -3,9 +3,9 @@
 ghost use Rattle.std.specs.Prelude.{◌≡◌, ◌+◌, ◌-◌, ◌<◌, ◌≤◌, ◌++◌, [], ◌∷◌, IfOk, drop, take, length, remove, slice_index_or, slice_set, vec_len, vec_capacity};
 ghost use Rattle.queue_columns.specs.Marks.{mark};
 ghost use Rattle.queue.specs.Aged.{AgedRequests, IsMovedUp, IsMovedDown};
-ghost use Rattle.queue_columns.specs.Columns.{tags_of, print_column};
+ghost use Rattle.queue_columns.specs.Columns.{tags_of};
 
-use queue_columns::words::{line_print, mark, tag};
+use queue_columns::words::{mark, tag};
 use sim_base::message::Request;
 use std::alloc::{AllocError, Global};
 use std::marker::Model;
@@ -68,21 +68,18 @@ fn move_requests_down(requests: &mut [Request])
 
 /// Moves all items of each list but the last one up by a place, over it.
 #[inline(always)]
-fn move_each_up(requests: &mut [Request], eligible: &mut [u64], tags: &mut [u8], prints: &mut [u8])
+fn move_each_up(requests: &mut [Request], eligible: &mut [u64], tags: &mut [u8])
     requires some { 0 < length requests.old }
     requires eligible_long { length eligible.old ≡ length requests.old }
     requires tags_long { length tags.old ≡ length requests.old }
-    requires prints_long { length prints.old ≡ length requests.old }
     ensures requests { IsMovedUp requests.old requests.new }
     ensures eligible { IsMovedUp eligible.old eligible.new }
     ensures tags { IsMovedUp tags.old tags.new }
-    ensures prints { IsMovedUp prints.old prints.new }
 {
     if LONG_MOVE < requests.len() {
         move_requests_up(requests);
         move_up(eligible);
         move_up(tags);
-        move_up(prints);
         return;
     }
     let mut at = requests.len() - 1;
@@ -91,33 +88,24 @@ fn move_each_up(requests: &mut [Request], eligible: &mut [u64], tags: &mut [u8],
         requests[at] = requests[below];
         eligible[at] = eligible[below];
         tags[at] = tags[below];
-        prints[at] = prints[below];
         at = below;
     }
 }
 
 /// Moves all items of each list but the first one down by a place, over it.
 #[inline(always)]
-fn move_each_down(
-    requests: &mut [Request],
-    eligible: &mut [u64],
-    tags: &mut [u8],
-    prints: &mut [u8],
-)
+fn move_each_down(requests: &mut [Request], eligible: &mut [u64], tags: &mut [u8])
     requires some { 0 < length requests.old }
     requires eligible_long { length eligible.old ≡ length requests.old }
     requires tags_long { length tags.old ≡ length requests.old }
-    requires prints_long { length prints.old ≡ length requests.old }
     ensures requests { IsMovedDown requests.old requests.new }
     ensures eligible { IsMovedDown eligible.old eligible.new }
     ensures tags { IsMovedDown tags.old tags.new }
-    ensures prints { IsMovedDown prints.old prints.new }
 {
     if LONG_MOVE < requests.len() {
         move_requests_down(requests);
         move_down(eligible);
         move_down(tags);
-        move_down(prints);
         return;
     }
     let last = requests.len() - 1;
@@ -127,7 +115,6 @@ fn move_each_down(
         requests[at] = requests[above];
         eligible[at] = eligible[above];
         tags[at] = tags[above];
-        prints[at] = prints[above];
         at = above;
     }
 }
@@ -155,7 +142,6 @@ pub(crate) struct Aged {
     /// The marks.
     eligible: Vec<u64>,
     tags: Vec<u8>,
-    prints: Vec<u8>,
 }
 
 impl Model for Aged {
@@ -184,7 +170,6 @@ impl Aged {
             requests: Vec::with_capacity(alloc, places)?,
             eligible: Vec::with_capacity(alloc, places)?,
             tags: Vec::with_capacity(alloc, places)?,
-            prints: Vec::with_capacity(alloc, places)?,
         })
     }
 
@@ -219,13 +204,6 @@ impl Aged {
         &self.tags[self.start..]
     }
 
-    #[inline(always)]
-    pub(crate) fn prints(&self) -> &[u8]
-        ensures { result.now ≡ print_column self.now.requests }
-    {
-        &self.prints[self.start..]
-    }
-
     /// Moves all requests to the first places.
     #[inline(never)]
     fn move_to_front(&mut self)
@@ -237,7 +215,6 @@ impl Aged {
         remove_front(&mut self.requests, self.start);
         remove_front(&mut self.eligible, self.start);
         remove_front(&mut self.tags, self.start);
-        remove_front(&mut self.prints, self.start);
         self.start = 0;
     }
 
@@ -251,7 +228,6 @@ impl Aged {
     {
         self.eligible.push_reserved(mark(marked));
         self.tags.push_reserved(tag(marked, request));
-        self.prints.push_reserved(line_print(request.place));
         self.requests.push_reserved(request);
     }
 
@@ -291,7 +267,6 @@ impl Aged {
             &mut self.requests[start..=place],
             &mut self.eligible[start..=place],
             &mut self.tags[start..=place],
-            &mut self.prints[start..=place],
         );
         self.start = start + 1;
     }
@@ -310,12 +285,10 @@ impl Aged {
             &mut self.requests[place..end],
             &mut self.eligible[place..end],
             &mut self.tags[place..end],
-            &mut self.prints[place..end],
         );
         drop_last(&mut self.requests);
         drop_last(&mut self.eligible);
         drop_last(&mut self.tags);
-        drop_last(&mut self.prints);
     }
 
     /// Takes out the request at a place. The others keep their order.

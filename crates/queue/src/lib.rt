@@ -47,7 +47,7 @@ pub struct Queue {
     waiting: usize,
     aged: Aged,
     /// How many requests are for the lines of each counter.
-    lines: Vec<usize>,
+    lines: Vec<u16>,
     /// The highest counter.
     mask: usize,
 }
@@ -102,8 +102,7 @@ impl Queue {
     {
         let line = line_slot(request.place, self.mask);
         let alike = self.lines[line];
-        let (requests, prints) = (self.aged.requests(), self.aged.prints());
-        let asked = is_line_asked(request.place, alike, requests, prints);
+        let asked = is_line_asked(request.place, alike, self.aged.requests());
         self.aged.push(request, !asked);
         self.lines[line] = alike + 1;
         self.waiting += usize::from(asked);

@@ -4,12 +4,10 @@ ghost use Rattle.std.specs.Prelude.{◌≡◌, ◌+◌, ◌<◌, ◌≤◌, [], 
 ghost use Rattle.std.specs.List.{position_or_len};
 ghost use Rattle.sim_base.specs.Places.{is_line};
 ghost use Rattle.sim_base.specs.Scheduling.{asks_for_line};
-ghost use Rattle.queue_columns.specs.Columns.{print_column, waiting_count, AreCounted};
+ghost use Rattle.queue_columns.specs.Columns.{waiting_count, AreCounted};
 ghost use Rattle.queue_columns.specs.Marks.{mark};
 
 use crate::aged::Aged;
-use memchr::memchr;
-use queue_columns::words::line_print;
 use sim_base::message::Request;
 use sim_base::place::Place;
 use std::alloc::{AllocError, Global};
@@ -21,38 +19,29 @@ fn is_same_line(a: Place, b: Place) -> bool
     a.channel == b.channel && same_bank && a.row == b.row && a.column == b.column
 }
 
-/// The first of these requests that asks for the line of a place. Those whose print is another one are passed over.
-fn first_for_line(place: Place, requests: &[Request], prints: &[u8]) -> Option<usize>
-    requires { prints.now ≡ print_column requests.now }
+/// The first of these requests that asks for the line of a place.
+fn first_for_line(place: Place, requests: &[Request]) -> Option<usize>
     ensures { result ≡ position (λ q. is_line q.place place) requests.now }
 {
-    let print = line_print(place);
-    let mut at = 0;
-    while let Some(next) = memchr(print, &prints[at..]) {
-        at += next;
-        if is_same_line(requests[at].place, place) {
-            return Some(at);
-        }
-        at += 1;
-    }
-    None
+    requests
+        .iter()
+        .position(|request| is_same_line(request.place, place))
 }
 
 /// Whether one of these requests asks for the line of a place. `alike` is 0 only where none does.
-pub(crate) fn is_line_asked(place: Place, alike: usize, requests: &[Request], prints: &[u8]) -> bool
+pub(crate) fn is_line_asked(place: Place, alike: u16, requests: &[Request]) -> bool
     requires alike { alike ≡ 0 → asks_for_line place requests.now ≡ false }
-    requires prints { prints.now ≡ print_column requests.now }
     ensures { result ≡ asks_for_line place requests.now }
 {
-    alike != 0 && first_for_line(place, requests, prints).is_some()
+    alike != 0 && first_for_line(place, requests).is_some()
 }
 
-/// Counters for the lines of so many requests, some four for each, and the highest of them.
-pub(crate) fn counters(alloc: Global, room: usize) -> Result<(Vec<usize>, usize), AllocError>
+/// Counters for the lines of so many requests, some 32 or more for each, so that few count two lines, and the highest of them.
+pub(crate) fn counters(alloc: Global, room: usize) -> Result<(Vec<u16>, usize), AllocError>
     ensures masked { IfOk result (λ made. made.1 < length made.0.items) }
     ensures counts { IfOk result (λ made. AreCounted made.1 made.0.items []) }
 {
-    let wanted = room.min(1 << 20) * 4;
+    let wanted = room.min(1 << 20) * 32;
     let mut mask = 255;
     while mask < wanted {
         mask = mask * 2 + 1;
@@ -66,7 +55,7 @@ pub(crate) fn give_turn(
     place: Place,
     from: usize,
     waiting: usize,
-    alike: usize,
+    alike: u16,
     aged: &mut Aged,
 ) -> bool
     requires from { from ≤ length aged.old.requests }
@@ -84,8 +73,7 @@ pub(crate) fn give_turn(
     if alike == 0 {
         return false;
     }
-    let (requests, prints) = (aged.requests(), aged.prints());
-    let Some(next) = first_for_line(place, &requests[from..], &prints[from..]) else {
+    let Some(next) = first_for_line(place, &aged.requests()[from..]) else {
         return false;
     };
     let next = from + next;

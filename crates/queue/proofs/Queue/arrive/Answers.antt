@@ -13,16 +13,19 @@ use Rattle.queue.specs.View.{drains_by}
 use Rattle.queue.proofs.Queue.arrive.Goals as goal
 use Rattle.queue.proofs.Queue.arrive.Goals.{After-from}
 
-pub is_line_asked-asked-requires-clause-alike : goal.is_line_asked-asked-requires-clause-alike
-is_line_asked-asked-requires-clause-alike c none =
+pub is_line_asked-asked-requires : goal.is_line_asked-asked-requires
+is_line_asked-asked-requires c =
     let q = c.self.inside in
     let slot = c.line_slot-line.result in
     let below : slot < length q.lines.items = omega (arith, c.line_slot-line.ensures.within, c.self.invariant.masked) in
     let slot_is = c.line_slot-line.ensures.value in
     let count_is : c.index-alike.result.now ≡ get_or q.lines.items slot 0 = c.index-alike.ensures ∙ get_or_default q.lines.items slot c.index-alike.result.now 0 below in
-    ap (asks_for_line c.args.request.place) c.requests-requests.ensures
-    ∙ none_asks q.mask q.lines.items q.aged.requests c.args.request.place c.self.invariant.lines_are (omega (arith, below, slot_is))
-    (ap (λ k. get_or q.lines.items k 0) (sym slot_is) ∙ sym count_is ∙ none)
+    record {
+      alike = λ none.
+          ap (asks_for_line c.args.request.place) c.requests.ensures
+          ∙ none_asks q.mask q.lines.items q.aged.requests c.args.request.place c.self.invariant.lines_are (omega (arith, below, slot_is))
+          (ap (λ k. get_or q.lines.items k 0) (sym slot_is) ∙ sym count_is ∙ none);
+    }
 
 pub overflow_add-alike : goal.overflow_add-alike
 overflow_add-alike c =
@@ -31,7 +34,7 @@ overflow_add-alike c =
     let below : slot < length q.lines.items = omega (arith, c.line_slot-line.ensures.within, c.self.invariant.masked) in
     let free : length q.aged.requests < q.room = omega (arith, ap (λ v. length v.requests) c.self.view_is, ap (λ v. v.room) c.self.view_is, c.requires) in
     let count_is : c.index-alike.result.now ≡ get_or q.lines.items slot 0 = c.index-alike.ensures ∙ get_or_default q.lines.items slot c.index-alike.result.now 0 below in
-    omega (arith, free, count_is, few_counted q.mask q.lines.items q.aged.requests slot c.self.invariant.lines_are below)
+    omega (arith, free, c.self.invariant.short, count_is, few_counted q.mask q.lines.items q.aged.requests slot c.self.invariant.lines_are below)
 
 pub overflow_add-self : goal.overflow_add-self
 overflow_add-self c =
@@ -62,7 +65,7 @@ taken_in c lines writes drains lines_are writes_is drains_is =
     let slot = c.line_slot-line.result in
     let below : slot < length q.lines.items = omega (arith, c.line_slot-line.ensures.within, kept.masked) in
     let count_is : c.index-alike.result.now ≡ get_or q.lines.items slot 0 = c.index-alike.ensures ∙ get_or_default q.lines.items slot c.index-alike.result.now 0 below in
-    let asked = c.is_line_asked-asked.ensures ∙ ap (asks_for_line c.args.request.place) c.requests-requests.ensures in
+    let asked = c.is_line_asked-asked.ensures ∙ ap (asks_for_line c.args.request.place) c.requests.ensures in
     record {
       eligible_are =
           eligible_pushed q.aged.marks _ q.aged.requests _ c.args.request (mark (not c.is_line_asked-asked.result)) c.is_line_asked-asked.result kept.eligible_are c.push.ensures.marks refl asked more;

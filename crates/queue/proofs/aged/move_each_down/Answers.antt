@@ -12,5 +12,4 @@ loop-at-preserved c =
       come_next c.args.requests.now l.requests l.at _ within down.2,
       come_next c.args.eligible.now l.eligible l.at 0 (omega (arith, within, c.requires.eligible_long)) down.3,
       come_next c.args.tags.now l.tags l.at 0 (omega (arith, within, c.requires.tags_long)) down.4,
-      come_next c.args.prints.now l.prints l.at 0 (omega (arith, within, c.requires.prints_long)) down.5,
     )

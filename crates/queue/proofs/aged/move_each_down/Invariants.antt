@@ -10,7 +10,6 @@ invariant-loop-at l =
     × HaveComeDown l.initial.requests l.requests l.at
     × HaveComeDown l.initial.eligible l.eligible l.at
     × HaveComeDown l.initial.tags l.tags l.at
-    × HaveComeDown l.initial.prints l.prints l.at
 
 abbrev pub decreases-loop-at : goal.decreases-loop-at
 decreases-loop-at l = l.last - l.at

@@ -12,5 +12,4 @@ loop-at-preserved c =
       moved_next c.args.requests.now l.requests l.at _ some within l.auto.requests moved.1,
       moved_next c.args.eligible.now l.eligible l.at 0 some (omega (arith, within, c.requires.eligible_long)) l.auto.eligible moved.2,
       moved_next c.args.tags.now l.tags l.at 0 some (omega (arith, within, c.requires.tags_long)) l.auto.tags moved.3,
-      moved_next c.args.prints.now l.prints l.at 0 some (omega (arith, within, c.requires.prints_long)) l.auto.prints moved.4,
     )

@@ -9,7 +9,6 @@ invariant-loop-at l =
     × HaveMoved l.initial.requests l.requests l.at
     × HaveMoved l.initial.eligible l.eligible l.at
     × HaveMoved l.initial.tags l.tags l.at
-    × HaveMoved l.initial.prints l.prints l.at
 
 abbrev pub decreases-loop-at : goal.decreases-loop-at
 decreases-loop-at l = l.at

@@ -19,16 +19,13 @@ invariant_of-self c =
     record {
       begun = kept.begun;
       tags_are = tags_turned (drop a.start a.tags.items) _ rs marks at _ kept.tags_are written ∙ ap (tags_of rs) (sym (drop-set a.start at place a.eligible.items 1 refl));
-      prints_are = kept.prints_are;
       eligible_long = length-set a.eligible.items place 1 ∙ kept.eligible_long;
       tags_long = length-set a.tags.items place c.tag.result ∙ kept.tags_long;
-      prints_long = kept.prints_long;
       within = kept.within;
       enough = kept.enough;
       request_room = kept.request_room;
       eligible_room = kept.eligible_room;
       tag_room = kept.tag_room;
-      print_room = kept.print_room;
     }
 
 pub returns-clause-marks : goal.returns-clause-marks

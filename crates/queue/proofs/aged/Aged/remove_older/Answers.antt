@@ -2,9 +2,8 @@
 use Rattle.std.proofs.Common.{◌+◌, ◌-◌, ◌<◌, drop, length, ap, ◌∙◌, arith}
 use Rattle.std.proofs.lemmas.List.{length-drop, with_items_is}
 use Rattle.std.specs.List.{remove}
-use Rattle.queue_columns.specs.Columns.{line_print}
 use Rattle.queue.proofs.Dropped.{dropped_older, turned_part}
-use Rattle.queue.proofs.Kept.{map_removed, tags_removed}
+use Rattle.queue.proofs.Kept.{tags_removed}
 use Rattle.queue.proofs.aged.Aged.remove_older.Goals as goal
 
 pub invariant_of-self : goal.invariant_of-self
@@ -24,22 +23,16 @@ invariant_of-self c =
     let tags =
     dropped_older start at n a.tags.items c.deref_mut-3.result.now c.move_each_up.new.tags _ c.deref_mut-3.ensures.value (omega arith) (omega (arith, exists, kept.tags_long)) c.move_each_up.ensures.tags
     (λ long. with_items_is a.tags (turned_part start n c.deref_mut-3.result.now c.move_each_up.new.tags) (omega (arith, long, a.tags.ok.0))) in
-    let prints =
-    dropped_older start at n a.prints.items c.deref_mut-4.result.now c.move_each_up.new.prints _ c.deref_mut-4.ensures.value (omega arith) (omega (arith, exists, kept.prints_long)) c.move_each_up.ensures.prints
-    (λ long. with_items_is a.prints (turned_part start n c.deref_mut-4.result.now c.move_each_up.new.prints) (omega (arith, long, a.prints.ok.0))) in
     record {
       begun = omega (arith, exists, requests.0);
-      prints_are = map_removed (λ r. line_print r.place) (drop start a.prints.items) _ (drop start a.requests.items) _ at kept.prints_are prints.1 requests.1;
       tags_are = tags_removed (drop start a.tags.items) _ (drop start a.requests.items) _ (drop start a.eligible.items) _ at kept.tags_are tags.1 requests.1 eligible.1;
       eligible_long = omega (arith, eligible.0, requests.0, kept.eligible_long);
       tags_long = omega (arith, tags.0, requests.0, kept.tags_long);
-      prints_long = omega (arith, prints.0, requests.0, kept.prints_long);
       within = omega (arith, requests.0, kept.within);
       enough = kept.enough;
       request_room = kept.request_room;
       eligible_room = kept.eligible_room;
       tag_room = kept.tag_room;
-      print_room = kept.print_room;
     }
 
 pub returns-clause-requests : goal.returns-clause-requests

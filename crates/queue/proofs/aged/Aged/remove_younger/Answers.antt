@@ -3,9 +3,8 @@ use Rattle.std.proofs.Common.{◌≡◌, ◌+◌, ◌-◌, ◌<◌, drop, take, 
 use Rattle.std.proofs.lemmas.List.{length-drop, with_items_is}
 use Rattle.std.specs.List.{remove}
 use Rattle.std.specs.Vec.{with_items}
-use Rattle.queue_columns.specs.Columns.{line_print}
 use Rattle.queue.proofs.Dropped.{dropped_down, dropped_younger, turned_part}
-use Rattle.queue.proofs.Kept.{map_removed, tags_removed}
+use Rattle.queue.proofs.Kept.{tags_removed}
 use Rattle.queue.proofs.aged.Aged.remove_younger.Goals as goal
 
 pub invariant_of-self : goal.invariant_of-self
@@ -44,28 +43,16 @@ invariant_of-self c =
     (λ long. with_items_is a.tags (turned_part (start + at) n c.deref_mut-3.result.now c.move_each_down.new.tags) (omega (arith, long, tags_long)))
     (c.drop_last-3.ensures.items ∙ ap (λ len. take (len - 1) (with_items a.tags (turned_part (start + at) n c.deref_mut-3.result.now c.move_each_down.new.tags)).items) tags_long))
     tags_there in
-    let prints_there : start + at < length a.prints.items = (omega (arith, exists, kept.prints_long)) in
-    let prints_long : a.prints.len ≡ length a.prints.items = a.prints.ok.0 in
-    let prints =
-    dropped_younger start at a.prints.items c.drop_last-4.new.items.items
-    (dropped_down (start + at) n a.prints.items c.deref_mut-4.result.now c.move_each_down.new.prints _ c.drop_last-4.new.items.items c.deref_mut-4.ensures.value prints_there (omega (arith, full, kept.prints_long))
-    c.move_each_down.ensures.prints
-    (λ long. with_items_is a.prints (turned_part (start + at) n c.deref_mut-4.result.now c.move_each_down.new.prints) (omega (arith, long, prints_long)))
-    (c.drop_last-4.ensures.items ∙ ap (λ len. take (len - 1) (with_items a.prints (turned_part (start + at) n c.deref_mut-4.result.now c.move_each_down.new.prints)).items) prints_long))
-    prints_there in
     record {
       begun = omega (arith, exists, requests.0);
-      prints_are = map_removed (λ r. line_print r.place) (drop start a.prints.items) _ (drop start a.requests.items) _ at kept.prints_are prints.1 requests.1;
       tags_are = tags_removed (drop start a.tags.items) _ (drop start a.requests.items) _ (drop start a.eligible.items) _ at kept.tags_are tags.1 requests.1 eligible.1;
       eligible_long = omega (arith, eligible.0, requests.0, kept.eligible_long);
       tags_long = omega (arith, tags.0, requests.0, kept.tags_long);
-      prints_long = omega (arith, prints.0, requests.0, kept.prints_long);
       within = omega (arith, requests.0, kept.within);
       enough = kept.enough;
       request_room = omega (arith, kept.request_room, c.drop_last.ensures.room);
       eligible_room = omega (arith, kept.eligible_room, c.drop_last-2.ensures.room);
       tag_room = omega (arith, kept.tag_room, c.drop_last-3.ensures.room);
-      print_room = omega (arith, kept.print_room, c.drop_last-4.ensures.room);
     }
 
 pub returns-clause-requests : goal.returns-clause-requests
