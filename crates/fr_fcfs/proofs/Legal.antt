@@ -132,7 +132,7 @@ pub hit_is : (history : List CommandRow) (r : Request) → is_hit history r ≡ 
 unfolding needed
 hit_is history r = hit_at (open_row (bank_in r.place) history) r
 
-same_bank : (a b : BankId) → is_bank a b ≡ true → a ≡ b
+pub same_bank : (a b : BankId) → is_bank a b ≡ true → a ≡ b
 same_bank a b same =
     let bank = and_parts (eqb a.rank b.rank && eqb a.group b.group) (eqb a.bank b.bank) same in
     let group = and_parts (eqb a.rank b.rank) (eqb a.group b.group) bank.0 in

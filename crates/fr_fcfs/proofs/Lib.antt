@@ -9,3 +9,4 @@ pub mod Beside
 pub mod Favoured
 pub mod BankMore
 pub mod Waking
+pub mod Staying

@@ -2,3 +2,4 @@ pub mod Requests
 pub mod Offers
 pub mod Cycles
 pub mod Choices
+pub mod Arrivals

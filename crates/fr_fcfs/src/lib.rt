@@ -1,6 +1,7 @@
 //! First ready, first come, first served: the command of the next cycle, and when there is one.
 #![tactic(auto)]
 
+pub mod arrivals;
 pub mod choice;
 mod first;
 mod kinds;

@@ -35,7 +35,7 @@ fn source_of(request: Request) -> Source
 }
 
 #[inline]
-fn bank_of_place(place: Place) -> BankId
+pub(crate) fn bank_of_place(place: Place) -> BankId
     ensures { result ≡ bank_in place }
 {
     BankId {

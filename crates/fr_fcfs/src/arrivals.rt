@@ -1,0 +1,105 @@
+//! Whether the next command stays so when requests arrive.
+
+ghost use Rattle.std.specs.Prelude.{◌≡◌, ◌*◌, ◌<◌, ◌≤◌, ℕ, true, List, Option, All, IsTrue, take};
+ghost use Rattle.sim_base.specs.Places.{bank_in};
+ghost use Rattle.sim_base.specs.Rules.{kind_of, open_row};
+ghost use Rattle.sim_base.specs.Scheduling.{needed_at, is_column_command};
+ghost use Rattle.sim_base.specs.declared.config.Config.{Config};
+ghost use Rattle.sim_base.specs.declared.command.Command.{Command};
+ghost use Rattle.sim_base.specs.declared.command.CommandRow.{CommandRow};
+ghost use Rattle.sim_base.specs.declared.message.Request.{Request};
+ghost use Rattle.bank_ready.specs.Words.{names_bank};
+ghost use Rattle.bank_ready.specs.Stands.{rank_count, StandsFor as BanksStandFor};
+ghost use Rattle.queue.specs.View.{QueueView};
+ghost use Rattle.queue_columns.specs.Columns.{bank_number};
+ghost use Rattle.heads.specs.Heads.{bank_at};
+ghost use Rattle.heads.specs.Stands.{bank_count, StandsFor as HeadsStandFor};
+ghost use Rattle.fr_fcfs.specs.Arrivals.{ComesAfter, KeepsNext};
+ghost use Rattle.fr_fcfs.specs.Choices.{choice_in};
+ghost use Rattle.fr_fcfs.specs.Requests.{IsInBanks, KnowsRows};
+
+use crate::choice::Choice;
+use crate::needs::{bank_of_place, is_column};
+use crate::offers::ready;
+use bank_ready::banks::Banks;
+use heads::Heads;
+use queue::Queue;
+use sim_base::command::Kind;
+use sim_base::message::{Cycle, Request};
+use sim_base::place::Place;
+
+/// The number of the bank of a place.
+#[inline(always)]
+fn bank_number(place: Place) -> usize
+    ensures { result ≡ bank_number place }
+{
+    (place.rank as usize * 4 + place.group as usize) * 4 + place.bank as usize
+}
+
+/// The kind of what a request for a row needs where this row of its bank is open.
+#[inline(always)]
+fn kind_needed(open_row: Option<u32>, row: u32, write: bool) -> Kind
+    ensures kind { (r : Request) → r.place.row ≡ row → r.write ≡ write → result ≡ kind_of (needed_at open_row r) }
+    ensures bank { IsTrue (names_bank result) }
+{
+    match open_row {
+        None => Kind::Act,
+        Some(open) if open != row => Kind::Pre,
+        Some(_) if write => Kind::Wr,
+        Some(_) => Kind::Rd,
+    }
+}
+
+/// Whether commands of a kind move data.
+#[inline(always)]
+fn moves_data(kind: Kind) -> bool
+    ensures { (command : Command) → kind_of command ≡ kind → result ≡ is_column_command command }
+{
+    matches!(kind, Kind::Rd | Kind::Wr)
+}
+
+/// Whether what a request needs may not be issued before a cycle, and is no row hit, unless a row hit is chosen for the cycle.
+#[inline(always)]
+fn comes_after(heads: &Heads, banks: &Banks, request: &Request, cycle: Cycle, hit: bool) -> bool
+    requires place { IsInBanks (rank_count banks.now) request.now }
+    requires banks { bank_count heads.now ≡ 16 * rank_count banks.now }
+    ensures { (s : Config) (history : List CommandRow) → result ≡ true → BanksStandFor banks.now s history → KnowsRows heads.now history
+        → ComesAfter s history cycle hit request.now }
+{
+    let open_row = heads.open_row(bank_of_place(request.place));
+    let kind = kind_needed(open_row, request.place.row, request.write);
+    let after = cycle <= ready(banks, bank_number(request.place), kind);
+    after && (hit || !moves_data(kind))
+}
+
+/// Whether the choice for a cycle, which is the next one, is known to stay so now that the requests of the queue from a place on have
+/// arrived. It stays where none of them goes before it; of those for which it might, none is looked at where the channel ever
+/// drains its writes.
+#[inline(always)]
+pub fn stays(
+    queue: &Queue,
+    heads: &Heads,
+    banks: &Banks,
+    from: usize,
+    cycle: Cycle,
+    choice: &Choice,
+) -> bool
+    requires places { All (IsInBanks (rank_count banks.now)) queue.now.requests }
+    requires banks { bank_count heads.now ≡ 16 * rank_count banks.now }
+    ensures { (s : Config) (history : List CommandRow) (earlier : QueueView) → result ≡ true → BanksStandFor banks.now s history
+        → HeadsStandFor heads.now queue.now.requests (λ bank. open_row (bank_at bank) history) → s.write_high ≡ queue.now.high
+        → earlier.requests ≡ take from queue.now.requests
+        → KeepsNext (choice_in s history earlier) (choice_in s history queue.now) cycle choice.now.command }
+{
+    if queue.high() != 0 {
+        return false;
+    }
+    let hit = is_column(choice.command);
+    let requests = queue.requests();
+    for slot in from..requests.len() {
+        if !comes_after(heads, banks, &requests[slot], cycle, hit) {
+            return false;
+        }
+    }
+    true
+}
