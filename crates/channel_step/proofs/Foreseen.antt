@@ -1,5 +1,5 @@
 -- What a channel knows of its next command, as cycles pass.
-use Rattle.std.proofs.Common.{◌≡◌, ℕ, ◌≤◌, false, List, Option, Some, None, refl, sym, ap, subst, ◌∙◌, arith}
+use Rattle.std.proofs.Common.{◌≡◌, ℕ, zero, suc, ◌≤◌, false, List, [], ◌∷◌, take, Option, Some, None, refl, sym, ap, subst, ◌∙◌, arith}
 use Rattle.std.specs.Prelude.{IfSome, MatchOption, option_map, slice_get}
 use Rattle.sim_base.specs.declared.config.Config.{Config}
 use Rattle.sim_base.specs.Scheduling.{candidates, choice_between, lowest_due, column_command, is_column_command}
@@ -7,6 +7,7 @@ use Rattle.sim_base.specs.declared.command.Command.{Command}
 use Rattle.sim_base.specs.declared.command.CommandRow.{CommandRow}
 use Rattle.sim_base.specs.declared.message.Request.{Request}
 use Rattle.queue.specs.View.{QueueView, is_draining}
+use Rattle.fr_fcfs.specs.Arrivals.{KeepsNext}
 use Rattle.fr_fcfs.specs.Choices.{choice_in, IsFor, Serves}
 use Rattle.channel_step.specs.Queued.{settled}
 use Rattle.sim_base.specs.History.{issued_commands}
@@ -137,3 +138,27 @@ pub foreseen-settled : (s : Config) (history : List CommandRow) (queue : QueueVi
 foreseen-settled s history queue from ahead h =
     foreseen-from (choice_in s history (settled queue)) queue.requests from ahead
     (ahead-settled s history queue from ahead (ahead-from (choice_in s history queue) queue.requests from ahead h))
+
+-- a place among the first requests is one among all
+get_taken : {X : Type 0} (n k : ℕ) (xs : List X) (x : X) → slice_get (take n xs) k ≡ Some x → slice_get xs k ≡ Some x
+get_taken zero k xs x e = cc
+get_taken (suc n) k [] x e = e
+get_taken (suc n) zero (y ∷ ys) x e = e
+get_taken (suc n) (suc k) (y ∷ ys) x e = get_taken n k ys x e
+
+taken-for : (n : ℕ) (requests earlier : List Request) (choice : Choice) → earlier ≡ take n requests → IsFor earlier choice → IsFor requests choice
+taken-for n requests earlier choice is h = by choice.slot h
+  where
+    by : (o : Option ℕ) → MatchOption o (is_column_command choice.command ≡ false) (Serves earlier choice.command)
+        → MatchOption o (is_column_command choice.command ≡ false) (Serves requests choice.command)
+    by None none = none
+    by (Some slot) some = (some.0, get_taken n slot requests some.0 (ap (λ xs. slice_get xs slot) (sym is) ∙ some.1), some.2)
+
+-- What was found is so still where what is next stays so with the requests that follow.
+pub ahead-kept : (before after : ℕ → Option Command) (earlier requests : List Request) (n from cycle : ℕ) (choice : Choice) → earlier ≡ take n requests → KeepsNext before after cycle choice.command
+    → IsAheadAt before earlier from cycle choice → IsAheadAt after requests from cycle choice
+ahead-kept before after earlier requests n from cycle choice is keeps h = record {
+  then_is = keeps.then_is h.then_is;
+  none_before = λ t late early. keeps.none_before t early (h.none_before t late early);
+  place = taken-for n requests earlier choice is h.place;
+}

@@ -23,11 +23,12 @@ use Rattle.channel_step.specs.Past.{requests_of, IsRequestIn, CarriesRequest}
 use Rattle.channel_step.specs.Fit.{queue_room, IsFit}
 use Rattle.channel_step.specs.Stands.{marks_of}
 use Rattle.channel_step.specs.Queued.{Queued, with_arrivals}
-use Rattle.channel_step.specs.Channels.{HeadsStand, StandsFor, IsInCycle}
-use Rattle.channel_step.specs.declared.ahead.Ahead.TheVariants.{Unknown}
+use Rattle.channel_step.specs.Channels.{HeadsStand, StandsFor, IsAhead, IsInCycle}
+use Rattle.channel_step.specs.declared.ahead.Ahead.{Ahead}
 use Rattle.channel_step.specs.declared.channel.Channel.{Channel}
 use Rattle.fr_fcfs.specs.Choices.{choice_in}
-use Rattle.channel_step.proofs.Foreseen.{foreseen-unknown}
+use Rattle.fr_fcfs.specs.Requests.{IsInBanks}
+use Rattle.channel_step.proofs.Foreseen.{foreseen-from}
 use Rattle.channel_step.proofs.Requests.{carries-stamped}
 use Rattle.channel_step.proofs.Spans.{queue-next}
 use Rattle.channel_step.proofs.Cycle.{joined}
@@ -68,11 +69,12 @@ arrivals-room c s channel rows mail inbox now until h at l f =
     omega arith
 
 -- when they have joined
-pub arrived-stands : (c : Channel) (s : Config) (channel : ℕ) (rows : List (Option Command)) (mail inbox : List Message) (now until : ℕ) (w : Queued) (heads : Heads) → StandsFor c s channel rows mail → length rows ≡ now → now < until
+pub arrived-stands : (c : Channel) (s : Config) (channel : ℕ) (rows : List (Option Command)) (mail inbox : List Message) (now until : ℕ) (w : Queued) (heads : Heads) (ahead : Ahead) → StandsFor c s channel rows mail → length rows ≡ now → now < until
     → IsFit s channel rows mail inbox now until → w ≡ with_arrivals c.waiting (requests_of (take (due_count inbox now) inbox))
     → bank_count heads ≡ bank_count c.heads → HeadsStand heads w.queue.requests (issued_commands channel rows)
-    → IsInCycle (record c { waiting = w; heads = heads; ahead = Unknown }) s channel rows (mail ++ take (due_count inbox now) inbox)
-arrived-stands c s channel rows mail inbox now until w heads h at l f e count heads_stand =
+    → IsAhead (choice_in s (issued_commands channel rows) w.queue) w.queue.requests c.cycle ahead
+    → IsInCycle (record c { waiting = w; heads = heads; ahead = ahead }) s channel rows (mail ++ take (due_count inbox now) inbox)
+arrived-stands c s channel rows mail inbox now until w heads ahead h at l f e count heads_stand known =
     let new = take (due_count inbox now) inbox in
     let requests = requests_of new in
     let j = joined _ _ _ _ s channel rows mail new h.recalls (fit-arrives s channel rows mail inbox now until at f) in
@@ -105,7 +107,7 @@ arrived-stands c s channel rows mail inbox now until w heads h at l f e count he
       heads_stand = heads_stand;
       banks_stand = h.banks_stand;
       refreshes_stand = h.refreshes_stand;
-      foresees = foreseen-unknown (choice_in s (issued_commands channel rows) w.queue) w.queue.requests c.cycle;
+      foresees = foreseen-from (choice_in s (issued_commands channel rows) w.queue) w.queue.requests c.cycle ahead known;
     }
 
 -- there is room for them
@@ -119,29 +121,38 @@ admit-room c s channel rows mail inbox now until n h at l f e =
     omega (arith, arrivals-room c s channel rows mail inbox now until h at l f, length-append c.waiting.queue.requests (requests_of new))
 
 -- the same, for as many messages as arrive
-pub arrived-in_cycle : (c : Channel) (s : Config) (channel : ℕ) (rows : List (Option Command)) (mail inbox : List Message) (now until n : ℕ) (w : Queued) (heads : Heads) → StandsFor c s channel rows mail → length rows ≡ now → now < until
+pub arrived-in_cycle : (c : Channel) (s : Config) (channel : ℕ) (rows : List (Option Command)) (mail inbox : List Message) (now until n : ℕ) (w : Queued) (heads : Heads) (ahead : Ahead) → StandsFor c s channel rows mail → length rows ≡ now → now < until
     → IsFit s channel rows mail inbox now until → n ≡ due_count inbox now → w ≡ with_arrivals c.waiting (requests_of (take n inbox))
     → bank_count heads ≡ bank_count c.heads → HeadsStand heads w.queue.requests (issued_commands channel rows)
-    → IsInCycle (record c { waiting = w; heads = heads; ahead = Unknown }) s channel rows (mail ++ take n inbox)
-arrived-in_cycle c s channel rows mail inbox now until n w heads h at l f e x count heads_stand =
-    subst (λ k. IsInCycle (record c { waiting = w; heads = heads; ahead = Unknown }) s channel rows (mail ++ take k inbox)) (sym e)
-    (arrived-stands c s channel rows mail inbox now until w heads h at l f (x ∙ ap (λ k. with_arrivals c.waiting (requests_of (take k inbox))) e) count heads_stand)
+    → IsAhead (choice_in s (issued_commands channel rows) w.queue) w.queue.requests c.cycle ahead
+    → IsInCycle (record c { waiting = w; heads = heads; ahead = ahead }) s channel rows (mail ++ take n inbox)
+arrived-in_cycle c s channel rows mail inbox now until n w heads ahead h at l f e x count heads_stand known =
+    subst (λ k. IsInCycle (record c { waiting = w; heads = heads; ahead = ahead }) s channel rows (mail ++ take k inbox)) (sym e)
+    (arrived-stands c s channel rows mail inbox now until w heads ahead h at l f (x ∙ ap (λ k. with_arrivals c.waiting (requests_of (take k inbox))) e) count heads_stand known)
 
--- the banks that the requests ask for which are there then
+-- the requests that are there then ask for banks that there are
+pub arrived-places : (c : Channel) (s : Config) (channel : ℕ) (rows : List (Option Command)) (mail inbox : List Message) (now until n ranks : ℕ) (w : Queued) → StandsFor c s channel rows mail → length rows ≡ now → now < until
+    → IsFit s channel rows mail inbox now until → n ≡ due_count inbox now → w ≡ with_arrivals c.waiting (requests_of (take n inbox)) → ranks ≡ s.ranks → All (IsInBanks ranks) w.queue.requests
+arrived-places c s channel rows mail inbox now until n ranks w h at l f e x ranks_are =
+    let new = take (due_count inbox now) inbox in
+    let j = joined _ _ _ _ s channel rows mail new h.recalls (fit-arrives s channel rows mail inbox now until at f) in
+    let is = x ∙ ap (λ k. with_arrivals c.waiting (requests_of (take k inbox))) e in
+    queue-in_banks s channel ranks (issued_commands channel rows) (mail ++ new) (length rows + 1) w.queue.requests ranks_are j.requests (ap (λ (z : Queued). z.queue.requests) is ∙ j.queue_is)
+
+-- the banks that they ask for have heads
 pub arrived-in_banks : (c : Channel) (s : Config) (channel : ℕ) (rows : List (Option Command)) (mail inbox : List Message) (now until n : ℕ) (w : Queued) → StandsFor c s channel rows mail → length rows ≡ now → now < until
     → IsFit s channel rows mail inbox now until → n ≡ due_count inbox now → w ≡ with_arrivals c.waiting (requests_of (take n inbox))
     → All (λ r. bank_number r.place < bank_count c.heads) w.queue.requests
 arrived-in_banks c s channel rows mail inbox now until n w h at l f e x =
-    let new = take (due_count inbox now) inbox in
-    let j = joined _ _ _ _ s channel rows mail new h.recalls (fit-arrives s channel rows mail inbox now until at f) in
-    let is = x ∙ ap (λ k. with_arrivals c.waiting (requests_of (take k inbox))) e in
-    below-count s.ranks (bank_count c.heads) w.queue.requests h.made_for.banks_are
-    (queue-in_banks s channel s.ranks (issued_commands channel rows) (mail ++ new) (length rows + 1) w.queue.requests refl j.requests (ap (λ (z : Queued). z.queue.requests) is ∙ j.queue_is))
+    below-count s.ranks (bank_count c.heads) w.queue.requests h.made_for.banks_are (arrived-places c s channel rows mail inbox now until n s.ranks w h at l f e x refl)
+
+-- the requests that were there before
+pub requests-before : (c : Channel) (new : List Message) (n : ℕ) (w : Queued) → n ≡ length c.waiting.queue.requests → w ≡ with_arrivals c.waiting (requests_of new)
+    → c.waiting.queue.requests ≡ take n w.queue.requests
+requests-before c new n w e x = sym (ap (λ (z : Queued). take n z.queue.requests) x ∙ take_at c.waiting.queue.requests (requests_of new) n (sym e))
 
 -- heads of the requests that were there before
 pub heads-before : (c : Channel) (s : Config) (channel : ℕ) (rows : List (Option Command)) (mail new : List Message) (n : ℕ) (w : Queued) → StandsFor c s channel rows mail
     → n ≡ length c.waiting.queue.requests → w ≡ with_arrivals c.waiting (requests_of new) → HeadsStand c.heads (take n w.queue.requests) (issued_commands channel rows)
 heads-before c s channel rows mail new n w h e x =
-    let before : c.waiting.queue.requests ≡ take n w.queue.requests =
-    sym (ap (λ (z : Queued). take n z.queue.requests) x ∙ take_at c.waiting.queue.requests (requests_of new) n (sym e)) in
-    subst (λ rs. HeadsStand c.heads rs (issued_commands channel rows)) before h.heads_stand
+    subst (λ rs. HeadsStand c.heads rs (issued_commands channel rows)) (requests-before c new n w e x) h.heads_stand

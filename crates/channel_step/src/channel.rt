@@ -1,6 +1,6 @@
 //! A channel that is run alone over a span of cycles.
 
-ghost use Rattle.std.specs.Prelude.{◌≡◌, ℕ, ◌+◌, ◌-◌, ◌*◌, ◌<◌, ◌≤◌, ◌^◌, ◌==◌, take, take_while, ◌++◌, List, All, [], ◌∷◌, length, Option, Some, None, replicate, is_some, nat_le, IfSome, IfOk, OnOk};
+ghost use Rattle.std.specs.Prelude.{◌≡◌, true, ℕ, ◌+◌, ◌-◌, ◌*◌, ◌<◌, ◌≤◌, ◌^◌, ◌==◌, take, take_while, ◌++◌, List, All, [], ◌∷◌, length, Option, Some, None, replicate, is_some, nat_le, IfSome, IfOk, OnOk};
 ghost use Rattle.sim_base.specs.History.{issued_commands};
 ghost use Rattle.sim_base.specs.Rules.{open_row};
 ghost use Rattle.sim_base.specs.Scheduling.{choice, due, waiting};
@@ -9,16 +9,16 @@ ghost use Rattle.sim_base.specs.declared.command.Command.{Command};
 ghost use Rattle.sim_base.specs.declared.command.CommandRow.{CommandRow};
 ghost use Rattle.sim_base.specs.declared.message.Message.{Message};
 ghost use Rattle.refresh.specs.Refreshes.{lowest_owed};
-ghost use Rattle.bank_ready.specs.Stands.{rank_count};
+ghost use Rattle.bank_ready.specs.Stands.{rank_count, StandsFor as BanksStandFor};
 ghost use Rattle.heads.specs.Stands.{bank_count};
-ghost use Rattle.queue.specs.View.{is_draining};
+ghost use Rattle.queue.specs.View.{QueueView, is_draining};
 ghost use Rattle.fr_fcfs.specs.Choices.{IsFor, StandFor, choice_in};
 ghost use Rattle.fr_fcfs.specs.Requests.{IsInBanks};
 ghost use Rattle.fr_fcfs.specs.Cycles.{IsFirstCycle};
 ghost use Rattle.statistics.specs.Channels.{channel_stats, channel_joined, ChannelFits};
 ghost use Rattle.channel_step.specs.Counted.{cycle_with_hit};
-ghost use Rattle.channel_step.specs.declared.ahead.Ahead.TheVariants.{Unknown};
-ghost use Rattle.channel_step.specs.Channels.{StandsFor, IsAhead, IsFound, HasRank, HasBank, IsInCycle, IsInSomeCycle, IsChosen, IsNextBefore, CountsDrains, seen_of, passed};
+ghost use Rattle.channel_step.specs.declared.ahead.Ahead.TheVariants.{Unknown, Known};
+ghost use Rattle.channel_step.specs.Channels.{HeadsStand, StandsFor, IsAhead, IsFound, HasRank, HasBank, IsInCycle, IsInSomeCycle, IsChosen, IsNextBefore, CountsDrains, seen_of, passed};
 ghost use Rattle.channel_step.specs.Fit.{queue_room, IsFit, IsIdle};
 ghost use Rattle.channel_step.specs.Runs.{CanStep, CanRun, CanSkip, HasTurned, IsDone, StandsAt, first_arrival};
 
@@ -29,6 +29,7 @@ use crate::sending::tell;
 use crate::waiting::Waiting;
 use bank_ready::banks::Banks;
 use command_table::list::CommandList;
+use fr_fcfs::arrivals::stays;
 use fr_fcfs::choice::{Choice, next};
 use heads::Heads;
 use refresh::Refresh;
@@ -316,6 +317,61 @@ impl Channel {
         self.count(seen, &chosen.command, hit);
     }
 
+    /// Whether what was found is known to be the next command still, now that the requests from a place on have arrived.
+    #[inline(always)]
+    fn keeps_found(&self, found: Option<(Cycle, Choice)>, older: usize) -> bool
+        requires places { All (IsInBanks (rank_count self.now.banks)) self.now.waiting.queue.requests }
+        requires banks { bank_count self.now.heads ≡ 16 * rank_count self.now.banks }
+        ensures { (s : Config) (history : List CommandRow) (earlier : QueueView) → result ≡ true → BanksStandFor self.now.banks s history
+            → HeadsStand self.now.heads self.now.waiting.queue.requests history → s.write_high ≡ self.now.waiting.queue.high → earlier.requests ≡ take older self.now.waiting.queue.requests
+            → IsAhead (choice_in s history earlier) earlier.requests self.now.cycle (Known found)
+            → IsAhead (choice_in s history self.now.waiting.queue) self.now.waiting.queue.requests self.now.cycle (Known found) }
+    {
+        match found {
+            Some((cycle, choice)) => stays(
+                self.waiting.queue(),
+                &self.heads,
+                &self.banks,
+                older,
+                cycle,
+                &choice,
+            ),
+            None => false,
+        }
+    }
+
+    /// The same of what is known of the next command.
+    #[inline(always)]
+    fn keeps(&self, older: usize) -> bool
+        requires places { All (IsInBanks (rank_count self.now.banks)) self.now.waiting.queue.requests }
+        requires banks { bank_count self.now.heads ≡ 16 * rank_count self.now.banks }
+        ensures { (s : Config) (history : List CommandRow) (earlier : QueueView) → result ≡ true → BanksStandFor self.now.banks s history
+            → HeadsStand self.now.heads self.now.waiting.queue.requests history → s.write_high ≡ self.now.waiting.queue.high → earlier.requests ≡ take older self.now.waiting.queue.requests
+            → IsAhead (choice_in s history earlier) earlier.requests self.now.cycle self.now.ahead
+            → IsAhead (choice_in s history self.now.waiting.queue) self.now.waiting.queue.requests self.now.cycle self.now.ahead }
+    {
+        match self.ahead {
+            Ahead::Known(found) => self.keeps_found(found, older),
+            Ahead::Unknown => false,
+        }
+    }
+
+    /// Forgets the command that was found, where one of the requests from a place on, which have arrived, may go before it.
+    #[inline(always)]
+    fn reconsider(&mut self, older: usize)
+        requires places { All (IsInBanks (rank_count self.old.banks)) self.old.waiting.queue.requests }
+        requires banks { bank_count self.old.heads ≡ 16 * rank_count self.old.banks }
+        ensures rest { self.new ≡ record self.old { ahead = self.new.ahead } }
+        ensures ahead { (s : Config) (history : List CommandRow) (earlier : QueueView) → BanksStandFor self.old.banks s history
+            → HeadsStand self.old.heads self.old.waiting.queue.requests history → s.write_high ≡ self.old.waiting.queue.high → earlier.requests ≡ take older self.old.waiting.queue.requests
+            → IsAhead (choice_in s history earlier) earlier.requests self.old.cycle self.old.ahead
+            → IsAhead (choice_in s history self.old.waiting.queue) self.old.waiting.queue.requests self.old.cycle self.new.ahead }
+    {
+        if !self.keeps(older) {
+            self.ahead = Ahead::Unknown;
+        }
+    }
+
     /// Takes in those of these messages that arrive in a cycle, and settles whether the channel drains its writes in it. Tells how
     /// many.
     fn arrive(&mut self, inbox: &[Message], now: Cycle) -> Result<usize, AllocError>
@@ -333,7 +389,7 @@ impl Channel {
         let older = self.waiting.queue().len();
         self.waiting.admit(&inbox[..due])?;
         self.heads.arrived(older, &self.waiting.queue().columns());
-        self.ahead = Ahead::Unknown;
+        self.reconsider(older);
         Ok(due)
     }
 
