@@ -19,3 +19,4 @@ pub mod Skipping
 pub mod Going
 pub mod Alone
 pub mod Draining
+pub mod Links

@@ -1,16 +1,32 @@
 //! What a channel sends.
 
-ghost use Rattle.std.specs.Prelude.{◌≡◌, ◌<◌, ◌^◌, ◌++◌, IfOk, Some};
+ghost use Rattle.std.specs.Prelude.{◌≡◌, ◌<◌, ◌≤◌, ◌^◌, ◌++◌, IfOk, Some};
+ghost use Rattle.sim_base.specs.Config.{usual_latency, latency};
 ghost use Rattle.sim_base.specs.History.{reply, credit, messages_of, messages_at};
 ghost use Rattle.channel_step.specs.Runs.{issued_in};
 
 use command_table::list::CommandList;
 use sim_base::command::{Command, CommandRow, Source};
 use sim_base::config::Config;
-use sim_base::message::{ChannelId, Cycle, Load, Message};
+use sim_base::message::{ChannelId, Cycle, LinkId, Load, Message};
 use std::alloc::AllocError;
 
-#[tactic(auto, unfolding(sim_base::specs::History::reply))]
+/// How long a message travels on a link, which is the usual time of its kind where no link has a latency of its own.
+#[inline(always)]
+#[tactic(auto, unfolding(sim_base::specs::Config::latency))]
+fn latency_of(config: &Config, link: LinkId, usual: u32) -> u32
+    requires { usual ≡ usual_latency config.now link }
+    ensures value { result ≡ latency config.now link }
+    ensures range { result ≤ 1000000 }
+{
+    if config.overrides.as_slice().is_empty() {
+        usual
+    } else {
+        config.latency(link)
+    }
+}
+
+#[tactic(auto, unfolding(sim_base::specs::History::reply), using(crate::proofs::Links::usual_reply))]
 fn reply_to(config: &Config, channel: ChannelId, now: Cycle, source: Source) -> Message
     requires { now < 2 ^ 62 }
     ensures { result ≡ reply config.now channel now source }
@@ -19,12 +35,12 @@ fn reply_to(config: &Config, channel: ChannelId, now: Cycle, source: Source) -> 
     let data = now + u64::from(config.timing.n_cl) + 4;
     Message {
         link,
-        arrival: data + u64::from(config.latency(link)),
+        arrival: data + u64::from(latency_of(config, link, config.reply_latency)),
         load: Load::Reply(source.entry),
     }
 }
 
-#[tactic(auto, unfolding(sim_base::specs::History::credit))]
+#[tactic(auto, unfolding(sim_base::specs::History::credit), using(crate::proofs::Links::usual_credit))]
 fn credit_for(
     config: &Config,
     channel: ChannelId,
@@ -38,7 +54,7 @@ fn credit_for(
     let link = config.credit_link(source.core, channel);
     Message {
         link,
-        arrival: now + u64::from(config.latency(link)),
+        arrival: now + u64::from(latency_of(config, link, config.credit_latency)),
         load: Load::Credit {
             write,
             entry: source.entry,
