@@ -24,7 +24,7 @@ ghost use Rattle.channel_step.specs.Runs.{CanStep, CanRun, CanSkip, HasTurned, I
 
 use crate::ahead::Ahead;
 use crate::counting::{Seen, drained};
-use crate::noting::{likely_places, note_heads, note_refresh, request_at};
+use crate::noting::{likely_places, note_heads, note_refresh};
 use crate::sending::tell;
 use crate::waiting::Waiting;
 use bank_ready::banks::Banks;
@@ -308,13 +308,12 @@ impl Channel {
             → IsInCycle self.old s channel rows mail → length rows ≡ now → Some chosen.now.command ≡ choice s channel rows mail
             → StandsFor self.new s channel (rows ++ Some chosen.now.command ∷ []) mail }
     {
-        let served = request_at(self.waiting.queue(), chosen.slot);
         let likely = likely_places(&self.heads, chosen.command);
-        let hit = self.waiting.take(chosen, likely);
-        note_heads(&mut self.heads, self.waiting.queue(), chosen, served);
+        let taken = self.waiting.take(chosen, likely);
+        note_heads(&mut self.heads, self.waiting.queue(), chosen, taken.served);
         self.banks.note(chosen.command, now);
         note_refresh(&mut self.refresh, chosen.command, now);
-        self.count(seen, &chosen.command, hit);
+        self.count(seen, &chosen.command, taken.hit);
     }
 
     /// Whether what was found is known to be the next command still, now that the requests from a place on have arrived.

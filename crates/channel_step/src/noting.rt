@@ -34,17 +34,6 @@ pub(crate) fn note_refresh(refresh: &mut Refresh, command: Command, now: Cycle)
     }
 }
 
-/// The request at a place of a queue, if one is given.
-pub(crate) fn request_at(queue: &Queue, slot: Option<usize>) -> Option<Request>
-    requires { ForSome slot (λ k. k < length queue.now.requests) }
-    ensures { result ≡ option_and_then (slice_get queue.now.requests) slot }
-{
-    match slot {
-        Some(slot) => Some(queue.requests()[slot]),
-        None => None,
-    }
-}
-
 /// The places where the request of an ACT likely waits: those of the oldest requests for its bank. Of another command it is none.
 pub(crate) fn likely_places(heads: &Heads, command: Command) -> [Option<usize>; 2] {
     if let Command::Act { bank, .. } = command {

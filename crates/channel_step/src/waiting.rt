@@ -1,6 +1,6 @@
 //! The requests that wait at a channel, and which of them an ACT was issued for.
 
-ghost use Rattle.std.specs.Prelude.{◌≡◌, ◌+◌, ◌-◌, ◌^◌, ◌<◌, ◌≤◌, [], ◌∷◌, position, length, IfOk, IfSome, Some, slice_index_or, true};
+ghost use Rattle.std.specs.Prelude.{◌≡◌, ◌+◌, ◌-◌, ◌^◌, ◌<◌, ◌≤◌, [], ◌∷◌, position, length, IfOk, IfSome, Some, option_and_then, slice_get, slice_index_or, not, true};
 ghost use Rattle.std.specs.Option.{ForSome};
 ghost use Rattle.sim_base.specs.Scheduling.{is_source};
 ghost use Rattle.channel_step.specs.Past.{requests_of, Differ};
@@ -18,6 +18,15 @@ use std::marker::Model;
 pub(crate) struct Waiting {
     queue: Queue,
     marks: Vec<bool>,
+}
+
+/// What a choice takes out of the requests.
+#[derive(Clone, Copy)]
+pub(crate) struct Taken {
+    /// The request whose data it moves, if it moves any.
+    pub served: Option<Request>,
+    /// It moves data that no ACT was issued for.
+    pub hit: bool,
 }
 
 impl Model for Waiting {
@@ -53,14 +62,19 @@ impl Waiting {
         &self.queue
     }
 
-    /// Takes out the request at a place, and tells its mark.
-    fn serve(&mut self, slot: usize) -> bool
+    /// Gives out the request at a place, and tells whether it is one that no ACT was issued for.
+    fn serve(&mut self, slot: usize) -> Taken
         requires { slot < length self.old.queue.requests }
-        ensures mark { result ≡ slice_index_or self.old.marks slot true }
+        ensures served { result.served ≡ slice_get self.old.queue.requests slot }
+        ensures hit { result.hit ≡ not (slice_index_or self.old.marks slot true) }
         ensures rest { self.new ≡ without self.old slot }
     {
-        self.queue.serve(slot);
-        self.marks.remove(slot)
+        let served = self.queue.serve(slot);
+        let mark = self.marks.remove(slot);
+        Taken {
+            served: Some(served),
+            hit: !mark,
+        }
     }
 
     /// Takes in the request that a message carries, if it carries one. On an error nothing has changed.
@@ -107,21 +121,25 @@ impl Waiting {
         }
     }
 
-    /// Does to the requests what a choice does, and tells whether it moves data that no ACT was issued for. The request of an ACT
-    /// likely waits at one of these places.
-    pub(crate) fn take(&mut self, choice: &Choice, likely: [Option<usize>; 2]) -> bool
+    /// Does to the requests what a choice does, and gives out the one that it serves. The request of an ACT likely waits at one of these
+    /// places.
+    pub(crate) fn take(&mut self, choice: &Choice, likely: [Option<usize>; 2]) -> Taken
         requires slot { ForSome choice.now.slot (λ slot. slot < length self.old.queue.requests) }
         requires differ { Differ self.old.queue.requests }
-        ensures hit { result ≡ moves_unmarked self.old choice.now.slot }
+        ensures served { result.served ≡ option_and_then (slice_get self.old.queue.requests) choice.now.slot }
+        ensures hit { result.hit ≡ moves_unmarked self.old choice.now.slot }
         ensures rest { self.new ≡ after self.old choice.now.command choice.now.slot }
     {
         match choice.slot {
-            Some(slot) => !self.serve(slot),
+            Some(slot) => self.serve(slot),
             None => {
                 if let Command::Act { source, .. } = choice.command {
                     self.mark(source, likely);
                 }
-                false
+                Taken {
+                    served: None,
+                    hit: false,
+                }
             }
         }
     }

@@ -1,7 +1,5 @@
 use Rattle.std.proofs.Common.{◌≡◌, ◌<◌, ◌^◌, ◌∷◌, [], ◌++◌, length, Some, ap, sym, subst, ◌∙◌, arith, refl}
 use Rattle.sim_base.specs.History.{issued_commands}
-use Rattle.std.specs.Prelude.{slice_get, option_and_then}
-use Rattle.std.specs.Option.{ForSome}
 use Rattle.sim_base.specs.Rules.{row_after, open_row}
 use Rattle.queue.specs.View.{QueueView}
 use Rattle.heads.specs.Heads.{bank_at}
@@ -15,21 +13,16 @@ use Rattle.channel_step.proofs.Cycle.{joined-differ}
 use Rattle.channel_step.proofs.Draining.{counts-drains}
 use Rattle.channel_step.proofs.channel.Channel.perform.Goals as goal
 
-pub take-hit-requires-clause-slot : goal.take-hit-requires-clause-slot
-take-hit-requires-clause-slot c = slot-below c.args.self.now.waiting.queue.requests c.args.chosen.now c.requires.slot
+pub take-taken-requires-clause-slot : goal.take-taken-requires-clause-slot
+take-taken-requires-clause-slot c = slot-below c.args.self.now.waiting.queue.requests c.args.chosen.now c.requires.slot
 
-pub take-hit-requires-clause-differ : goal.take-hit-requires-clause-differ
-take-hit-requires-clause-differ c = let p = c.requires.chosen in joined-differ _ _ _ _ p.s p.channel p.rows p.mail p.is_in.joined
-
-pub request_at-served-requires : goal.request_at-served-requires
-request_at-served-requires c =
-    subst (λ (z : QueueView). ForSome c.args.chosen.now.slot (λ k. k < length z.requests)) (sym c.queue.ensures) (slot-below c.args.self.now.waiting.queue.requests c.args.chosen.now c.requires.slot)
+pub take-taken-requires-clause-differ : goal.take-taken-requires-clause-differ
+take-taken-requires-clause-differ c = let p = c.requires.chosen in joined-differ _ _ _ _ p.s p.channel p.rows p.mail p.is_in.joined
 
 pub note_heads-requires-clause-bank : goal.note_heads-requires-clause-bank
 note_heads-requires-clause-bank c =
     let p = c.requires.chosen in
-    served-among c.args.self.now p.s p.channel p.rows p.mail c.args.chosen.now.slot c.request_at-served.result p.is_in
-    (c.request_at-served.ensures ∙ ap (λ (z : QueueView). option_and_then (slice_get z.requests) c.args.chosen.now.slot) c.queue.ensures)
+    served-among c.args.self.now p.s p.channel p.rows p.mail c.args.chosen.now.slot c.take-taken.result.served p.is_in c.take-taken.ensures.served
 
 pub note_heads-requires-clause-among : goal.note_heads-requires-clause-among
 note_heads-requires-clause-among c = let p = c.requires.chosen in command-among c.args.self.now p.s p.channel p.rows p.mail c.args.chosen.now.command p.is_in p.chosen
@@ -46,8 +39,8 @@ count-requires-clause-fits c =
     let early : length p.rows < 2 ^ 62 = omega arith in
     let hit = leaves-hit c.args.self.now p.s p.channel p.rows p.mail c.args.chosen.now p.is_in c.requires.slot in
     subst ChannelFits
-    (sym (seen-counted c.args.self.now p.s p.channel p.rows p.mail c.args.now c.args.seen (Some c.args.chosen.now.command) c.take-hit.result p.is_in p.at c.requires.seen))
-    (counted-fits c.args.self.now p.s p.channel p.rows p.mail (Some c.args.chosen.now.command) c.take-hit.result p.is_in early p.chosen (hit ∙ sym c.take-hit.ensures.hit))
+    (sym (seen-counted c.args.self.now p.s p.channel p.rows p.mail c.args.now c.args.seen (Some c.args.chosen.now.command) c.take-taken.result.hit p.is_in p.at c.requires.seen))
+    (counted-fits c.args.self.now p.s p.channel p.rows p.mail (Some c.args.chosen.now.command) c.take-taken.result.hit p.is_in early p.chosen (hit ∙ sym c.take-taken.ensures.hit))
 
 pub count-requires-clause-drains : goal.count-requires-clause-drains
 count-requires-clause-drains c = let p = c.requires.chosen in counts-drains c.args.self.now p.s p.channel p.rows p.mail p.is_in
@@ -61,16 +54,14 @@ returns c s channel rows mail h at e =
     let history = issued_commands channel rows in
     let command = c.args.chosen.now.command in
     let slot = c.args.chosen.now.slot in
-    let served : c.request_at-served.result ≡ option_and_then (slice_get x.waiting.queue.requests) slot =
-    c.request_at-served.ensures ∙ ap (λ (z : QueueView). option_and_then (slice_get z.requests) slot) c.queue.ensures in
-    let left : c.queue-2.result.now.requests ≡ requests_left x.waiting.queue.requests slot =
-    ap (λ (z : QueueView). z.requests) c.queue-2.ensures ∙ ap (λ (z : Queued). z.queue.requests) c.take-hit.ensures.rest ∙ left-is x.waiting command slot in
+    let left : c.queue.result.now.requests ≡ requests_left x.waiting.queue.requests slot =
+    ap (λ (z : QueueView). z.requests) c.queue.ensures ∙ ap (λ (z : Queued). z.queue.requests) c.take-taken.ensures.rest ∙ left-is x.waiting command slot in
     subst (λ (z : Channel). StandsFor z s channel (rows ++ Some command ∷ []) mail) (sym c.count.ensures)
-    (issued-stands x s channel rows mail c.args.now c.args.chosen.now c.take-hit.new.self c.note_heads.new.heads c.note.new.self c.note_refresh.new.refresh _ h at e c.requires.slot
-    c.take-hit.ensures.rest c.note_heads.ensures.banks
-    (subst (λ (z : QueueView). HeadsStandFor c.note_heads.new.heads z.requests (λ bank. row_after (bank_at bank) (open_row (bank_at bank) history) command)) c.queue-2.ensures
-    (c.note_heads.ensures.stands x.waiting.queue.requests (λ bank. open_row (bank_at bank) history) served (slot-below x.waiting.queue.requests c.args.chosen.now c.requires.slot) left h.heads_stand))
+    (issued-stands x s channel rows mail c.args.now c.args.chosen.now c.take-taken.new.self c.note_heads.new.heads c.note.new.self c.note_refresh.new.refresh _ h at e c.requires.slot
+    c.take-taken.ensures.rest c.note_heads.ensures.banks
+    (subst (λ (z : QueueView). HeadsStandFor c.note_heads.new.heads z.requests (λ bank. row_after (bank_at bank) (open_row (bank_at bank) history) command)) c.queue.ensures
+    (c.note_heads.ensures.stands x.waiting.queue.requests (λ bank. open_row (bank_at bank) history) c.take-taken.ensures.served (slot-below x.waiting.queue.requests c.args.chosen.now c.requires.slot) left h.heads_stand))
     (c.note.ensures.stands s history channel h.banks_stand (issued-before channel c.args.now rows at))
     (c.note_refresh.ensures s history (row_of channel c.args.now command) refl h.refreshes_stand)
-    (seen-counted x s channel rows mail c.args.now c.args.seen (Some command) c.take-hit.result h at c.requires.seen
-    ∙ ap (counted x s history (length rows) (Some command)) c.take-hit.ensures.hit))
+    (seen-counted x s channel rows mail c.args.now c.args.seen (Some command) c.take-taken.result.hit h at c.requires.seen
+    ∙ ap (counted x s history (length rows) (Some command)) c.take-taken.ensures.hit))

@@ -5,5 +5,5 @@ use Rattle.channel_step.proofs.waiting.Waiting.serve.Goals as goal
 pub invariant_of-self : goal.invariant_of-self
 invariant_of-self c =
     let e = ap (λ w. length w.queue.requests) c.self.view_is in
-    same_removed c.self.inside.marks.items c.self.inside.queue.requests c.args.slot c.remove.new.self.items c.serve.new.self.requests
-    c.self.invariant (omega arith) c.remove.ensures.items (ap (λ q. q.requests) c.serve.ensures.rest)
+    same_removed c.self.inside.marks.items c.self.inside.queue.requests c.args.slot c.remove-mark.new.self.items c.serve-served.new.self.requests
+    c.self.invariant (omega arith) c.remove-mark.ensures.items (ap (λ q. q.requests) c.serve-served.ensures.rest)
