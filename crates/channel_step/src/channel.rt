@@ -8,6 +8,7 @@ ghost use Rattle.sim_base.specs.declared.config.Config.{Config};
 ghost use Rattle.sim_base.specs.declared.command.Command.{Command};
 ghost use Rattle.sim_base.specs.declared.command.CommandRow.{CommandRow};
 ghost use Rattle.sim_base.specs.declared.message.Message.{Message};
+ghost use Rattle.sim_base.specs.declared.message.Request.{Request};
 ghost use Rattle.refresh.specs.Refreshes.{lowest_owed};
 ghost use Rattle.bank_ready.specs.Stands.{rank_count, StandsFor as BanksStandFor};
 ghost use Rattle.heads.specs.Stands.{bank_count};
@@ -166,6 +167,18 @@ impl Channel {
         }
     }
 
+    /// Whether it is known that the channel issues nothing before a cycle, if nothing arrives.
+    #[inline(always)]
+    fn waits_until(&self, end: Cycle) -> bool
+        ensures { (commands : ℕ → Option Command) (requests : List Request) (from : ℕ) → result ≡ true → IsAhead commands requests from self.now.ahead
+            → (t : ℕ) → from ≤ t → t < end → commands t ≡ None }
+    {
+        match self.ahead {
+            Ahead::Known(found) => is_none_before(found, end),
+            Ahead::Unknown => false,
+        }
+    }
+
     /// The next command that the channel issues, and in which cycle, if that is before `end` and nothing arrives before that. Where
     /// it is not, what was found is kept.
     fn look(&mut self, now: Cycle, end: Cycle) -> Option<(Cycle, Choice)>
@@ -177,6 +190,9 @@ impl Channel {
             → IsInCycle self.old s channel rows mail → length rows ≡ now → IsNextBefore s channel rows mail end result }
         ensures place { IfSome result (λ next. IsFor self.old.waiting.queue.requests next.1) }
     {
+        if self.waits_until(end) {
+            return None;
+        }
         let found = self.find(now);
         match found {
             Some((cycle, choice)) if cycle < end => Some((cycle, choice)),
@@ -491,6 +507,18 @@ fn banks_of(config: &Config) -> usize
     ensures most { result ≤ 64 }
 {
     16 * config.ranks as usize
+}
+
+/// Whether what was found is for no cycle before another one.
+#[inline(always)]
+fn is_none_before(found: Option<(Cycle, Choice)>, end: Cycle) -> bool
+    ensures { (commands : ℕ → Option Command) (requests : List Request) (from : ℕ) → result ≡ true → IsAhead commands requests from (Known found)
+        → (t : ℕ) → from ≤ t → t < end → commands t ≡ None }
+{
+    match found {
+        Some((cycle, _)) => end <= cycle,
+        None => true,
+    }
 }
 
 /// How many of these messages arrive in a cycle, as the first ones.

@@ -49,3 +49,11 @@ returns-in_default-clause-next c s channel rows mail h at =
           none-before x s channel rows mail c.args.now c.args.end q h at refl
           (λ t l m. (subst (IsNext (choice_in s history q) c.args.now) w.in_default.is (c.find-found.ensures s history stand (ahead-from _ _ _ _ h.foresees) here).0) t l)
     ]
+
+pub returns-then-waits_until-clause-next : goal.returns-then-waits_until-clause-next
+returns-then-waits_until-clause-next c s channel rows mail h at =
+    let x = c.args.self.now in
+    let q = x.waiting.queue in
+    let here : x.cycle ≤ c.args.now = omega (arith, h.cycle_is, at) in
+    none-before x s channel rows mail c.args.now c.args.end q h at refl
+    (λ t l m. c.if-waits_until.ensures (choice_in s (issued_commands channel rows) q) q.requests x.cycle refl (ahead-from _ _ _ _ h.foresees) t (omega arith) m)
