@@ -255,6 +255,9 @@ impl Channel {
         ensures within { result ≤ until }
         ensures due { (cycle : ℕ) → self.now.cycle ≤ cycle → cycle < until → is_some (lowest_owed self.now.refresh cycle) ≡ nat_le result cycle }
     {
+        if !self.refresh.is_due_by(until) {
+            return until;
+        }
         match self.refresh.next_due(self.cycle) {
             Some(due) => due.min(until),
             None => until,
