@@ -1,8 +1,11 @@
 -- The heads of lists by age, up to a cycle.
-use Rattle.std.proofs.Common.{ℕ, suc, zero, ◌+◌, ◌<◌, ◌≤◌, ◌≡◌, Bool, true, false, ◌&&◌, ltb, get_or, length, drop, List, [], ◌∷◌, ◌++◌, append-nil, refl, sym, ap, ap₂, ◌∙◌, subst, inl, inr, ◌⊎◌, arith}
+use Rattle.std.proofs.Common.{ℕ, suc, zero, ◌+◌, ◌<◌, ◌≤◌, ◌≡◌, Bool, true, false, ◌&&◌, ltb, eqb, cond, get_or, length, take, drop, List, [], ◌∷◌, ◌++◌, append-nil, refl, sym, ap, ap₂, ◌∙◌, subst, inl, inr, ◌⊎◌, arith}
 use Rattle.std.specs.Prelude.{filter, fold}
-use Rattle.std.specs.List.{take_while, AllByRecursion as Each}
-use Rattle.std.proofs.lemmas.Bool.{lt-ltb}
+use Rattle.std.specs.List.{take_while, prefix_len, AllByRecursion as Each}
+use Rattle.std.proofs.lemmas.Bool.{lt-ltb, eqb-true}
+use Rattle.std.proofs.lemmas.List.{take-append-le}
+use Rattle.std.proofs.lemmas.List.Folds.{prefix_len-append}
+use Rattle.std.proofs.lemmas.List.Sums.{prefix_len-le-length}
 use Rattle.std.proofs.lemmas.Bool.Decides.{nat_tests}
 use Rattle.sim_base.specs.History.{is_before, insert_by_age, by_age}
 use Rattle.sim_base.specs.declared.message.Message.{Message}
@@ -140,3 +143,26 @@ left_by_head from until k ms xs ys rest e f s t h r =
     ∙ ap (drop (length (head_of until ms))) (sym f)
     ∙ (head_is_due from until ms s t).1
     ∙ ap (filter (arrives_outside from until)) f
+
+-- the head of two lists, one behind the other, which ends in the first
+pub head_alone : (until k : ℕ) (xs ys zs : List Message) → xs ++ ys ≡ zs → k ≡ prefix_len (λ (m : Message). ltb m.arrival until) xs → (k ≡ length xs → is_first_before until ys ≡ false)
+    → take k xs ≡ head_of until zs
+head_alone until k xs ys zs e h last =
+    ap (λ n. take n xs) h
+    ∙ sym (take-append-le (prefix_len early xs) xs ys (prefix_len-le-length early xs))
+    ∙ ap (λ n. take n (xs ++ ys)) (sym ends)
+    ∙ ap (head_of until) e
+  where
+    early : Message → Bool
+    early m = ltb m.arrival until
+
+    none_early : (ys : List Message) → is_first_before until ys ≡ false → prefix_len early ys ≡ 0
+    none_early [] f = refl
+    none_early (y ∷ ys) f = ap (λ b. cond b (1 + prefix_len early ys) 0) f
+
+    by : (b : Bool) → eqb (prefix_len early xs) (length xs) ≡ b → cond b (length xs + prefix_len early ys) (prefix_len early xs) ≡ prefix_len early xs
+    by true f = let all = eqb-true _ _ f in ap (λ n. length xs + n) (none_early ys (last (h ∙ all))) ∙ omega (arith, all)
+    by false f = refl
+
+    ends : prefix_len early (xs ++ ys) ≡ prefix_len early xs
+    ends = prefix_len-append early xs ys ∙ by (eqb (prefix_len early xs) (length xs)) refl

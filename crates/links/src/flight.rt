@@ -8,10 +8,9 @@ ghost use Rattle.sim_base.specs.History.{is_unit, insert_by_age, by_age};
 ghost use Rattle.links.specs.InFlight.{receiver_of, arrives_within, is_due};
 ghost use Rattle.links.specs.Rings.{ring_of, ring_if_any, contents, joined, ring_at, sooner_of, lesser_of, begins_before, due_of_both, without_due, without_due_of_both, AreRings, HasRoom, HaveRoom, count_to, CanTakeUp, Grows};
 
-use crate::merge::{merged, messages_of};
+use crate::merge::{copy_heads, merged, messages_of};
 use crate::rings::{
-    Ring, copy_both_before, copy_due, drop_first, drop_within, first_arrival, make_room,
-    put_by_age, take_due,
+    Ring, copy_due, drop_first, drop_within, first_arrival, make_room, put_by_age, take_due,
 };
 use circular_buffer::HeapCircularBuffer;
 use sim_base::config::Config;
@@ -384,8 +383,7 @@ fn take_heads(
     ensures rest { OnOk result (contents rings.new.items ≡ without_due_of_both from until (contents rings.old.items) number) }
     ensures err { OnErr result (contents rings.new.items ≡ contents rings.old.items) }
 {
-    inbox.reserve(rings[number].len() + rings[number + 1].len())?;
-    let (first, second) = copy_both_before(&rings[number], &rings[number + 1], until, inbox);
+    let (first, second) = copy_heads(&rings[number], &rings[number + 1], until, inbox)?;
     drop_first(&mut rings[number], first);
     drop_first(&mut rings[number + 1], second);
     Ok(())

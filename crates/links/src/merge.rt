@@ -1,12 +1,12 @@
 //! Messages of several rings, merged by age.
 
-ghost use Rattle.std.specs.Prelude.{◌≡◌, ◌&&◌, nat_lt, length, fold, IfOk};
+ghost use Rattle.std.specs.Prelude.{◌≡◌, ◌&&◌, nat_lt, [], length, fold, take_while, IfOk, OnOk};
 ghost use Rattle.std.specs.List.{AllByRecursion};
 ghost use Rattle.sim_base.specs.History.{insert_by_age, by_age};
 ghost use Rattle.links.specs.Rings.{contents, joined};
 
-use crate::rings::{Ring, is_older};
-use sim_base::message::Message;
+use crate::rings::{Ring, copy_both_before, head_before, is_older};
+use sim_base::message::{Cycle, Message};
 use std::alloc::{AllocError, Global};
 
 /// Whether something is left of both lists.
@@ -14,6 +14,33 @@ fn are_left(first: &[Message], i: usize, second: &[Message], j: usize) -> bool
     ensures { result ≡ (nat_lt i (length first.now) && nat_lt j (length second.now)) }
 {
     i < first.len() && j < second.len()
+}
+
+/// Copies two lists by age into an empty one as one; of two messages of one age the one of the first list goes first.
+fn merge_into(
+    inbox: &mut Vec<Message>,
+    first: &[Message],
+    second: &[Message],
+) -> Result<(), AllocError>
+    requires empty { inbox.old.items ≡ [] }
+    requires in_order { by_age second.now ≡ second.now }
+    ensures { OnOk result (inbox.new.items ≡ fold insert_by_age first.now second.now) }
+{
+    inbox.reserve(first.len() + second.len())?;
+    let (mut i, mut j) = (0, 0);
+    while are_left(first, i, second, j) {
+        let (a, b) = (&first[i], &second[j]);
+        if is_older(b, a) {
+            inbox.push_reserved(*b);
+            j += 1;
+        } else {
+            inbox.push_reserved(*a);
+            i += 1;
+        }
+    }
+    inbox.extend_from_slice(&first[i..])?;
+    inbox.extend_from_slice(&second[j..])?;
+    Ok(())
 }
 
 /// Two lists by age as one; of two messages of one age the one of the first list goes first.
@@ -25,21 +52,50 @@ pub fn merged(
     requires { by_age second.now ≡ second.now }
     ensures { IfOk result (λ v. v.items ≡ fold insert_by_age first.now second.now) }
 {
-    let mut all = Vec::with_capacity(alloc, first.len())?;
-    let (mut i, mut j) = (0, 0);
-    while are_left(first, i, second, j) {
-        let (a, b) = (first[i], second[j]);
-        if is_older(&b, &a) {
-            all.push(b)?;
-            j += 1;
-        } else {
-            all.push(a)?;
-            i += 1;
-        }
-    }
-    all.extend_from_slice(&first[i..])?;
-    all.extend_from_slice(&second[j..])?;
+    let mut all = Vec::new(alloc);
+    merge_into(&mut all, first, second)?;
     Ok(all)
+}
+
+/// Copies the messages at the heads of two rings that arrive before a cycle into an empty list, by age, wherever they lie, and says
+/// how many they are of each ring.
+#[cold]
+#[inline(never)]
+fn copy_both(
+    first: &Ring,
+    second: &Ring,
+    until: Cycle,
+    inbox: &mut Vec<Message>,
+) -> Result<(usize, usize), AllocError>
+    requires empty { inbox.old.items ≡ [] }
+    requires in_order { by_age second.now.items ≡ second.now.items }
+    ensures first { IfOk result (λ counts. counts.0 ≡ length (take_while (λ m. nat_lt m.arrival until) first.now.items)) }
+    ensures second { IfOk result (λ counts. counts.1 ≡ length (take_while (λ m. nat_lt m.arrival until) second.now.items)) }
+    ensures copied { OnOk result (inbox.new.items ≡ fold insert_by_age (take_while (λ m. nat_lt m.arrival until) first.now.items) (take_while (λ m. nat_lt m.arrival until) second.now.items)) }
+{
+    inbox.reserve(first.len() + second.len())?;
+    Ok(copy_both_before(first, second, until, inbox))
+}
+
+/// Copies the messages at the heads of two rings that arrive before a cycle into an empty list, by age, and says how many they are of
+/// each ring.
+pub fn copy_heads(
+    first: &Ring,
+    second: &Ring,
+    until: Cycle,
+    inbox: &mut Vec<Message>,
+) -> Result<(usize, usize), AllocError>
+    requires empty { inbox.old.items ≡ [] }
+    requires in_order { by_age second.now.items ≡ second.now.items }
+    ensures first { IfOk result (λ counts. counts.0 ≡ length (take_while (λ m. nat_lt m.arrival until) first.now.items)) }
+    ensures second { IfOk result (λ counts. counts.1 ≡ length (take_while (λ m. nat_lt m.arrival until) second.now.items)) }
+    ensures copied { OnOk result (inbox.new.items ≡ fold insert_by_age (take_while (λ m. nat_lt m.arrival until) first.now.items) (take_while (λ m. nat_lt m.arrival until) second.now.items)) }
+{
+    if let (Some(a), Some(b)) = (head_before(first, until), head_before(second, until)) {
+        merge_into(inbox, a, b)?;
+        return Ok((a.len(), b.len()));
+    }
+    copy_both(first, second, until, inbox)
 }
 
 /// What stands in several rings, by age.

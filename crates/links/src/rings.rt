@@ -1,6 +1,7 @@
 //! Rings of messages, each by age.
 
-ghost use Rattle.std.specs.Prelude.{◌≡◌, ◌+◌, ◌<◌, ◌≤◌, [], ◌++◌, length, fold, take, take_while, drop, filter, slice_get, slice_index_or, slice_set, nat_lt, ◌-◌, ◌^◌, true, false, IfSome, IsNone, OnOk, OnErr, ◌∷◌, vec_len, vec_capacity};
+ghost use Rattle.std.specs.Prelude.{◌≡◌, ◌+◌, ◌<◌, ◌≤◌, [], ◌++◌, length, fold, take, take_while, drop, filter, slice_get, slice_index_or, slice_set, nat_lt, ◌-◌, ◌^◌, true, false, IfSome, IsNone, IfOk, OnOk, OnErr, ◌∷◌, vec_len, vec_capacity};
+ghost use Rattle.std.specs.List.{prefix_len};
 ghost use Rattle.std.specs.Option.{option_map, option_map_or};
 ghost use Rattle.sim_base.specs.History.{is_before, insert_by_age, by_age};
 ghost use Rattle.sim_base.specs.declared.message.Message.{Message};
@@ -238,6 +239,51 @@ pub fn drop_first(ring: &mut Ring, count: usize)
     ring.truncate_front(ring.len() - count);
 }
 
+/// How many messages at the head of a list arrive before a cycle.
+fn count_before(messages: &[Message], until: Cycle) -> usize
+    ensures count { result ≡ prefix_len (λ m. nat_lt m.arrival until) messages.now }
+    ensures within { result ≤ length messages.now }
+{
+    messages
+        .iter()
+        .take_while(|message| message.arrival < until)
+        .count()
+}
+
+/// Whether the first message of a list arrives before a cycle.
+fn begins_before(messages: &[Message], until: Cycle) -> bool
+    ensures { result ≡ option_map_or (λ m. nat_lt m.arrival until) (slice_get messages.now 0) false }
+{
+    messages
+        .first()
+        .is_some_and(|message| message.arrival < until)
+}
+
+/// The messages at the head of a ring that arrive before a cycle, where they lie side by side; none, where they go on at the
+/// beginning of its block.
+pub fn head_before(ring: &Ring, until: Cycle) -> Option<&[Message]>
+    ensures { IfSome result (λ head. head.now ≡ take_while (λ m. nat_lt m.arrival until) ring.now.items) }
+{
+    let (front, back) = ring.as_slices();
+    let count = count_before(front, until);
+    if count == front.len() && begins_before(back, until) {
+        return None;
+    }
+    Some(&front[..count])
+}
+
+/// Copies the messages at the head of a ring that arrive before a cycle into an empty list, wherever they lie, and says how many they are.
+#[cold]
+#[inline(never)]
+fn copy_head(ring: &Ring, until: Cycle, inbox: &mut Vec<Message>) -> Result<usize, AllocError>
+    requires { inbox.old.items ≡ [] }
+    ensures count { IfOk result (λ count. count ≡ length (take_while (λ m. nat_lt m.arrival until) ring.now.items)) }
+    ensures copied { OnOk result (inbox.new.items ≡ take_while (λ m. nat_lt m.arrival until) ring.now.items) }
+{
+    inbox.reserve(ring.len())?;
+    Ok(copy_before(ring, 0, until, inbox))
+}
+
 /// Takes out the messages at the head of a ring that arrive before a cycle, into an empty list. Where memory is refused, the ring
 /// stays as it was.
 fn take_before(ring: &mut Ring, until: Cycle, inbox: &mut Vec<Message>) -> Result<(), AllocError>
@@ -246,8 +292,13 @@ fn take_before(ring: &mut Ring, until: Cycle, inbox: &mut Vec<Message>) -> Resul
     ensures rest { OnOk result (ring.new.items ≡ drop (length (take_while (λ m. nat_lt m.arrival until) ring.old.items)) ring.old.items) }
     ensures err { OnErr result (ring.new.items ≡ ring.old.items) }
 {
-    inbox.reserve(ring.len())?;
-    let count = copy_before(ring, 0, until, inbox);
+    let count = match head_before(ring, until) {
+        Some(head) => {
+            inbox.extend_from_slice(head)?;
+            head.len()
+        }
+        None => copy_head(ring, until, inbox)?,
+    };
     drop_first(ring, count);
     Ok(())
 }

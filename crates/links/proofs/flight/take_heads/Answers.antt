@@ -10,18 +10,18 @@ use Rattle.links.proofs.flight.take_heads.Goals as goal
 pub returns-clause-taken : goal.returns-clause-taken
 returns-clause-taken c =
     let lower : c.args.number < length c.args.rings.now.items = omega (arith, c.requires.exist) in
-    c.copy_both_before-first.ensures.copied
+    c.in_ok-first.ensures.copied
     ∙ ap₂ (λ xs ys. fold insert_by_age xs ys)
-    (ap (head_of c.args.until) (sym (items_at c.args.number _ _ lower c.index-3.ensures))
+    (ap (head_of c.args.until) (sym (items_at c.args.number _ _ lower c.index.ensures))
     ∙ (head_is_due c.args.from c.args.until (ring_at (contents c.args.rings.now.items) c.args.number) c.requires.first c.requires.first_in_time).0)
-    (ap (head_of c.args.until) (sym (items_at (c.args.number + 1) _ _ c.requires.exist c.index-4.ensures))
+    (ap (head_of c.args.until) (sym (items_at (c.args.number + 1) _ _ c.requires.exist c.index-2.ensures))
     ∙ (head_is_due c.args.from c.args.until (ring_at (contents c.args.rings.now.items) (c.args.number + 1)) c.requires.second c.requires.second_in_time).0)
 
 pub returns-clause-rest : goal.returns-clause-rest
 returns-clause-rest c =
     let lower : c.args.number < length c.args.rings.now.items = omega (arith, c.requires.exist) in
-    let left = left_by_head c.args.from c.args.until _ _ _ _ _ (items_at c.args.number _ _ lower c.index-3.ensures) (items_at c.args.number _ _ lower c.index_mut.ensures.value)
-    c.requires.first c.requires.first_in_time c.copy_both_before-first.ensures.first c.drop_first.ensures.items in
-    let left_behind = left_by_head c.args.from c.args.until _ _ _ _ _ (items_at (c.args.number + 1) _ _ c.requires.exist c.index-4.ensures)
-    (items_behind c.args.number _ _ _ c.requires.exist c.index_mut-2.ensures.value) c.requires.second c.requires.second_in_time c.copy_both_before-first.ensures.second c.drop_first-2.ensures.items in
+    let left = left_by_head c.args.from c.args.until _ _ _ _ _ (items_at c.args.number _ _ lower c.index.ensures) (items_at c.args.number _ _ lower c.index_mut.ensures.value)
+    c.requires.first c.requires.first_in_time c.in_ok-first.ensures.first c.drop_first.ensures.items in
+    let left_behind = left_by_head c.args.from c.args.until _ _ _ _ _ (items_at (c.args.number + 1) _ _ c.requires.exist c.index-2.ensures)
+    (items_behind c.args.number _ _ _ c.requires.exist c.index_mut-2.ensures.value) c.requires.second c.requires.second_in_time c.in_ok-first.ensures.second c.drop_first-2.ensures.items in
     left_of_both c.args.number (arrives_outside c.args.from c.args.until) _ _ _ _ _ c.requires.exist c.index_mut.ensures.value left c.index_mut-2.ensures.value left_behind

@@ -1,0 +1,48 @@
+use Rattle.std.proofs.Common.{◌+◌, ◌<◌, ltb, length, sym, ap, ap₂, subst, ◌∙◌, ◌++◌, arith}
+use Rattle.std.proofs.lemmas.Bool.{and_parts, ltb-true}
+use Rattle.links.proofs.Merging.{Merges, Merges-start, Merges-second, Merges-first, Merges-end, rest_all}
+use Rattle.links.proofs.merge.merge_into.Goals as goal
+
+pub loop-a-init : goal.loop-a-init
+loop-a-init c = record {
+  merges = subst (λ ms. Merges 0 0 c.args.first.now c.args.second.now ms) (sym (c.in_ok-reserve.ensures.items ∙ c.requires.empty)) (Merges-start c.args.first.now c.args.second.now c.requires.in_order);
+  room = omega (arith, c.in_ok-reserve.ensures.ok);
+}
+
+pub push_reserved-requires : goal.push_reserved-requires
+push_reserved-requires c =
+    let both = and_parts (ltb c.loop-a.i (length c.args.first.now)) (ltb c.loop-a.j (length c.args.second.now)) (sym c.are_left.ensures ∙ c.loop-a-test.true) in
+    let first : c.loop-a.i < length c.args.first.now = ltb-true _ _ both.0 in
+    omega (arith, c.loop-a.invariant.room, first)
+
+pub push_reserved-requires-else-is_older : goal.push_reserved-requires-else-is_older
+push_reserved-requires-else-is_older c =
+    let both = and_parts (ltb c.loop-a.i (length c.args.first.now)) (ltb c.loop-a.j (length c.args.second.now)) (sym c.are_left.ensures ∙ c.loop-a-test.true) in
+    let first : c.loop-a.i < length c.args.first.now = ltb-true _ _ both.0 in
+    omega (arith, c.loop-a.invariant.room, first)
+
+pub loop-a-preserved-then-is_older : goal.loop-a-preserved-then-is_older
+loop-a-preserved-then-is_older c =
+    let both = and_parts (ltb c.loop-a.i (length c.args.first.now)) (ltb c.loop-a.j (length c.args.second.now)) (sym c.are_left.ensures ∙ c.loop-a-test.true) in
+    let first : c.loop-a.i < length c.args.first.now = ltb-true _ _ both.0 in
+    let second : c.loop-a.j < length c.args.second.now = ltb-true _ _ both.1 in
+    record {
+      merges = rw c.push_reserved.ensures.items (Merges-second _ _ _ _ _ _ _ first second c.loop-a.invariant.merges (sym c.is_older.ensures ∙ c.if-is_older.true));
+      room = omega (arith, c.push_reserved.ensures.len, c.push_reserved.ensures.capacity, c.loop-a.invariant.room, first, second);
+    }
+
+pub loop-a-preserved : goal.loop-a-preserved
+loop-a-preserved c =
+    let both = and_parts (ltb c.loop-a.i (length c.args.first.now)) (ltb c.loop-a.j (length c.args.second.now)) (sym c.are_left.ensures ∙ c.loop-a-test.true) in
+    let first : c.loop-a.i < length c.args.first.now = ltb-true _ _ both.0 in
+    let second : c.loop-a.j < length c.args.second.now = ltb-true _ _ both.1 in
+    record {
+      merges = rw c.push_reserved-else-is_older.ensures.items (Merges-first _ _ _ _ _ _ _ first second c.loop-a.invariant.merges (sym c.is_older.ensures ∙ c.if-is_older.false));
+      room = omega (arith, c.push_reserved-else-is_older.ensures.len, c.push_reserved-else-is_older.ensures.capacity, c.loop-a.invariant.room, first, second);
+    }
+
+pub returns : goal.returns
+returns c =
+    c.in_ok-extend_from_slice-2.ensures.items
+    ∙ ap₂ (λ xs ys. xs ++ ys) (c.in_ok-extend_from_slice.ensures.items ∙ ap (λ xs. c.loop-a.inbox.items ++ xs) (rest_all c.loop-a.i c.args.first.now)) (rest_all c.loop-a.j c.args.second.now)
+    ∙ Merges-end _ _ _ _ _ c.loop-a.invariant.merges (sym c.are_left.ensures ∙ c.loop-a-test.false)
