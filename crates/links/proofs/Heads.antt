@@ -15,7 +15,7 @@ use Rattle.links.specs.Rings.{arrives_outside}
 use Rattle.links.proofs.Ages.{in_order-Sorted, by_age-same}
 use Rattle.links.proofs.Both.{is_first_before}
 use Rattle.links.proofs.Merging.{Merges, Merges-second, Merges-first, Merges-end, one_less, append_one, drop_past}
-use Rattle.links.proofs.Steps.{head_true, head_false, head_due}
+use Rattle.links.proofs.Steps.{head_true, head_false, head_due, none_due}
 
 -- what stands before the first message that does not arrive before a cycle
 abbrev pub head_of : ℕ → List Message → List Message
@@ -166,3 +166,23 @@ head_alone until k xs ys zs e h last =
 
     ends : prefix_len early (xs ++ ys) ≡ prefix_len early xs
     ends = prefix_len-append early xs ys ∙ by (eqb (prefix_len early xs) (length xs)) refl
+
+-- where no message of the head arrives before a span, the head is what arrives within it, and the rest what does not
+pub due_by_head : (from until : ℕ) (ms head : List Message) → by_age ms ≡ ms → head ≡ head_of until ms → is_first_before from head ≡ false
+    → (head ≡ filter (arrives_within from until) ms) × (drop (length head) ms ≡ filter (arrives_outside from until) ms)
+due_by_head from until ms head s e h =
+    let due = due ms s (subst (λ z. is_first_before from z ≡ false) e h) in
+    (e ∙ due.0, ap (λ z. drop (length z) ms) e ∙ due.1)
+  where
+    due : (ms : List Message) → by_age ms ≡ ms → is_first_before from (head_of until ms) ≡ false
+        → (head_of until ms ≡ filter (arrives_within from until) ms) × (drop (length (head_of until ms)) ms ≡ filter (arrives_outside from until) ms)
+    due [] s h = (refl, refl)
+    due (m ∷ ms) s h = by (ltb m.arrival until) refl
+      where
+        by : (b : Bool) → ltb m.arrival until ≡ b
+            → (head_of until (m ∷ ms) ≡ filter (arrives_within from until) (m ∷ ms)) × (drop (length (head_of until (m ∷ ms))) (m ∷ ms) ≡ filter (arrives_outside from until) (m ∷ ms))
+        by true e = head_is_due from until (m ∷ ms) s (subst (λ z. is_first_before from z ≡ false) (head_true (λ m. ltb m.arrival until) m ms e) h)
+        by false e =
+            let none = none_due from until m.arrival (m ∷ ms) s refl (in_time m.arrival until e) in
+            let head = head_false (λ m. ltb m.arrival until) m ms e in
+            (head ∙ sym none.0, ap (λ z. drop (length z) (m ∷ ms)) head ∙ sym none.1)

@@ -14,7 +14,6 @@ use Rattle.sim_base.proofs.Arrived.{put, fold-puts}
 use Rattle.sim_base.proofs.Each.{Each-append}
 use Rattle.sim_base.proofs.Ordered.{Each-weaker}
 use Rattle.links.specs.Rings.{ring_of, ring_to, contents, joined, AreRings, HasRoom, HaveRoom, Grows}
-use Rattle.links.proofs.Steps.{Each-at}
 use Rattle.links.proofs.Held.{by_age-joined, AreRings-put, ring_is, IsRing-nil}
 
 abbrev no_ring : Buffer Message

@@ -1,12 +1,12 @@
 //! The messages in flight.
 
-ghost use Rattle.std.specs.Prelude.{◌≡◌, ℕ, if◌then◌else◌, slice_index_or, ◌+◌, ◌<◌, ◌^◌, nat_lt, nat_le, ◌≤◌, [], length, filter, fold, List, not, ◌==◌, slice_get, false, All, Any, ◌↔◌, IsTrue, IsNone, IfSome, IfOk, OnOk, OnErr, IsOkAnd};
+ghost use Rattle.std.specs.Prelude.{◌≡◌, ℕ, if◌then◌else◌, slice_index_or, ◌+◌, ◌<◌, ◌^◌, nat_lt, nat_le, ◌≤◌, [], length, filter, fold, List, not, ◌==◌, slice_get, true, false, All, Any, ◌↔◌, IsTrue, IsNone, IfSome, IfOk, OnOk, OnErr, IsOkAnd};
 ghost use Rattle.std.specs.List.{list_all};
 ghost use Rattle.std.specs.List.Sorted.{IsPermutation};
 ghost use Rattle.std.specs.Option.{option_map};
 ghost use Rattle.sim_base.specs.History.{is_unit, insert_by_age, by_age};
 ghost use Rattle.links.specs.InFlight.{receiver_of, arrives_within, is_due};
-ghost use Rattle.links.specs.Rings.{ring_of, ring_if_any, contents, joined, ring_at, sooner_of, lesser_of, begins_before, due_of_both, without_due, without_due_of_both, AreRings, HasRoom, HaveRoom, count_to, CanTakeUp, Grows};
+ghost use Rattle.links.specs.Rings.{ring_of, ring_if_any, contents, joined, ring_at, sooner_of, lesser_of, due_of_both, without_due, without_due_of_both, AreRings, HasRoom, HaveRoom, count_to, CanTakeUp, Grows};
 
 use crate::merge::{copy_heads, merged, messages_of};
 use crate::rings::{
@@ -325,13 +325,6 @@ fn take_from(
     Ok(())
 }
 
-/// Whether the first message in a ring arrives before a cycle.
-fn is_first_before(rings: &[Ring], number: usize, until: Cycle) -> bool
-    ensures { result ≡ begins_before until (contents rings.now) number }
-{
-    first_arrival_in(rings, number).is_some_and(|arrival: Cycle| arrival < until)
-}
-
 /// Takes what arrives within a span out of two rings that stand one behind the other, into an empty list, by age, where a
 /// message may arrive before the span. Where memory is refused, the rings stay as they were.
 #[cold]
@@ -363,30 +356,33 @@ fn take_merged(
     Ok(())
 }
 
-/// Takes what arrives before a cycle out of two rings that stand one behind the other, into an empty list, by age, where nothing arrives
-/// before the span. Where memory is refused, the rings stay as they were.
+/// Takes what arrives within a span out of two rings that stand one behind the other, into an empty list, by age; does nothing, where
+/// a message arrives before the span. Says whether it did. Where memory is refused, the rings stay as they were.
 fn take_heads(
     rings: &mut Vec<Ring>,
     number: usize,
     from: Cycle,
     until: Cycle,
     inbox: &mut Vec<Message>,
-) -> Result<(), AllocError>
+) -> Result<bool, AllocError>
     requires small { number + 1 < 2 ^ 64 }
     requires exist { number + 1 < length rings.old.items }
     requires empty { inbox.old.items ≡ [] }
     requires first { by_age (ring_at (contents rings.old.items) number) ≡ ring_at (contents rings.old.items) number }
     requires second { by_age (ring_at (contents rings.old.items) (number + 1)) ≡ ring_at (contents rings.old.items) (number + 1) }
-    requires first_in_time { begins_before from (contents rings.old.items) number ≡ false }
-    requires second_in_time { begins_before from (contents rings.old.items) (number + 1) ≡ false }
-    ensures taken { OnOk result (inbox.new.items ≡ due_of_both from until (contents rings.old.items) number) }
-    ensures rest { OnOk result (contents rings.new.items ≡ without_due_of_both from until (contents rings.old.items) number) }
+    ensures taken { IfOk result (λ did. did ≡ true → inbox.new.items ≡ due_of_both from until (contents rings.old.items) number) }
+    ensures rest { IfOk result (λ did. did ≡ true → contents rings.new.items ≡ without_due_of_both from until (contents rings.old.items) number) }
+    ensures not { IfOk result (λ did. did ≡ false → inbox.new.items ≡ []) }
+    ensures same { IfOk result (λ did. did ≡ false → rings.new.items ≡ rings.old.items) }
     ensures err { OnErr result (contents rings.new.items ≡ contents rings.old.items) }
 {
-    let (first, second) = copy_heads(&rings[number], &rings[number + 1], until, inbox)?;
+    let copied = copy_heads(&rings[number], &rings[number + 1], from, until, inbox)?;
+    let Some((first, second)) = copied else {
+        return Ok(false);
+    };
     drop_first(&mut rings[number], first);
     drop_first(&mut rings[number + 1], second);
-    Ok(())
+    Ok(true)
 }
 
 /// Takes what arrives within a span out of two rings that stand one behind the other, into an empty list, by age. Where memory is
@@ -407,16 +403,13 @@ fn take_from_both(
     ensures rest { OnOk result (contents rings.new.items ≡ without_due_of_both from until (contents rings.old.items) number) }
     ensures err { OnErr result (contents rings.new.items ≡ contents rings.old.items) }
 {
-    if !is_first_before(rings, number + 1, until) {
+    if number + 1 >= rings.len() {
         return take_from(rings, number, from, until, inbox);
     }
-    if !is_first_before(rings, number, until) {
-        return take_from(rings, number + 1, from, until, inbox);
+    if take_heads(rings, number, from, until, inbox)? {
+        return Ok(());
     }
-    if is_first_before(rings, number, from) || is_first_before(rings, number + 1, from) {
-        return take_merged(alloc, rings, number, from, until, inbox);
-    }
-    take_heads(rings, number, from, until, inbox)
+    take_merged(alloc, rings, number, from, until, inbox)
 }
 
 /// When the first message in a ring arrives; none, where there is no such ring.

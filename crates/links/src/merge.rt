@@ -1,11 +1,14 @@
 //! Messages of several rings, merged by age.
 
-ghost use Rattle.std.specs.Prelude.{◌≡◌, ◌&&◌, nat_lt, [], length, fold, take_while, IfOk, OnOk};
+ghost use Rattle.std.specs.Prelude.{◌≡◌, ◌≤◌, ◌&&◌, nat_lt, [], length, drop, filter, fold, IfSome, IsNone, IfOk, OnOk};
 ghost use Rattle.std.specs.List.{AllByRecursion};
 ghost use Rattle.sim_base.specs.History.{insert_by_age, by_age};
-ghost use Rattle.links.specs.Rings.{contents, joined};
+ghost use Rattle.links.specs.InFlight.{arrives_within};
+ghost use Rattle.links.specs.Rings.{arrives_outside, contents, joined};
 
-use crate::rings::{Ring, copy_both_before, head_before, is_older};
+use crate::rings::{
+    Ring, append_all, begins_before, copy_both_before, head_before, is_first_before, is_older,
+};
 use sim_base::message::{Cycle, Message};
 use std::alloc::{AllocError, Global};
 
@@ -38,8 +41,8 @@ fn merge_into(
             i += 1;
         }
     }
-    inbox.extend_from_slice(&first[i..])?;
-    inbox.extend_from_slice(&second[j..])?;
+    append_all(inbox, &first[i..]);
+    append_all(inbox, &second[j..]);
     Ok(())
 }
 
@@ -57,45 +60,57 @@ pub fn merged(
     Ok(all)
 }
 
-/// Copies the messages at the heads of two rings that arrive before a cycle into an empty list, by age, wherever they lie, and says
-/// how many they are of each ring.
+/// Copies what arrives within a span out of two rings into an empty list, by age, wherever it lies, and says how many messages they are of
+/// each ring, all at its head; does nothing, where a message arrives before the span.
 #[cold]
 #[inline(never)]
-fn copy_both(
+fn copy_anywhere(
     first: &Ring,
     second: &Ring,
+    from: Cycle,
     until: Cycle,
     inbox: &mut Vec<Message>,
-) -> Result<(usize, usize), AllocError>
+) -> Result<Option<(usize, usize)>, AllocError>
     requires empty { inbox.old.items ≡ [] }
-    requires in_order { by_age second.now.items ≡ second.now.items }
-    ensures first { IfOk result (λ counts. counts.0 ≡ length (take_while (λ m. nat_lt m.arrival until) first.now.items)) }
-    ensures second { IfOk result (λ counts. counts.1 ≡ length (take_while (λ m. nat_lt m.arrival until) second.now.items)) }
-    ensures copied { OnOk result (inbox.new.items ≡ fold insert_by_age (take_while (λ m. nat_lt m.arrival until) first.now.items) (take_while (λ m. nat_lt m.arrival until) second.now.items)) }
+    requires first { by_age first.now.items ≡ first.now.items }
+    requires second { by_age second.now.items ≡ second.now.items }
+    ensures first { IfOk result (λ copied. IfSome copied (λ counts. (counts.0 ≤ length first.now.items) × (drop counts.0 first.now.items ≡ filter (arrives_outside from until) first.now.items))) }
+    ensures second { IfOk result (λ copied. IfSome copied (λ counts. (counts.1 ≤ length second.now.items) × (drop counts.1 second.now.items ≡ filter (arrives_outside from until) second.now.items))) }
+    ensures copied { IfOk result (λ copied. IfSome copied (λ _. inbox.new.items ≡ fold insert_by_age (filter (arrives_within from until) first.now.items) (filter (arrives_within from until) second.now.items))) }
+    ensures not { IfOk result (λ copied. IsNone copied → inbox.new.items ≡ []) }
 {
+    if is_first_before(first, from) || is_first_before(second, from) {
+        return Ok(None);
+    }
     inbox.reserve(first.len() + second.len())?;
-    Ok(copy_both_before(first, second, until, inbox))
+    Ok(Some(copy_both_before(first, second, until, inbox)))
 }
 
-/// Copies the messages at the heads of two rings that arrive before a cycle into an empty list, by age, and says how many they are of
-/// each ring.
+/// Copies what arrives within a span out of two rings into an empty list, by age, and says how many messages they are of each ring, all
+/// at its head; does nothing, where a message arrives before the span.
 pub fn copy_heads(
     first: &Ring,
     second: &Ring,
+    from: Cycle,
     until: Cycle,
     inbox: &mut Vec<Message>,
-) -> Result<(usize, usize), AllocError>
+) -> Result<Option<(usize, usize)>, AllocError>
     requires empty { inbox.old.items ≡ [] }
-    requires in_order { by_age second.now.items ≡ second.now.items }
-    ensures first { IfOk result (λ counts. counts.0 ≡ length (take_while (λ m. nat_lt m.arrival until) first.now.items)) }
-    ensures second { IfOk result (λ counts. counts.1 ≡ length (take_while (λ m. nat_lt m.arrival until) second.now.items)) }
-    ensures copied { OnOk result (inbox.new.items ≡ fold insert_by_age (take_while (λ m. nat_lt m.arrival until) first.now.items) (take_while (λ m. nat_lt m.arrival until) second.now.items)) }
+    requires first { by_age first.now.items ≡ first.now.items }
+    requires second { by_age second.now.items ≡ second.now.items }
+    ensures first { IfOk result (λ copied. IfSome copied (λ counts. (counts.0 ≤ length first.now.items) × (drop counts.0 first.now.items ≡ filter (arrives_outside from until) first.now.items))) }
+    ensures second { IfOk result (λ copied. IfSome copied (λ counts. (counts.1 ≤ length second.now.items) × (drop counts.1 second.now.items ≡ filter (arrives_outside from until) second.now.items))) }
+    ensures copied { IfOk result (λ copied. IfSome copied (λ _. inbox.new.items ≡ fold insert_by_age (filter (arrives_within from until) first.now.items) (filter (arrives_within from until) second.now.items))) }
+    ensures not { IfOk result (λ copied. IsNone copied → inbox.new.items ≡ []) }
 {
-    if let (Some(a), Some(b)) = (head_before(first, until), head_before(second, until)) {
-        merge_into(inbox, a, b)?;
-        return Ok((a.len(), b.len()));
+    let (Some(a), Some(b)) = (head_before(first, until), head_before(second, until)) else {
+        return copy_anywhere(first, second, from, until, inbox);
+    };
+    if begins_before(a, from) || begins_before(b, from) {
+        return Ok(None);
     }
-    copy_both(first, second, until, inbox)
+    merge_into(inbox, a, b)?;
+    Ok(Some((a.len(), b.len())))
 }
 
 /// What stands in several rings, by age.

@@ -1,6 +1,6 @@
 //! Rings of messages, each by age.
 
-ghost use Rattle.std.specs.Prelude.{◌≡◌, ◌+◌, ◌<◌, ◌≤◌, [], ◌++◌, length, fold, take, take_while, drop, filter, slice_get, slice_index_or, slice_set, nat_lt, ◌-◌, ◌^◌, true, false, IfSome, IsNone, IfOk, OnOk, OnErr, ◌∷◌, vec_len, vec_capacity};
+ghost use Rattle.std.specs.Prelude.{◌≡◌, ◌+◌, ◌<◌, ◌≤◌, [], ◌++◌, length, fold, take, take_while, drop, filter, slice_get, slice_index_or, slice_set, nat_lt, ◌-◌, ◌^◌, true, false, IfSome, IsNone, OnOk, OnErr, ◌∷◌, vec_len, vec_capacity};
 ghost use Rattle.std.specs.List.{prefix_len};
 ghost use Rattle.std.specs.Option.{option_map, option_map_or};
 ghost use Rattle.sim_base.specs.History.{is_before, insert_by_age, by_age};
@@ -114,6 +114,13 @@ pub fn first_arrival(ring: &Ring) -> Option<Cycle>
     ensures { result ≡ option_map (λ m. m.arrival) (slice_get ring.now.items 0) }
 {
     ring.front().map(|message| message.arrival)
+}
+
+/// Whether the first message arrives before a cycle.
+pub fn is_first_before(ring: &Ring, until: Cycle) -> bool
+    ensures { result ≡ option_map_or (λ m. nat_lt m.arrival until) (slice_get ring.now.items 0) false }
+{
+    ring.front().is_some_and(|message| message.arrival < until)
 }
 
 /// The message in a place, where it arrives before a cycle.
@@ -251,7 +258,7 @@ fn count_before(messages: &[Message], until: Cycle) -> usize
 }
 
 /// Whether the first message of a list arrives before a cycle.
-fn begins_before(messages: &[Message], until: Cycle) -> bool
+pub fn begins_before(messages: &[Message], until: Cycle) -> bool
     ensures { result ≡ option_map_or (λ m. nat_lt m.arrival until) (slice_get messages.now 0) false }
 {
     messages
@@ -272,16 +279,16 @@ pub fn head_before(ring: &Ring, until: Cycle) -> Option<&[Message]>
     Some(&front[..count])
 }
 
-/// Copies the messages at the head of a ring that arrive before a cycle into an empty list, wherever they lie, and says how many they are.
-#[cold]
-#[inline(never)]
-fn copy_head(ring: &Ring, until: Cycle, inbox: &mut Vec<Message>) -> Result<usize, AllocError>
-    requires { inbox.old.items ≡ [] }
-    ensures count { IfOk result (λ count. count ≡ length (take_while (λ m. nat_lt m.arrival until) ring.now.items)) }
-    ensures copied { OnOk result (inbox.new.items ≡ take_while (λ m. nat_lt m.arrival until) ring.now.items) }
+/// Puts messages at the end of a list, which has room for them.
+pub fn append_all(list: &mut Vec<Message>, messages: &[Message])
+    requires { vec_len list.old + length messages.now ≤ vec_capacity list.old }
+    ensures items { list.new.items ≡ list.old.items ++ messages.now }
+    ensures len { vec_len list.new ≡ vec_len list.old + length messages.now }
+    ensures capacity { vec_capacity list.new ≡ vec_capacity list.old }
 {
-    inbox.reserve(ring.len())?;
-    Ok(copy_before(ring, 0, until, inbox))
+    for message in messages {
+        list.push_reserved(*message);
+    }
 }
 
 /// Takes out the messages at the head of a ring that arrive before a cycle, into an empty list. Where memory is refused, the ring
@@ -292,13 +299,8 @@ fn take_before(ring: &mut Ring, until: Cycle, inbox: &mut Vec<Message>) -> Resul
     ensures rest { OnOk result (ring.new.items ≡ drop (length (take_while (λ m. nat_lt m.arrival until) ring.old.items)) ring.old.items) }
     ensures err { OnErr result (ring.new.items ≡ ring.old.items) }
 {
-    let count = match head_before(ring, until) {
-        Some(head) => {
-            inbox.extend_from_slice(head)?;
-            head.len()
-        }
-        None => copy_head(ring, until, inbox)?,
-    };
+    inbox.reserve(ring.len())?;
+    let count = copy_before(ring, 0, until, inbox);
     drop_first(ring, count);
     Ok(())
 }
@@ -333,8 +335,10 @@ pub fn copy_both_before(
     (of_first, of_second)
 }
 
-/// Takes out what arrives within a span, into an empty list. Where memory is refused, the ring stays as it was.
-pub fn take_due(
+/// Takes out what arrives within a span, into an empty list, wherever it lies. Where memory is refused, the ring stays as it was.
+#[cold]
+#[inline(never)]
+fn take_anywhere(
     ring: &mut Ring,
     from: Cycle,
     until: Cycle,
@@ -355,5 +359,30 @@ pub fn take_due(
     if first < until {
         take_before(ring, until, inbox)?;
     }
+    Ok(())
+}
+
+/// Takes out what arrives within a span, into an empty list. Where memory is refused, the ring stays as it was.
+pub fn take_due(
+    ring: &mut Ring,
+    from: Cycle,
+    until: Cycle,
+    inbox: &mut Vec<Message>,
+) -> Result<(), AllocError>
+    requires empty { inbox.old.items ≡ [] }
+    requires in_order { by_age ring.old.items ≡ ring.old.items }
+    ensures taken { OnOk result (inbox.new.items ≡ filter (arrives_within from until) ring.old.items) }
+    ensures rest { OnOk result (ring.new.items ≡ filter (arrives_outside from until) ring.old.items) }
+    ensures err { OnErr result (ring.new.items ≡ ring.old.items) }
+{
+    let count = match head_before(ring, until) {
+        Some(head) if !begins_before(head, from) => {
+            inbox.reserve(head.len())?;
+            append_all(inbox, head);
+            head.len()
+        }
+        _ => return take_anywhere(ring, from, until, inbox),
+    };
+    drop_first(ring, count);
     Ok(())
 }

@@ -1,5 +1,6 @@
-use Rattle.std.proofs.Common.{◌+◌, ◌<◌, ltb, length, sym, ap, ap₂, subst, ◌∙◌, ◌++◌, arith}
+use Rattle.std.proofs.Common.{◌<◌, ltb, length, sym, ap, ap₂, subst, ◌∙◌, ◌++◌, arith}
 use Rattle.std.proofs.lemmas.Bool.{and_parts, ltb-true}
+use Rattle.std.proofs.lemmas.List.{length-drop}
 use Rattle.links.proofs.Merging.{Merges, Merges-start, Merges-second, Merges-first, Merges-end, rest_all}
 use Rattle.links.proofs.merge.merge_into.Goals as goal
 
@@ -41,8 +42,24 @@ loop-a-preserved c =
       room = omega (arith, c.push_reserved-else-is_older.ensures.len, c.push_reserved-else-is_older.ensures.capacity, c.loop-a.invariant.room, first, second);
     }
 
+pub append_all-requires : goal.append_all-requires
+append_all-requires c = omega (arith, c.loop-a.invariant.room, ap length (rest_all c.loop-a.i c.args.first.now), length-drop c.loop-a.i c.args.first.now)
+
+pub append_all-requires-2 : goal.append_all-requires-2
+append_all-requires-2 c =
+    omega (
+      arith,
+      c.loop-a.invariant.room,
+      c.append_all.ensures.len,
+      c.append_all.ensures.capacity,
+      ap length (rest_all c.loop-a.i c.args.first.now),
+      length-drop c.loop-a.i c.args.first.now,
+      ap length (rest_all c.loop-a.j c.args.second.now),
+      length-drop c.loop-a.j c.args.second.now
+    )
+
 pub returns : goal.returns
 returns c =
-    c.in_ok-extend_from_slice-2.ensures.items
-    ∙ ap₂ (λ xs ys. xs ++ ys) (c.in_ok-extend_from_slice.ensures.items ∙ ap (λ xs. c.loop-a.inbox.items ++ xs) (rest_all c.loop-a.i c.args.first.now)) (rest_all c.loop-a.j c.args.second.now)
+    c.append_all-2.ensures.items
+    ∙ ap₂ (λ xs ys. xs ++ ys) (c.append_all.ensures.items ∙ ap (λ xs. c.loop-a.inbox.items ++ xs) (rest_all c.loop-a.i c.args.first.now)) (rest_all c.loop-a.j c.args.second.now)
     ∙ Merges-end _ _ _ _ _ c.loop-a.invariant.merges (sym c.are_left.ensures ∙ c.loop-a-test.false)
