@@ -2,6 +2,7 @@
 --     ring_of channels link      the number of the ring of a link's messages
 --     ring_to channels m      the number of the ring that a message goes to
 --     ring_if_any channels unit      the number of a unit's first ring, if the machine has the unit
+--     AreNumbers channels numbers      the numbers of the rings of the first links
 --     contents rings      what stands in each ring
 --     joined rings      what stands in all of them, ring by ring
 --     AreRings channels first rings      each ring holds messages that go to it, by age
@@ -14,7 +15,7 @@
 --     count_to channels number ms      how many of some messages go to a ring
 --     CanTakeUp channels rings ms      each ring has room for those of some messages that go to it
 --     Grows old new      the same messages, with more room
-use Rattle.std.specs.Prelude.{◌≡◌, ℕ, ◌+◌, ◌*◌, ◌-◌, ◌/◌, ◌%◌, ◌==◌, ◌<◌, ◌≤◌, nat_lt, Bool, false, not, filter, count_by, fold, slice_get, slice_set, List, [], ◌∷◌, ◌++◌, length, map, min, slice_index_or, Option, Some, None, if◌then◌else◌}
+use Rattle.std.specs.Prelude.{◌≡◌, ℕ, ◌+◌, ◌*◌, ◌-◌, ◌/◌, ◌%◌, ◌==◌, ◌^◌, ◌<◌, ◌≤◌, nat_lt, Bool, false, not, filter, count_by, fold, slice_get, slice_set, List, [], ◌∷◌, ◌++◌, length, map, min, slice_index_or, Option, Some, None, if◌then◌else◌}
 use Rattle.std.specs.List.{AllByRecursion}
 use Rattle.std.specs.Option.{option_map_or}
 use Rattle.circular_buffer.specs.Buffer.{Buffer, buffer}
@@ -37,6 +38,10 @@ ring_to channels m = ring_of channels m.link
 abbrev pub ring_if_any : ℕ → MachineUnit → Option ℕ
 ring_if_any channels (Channel channel) = if nat_lt channel channels then Some channel else None
 ring_if_any channels (Core core) = Some (channels + 2 * core)
+
+-- the numbers of the rings of the first links
+abbrev pub AreNumbers : ℕ → List ℕ → Type 0
+AreNumbers channels numbers = (link : ℕ) → link < length numbers → (slice_index_or numbers link 0 ≡ ring_of channels link) × (slice_index_or numbers link 0 + 1 < 2 ^ 64)
 
 -- what stands in each ring
 abbrev pub contents : List (Buffer Message) → List (List Message)

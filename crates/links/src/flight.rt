@@ -6,7 +6,7 @@ ghost use Rattle.std.specs.List.Sorted.{IsPermutation};
 ghost use Rattle.std.specs.Option.{option_map};
 ghost use Rattle.sim_base.specs.History.{is_unit, insert_by_age, by_age};
 ghost use Rattle.links.specs.InFlight.{receiver_of, arrives_within, is_due};
-ghost use Rattle.links.specs.Rings.{ring_of, ring_if_any, contents, joined, ring_at, sooner_of, lesser_of, due_of_both, without_due, without_due_of_both, AreRings, HasRoom, HaveRoom, count_to, CanTakeUp, Grows};
+ghost use Rattle.links.specs.Rings.{ring_of, ring_if_any, contents, joined, ring_at, sooner_of, lesser_of, due_of_both, without_due, without_due_of_both, AreRings, HasRoom, HaveRoom, AreNumbers, count_to, CanTakeUp, Grows};
 
 use crate::merge::{copy_heads, merged, messages_of};
 use crate::rings::{
@@ -21,6 +21,9 @@ use std::marker::Model;
 /// So many messages are put into their rings one after the other; more are worth a sort, and a count of those that go to each ring.
 const FEW_MESSAGES: usize = 64;
 
+/// Of so many links at most the numbers of their rings are kept.
+const MOST_NUMBERS: u64 = 4096;
+
 /// The messages in flight on the links of a machine.
 ///
 /// Contracts see them by age, that is by arrival and then by link, with the number of channels, which says where a link
@@ -29,6 +32,8 @@ const FEW_MESSAGES: usize = 64;
 pub struct Links {
     alloc: Global,
     channels: u16,
+    /// The number of the ring of each of the first links: to look it up takes less than to find it.
+    numbers: Vec<usize>,
     /// A ring for each channel and then two for each core, of replies and of credits, as far as messages have been sent to them. A core's
     /// credits pass replies in flight; in rings of their own nearly every message joins at the back.
     rings: Vec<Ring>,
@@ -38,13 +43,13 @@ impl Model for Links {
     ghost use Rattle.std.specs.Prelude.{◌<◌};
     ghost use Rattle.sim_base.specs.History.{by_age};
     ghost use Rattle.links.specs.InFlight.{InFlight};
-    ghost use Rattle.links.specs.Rings.{contents, joined, AreRings};
+    ghost use Rattle.links.specs.Rings.{contents, joined, AreRings, AreNumbers};
 
     ghost Value = { InFlight };
 
     ghost view = { λ l. record { channels = l.channels; messages = by_age (joined (contents l.rings.items)) } };
 
-    ghost invariant = { λ l. (0 < l.channels) × AreRings l.channels 0 (contents l.rings.items) };
+    ghost invariant = { λ l. (0 < l.channels) × AreRings l.channels 0 (contents l.rings.items) × AreNumbers l.channels l.numbers.items };
 }
 
 /// The number of the ring of a link's messages.
@@ -59,6 +64,33 @@ fn ring_of_link(channels: u16, link: LinkId) -> usize
         (pair % u64::from(channels)) as usize
     } else {
         usize::from(channels) + 2 * (pair / u64::from(channels)) as usize + (kind - 1) as usize
+    }
+}
+
+/// The numbers of the rings of so many links, or of fewer, where memory is refused.
+fn numbers_of(alloc: Global, channels: u16, links: u64) -> Vec<usize>
+    requires { 0 < channels }
+    ensures { AreNumbers channels result.items }
+{
+    let mut numbers = Vec::new(alloc);
+    for link in 0..links {
+        if numbers.push(ring_of_link(channels, link)).is_err() {
+            return numbers;
+        }
+    }
+    numbers
+}
+
+/// The number of the ring of a link's messages, by the numbers of the first links.
+fn number_of(numbers: &[usize], channels: u16, link: LinkId) -> usize
+    requires channels { 0 < channels }
+    requires numbers { AreNumbers channels numbers.now }
+    ensures number { result ≡ ring_of channels link }
+    ensures small { result + 1 < 2 ^ 64 }
+{
+    match numbers.get(link as usize) {
+        Some(number) => *number,
+        None => ring_of_link(channels, link),
     }
 }
 
@@ -130,66 +162,21 @@ fn make_room_at(
     Ok(())
 }
 
-/// A number of links, each of which leads to a ring that is there.
-fn links_to_rings(channels: u16, rings: usize) -> u64
-    requires { 0 < channels }
-    ensures { (link : ℕ) → link < result → ring_of channels link < rings }
-{
-    let cores = rings.saturating_sub(usize::from(channels)) / 2;
-    (cores as u64)
-        .saturating_mul(u64::from(channels))
-        .saturating_mul(3)
-}
-
-/// Whether all messages are on the first links, so many.
-fn are_on_first(messages: &[Message], links: u64) -> bool
-    ensures { result ≡ list_all (λ m. nat_lt m.link links) messages.now }
-{
-    messages.iter().all(|message| message.link < links)
-}
-
-/// Whether a ring has room for so many messages more.
-fn is_room_in(ring: &Ring, more: usize) -> bool
-    ensures { result ≡ nat_le (length ring.now.items + more) ring.now.capacity }
-{
-    more <= ring.capacity() - ring.len()
-}
-
-/// Whether each ring has room for so many messages more.
-fn has_each_room(rings: &[Ring], more: usize) -> bool
-    ensures { result ≡ list_all (λ ring. nat_le (length ring.items + more) ring.capacity) rings.now }
-{
-    rings.iter().all(|ring| is_room_in(ring, more))
-}
-
-/// Whether each ring that there is has room for all messages, and each message has a ring: with few rings this is seen sooner than the
-/// ring of each message.
-fn is_room_for(rings: &[Ring], channels: u16, messages: &[Message]) -> bool
-    requires { 0 < channels }
-    ensures { IsTrue result → HaveRoom channels rings.now (length messages.now) messages.now }
-{
-    if messages.len() < rings.len() {
-        return false;
-    }
-    if !has_each_room(rings, messages.len()) {
-        return false;
-    }
-    are_on_first(messages, links_to_rings(channels, rings.len()))
-}
-
 /// Makes room for all messages in each ring that one of them goes to.
 fn make_room_for_all(
     alloc: Global,
     rings: &mut Vec<Ring>,
+    numbers: &[usize],
     channels: u16,
     messages: &[Message],
 ) -> Result<(), AllocError>
-    requires { 0 < channels }
+    requires channels { 0 < channels }
+    requires numbers { AreNumbers channels numbers.now }
     ensures grows { Grows rings.old.items rings.new.items }
     ensures room { OnOk result (HaveRoom channels rings.new.items (length messages.now) messages.now) }
 {
     for message in messages {
-        let number = ring_of_link(channels, message.link);
+        let number = number_of(numbers, channels, message.link);
         make_room_at(alloc, rings, number, messages.len())?;
     }
     Ok(())
@@ -210,15 +197,17 @@ fn count_one(counts: &mut Vec<usize>, number: usize) -> Result<(), AllocError>
 /// How many messages go to each ring, by its number.
 fn count_by_ring(
     alloc: Global,
+    numbers: &[usize],
     channels: u16,
     messages: &[Message],
 ) -> Result<Vec<usize>, AllocError>
-    requires { 0 < channels }
+    requires channels { 0 < channels }
+    requires numbers { AreNumbers channels numbers.now }
     ensures { IfOk result (λ counts. (number : ℕ) → slice_index_or counts.items number 0 ≡ count_to channels number messages.now) }
 {
     let mut counts = Vec::new(alloc);
     for message in messages {
-        count_one(&mut counts, ring_of_link(channels, message.link))?;
+        count_one(&mut counts, number_of(numbers, channels, message.link))?;
     }
     Ok(counts)
 }
@@ -243,21 +232,21 @@ fn make_counted_room(
 fn make_room_for(
     alloc: Global,
     rings: &mut Vec<Ring>,
+    numbers: &[usize],
     channels: u16,
     messages: &[Message],
 ) -> Result<(), AllocError>
-    requires { 0 < channels }
+    requires channels { 0 < channels }
+    requires numbers { AreNumbers channels numbers.now }
     ensures grows { Grows rings.old.items rings.new.items }
     ensures room { OnOk result (CanTakeUp channels rings.new.items messages.now) }
 {
     if messages.len() > FEW_MESSAGES {
-        let counts = count_by_ring(alloc, channels, messages)?;
+        let counts = count_by_ring(alloc, numbers, channels, messages)?;
         make_counted_room(alloc, rings, &counts)?;
         return Ok(());
     }
-    if !is_room_for(rings, channels, messages) {
-        make_room_for_all(alloc, rings, channels, messages)?;
-    }
+    make_room_for_all(alloc, rings, numbers, channels, messages)?;
     Ok(())
 }
 
@@ -266,31 +255,34 @@ fn make_room_for(
 fn put_one(
     alloc: Global,
     rings: &mut Vec<Ring>,
+    numbers: &[usize],
     channels: u16,
     message: &Message,
 ) -> Result<(), AllocError>
     requires channels { 0 < channels }
+    requires numbers { AreNumbers channels numbers.now }
     requires rings { AreRings channels 0 (contents rings.old.items) }
     ensures rings { AreRings channels 0 (contents rings.new.items) }
     ensures ok { OnOk result (by_age (joined (contents rings.new.items)) ≡ insert_by_age (by_age (joined (contents rings.old.items))) message.now) }
     ensures err { OnErr result (joined (contents rings.new.items) ≡ joined (contents rings.old.items)) }
 {
-    let number = ring_of_link(channels, message.link);
+    let number = number_of(numbers, channels, message.link);
     make_room_at(alloc, rings, number, 1)?;
     put_by_age(&mut rings[number], message);
     Ok(())
 }
 
 /// Puts messages into the rings that they go to, which have room for them.
-fn put_all(rings: &mut Vec<Ring>, channels: u16, messages: &[Message])
+fn put_all(rings: &mut Vec<Ring>, numbers: &[usize], channels: u16, messages: &[Message])
     requires channels { 0 < channels }
+    requires numbers { AreNumbers channels numbers.now }
     requires rings { AreRings channels 0 (contents rings.old.items) }
     requires room { CanTakeUp channels rings.old.items messages.now }
     ensures rings { AreRings channels 0 (contents rings.new.items) }
     ensures messages { by_age (joined (contents rings.new.items)) ≡ fold insert_by_age (by_age (joined (contents rings.old.items))) messages.now }
 {
     for message in messages {
-        let number = ring_of_link(channels, message.link);
+        let number = number_of(numbers, channels, message.link);
         put_by_age(&mut rings[number], message);
     }
 }
@@ -305,6 +297,7 @@ fn sort_by_arrival(alloc: Global, messages: &mut [Message]) -> Result<(), AllocE
 }
 
 /// Takes what arrives within a span out of a ring, into an empty list. Where memory is refused, the rings stay as they were.
+#[inline(always)]
 fn take_from(
     rings: &mut Vec<Ring>,
     number: usize,
@@ -459,9 +452,12 @@ impl Links {
     pub fn start(alloc: Global, config: &Config) -> Result<Links, AllocError>
         ensures { IsOkAnd result (λ links. links ≡ record { channels = config.now.channels; messages = [] }) }
     {
+        let links = u64::from(config.cores).saturating_mul(3 * u64::from(config.channels));
+        let numbers = numbers_of(alloc, config.channels, links.min(MOST_NUMBERS));
         Ok(Links {
             alloc,
             channels: config.channels,
+            numbers,
             rings: Vec::new(alloc),
         })
     }
@@ -473,14 +469,26 @@ impl Links {
         ensures err { OnErr result (self.new ≡ self.old) }
     {
         if let [message] = messages {
-            put_one(self.alloc, &mut self.rings, self.channels, message)?;
+            put_one(
+                self.alloc,
+                &mut self.rings,
+                &self.numbers,
+                self.channels,
+                message,
+            )?;
             return Ok(());
         }
         if messages.len() > FEW_MESSAGES {
             sort_by_arrival(self.alloc, messages)?;
         }
-        make_room_for(self.alloc, &mut self.rings, self.channels, messages)?;
-        put_all(&mut self.rings, self.channels, messages);
+        make_room_for(
+            self.alloc,
+            &mut self.rings,
+            &self.numbers,
+            self.channels,
+            messages,
+        )?;
+        put_all(&mut self.rings, &self.numbers, self.channels, messages);
         Ok(())
     }
 

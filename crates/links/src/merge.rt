@@ -20,6 +20,7 @@ fn are_left(first: &[Message], i: usize, second: &[Message], j: usize) -> bool
 }
 
 /// Copies two lists by age into an empty one as one; of two messages of one age the one of the first list goes first.
+#[inline(always)]
 fn merge_into(
     inbox: &mut Vec<Message>,
     first: &[Message],

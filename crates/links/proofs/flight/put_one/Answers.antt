@@ -10,10 +10,10 @@ put_by_age-requires-clause-in_order c =
 pub returns-clause-rings : goal.returns-clause-rings
 returns-clause-rings c =
     let up : TakesUp _ c.index_mut.result.now c.put_by_age.new.ring = record { items = c.put_by_age.ensures.items; capacity = c.put_by_age.ensures.capacity } in
-    rings_more _ _ _ _ _ _ c.in_ok-make_room_at.ensures.room.exists c.index_mut.ensures.value up c.ring_of_link-number.ensures.number (c.make_room_at.ensures.grows.rings _ 0 c.requires.rings)
+    rings_more _ _ _ _ _ _ c.in_ok-make_room_at.ensures.room.exists c.index_mut.ensures.value up c.number_of-number.ensures.number (c.make_room_at.ensures.grows.rings _ 0 c.requires.rings)
 
 pub returns-clause-ok : goal.returns-clause-ok
 returns-clause-ok c =
     let up : TakesUp _ c.index_mut.result.now c.put_by_age.new.ring = record { items = c.put_by_age.ensures.items; capacity = c.put_by_age.ensures.capacity } in
-    message_more _ _ _ _ _ _ c.in_ok-make_room_at.ensures.room.exists c.index_mut.ensures.value up c.ring_of_link-number.ensures.number (c.make_room_at.ensures.grows.rings _ 0 c.requires.rings)
+    message_more _ _ _ _ _ _ c.in_ok-make_room_at.ensures.room.exists c.index_mut.ensures.value up c.number_of-number.ensures.number (c.make_room_at.ensures.grows.rings _ 0 c.requires.rings)
     ∙ ap (λ ms. insert_by_age (by_age ms) c.args.message.now) c.make_room_at.ensures.grows.messages

@@ -33,6 +33,7 @@ invariant_of-self-in-Channel c = (
   c.self.invariant.0,
   subst (AreRings c.self.inside.channels 0) (sym c.in_ok-take_from-in-Channel.ensures.rest)
       (AreRings-filter c.self.inside.channels c.in-Some.number (arrives_outside c.args.from c.args.until) _ c.self.invariant.1),
+  c.self.invariant.2,
 )
 
 pub returns-in_ok-take_from-in-Channel-clause-ok : goal.returns-in_ok-take_from-in-Channel-clause-ok
@@ -57,6 +58,7 @@ invariant_of-self-in-Core c = (
   c.self.invariant.0,
   subst (AreRings c.self.inside.channels 0) (sym c.in_ok-take_from_both-in-Core.ensures.rest)
       (AreRings-filter_both c.self.inside.channels c.in-Some.number (arrives_outside c.args.from c.args.until) _ c.self.invariant.1),
+  c.self.invariant.2,
 )
 
 pub returns-in_ok-take_from_both-in-Core-clause-ok : goal.returns-in_ok-take_from_both-in-Core-clause-ok
