@@ -95,6 +95,26 @@ sunk_younger m y p q xs ys e l h g b k =
     let at : get_or xs q y ≡ y = sym (before_free m y p q xs ys e l h) ∙ g in
     younger_more m y q xs (omega arith) (subst (λ i. AreYounger m i xs) s k) (ap (is_before m) at ∙ b)
 
+set_last : (m y : Message) (xs : List Message) → set (xs ++ m ∷ []) (length xs) y ≡ xs ++ y ∷ []
+set_last m y [] = refl
+set_last m y (x ∷ xs) = ap (λ z. x ∷ z) (set_last m y xs)
+
+pub got : (m y : Message) (k : ℕ) (xs : List Message) → slice_get xs k ≡ Some y → (k < length xs) × (get_or (xs ++ m ∷ []) k y ≡ y)
+got m y k [] h = cc
+got m y zero (x ∷ xs) h = (omega arith, cc)
+got m y (suc k) (x ∷ xs) h = let rest = got m y k xs h in (omega (arith, rest.0), rest.1)
+
+-- the last message, where it is younger, stands once more behind itself, and its place is free
+pub sunk_last : (m y : Message) (xs : List Message) → slice_get xs (length xs - 1) ≡ Some y → is_before m y ≡ true
+    → (set (xs ++ y ∷ []) (length xs - 1) m ≡ insert xs (length xs - 1) m) × AreYounger m (length xs - 1) xs
+sunk_last m y xs h b =
+    let at = got m y (length xs - 1) xs h in
+    let e : length xs ≡ length xs - 1 + 1 = omega (arith, at.0) in
+    let all : length xs ≤ length xs = omega arith in (
+      ap (λ z. set z (length xs - 1) m) (sym (set_last m y xs)) ∙ sunk m y (length xs) (length xs - 1) xs (xs ++ m ∷ []) e all (last_free m xs) at.1,
+      sunk_younger m y (length xs) (length xs - 1) xs (xs ++ m ∷ []) e all (last_free m xs) at.1 b (younger_none m xs),
+    )
+
 put_younger : (m : Message) (xs : List Message) → AreYounger m 0 xs → put m xs ≡ m ∷ xs
 put_younger m [] h = refl
 put_younger m (x ∷ xs) h = cond-true _ _ _ h.0

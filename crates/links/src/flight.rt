@@ -22,7 +22,7 @@ use std::marker::Model;
 const FEW_MESSAGES: usize = 64;
 
 /// Of so many links at most the numbers of their rings are kept.
-const MOST_NUMBERS: u64 = 4096;
+const MOST_NUMBERS: u64 = 16_384;
 
 /// The messages in flight on the links of a machine.
 ///
@@ -53,6 +53,8 @@ impl Model for Links {
 }
 
 /// The number of the ring of a link's messages.
+#[cold]
+#[inline(never)]
 fn ring_of_link(channels: u16, link: LinkId) -> usize
     requires { 0 < channels }
     ensures number { result ≡ ring_of channels link }
@@ -162,7 +164,24 @@ fn make_room_at(
     Ok(())
 }
 
+/// Whether there is room for all messages in each ring that one of them goes to.
+fn is_room_for(rings: &[Ring], numbers: &[usize], channels: u16, messages: &[Message]) -> bool
+    requires channels { 0 < channels }
+    requires numbers { AreNumbers channels numbers.now }
+    ensures { IsTrue result → HaveRoom channels rings.now (length messages.now) messages.now }
+{
+    for message in messages {
+        let number = number_of(numbers, channels, message.link);
+        if !has_room(rings, number, messages.len()) {
+            return false;
+        }
+    }
+    true
+}
+
 /// Makes room for all messages in each ring that one of them goes to.
+#[cold]
+#[inline(never)]
 fn make_room_for_all(
     alloc: Global,
     rings: &mut Vec<Ring>,
@@ -246,7 +265,9 @@ fn make_room_for(
         make_counted_room(alloc, rings, &counts)?;
         return Ok(());
     }
-    make_room_for_all(alloc, rings, numbers, channels, messages)?;
+    if !is_room_for(rings, numbers, channels, messages) {
+        make_room_for_all(alloc, rings, numbers, channels, messages)?;
+    }
     Ok(())
 }
 

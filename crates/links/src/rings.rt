@@ -64,17 +64,23 @@ fn younger_before(ring: &Ring, place: usize, message: &Message) -> Option<Messag
     }
 }
 
-/// Puts a message into its place by age, which is sought from the back: each younger one moves back by a place.
+/// Puts a message that goes before the last one into its place by age, which is sought from the back: each younger one moves back by
+/// a place.
 #[cold]
 #[inline(never)]
 fn put_among(ring: &mut Ring, message: &Message)
     requires room { length ring.old.items < ring.old.capacity }
     requires in_order { by_age ring.old.items ≡ ring.old.items }
+    requires younger { option_map_or (is_before message.now) (slice_get ring.old.items (length ring.old.items - 1)) false ≡ true }
     ensures items { ring.new.items ≡ insert_by_age ring.old.items message.now }
     ensures capacity { ring.new.capacity ≡ ring.old.capacity }
 {
-    let mut place = ring.len();
-    ring.push_back(*message);
+    let Some(last) = ring.back() else {
+        unreachable!();
+    };
+    let last = *last;
+    let mut place = ring.len() - 1;
+    ring.push_back(last);
     while let Some(younger) = younger_before(ring, place, message) {
         put_into(ring, place, &younger);
         place -= 1;
