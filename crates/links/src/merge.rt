@@ -104,7 +104,10 @@ pub fn copy_heads(
     ensures copied { IfOk result (λ copied. IfSome copied (λ _. inbox.new.items ≡ fold insert_by_age (filter (arrives_within from until) first.now.items) (filter (arrives_within from until) second.now.items))) }
     ensures not { IfOk result (λ copied. IsNone copied → inbox.new.items ≡ []) }
 {
-    let (Some(a), Some(b)) = (head_before(first, until), head_before(second, until)) else {
+    let Some(a) = head_before(first, until) else {
+        return copy_anywhere(first, second, from, until, inbox);
+    };
+    let Some(b) = head_before(second, until) else {
         return copy_anywhere(first, second, from, until, inbox);
     };
     if begins_before(a, from) || begins_before(b, from) {

@@ -6,21 +6,21 @@ use Rattle.links.proofs.merge.copy_heads.Goals as goal
 
 pub merge_into-requires-clause-in_order : goal.merge_into-requires-clause-in_order
 merge_into-requires-clause-in_order c =
-    subst (λ ms. by_age ms ≡ ms) (sym c.in-Some-Some.ensures') (head_in_order c.args.until c.args.second.now.items c.requires.second)
+    subst (λ ms. by_age ms ≡ ms) (sym c.in-Some-head_before.ensures) (head_in_order c.args.until c.args.second.now.items c.requires.second)
 
 pub returns-clause-first : goal.returns-clause-first
 returns-clause-first c =
-    let due = due_by_head c.args.from c.args.until _ _ c.requires.first c.in-Some-Some.ensures (sym c.begins_before.ensures ∙ c.if-begins_before.false) in
-    (omega (arith, ap length c.in-Some-Some.ensures, length_head c.args.until c.args.first.now.items), due.1)
+    let due = due_by_head c.args.from c.args.until _ _ c.requires.first c.in-Some.ensures (sym c.begins_before.ensures ∙ c.if-begins_before.false) in
+    (omega (arith, ap length c.in-Some.ensures, length_head c.args.until c.args.first.now.items), due.1)
 
 pub returns-clause-second : goal.returns-clause-second
 returns-clause-second c =
-    let due = due_by_head c.args.from c.args.until _ _ c.requires.second c.in-Some-Some.ensures' (sym c.begins_before-else-begins_before.ensures ∙ c.if-begins_before-2.false) in
-    (omega (arith, ap length c.in-Some-Some.ensures', length_head c.args.until c.args.second.now.items), due.1)
+    let due = due_by_head c.args.from c.args.until _ _ c.requires.second c.in-Some-head_before.ensures (sym c.begins_before-else-begins_before.ensures ∙ c.if-begins_before-2.false) in
+    (omega (arith, ap length c.in-Some-head_before.ensures, length_head c.args.until c.args.second.now.items), due.1)
 
 pub returns-clause-copied : goal.returns-clause-copied
 returns-clause-copied c =
     c.in_ok-merge_into.ensures
     ∙ ap₂ (λ xs ys. fold insert_by_age xs ys)
-    (due_by_head c.args.from c.args.until _ _ c.requires.first c.in-Some-Some.ensures (sym c.begins_before.ensures ∙ c.if-begins_before.false)).0
-    (due_by_head c.args.from c.args.until _ _ c.requires.second c.in-Some-Some.ensures' (sym c.begins_before-else-begins_before.ensures ∙ c.if-begins_before-2.false)).0
+    (due_by_head c.args.from c.args.until _ _ c.requires.first c.in-Some.ensures (sym c.begins_before.ensures ∙ c.if-begins_before.false)).0
+    (due_by_head c.args.from c.args.until _ _ c.requires.second c.in-Some-head_before.ensures (sym c.begins_before-else-begins_before.ensures ∙ c.if-begins_before-2.false)).0
