@@ -134,16 +134,6 @@ pub head_is_due : (from until : ℕ) (ms : List Message) → by_age ms ≡ ms �
 head_is_due from until [] s h = (refl, refl)
 head_is_due from until (m ∷ ms) s h = head_due from until m.arrival (m ∷ ms) s refl (in_time m.arrival from h)
 
--- what is left of a ring whose head is taken out
-pub left_by_head : (from until k : ℕ) (ms xs ys rest : List Message) → ms ≡ xs → ms ≡ ys → by_age ms ≡ ms → is_first_before from ms ≡ false → k ≡ length (head_of until xs) → rest ≡ drop k ys
-    → rest ≡ filter (arrives_outside from until) ys
-left_by_head from until k ms xs ys rest e f s t h r =
-    r
-    ∙ ap (λ z. drop z ys) (h ∙ ap (λ z. length (head_of until z)) (sym e))
-    ∙ ap (drop (length (head_of until ms))) (sym f)
-    ∙ (head_is_due from until ms s t).1
-    ∙ ap (filter (arrives_outside from until)) f
-
 -- the head of two lists, one behind the other, which ends in the first
 pub head_alone : (until k : ℕ) (xs ys zs : List Message) → xs ++ ys ≡ zs → k ≡ prefix_len (λ (m : Message). ltb m.arrival until) xs → (k ≡ length xs → is_first_before until ys ≡ false)
     → take k xs ≡ head_of until zs

@@ -1,10 +1,9 @@
 -- Rings that grow keep what stands in them, and a ring with room takes a message up.
-use Rattle.std.proofs.Common.{ℕ, suc, zero, ◌+◌, ◌<◌, ◌≤◌, ◌≡◌, ltb, leb, true, List, [], ◌∷◌, ◌++◌, length, get_or, set, take, refl, sym, ap, ◌∙◌, subst, inl, inr, ◌⊎◌, arith}
+use Rattle.std.proofs.Common.{ℕ, suc, zero, ◌+◌, ◌<◌, ◌≤◌, ◌≡◌, List, [], ◌∷◌, ◌++◌, length, get_or, set, take, refl, sym, ap, ◌∙◌, subst, inl, inr, ◌⊎◌, arith}
 use Rattle.std.specs.Prelude.{fold}
-use Rattle.std.specs.List.{list_all}
 use Rattle.std.proofs.Math.ListN.{get_or-map}
 use Rattle.std.proofs.Math.Seq.{map-set_same}
-use Rattle.std.proofs.lemmas.Bool.{cases_lt, cond_both, leb-true, ltb-true, and_parts}
+use Rattle.std.proofs.lemmas.Bool.{cases_lt, cond_both}
 use Rattle.std.proofs.lemmas.List.{take_more, map-set, length-map, get_or-set_same, get_or-set_other, length-set}
 use Rattle.std.proofs.lemmas.List.Sums.{fold_more}
 use Rattle.circular_buffer.specs.Buffer.{Buffer, buffer}
@@ -13,7 +12,7 @@ use Rattle.sim_base.specs.declared.message.Message.{Message}
 use Rattle.sim_base.proofs.Arrived.{put, fold-puts}
 use Rattle.sim_base.proofs.Each.{Each-append}
 use Rattle.sim_base.proofs.Ordered.{Each-weaker}
-use Rattle.links.specs.Rings.{ring_of, ring_to, contents, joined, AreRings, HasRoom, HaveRoom, Grows}
+use Rattle.links.specs.Rings.{ring_to, contents, joined, AreRings, HasRoom, HaveRoom, Grows}
 use Rattle.links.proofs.Held.{by_age-joined, AreRings-put, ring_is, IsRing-nil}
 
 abbrev no_ring : Buffer Message
@@ -185,18 +184,3 @@ grown i a b d e h l at items capacity =
 -- a ring in which the same messages stand
 pub kept_at : (i : ℕ) (d b : Buffer Message) (rings : List (Buffer Message)) → d ≡ get_or rings i d → b.items ≡ d.items → contents (set rings i b) ≡ contents rings
 kept_at i d b rings e h = map-set_same (λ ring. ring.items) rings i b d (h ∙ ap (λ (ring : Buffer Message). ring.items) e)
-
-room_at : (more n : ℕ) (rings : List (Buffer Message)) → list_all (λ (ring : Buffer Message). leb (length ring.items + more) ring.capacity) rings ≡ true → n < length rings
-    → length (get_or rings n no_ring).items + more ≤ (get_or rings n no_ring).capacity
-room_at more n [] h l = absurd (omega arith)
-room_at more zero (r ∷ rings) h l = leb-true _ _ (and_parts _ _ h).0
-room_at more (suc n) (r ∷ rings) h l = room_at more n rings (and_parts _ _ h).1 (omega arith)
-
--- where each ring has room, so has that of each message on a link to one of them
-pub all_have_room : (ch more links : ℕ) (rings : List (Buffer Message)) (ms : List Message) → list_all (λ (ring : Buffer Message). leb (length ring.items + more) ring.capacity) rings ≡ true
-    → ((link : ℕ) → link < links → ring_of ch link < length rings) → list_all (λ (m : Message). ltb m.link links) ms ≡ true → HaveRoom ch rings more ms
-all_have_room ch more links rings [] h k on = tt
-all_have_room ch more links rings (m ∷ ms) h k on =
-    let parts = and_parts _ _ on in
-    let there = k m.link (ltb-true _ _ parts.0) in
-    (record { exists = there; room = room_at more (ring_of ch m.link) rings h there }, all_have_room ch more links rings ms h k parts.1)
