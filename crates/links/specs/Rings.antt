@@ -8,14 +8,13 @@
 --     AreRings channels first rings      each ring holds messages that go to it, by age
 --     sooner_of least ms      the lesser of a cycle and of the first arrival
 --     lesser_of first second      the lesser of two cycles
---     begins_before until rings number      the first message of a ring arrives before a cycle
 --     due_of_both from until rings number      what arrives within a span in a ring and in the one behind it, by age
 --     without_due from until rings number, without_due_of_both from until rings number      the rings without what arrives within a span
 --     HasRoom rings number more      a ring has room for so many messages more
 --     count_to channels number ms      how many of some messages go to a ring
 --     CanTakeUp channels rings ms      each ring has room for those of some messages that go to it
 --     Grows old new      the same messages, with more room
-use Rattle.std.specs.Prelude.{◌≡◌, ℕ, ◌+◌, ◌*◌, ◌-◌, ◌/◌, ◌%◌, ◌==◌, ◌^◌, ◌<◌, ◌≤◌, nat_lt, Bool, false, not, filter, count_by, fold, slice_get, slice_set, List, [], ◌∷◌, ◌++◌, length, map, min, slice_index_or, Option, Some, None, if◌then◌else◌}
+use Rattle.std.specs.Prelude.{◌≡◌, ℕ, ◌+◌, ◌*◌, ◌-◌, ◌/◌, ◌%◌, ◌==◌, ◌^◌, ◌<◌, ◌≤◌, nat_lt, Bool, not, filter, count_by, fold, slice_set, List, [], ◌∷◌, ◌++◌, length, map, min, slice_index_or, Option, Some, None, if◌then◌else◌}
 use Rattle.std.specs.List.{AllByRecursion}
 use Rattle.std.specs.Option.{option_map_or}
 use Rattle.circular_buffer.specs.Buffer.{Buffer, buffer}
@@ -107,10 +106,6 @@ abbrev pub lesser_of : Option ℕ → Option ℕ → Option ℕ
 lesser_of None second = second
 lesser_of (Some a) None = Some a
 lesser_of (Some a) (Some b) = Some (min a b)
-
--- the first message of a ring arrives before a cycle
-abbrev pub begins_before : ℕ → List (List Message) → ℕ → Bool
-begins_before until rings number = option_map_or (λ m. nat_lt m.arrival until) (slice_get (ring_at rings number) 0) false
 
 -- what arrives within a span in a ring and in the one behind it, by age
 abbrev pub due_of_both : ℕ → ℕ → List (List Message) → ℕ → List Message

@@ -55,7 +55,7 @@ append_all-requires-2 c =
       ap length (rest_all c.loop-a.i c.args.first.now),
       length-drop c.loop-a.i c.args.first.now,
       ap length (rest_all c.loop-a.j c.args.second.now),
-      length-drop c.loop-a.j c.args.second.now
+      length-drop c.loop-a.j c.args.second.now,
     )
 
 pub returns : goal.returns
