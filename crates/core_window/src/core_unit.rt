@@ -23,7 +23,7 @@ ghost use Rattle.core_window.specs.declared.waiting.WaitingRead.{WaitingRead};
 
 use crate::counts::{count_cycle, count_cycles, cycle_counts};
 use crate::flow::{Flow, WindowNumbers, cycles_within, flow_of};
-use crate::issue::{Ahead, ahead_of, cause_at, entry_issued, issue_of, most_issued, next_two};
+use crate::issue::{Ahead, cause_at, entry_issued, go_to_second, issue_of, most_issued, next_two};
 use crate::issue_effects::{send, spend, wait_for};
 use crate::receive::{add_credit_at, count_reply, is_waiting, take_read};
 use crate::retire::{is_next_done, is_stuck, retire_count};
@@ -291,17 +291,13 @@ impl Core {
     }
 
     /// The next two memory entries, where the first of those that were found has issued, and the second has not.
-    fn ahead_from_second(&self, ahead: &Ahead) -> Ahead
-        requires within { ahead.now.two ≤ length self.now.trace }
-        requires known { IsKnown self.now.config self.now.trace ahead.now }
-        ensures seen { (from : ℕ) → IsNextOrEnd self.now.trace from ahead.now.two → IsSeen self.now.trace from result.one result.two result.entry }
-        ensures known { IsKnown self.now.config self.now.trace result }
+    fn go_to_second(&self, ahead: &mut Ahead)
+        requires within { ahead.old.two ≤ length self.now.trace }
+        requires known { IsKnown self.now.config self.now.trace ahead.old }
+        ensures seen { (from : ℕ) → IsNextOrEnd self.now.trace from ahead.old.two → IsSeen self.now.trace from ahead.new.one ahead.new.two ahead.new.entry }
+        ensures known { IsKnown self.now.config self.now.trace ahead.new }
     {
-        let first = MemoryEntry {
-            number: ahead.two,
-            entry: ahead.second,
-        };
-        ahead_of(&self.config, &self.trace, first, self.memory_issued())
+        go_to_second(&self.config, &self.trace, ahead, self.memory_issued());
     }
 
     /// Looks for the next two memory entries anew, where the first of those that were found has issued.
@@ -316,11 +312,11 @@ impl Core {
         if issued <= ahead.one {
             return;
         }
-        *ahead = if issued <= ahead.two {
-            self.ahead_from_second(ahead)
+        if issued <= ahead.two {
+            self.go_to_second(ahead);
         } else {
-            self.ahead()
-        };
+            *ahead = self.ahead();
+        }
     }
 
     /// Goes on by a cycle, or up to a cycle, if the core does nothing until a message comes.

@@ -78,6 +78,23 @@ pub fn ahead_of(config: &Config, trace: &Trace, first: MemoryEntry, before: u64)
     }
 }
 
+/// The second of two memory entries becomes the first, and the one behind it is looked for. Before it, so many stand.
+#[tactic(auto, using(crate::proofs::Foreseeing::seen_from))]
+pub fn go_to_second(config: &Config, trace: &Trace, ahead: &mut Ahead, before: u64)
+    requires { ahead.old.two ≤ length trace.now }
+    ensures seen { (from : ℕ) → IsNextOrEnd trace.now from ahead.old.two
+        → (ahead.old.two < length trace.now → slice_get trace.now ahead.old.two ≡ Some ahead.old.second)
+        → IsSeen trace.now from ahead.new.one ahead.new.two ahead.new.entry }
+    ensures known { IsKnown config.now trace.now ahead.new }
+{
+    let next = entry_behind(trace, ahead.two, before);
+    ahead.one = ahead.two;
+    ahead.entry = ahead.second;
+    ahead.place = place_of_entry(config, ahead.entry);
+    ahead.two = next.number;
+    ahead.second = next.entry;
+}
+
 /// The next two memory entries from a number on, before which so many stand.
 pub fn next_two(config: &Config, trace: &Trace, from: u64, before: u64) -> Ahead
     requires { from ≤ length trace.now }
