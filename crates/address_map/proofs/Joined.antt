@@ -148,7 +148,7 @@ width_of_all fs = sum_by width_of fs
 unfoldable pub room : List Field → ℕ
 room fs = 2 ^ width_of_all fs
 
-field_size-room : (s : Config) (f : Field) → field_size s f ≤ 2 ^ width_of f
+pub field_size-room : (s : Config) (f : Field) → field_size s f ≤ 2 ^ width_of f
 field_size-room s Channel = omega (arith, s.machine_in_range)
 field_size-room s Column = omega (arith, s.memory_in_range)
 field_size-room s Rank = omega (arith, s.memory_in_range)
@@ -180,11 +180,14 @@ width_of_all-counts (f ∷ fs) =
     let b = width_of-counts f in
     omega (arith, sum_by-cons width_of f fs, count_of-cons Channel f fs, count_of-cons Column f fs, count_of-cons Rank f fs, count_of-cons Group f fs, count_of-cons Bank f fs, count_of-cons Row f fs)
 
+-- the fields of an address take no more than 38 bits
+pub width_of_all-most : (s : Config) → width_of_all s.fields ≤ 38
+width_of_all-most s =
+    omega (arith, width_of_all-counts s.fields, once_at_most s Channel, once_at_most s Column, once_at_most s Rank, once_at_most s Group, once_at_most s Bank, once_at_most s Row)
+
 pub room-all : (s : Config) → room s.fields ≤ 2 ^ 38
 unfolding room
-room-all s =
-    pow-le-pow_right {n = 2} (omega arith) {i = width_of_all s.fields} {j = 38}
-    (omega (arith, width_of_all-counts s.fields, once_at_most s Channel, once_at_most s Column, once_at_most s Rank, once_at_most s Group, once_at_most s Bank, once_at_most s Row))
+room-all s = pow-le-pow_right {n = 2} (omega arith) {i = width_of_all s.fields} {j = 38} (width_of_all-most s)
 
 pub room-step : (fs : List Field) (i : ℕ) (d : Field) → i < length fs → room (drop i fs) ≡ 2 ^ width_of (get_or fs i d) * room (drop (i + 1) fs)
 unfolding room

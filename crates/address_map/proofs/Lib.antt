@@ -1,3 +1,4 @@
 pub mod Fields
 pub mod Peeled
 pub mod Joined
+pub mod Shifted

@@ -6,6 +6,8 @@ ghost use Rattle.sim_base.specs.Places.{field_size, place_of};
 ghost use Rattle.sim_base.specs.PlaceRange.{PlaceInRange};
 ghost use Rattle.address_map.specs.Digits.{value_of, with_value};
 
+pub mod digits;
+
 use sim_base::config::Config;
 use sim_base::place::{Field, Place};
 
