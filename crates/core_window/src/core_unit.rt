@@ -5,6 +5,7 @@ ghost use Rattle.sim_base.specs.declared.history.CoreRow.{CoreRow};
 ghost use Rattle.sim_base.specs.declared.message.Message.{Message};
 ghost use Rattle.sim_base.specs.declared.config.Config.{Config};
 ghost use Rattle.sim_base.specs.declared.trace.Entry.{Entry};
+ghost use Rattle.address_map.specs.Shifts.{IsDigits};
 ghost use Rattle.statistics.specs.declared.final_state.Credits.{Credits};
 ghost use Rattle.core_window.specs.Causes.{first_undone};
 ghost use Rattle.std.specs.Option.{IfSome};
@@ -28,6 +29,7 @@ use crate::issue_effects::{send, spend, wait_for};
 use crate::receive::{add_credit_at, count_reply, is_waiting, take_read};
 use crate::retire::{is_next_done, is_stuck, retire_count};
 use crate::waiting::WaitingRead;
+use address_map::digits::Digits;
 use cpu_trace::entries::MemoryEntry;
 use cpu_trace::trace::Trace;
 use sim_base::config::Config;
@@ -42,6 +44,8 @@ use std::alloc::{AllocError, Global};
 #[derive(Drop)]
 pub struct Core {
     config: Config,
+    /// Where the fields of an address stand.
+    digits: Digits,
     id: CoreId,
     trace: Trace,
     cycle: Cycle,
@@ -51,6 +55,7 @@ pub struct Core {
     /// The next two memory entries from a number on, as they were found last.
     found: Ahead,
     found_from: u64,
+    ghost in_order: { IsDigits config digits },
     ghost seen: { IsSeen trace found_from found.one found.two found.entry },
     ghost known: { IsKnown config trace found },
 }
@@ -97,7 +102,7 @@ impl Core {
         if self.found_from <= number && number <= self.found.one {
             return self.found;
         }
-        next_two(&self.config, &self.trace, number, self.memory_issued())
+        next_two(&self.digits, &self.trace, number, self.memory_issued())
     }
 
     /// Keeps the next two memory entries of its trace for the next span.
@@ -297,7 +302,7 @@ impl Core {
         ensures seen { (from : ℕ) → IsNextOrEnd self.now.trace from ahead.old.two → IsSeen self.now.trace from ahead.new.one ahead.new.two ahead.new.entry }
         ensures known { IsKnown self.now.config self.now.trace ahead.new }
     {
-        go_to_second(&self.config, &self.trace, ahead, self.memory_issued());
+        go_to_second(&self.digits, &self.trace, ahead, self.memory_issued());
     }
 
     /// Looks for the next two memory entries anew, where the first of those that were found has issued.
@@ -501,9 +506,11 @@ impl Core {
             read: u64::from(config.read_credits),
             write: u64::from(config.write_credits),
         };
-        let found = next_two(config, &trace, 0, 0);
+        let digits = Digits::of_config(config);
+        let found = next_two(&digits, &trace, 0, 0);
         Ok(Core {
             config: config.copy(alloc)?,
+            digits,
             id,
             trace,
             cycle: 0,

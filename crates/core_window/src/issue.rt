@@ -2,12 +2,15 @@
 
 ghost use Rattle.std.specs.Prelude.{◌≡◌, ℕ, ◌+◌, ◌-◌, ◌^◌, ◌≤◌, ◌<◌, List, length, slice_get, Some, min};
 ghost use Rattle.std.specs.Option.{IfSome};
+ghost use Rattle.sim_base.specs.declared.config.Config.{Config};
 ghost use Rattle.sim_base.specs.declared.trace.Entry.{Entry};
+ghost use Rattle.address_map.specs.Shifts.{IsDigits};
 ghost use Rattle.core_window.specs.Turns.{IsNextOrEnd, IsSeen, IsIssued};
 ghost use Rattle.core_window.specs.Ahead.{IsKnown};
 ghost use Rattle.core_window.specs.Causes.{issue_count, cause_at};
 
 use crate::channel::place_of_entry;
+use address_map::digits::Digits;
 use cpu_trace::entries::MemoryEntry;
 use cpu_trace::trace::Trace;
 use sim_base::config::Config;
@@ -61,18 +64,18 @@ fn entry_behind(trace: &Trace, number: u64, before: u64) -> MemoryEntry
 
 /// The next two memory entries, of which the first is known. Before it, so many stand.
 #[tactic(auto, using(crate::proofs::Foreseeing::seen_from))]
-pub fn ahead_of(config: &Config, trace: &Trace, first: MemoryEntry, before: u64) -> Ahead
+pub fn ahead_of(digits: &Digits, trace: &Trace, first: MemoryEntry, before: u64) -> Ahead
     requires { first.number ≤ length trace.now }
     ensures seen { (from : ℕ) → IsNextOrEnd trace.now from first.number
         → (first.number < length trace.now → slice_get trace.now first.number ≡ Some first.entry)
         → IsSeen trace.now from result.one result.two result.entry }
-    ensures known { IsKnown config.now trace.now result }
+    ensures known { (s : Config) → IsDigits s digits.now → IsKnown s trace.now result }
 {
     let second = entry_behind(trace, first.number, before);
     Ahead {
         one: first.number,
         entry: first.entry,
-        place: place_of_entry(config, first.entry),
+        place: place_of_entry(digits, first.entry),
         two: second.number,
         second: second.entry,
     }
@@ -80,28 +83,28 @@ pub fn ahead_of(config: &Config, trace: &Trace, first: MemoryEntry, before: u64)
 
 /// The second of two memory entries becomes the first, and the one behind it is looked for. Before it, so many stand.
 #[tactic(auto, using(crate::proofs::Foreseeing::seen_from))]
-pub fn go_to_second(config: &Config, trace: &Trace, ahead: &mut Ahead, before: u64)
+pub fn go_to_second(digits: &Digits, trace: &Trace, ahead: &mut Ahead, before: u64)
     requires { ahead.old.two ≤ length trace.now }
     ensures seen { (from : ℕ) → IsNextOrEnd trace.now from ahead.old.two
         → (ahead.old.two < length trace.now → slice_get trace.now ahead.old.two ≡ Some ahead.old.second)
         → IsSeen trace.now from ahead.new.one ahead.new.two ahead.new.entry }
-    ensures known { IsKnown config.now trace.now ahead.new }
+    ensures known { (s : Config) → IsDigits s digits.now → IsKnown s trace.now ahead.new }
 {
     let next = entry_behind(trace, ahead.two, before);
     ahead.one = ahead.two;
     ahead.entry = ahead.second;
-    ahead.place = place_of_entry(config, ahead.entry);
+    ahead.place = place_of_entry(digits, ahead.entry);
     ahead.two = next.number;
     ahead.second = next.entry;
 }
 
 /// The next two memory entries from a number on, before which so many stand.
-pub fn next_two(config: &Config, trace: &Trace, from: u64, before: u64) -> Ahead
+pub fn next_two(digits: &Digits, trace: &Trace, from: u64, before: u64) -> Ahead
     requires { from ≤ length trace.now }
     ensures seen { IsSeen trace.now from result.one result.two result.entry }
-    ensures known { IsKnown config.now trace.now result }
+    ensures known { (s : Config) → IsDigits s digits.now → IsKnown s trace.now result }
 {
-    ahead_of(config, trace, next_or_end(trace, from, before), before)
+    ahead_of(digits, trace, next_or_end(trace, from, before), before)
 }
 
 /// How many entries issue, and why no more.
