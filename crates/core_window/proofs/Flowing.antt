@@ -1,5 +1,5 @@
 -- A run of Plain entries goes through the window of a core by its width.
-use Rattle.std.proofs.Common.{◌≡◌, ℕ, zero, suc, ◌+◌, ◌-◌, ◌*◌, ◌<◌, ◌≤◌, ◌⊎◌, min, Bool, true, false, ◌&&◌, eqb, ltb, List, [], ◌∷◌, length, None, refl, sym, subst, inl, inr, arith, ⊎_elim, ◌∙◌}
+use Rattle.std.proofs.Common.{◌≡◌, ℕ, zero, suc, ◌+◌, ◌-◌, ◌*◌, ◌<◌, ◌≤◌, ◌⊎◌, min, Bool, true, false, ◌&&◌, eqb, ltb, List, [], ◌∷◌, length, None, refl, sym, subst, inl, inr, arith, ⊎_elim}
 use Rattle.std.specs.Prelude.{slice_get}
 use Rattle.std.proofs.Math.Nat.{mul-le-mul_right, mul-le-mul_left}
 use Rattle.std.proofs.lemmas.Bool.{cases_lt, ne_eqb, eq-eqb}
@@ -15,7 +15,7 @@ use Rattle.core_window.specs.Causes.{first_undone, issue_count, cause_at}
 use Rattle.core_window.specs.Inside.{StandsAt}
 use Rattle.core_window.specs.Stands.{IsPast}
 use Rattle.core_window.specs.Steady.{steady_view, IsSteady, IsFlow}
-use Rattle.core_window.specs.Turns.{IsAhead, IsSeen, IsLast, IsTurn}
+use Rattle.core_window.specs.Turns.{IsAhead, IsLast, IsTurn}
 use Rattle.core_window.specs.Views.{CoreView}
 use Rattle.core_window.specs.Waiting.{reads_waiting}
 use Rattle.core_window.specs.declared.waiting.WaitingRead.{WaitingRead}
@@ -170,10 +170,3 @@ flow-here a one two r (suc n) plain waiting ahead l positive few is same flow =
     let from = ahead.first.is_from in
     flow-steady a one two r (suc n) ahead l (omega arith) (omega arith)
     (subst (λ ws. IsFlow a.config.width a.config.window a.stats.issued a.stats.retired ws r (suc n)) same flow)
-
--- a message that comes moves no entry
-pub seen-same : (s : Config) (core : ℕ) (trace : List Entry) (rows : List CoreRow) (mail more : List Message) (a b : CoreView) (one two : ℕ) (entry : Entry)
-    → StandsAt s core trace rows mail a → StandsAt s core trace rows more b → IsSeen a.trace a.stats.issued one two entry → IsSeen b.trace b.stats.issued one two entry
-seen-same s core trace rows mail more a b one two entry h k seen =
-    let issued : a.stats.issued ≡ b.stats.issued = issued_of s core trace rows mail a h ∙ sym (issued_of s core trace rows more b k) in
-    subst (λ n. IsSeen b.trace n one two entry) issued (subst (λ t. IsSeen t a.stats.issued one two entry) (h.entries ∙ sym k.entries) seen)

@@ -1,17 +1,13 @@
 -- What a core keeps of the next two memory entries stays right while it goes on.
-use Rattle.std.proofs.Common.{◌≡◌, ℕ, ◌+◌, ◌<◌, ◌≤◌, List, length, Option, Some, None, sym, subst, ◌∙◌, arith, ⊎_elim}
+use Rattle.std.proofs.Common.{◌≡◌, ℕ, ◌+◌, ◌<◌, ◌≤◌, List, length, Option, Some, None, sym, subst, arith, ⊎_elim}
 use Rattle.std.specs.Prelude.{slice_get}
 use Rattle.std.specs.Option.{IfSome}
 use Rattle.std.proofs.lemmas.Bool.{cases_lt}
 use Rattle.sim_base.specs.declared.config.Config.{Config}
-use Rattle.sim_base.specs.declared.history.CoreRow.{CoreRow}
-use Rattle.sim_base.specs.declared.message.Message.{Message}
 use Rattle.sim_base.specs.declared.trace.Entry.{Entry}
 use Rattle.cpu_trace.specs.declared.entries.MemoryEntry.{MemoryEntry}
 use Rattle.core_window.specs.Ahead.{IsPlaced, IsKnown}
-use Rattle.core_window.specs.Inside.{StandsAt}
 use Rattle.core_window.specs.Turns.{IsNextOrEnd, IsSeen}
-use Rattle.core_window.specs.Views.{CoreView}
 use Rattle.core_window.specs.declared.issue.Ahead.{Ahead}
 
 -- the next two memory entries, by what is known of each
@@ -26,11 +22,18 @@ second_next trace from number one two entry seen behind before =
     let second = seen.ahead.second inside in
     record { is_from = before; is_within = second.is_within; is_plain_before = λ k l b. second.is_plain_before k (omega arith) b; is_read_or_write = second.is_read_or_write }
 
--- a core keeps its configuration and its trace
-pub known-same : (s : Config) (core : ℕ) (trace : List Entry) (rows : List CoreRow) (mail more : List Message) (a b : CoreView) (ahead : Ahead)
-    → StandsAt s core trace rows mail a → StandsAt s core trace rows more b → IsKnown a.config a.trace ahead → IsKnown b.config b.trace ahead
-known-same s core trace rows mail more a b ahead h k known =
-    subst (λ x. IsKnown x b.trace ahead) (h.config ∙ sym k.config) (subst (λ t. IsKnown a.config t ahead) (h.entries ∙ sym k.entries) known)
+-- the first is the next from any number on up to it
+pub seen_still : (trace : List Entry) (from number one two : ℕ) (entry : Entry) → IsSeen trace from one two entry → from ≤ number → number ≤ one → IsSeen trace number one two entry
+seen_still trace from number one two entry seen later before =
+    let first = seen.ahead.first in
+    record {
+      ahead = record {
+        first = record { is_from = before; is_within = first.is_within; is_plain_before = λ k l b. first.is_plain_before k (omega arith) b; is_read_or_write = first.is_read_or_write };
+        second = seen.ahead.second;
+        none = seen.ahead.none;
+      };
+      is_at = seen.is_at;
+    }
 
 -- the memory entry that issues is the first ahead
 pub issued-placed : (s : Config) (trace : List Entry) (ahead : Ahead) (memory : Option MemoryEntry) → IsKnown s trace ahead → IfSome memory (λ e. e.entry ≡ ahead.entry)

@@ -22,7 +22,7 @@ use Rattle.core_window.specs.Rests.{idle_row}
 use Rattle.core_window.specs.Steady.{steady_counts, steady_view, IsSteady}
 use Rattle.core_window.specs.Turns.{IsTurn, IsIssued, cycle_counts}
 use Rattle.core_window.specs.Views.{CoreView}
-use Rattle.core_window.proofs.Running.{advances-none, advances-add}
+use Rattle.core_window.proofs.Running.{IsUnderway, advances-none, advances-add}
 use Rattle.core_window.proofs.Stepping.{IsStep, step-advances, step-fits}
 
 times_more : (a n x : ℕ) → a + n * x + x ≡ a + suc n * x
@@ -236,6 +236,15 @@ quiet-then a b d until x z q g =
       later = omega (arith, q.since, g.later);
       until_then = g.until_then;
       advances = subst (λ n. Advances n a x d z) sum (advances-add (b.now - a.now) (d.now - b.now) a b d x x z (q.advances x) g.advances);
+    }
+
+pub underway-quiet : (until : ℕ) (a b d : CoreView) (x y : List Message) → IsUnderway until a x b y → GoesQuietly until b d → IsUnderway until a x d y
+underway-quiet until a b d x y u q =
+    let sum : (b.now - a.now) + (d.now - b.now) ≡ d.now - a.now = omega (arith, u.since, q.since) in
+    record {
+      since = omega (arith, u.since, q.since);
+      until_then = q.until_then;
+      advances = subst (λ n. Advances n a x d y) sum (advances-add (b.now - a.now) (d.now - b.now) a b d x y y u.advances (q.advances y));
     }
 
 pub quiet-all : (a b : CoreView) (until : ℕ) (x : List Message) → GoesQuietly until a b → a.now < until → until ≤ b.now → GoesOn until a x b x

@@ -170,7 +170,7 @@ pub issues_within : (trace : List Entry) (width window number gone one two m : �
 issues_within trace width window number gone one two m lacks h l e =
     subst (λ k. number + k ≤ two) (sym e) (count_within width window number gone one two lacks (ahead_from trace number one two h l))
 
-two_least : (trace : List Entry) (number one two : ℕ) → IsAhead trace number one two → two ≤ length trace
+pub two_least : (trace : List Entry) (number one two : ℕ) → IsAhead trace number one two → two ≤ length trace
 two_least trace number one two h = ⊎_elim (λ inside. (h.second inside).is_within) (λ none. let e = h.none none in omega arith) (cases_lt one (length trace))
 
 -- a credit counts only where the first memory entry is near enough to issue

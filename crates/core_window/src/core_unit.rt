@@ -24,7 +24,7 @@ ghost use Rattle.core_window.specs.declared.waiting.WaitingRead.{WaitingRead};
 
 use crate::counts::{count_cycle, count_cycles, cycle_counts};
 use crate::flow::{Flow, WindowNumbers, cycles_within, flow_of};
-use crate::issue::{Ahead, cause_at, entry_issued, go_to_second, issue_of, most_issued, next_two};
+use crate::issue::{Ahead, cause_at, entry_issued, issue_of, look_ahead, most_issued, next_two};
 use crate::issue_effects::{send, spend, wait_for};
 use crate::receive::{add_credit_at, count_reply, is_waiting, take_read};
 use crate::retire::{is_next_done, is_stuck, retire_count};
@@ -52,11 +52,10 @@ pub struct Core {
     waiting: Vec<WaitingRead>,
     credits: Vec<Credits>,
     stats: CoreStats,
-    /// The next two memory entries from a number on, as they were found last.
+    /// The next two memory entries that it issues.
     found: Ahead,
-    found_from: u64,
     ghost in_order: { IsDigits config digits },
-    ghost seen: { IsSeen trace found_from found.one found.two found.entry },
+    ghost seen: { IsSeen trace stats.issued found.one found.two found.entry },
     ghost known: { IsKnown config trace found },
 }
 
@@ -82,44 +81,19 @@ fn is_without_credit(credits: &[Credits], ahead: &Ahead) -> bool
     }
 }
 
+/// How many memory entries were issued, where they are fewer than 2^64.
+fn memory_issued(stats: &CoreStats) -> u64
+    ensures { result ≡ min (stats.now.reads + stats.now.writes) (2 ^ 64 - 1) }
+{
+    stats.reads.saturating_add(stats.writes)
+}
+
 impl Core {
     ghost use Rattle.core_window.specs.CoreViews.{view_of};
 
-    /// How many memory entries it issued, where they are fewer than 2^64.
-    fn memory_issued(&self) -> u64
-        ensures { result ≡ min (self.now.stats.reads + self.now.stats.writes) (2 ^ 64 - 1) }
-    {
-        self.stats.reads.saturating_add(self.stats.writes)
-    }
-
-    /// The next two memory entries of its trace.
-    fn ahead(&self) -> Ahead
-        requires { IsStanding (view_of self.now) }
-        ensures seen { IsSeen self.now.trace self.now.stats.issued result.one result.two result.entry }
-        ensures known { IsKnown self.now.config self.now.trace result }
-    {
-        let number = self.stats.issued;
-        if self.found_from <= number && number <= self.found.one {
-            return self.found;
-        }
-        next_two(&self.digits, &self.trace, number, self.memory_issued())
-    }
-
-    /// Keeps the next two memory entries of its trace for the next span.
-    fn keep(&mut self, ahead: Ahead)
-        requires seen { IsSeen self.old.trace self.old.stats.issued ahead.one ahead.two ahead.entry }
-        requires known { IsKnown self.old.config self.old.trace ahead }
-        ensures { view_of self.new ≡ view_of self.old }
-    {
-        let issued = self.stats.issued;
-        self.found = ahead;
-        self.found_from = issued;
-    }
-
     /// What the core does in the next cycle, where the first entry of its full window waits: nothing.
-    fn idle_turn(&self, ahead: &Ahead) -> Turn
+    fn idle_turn(&self) -> Turn
         requires stands { IsStanding (view_of self.now) }
-        requires seen { IsSeen self.now.trace self.now.stats.issued ahead.now.one ahead.now.two ahead.now.entry }
         requires undone { first_undone self.now.stats.issued self.now.waiting.items ≤ self.now.stats.retired }
         requires full { self.now.config.window ≤ self.now.stats.issued - self.now.stats.retired }
         ensures does { Does (view_of self.now) result.row result.why result.memory }
@@ -131,7 +105,7 @@ impl Core {
             self.trace.len(),
             self.stats.issued,
             self.stats.retired,
-            ahead.two,
+            self.found.two,
             0,
         );
         Turn {
@@ -144,23 +118,22 @@ impl Core {
         }
     }
 
-    /// What the core does in the next cycle, where these memory entries are the next two.
+    /// What the core does in the next cycle.
     #[inline(always)]
-    fn turn_with(&self, ahead: &Ahead) -> Turn
-        requires stands { IsStanding (view_of self.now) }
-        requires seen { IsSeen self.now.trace self.now.stats.issued ahead.now.one ahead.now.two ahead.now.entry }
-        requires known { IsKnown self.now.config self.now.trace ahead.now }
+    fn turn(&self) -> Turn
+        requires { IsStanding (view_of self.now) }
         ensures does { Does (view_of self.now) result.row result.why result.memory }
-        ensures entry { IfSome result.memory (λ e. e.entry ≡ ahead.now.entry) }
+        ensures entry { IfSome result.memory (λ e. e.entry ≡ self.now.found.entry) }
+        ensures within { self.now.stats.issued + result.row.issued ≤ self.now.found.two }
     {
         let len = self.trace.len();
         let number = self.stats.issued;
         let retired = retire_count(self.config.width, &self.waiting, number, self.stats.retired);
         let gone = self.stats.retired + u64::from(retired);
         let near = most_issued(&self.config, len, number, gone);
-        let lacks = ahead.one < near && is_without_credit(&self.credits, ahead);
-        let issue = issue_of(&self.config, len, number, gone, ahead, lacks);
-        let memory = entry_issued(number, ahead, issue.count);
+        let lacks = self.found.one < near && is_without_credit(&self.credits, &self.found);
+        let issue = issue_of(&self.config, len, number, gone, &self.found, lacks);
+        let memory = entry_issued(number, &self.found, issue.count);
         Turn {
             row: CoreRow {
                 retired,
@@ -171,35 +144,24 @@ impl Core {
         }
     }
 
-    /// What the core does in the next cycle.
-    fn turn(&self) -> Turn
-        requires { IsStanding (view_of self.now) }
-        ensures { Does (view_of self.now) result.row result.why result.memory }
-    {
-        self.turn_with(&self.ahead())
-    }
-
     /// Goes on by a cycle, in which no further message comes, and does this.
-    fn step(&mut self, ahead: &Ahead, turn: Turn, sent: &mut Vec<Message>) -> Result<(), AllocError>
+    fn step(&mut self, turn: Turn, sent: &mut Vec<Message>) -> Result<(), AllocError>
         requires stands { IsStanding (view_of self.old) }
         requires turn { Does (view_of self.old) turn.row turn.why turn.memory }
-        requires known { IsKnown self.old.config self.old.trace ahead.now }
-        requires entry { IfSome turn.memory (λ e. e.entry ≡ ahead.now.entry) }
+        requires entry { IfSome turn.memory (λ e. e.entry ≡ self.old.found.entry) }
+        requires within { self.old.stats.issued + turn.row.issued ≤ self.old.found.two }
         requires early { self.old.cycle < 2 ^ 62 }
         ensures cycle { OnOk result (self.new.cycle ≡ self.old.cycle + 1) }
-        ensures entries { OnOk result (self.new.trace ≡ self.old.trace) }
-        ensures config { OnOk result (self.new.config ≡ self.old.config) }
-        ensures issued { OnOk result (self.old.stats.issued ≤ self.new.stats.issued) }
         ensures advances { OnOk result (Advances 1 (view_of self.old) sent.old.items (view_of self.new) sent.new.items) }
     {
         wait_for(&mut self.waiting, turn.memory, self.cycle)?;
-        spend(&mut self.credits, &ahead.place, turn.memory);
+        spend(&mut self.credits, &self.found.place, turn.memory);
         send(
             sent,
             &self.config,
             self.id,
             self.cycle,
-            &ahead.place,
+            &self.found.place,
             turn.memory,
         )?;
         let len = self.trace.len();
@@ -212,6 +174,13 @@ impl Core {
             self.cycle,
         );
         self.cycle += 1;
+        look_ahead(
+            &self.digits,
+            &self.trace,
+            &mut self.found,
+            self.stats.issued,
+            memory_issued(&self.stats),
+        );
         Ok(())
     }
 
@@ -220,6 +189,7 @@ impl Core {
         requires stands { IsStanding (view_of self.old) }
         requires steady { IsSteady (view_of self.old) cycles row why }
         requires some { 0 < cycles }
+        requires within { self.old.stats.issued + cycles * row.issued ≤ self.old.found.one }
         requires early { self.old.cycle + cycles < 2 ^ 62 }
         ensures { view_of self.new ≡ steady_view (view_of self.old) row why cycles }
     {
@@ -270,15 +240,14 @@ impl Core {
     }
 
     /// The cycles, at most so many, in which the core issues its width of Plain entries and does the same in each.
-    fn flow(&self, ahead: &Ahead, most: u64) -> Flow
-        requires stands { IsStanding (view_of self.now) }
-        requires seen { IsSeen self.now.trace self.now.stats.issued ahead.now.one ahead.now.two ahead.now.entry }
+    fn flow(&self, most: u64) -> Flow
+        requires { IsStanding (view_of self.now) }
         ensures steady { IsSteady (view_of self.now) result.cycles (record { retired = result.retired; issued = self.now.config.width }) Stop.Width }
-        ensures within { self.now.stats.issued + result.cycles * self.now.config.width ≤ ahead.now.one }
+        ensures within { self.now.stats.issued + result.cycles * self.now.config.width ≤ self.now.found.one }
         ensures most { result.cycles ≤ most }
     {
         let issued = self.stats.issued;
-        if ahead.one.saturating_sub(issued) < u64::from(self.config.width) {
+        if self.found.one.saturating_sub(issued) < u64::from(self.config.width) {
             return Flow {
                 retired: 0,
                 cycles: 0,
@@ -290,63 +259,24 @@ impl Core {
             window: self.config.window,
             issued,
             retired: self.stats.retired,
-            plain: ahead.one.min(last).saturating_sub(issued),
+            plain: self.found.one.min(last).saturating_sub(issued),
         };
         flow_of(&numbers, &self.waiting, most)
     }
 
-    /// The next two memory entries, where the first of those that were found has issued, and the second has not.
-    fn go_to_second(&self, ahead: &mut Ahead)
-        requires within { ahead.old.two ≤ length self.now.trace }
-        requires known { IsKnown self.now.config self.now.trace ahead.old }
-        ensures seen { (from : ℕ) → IsNextOrEnd self.now.trace from ahead.old.two → IsSeen self.now.trace from ahead.new.one ahead.new.two ahead.new.entry }
-        ensures known { IsKnown self.now.config self.now.trace ahead.new }
-    {
-        go_to_second(&self.digits, &self.trace, ahead, self.memory_issued());
-    }
-
-    /// Looks for the next two memory entries anew, where the first of those that were found has issued.
-    fn look_ahead(&self, ahead: &mut Ahead)
-        requires stands { IsStanding (view_of self.now) }
-        requires seen { (from : ℕ) × (from ≤ self.now.stats.issued) × IsSeen self.now.trace from ahead.old.one ahead.old.two ahead.old.entry }
-        requires known { IsKnown self.now.config self.now.trace ahead.old }
-        ensures seen { IsSeen self.now.trace self.now.stats.issued ahead.new.one ahead.new.two ahead.new.entry }
-        ensures known { IsKnown self.now.config self.now.trace ahead.new }
-    {
-        let issued = self.stats.issued;
-        if issued <= ahead.one {
-            return;
-        }
-        if issued <= ahead.two {
-            self.go_to_second(ahead);
-        } else {
-            *ahead = self.ahead();
-        }
-    }
-
     /// Goes on by a cycle, or up to a cycle, if the core does nothing until a message comes.
-    fn rest_or_step(
-        &mut self,
-        ahead: &Ahead,
-        until: Cycle,
-        sent: &mut Vec<Message>,
-    ) -> Result<(), AllocError>
+    fn rest_or_step(&mut self, until: Cycle, sent: &mut Vec<Message>) -> Result<(), AllocError>
         requires stands { IsStanding (view_of self.old) }
-        requires seen { IsSeen self.old.trace self.old.stats.issued ahead.now.one ahead.now.two ahead.now.entry }
-        requires known { IsKnown self.old.config self.old.trace ahead.now }
         requires order { self.old.cycle < until }
         requires early { until < 2 ^ 62 }
-        ensures goes { OnOk result (GoesOn until (view_of self.old) sent.old.items (view_of self.new) sent.new.items) }
-        ensures entries { OnOk result (self.new.trace ≡ self.old.trace) }
-        ensures config { OnOk result (self.new.config ≡ self.old.config) }
-        ensures issued { OnOk result (self.old.stats.issued ≤ self.new.stats.issued) }
+        ensures { OnOk result (GoesOn until (view_of self.old) sent.old.items (view_of self.new) sent.new.items) }
     {
-        let turn = self.turn_with(ahead);
+        let turn = self.turn();
         if turn.row.retired == 0 && turn.row.issued == 0 {
             self.pass(turn.row, turn.why, until - self.cycle);
             Ok(())
         } else {
-            self.step(ahead, turn, sent)
+            self.step(turn, sent)
         }
     }
 
@@ -372,36 +302,28 @@ impl Core {
     }
 
     /// Goes on up to a cycle, where the first entry of its full window waits.
-    fn rest(&mut self, ahead: &Ahead, until: Cycle)
+    fn rest(&mut self, until: Cycle)
         requires stands { IsStanding (view_of self.old) }
-        requires seen { IsSeen self.old.trace self.old.stats.issued ahead.now.one ahead.now.two ahead.now.entry }
         requires undone { first_undone self.old.stats.issued self.old.waiting.items ≤ self.old.stats.retired }
         requires full { self.old.config.window ≤ self.old.stats.issued - self.old.stats.retired }
         requires order { self.old.cycle < until }
         requires early { until < 2 ^ 62 }
         ensures goes { GoesQuietly until (view_of self.old) (view_of self.new) }
         ensures cycle { self.new.cycle ≡ until }
-        ensures entries { self.new.trace ≡ self.old.trace }
-        ensures config { self.new.config ≡ self.old.config }
-        ensures seen { IsSeen self.new.trace self.new.stats.issued ahead.now.one ahead.now.two ahead.now.entry }
     {
-        let turn = self.idle_turn(ahead);
+        let turn = self.idle_turn();
         self.pass(turn.row, turn.why, until - self.cycle);
     }
 
     /// Goes on by the cycles, at most up to a cycle, in which the core issues its width of Plain entries and does the same in
     /// each, if there are any.
-    fn flow_on(&mut self, ahead: &Ahead, until: Cycle)
+    fn flow_on(&mut self, until: Cycle)
         requires stands { IsStanding (view_of self.old) }
-        requires seen { IsSeen self.old.trace self.old.stats.issued ahead.now.one ahead.now.two ahead.now.entry }
         requires order { self.old.cycle < until }
         requires early { until < 2 ^ 62 }
-        ensures goes { GoesQuietly until (view_of self.old) (view_of self.new) }
-        ensures entries { self.new.trace ≡ self.old.trace }
-        ensures config { self.new.config ≡ self.old.config }
-        ensures seen { IsSeen self.new.trace self.new.stats.issued ahead.now.one ahead.now.two ahead.now.entry }
+        ensures { GoesQuietly until (view_of self.old) (view_of self.new) }
     {
-        let flow = self.flow(ahead, until - self.cycle);
+        let flow = self.flow(until - self.cycle);
         if flow.cycles == 0 {
             return;
         }
@@ -413,83 +335,63 @@ impl Core {
     }
 
     /// Goes on by some cycles, at most up to a cycle.
-    fn go_on(
-        &mut self,
-        ahead: &mut Ahead,
-        until: Cycle,
-        sent: &mut Vec<Message>,
-    ) -> Result<(), AllocError>
+    fn go_on(&mut self, until: Cycle, sent: &mut Vec<Message>) -> Result<(), AllocError>
         requires stands { IsStanding (view_of self.old) }
-        requires seen { IsSeen self.old.trace self.old.stats.issued ahead.old.one ahead.old.two ahead.old.entry }
-        requires known { IsKnown self.old.config self.old.trace ahead.old }
         requires order { self.old.cycle < until }
         requires early { until < 2 ^ 62 }
-        ensures goes { OnOk result (GoesOn until (view_of self.old) sent.old.items (view_of self.new) sent.new.items) }
-        ensures seen { OnOk result (IsSeen self.new.trace self.new.stats.issued ahead.new.one ahead.new.two ahead.new.entry) }
-        ensures known { OnOk result (IsKnown self.new.config self.new.trace ahead.new) }
+        ensures { OnOk result (GoesOn until (view_of self.old) sent.old.items (view_of self.new) sent.new.items) }
     {
-        if self.is_stuck() {
-            self.rest(ahead, until);
-            return Ok(());
-        }
-        self.flow_on(ahead, until);
+        self.flow_on(until);
         if self.cycle == until {
             return Ok(());
         }
-        self.rest_or_step(ahead, until, sent)?;
-        self.look_ahead(ahead);
-        Ok(())
+        self.rest_or_step(until, sent)
+    }
+
+    /// Goes on up to a cycle, if the first entry of its full window waits.
+    fn rest_if_stuck(&mut self, until: Cycle)
+        requires stands { IsStanding (view_of self.old) }
+        requires order { self.old.cycle ≤ until }
+        requires early { until < 2 ^ 62 }
+        ensures { GoesQuietly until (view_of self.old) (view_of self.new) }
+    {
+        if self.cycle < until && self.is_stuck() {
+            self.rest(until);
+        }
     }
 
     /// Goes on up to a cycle, while no further message comes, stretch by stretch.
-    fn work_on(
-        &mut self,
-        ahead: &mut Ahead,
-        until: Cycle,
-        sent: &mut Vec<Message>,
-    ) -> Result<(), AllocError>
+    fn work_on(&mut self, until: Cycle, sent: &mut Vec<Message>) -> Result<(), AllocError>
         requires stands { IsStanding (view_of self.old) }
-        requires seen { IsSeen self.old.trace self.old.stats.issued ahead.old.one ahead.old.two ahead.old.entry }
-        requires known { IsKnown self.old.config self.old.trace ahead.old }
         requires order { self.old.cycle ≤ until }
         requires early { until < 2 ^ 62 }
         ensures cycle { OnOk result (self.new.cycle ≡ until) }
         ensures advances { OnOk result (Advances (until - self.old.cycle) (view_of self.old) sent.old.items (view_of self.new) sent.new.items) }
-        ensures seen { OnOk result (IsSeen self.new.trace self.new.stats.issued ahead.new.one ahead.new.two ahead.new.entry) }
-        ensures known { OnOk result (IsKnown self.new.config self.new.trace ahead.new) }
     {
         'cycles: while self.cycle < until {
-            self.go_on(ahead, until, sent)?;
+            self.go_on(until, sent)?;
+            self.rest_if_stuck(until);
         }
         Ok(())
     }
 
     /// Goes on up to a cycle, while no further message comes.
     #[inline(always)]
-    fn advance(
-        &mut self,
-        ahead: &mut Ahead,
-        until: Cycle,
-        sent: &mut Vec<Message>,
-    ) -> Result<(), AllocError>
+    fn advance(&mut self, until: Cycle, sent: &mut Vec<Message>) -> Result<(), AllocError>
         requires stands { IsStanding (view_of self.old) }
-        requires seen { IsSeen self.old.trace self.old.stats.issued ahead.old.one ahead.old.two ahead.old.entry }
-        requires known { IsKnown self.old.config self.old.trace ahead.old }
         requires order { self.old.cycle ≤ until }
         requires early { until < 2 ^ 62 }
         ensures cycle { OnOk result (self.new.cycle ≡ until) }
         ensures advances { OnOk result (Advances (until - self.old.cycle) (view_of self.old) sent.old.items (view_of self.new) sent.new.items) }
-        ensures seen { OnOk result (IsSeen self.new.trace self.new.stats.issued ahead.new.one ahead.new.two ahead.new.entry) }
-        ensures known { OnOk result (IsKnown self.new.config self.new.trace ahead.new) }
     {
         if until <= self.cycle {
             return Ok(());
         }
         if self.is_stuck() {
-            self.rest(ahead, until);
+            self.rest(until);
             return Ok(());
         }
-        self.work_on(ahead, until, sent)
+        self.work_on(until, sent)
     }
 
     /// A core that has done nothing yet, with its trace. Only memory can be refused.
@@ -518,7 +420,6 @@ impl Core {
             credits: vec![in alloc; credits; usize::from(config.channels)]?,
             stats: CoreStats::new(),
             found,
-            found_from: 0,
         })
     }
 
@@ -538,14 +439,11 @@ impl Core {
         requires fit { MayRun (view_of self.old) from until inbox.now }
         ensures { OnOk result (RunsOnto (view_of self.old) from until inbox.now (view_of self.new) sent.old.items sent.new.items) }
     {
-        let mut ahead = self.ahead();
         for message in inbox {
-            self.advance(&mut ahead, message.arrival, sent)?;
+            self.advance(message.arrival, sent)?;
             self.receive(*message);
         }
-        self.advance(&mut ahead, until, sent)?;
-        self.keep(ahead);
-        Ok(())
+        self.advance(until, sent)
     }
 
     /// The cycle where the core stands, if it retires or issues an entry in it: else it never does.
@@ -581,15 +479,17 @@ impl Core {
     }
 
     /// The cycles that go by at least before the core issues its next Read or Write: in each it issues its width of entries at most.
-    fn plain_cycles(&self, ahead: &Ahead) -> u64
-        requires stands { IsStanding (view_of self.now) }
-        requires seen { IsSeen self.now.trace self.now.stats.issued ahead.now.one ahead.now.two ahead.now.entry }
-        ensures { ahead.now.one < length self.now.trace → self.now.stats.issued + result * self.now.config.width ≤ ahead.now.one }
+    fn plain_cycles(&self) -> u64
+        ensures { self.now.found.one < length self.now.trace → self.now.stats.issued + result * self.now.config.width ≤ self.now.found.one }
     {
-        if ahead.one >= self.trace.len() {
+        if self.found.one >= self.trace.len() {
             return u64::MAX;
         }
-        cycles_within(ahead.one - self.stats.issued, self.config.width, u64::MAX)
+        cycles_within(
+            self.found.one - self.stats.issued,
+            self.config.width,
+            u64::MAX,
+        )
     }
 
     /// A cycle, not before `from`, where the core stands, before which it sends nothing, while no message comes. It is the last of all
@@ -602,7 +502,7 @@ impl Core {
             → StandsFor s core trace rows mail (view_of self.now) → IsSilentUntil s core trace rows mail result }
     {
         match self.next_act(from) {
-            Some(_) => from.saturating_add(self.plain_cycles(&self.ahead())),
+            Some(_) => from.saturating_add(self.plain_cycles()),
             None => Cycle::MAX,
         }
     }

@@ -98,6 +98,22 @@ pub fn go_to_second(digits: &Digits, trace: &Trace, ahead: &mut Ahead, before: u
     ahead.second = next.entry;
 }
 
+/// Looks for the next two memory entries from a number on, where of those that were found the first may have issued, and the
+/// second has not. Before that number, so many stand.
+#[tactic(auto, using(crate::proofs::Foreseeing::seen_still))]
+pub fn look_ahead(digits: &Digits, trace: &Trace, ahead: &mut Ahead, number: u64, before: u64)
+    requires seen { (from : ℕ) × (from ≤ number) × IsSeen trace.now from ahead.old.one ahead.old.two ahead.old.entry }
+    requires within { number ≤ ahead.old.two }
+    requires room { ahead.old.two ≤ length trace.now }
+    requires second { ahead.old.two < length trace.now → slice_get trace.now ahead.old.two ≡ Some ahead.old.second }
+    ensures seen { IsSeen trace.now number ahead.new.one ahead.new.two ahead.new.entry }
+    ensures known { (s : Config) → IsDigits s digits.now → IsKnown s trace.now ahead.old → IsKnown s trace.now ahead.new }
+{
+    if ahead.one < number {
+        go_to_second(digits, trace, ahead, before);
+    }
+}
+
 /// The next two memory entries from a number on, before which so many stand.
 pub fn next_two(digits: &Digits, trace: &Trace, from: u64, before: u64) -> Ahead
     requires { from ≤ length trace.now }

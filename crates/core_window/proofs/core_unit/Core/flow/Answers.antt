@@ -6,22 +6,22 @@ use Rattle.core_window.proofs.Turning.{sound}
 use Rattle.core_window.proofs.core_unit.Core.flow.Goals as goal
 
 pub flow_of-requires-clause-order : goal.flow_of-requires-clause-order
-flow_of-requires-clause-order c = (sound (view_of c.args.self.now) c.requires.stands).retired
+flow_of-requires-clause-order c = (sound (view_of c.args.self.now) c.requires).retired
 
 pub flow_of-requires-clause-room : goal.flow_of-requires-clause-room
-flow_of-requires-clause-room c = (sound (view_of c.args.self.now) c.requires.stands).window
+flow_of-requires-clause-room c = (sound (view_of c.args.self.now) c.requires).window
 
 pub returns-clause-steady : goal.returns-clause-steady
 returns-clause-steady c =
-    flow-here (view_of c.args.self.now) c.args.ahead.now.one c.args.ahead.now.two c.flow_of.result.retired c.flow_of.result.cycles c.saturating_sub-2.result _
-    c.requires.seen.ahead (sound (view_of c.args.self.now) c.requires.stands).retired (omega (arith, c.args.self.now.config.core_in_range.width_in)) c.flow_of.ensures.plain
+    flow-here (view_of c.args.self.now) c.args.self.now.found.one c.args.self.now.found.two c.flow_of.result.retired c.flow_of.result.cycles c.saturating_sub-2.result _
+    c.args.self.now.seen.ahead (sound (view_of c.args.self.now) c.requires).retired (omega (arith, c.args.self.now.config.core_in_range.width_in)) c.flow_of.ensures.plain
     (omega (arith, c.len.ensures.value)) c.deref.ensures.value c.flow_of.ensures.flow
 
 pub returns-clause-within : goal.returns-clause-within
-returns-clause-within c = let from = c.requires.seen.ahead.first.is_from in omega (arith, c.flow_of.ensures.plain, c.len.ensures.value)
+returns-clause-within c = let from = c.args.self.now.seen.ahead.first.is_from in omega (arith, c.flow_of.ensures.plain, c.len.ensures.value)
 
 pub returns-then-saturating_sub-from-clause-steady : goal.returns-then-saturating_sub-from-clause-steady
 returns-then-saturating_sub-from-clause-steady c = flow-none (view_of c.args.self.now) _ _
 
 pub returns-then-saturating_sub-from-clause-within : goal.returns-then-saturating_sub-from-clause-within
-returns-then-saturating_sub-from-clause-within c = let from = c.requires.seen.ahead.first.is_from in omega arith
+returns-then-saturating_sub-from-clause-within c = let from = c.args.self.now.seen.ahead.first.is_from in omega arith

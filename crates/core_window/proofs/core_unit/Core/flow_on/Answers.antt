@@ -4,9 +4,9 @@ use Rattle.core_window.specs.CoreViews.{view_of}
 use Rattle.core_window.proofs.Stretching.{quiet-none, quiet-steady}
 use Rattle.core_window.proofs.core_unit.Core.flow_on.Goals as goal
 
-pub returns-then-flow-eq0-clause-goes : goal.returns-then-flow-eq0-clause-goes
-returns-then-flow-eq0-clause-goes c = quiet-none (view_of c.args.self.now) c.args.until (omega arith)
+pub returns-then-flow-eq0 : goal.returns-then-flow-eq0
+returns-then-flow-eq0 c = quiet-none (view_of c.args.self.now) c.args.until (omega arith)
 
-pub returns-clause-goes : goal.returns-clause-goes
-returns-clause-goes c =
+pub returns : goal.returns
+returns c =
     quiet-steady (view_of c.args.self.now) (view_of c.pass.new.self) c.flow-flow.result.cycles c.args.until _ _ c.flow-flow.ensures.steady c.pass.ensures (omega (arith, c.flow-flow.ensures.most))

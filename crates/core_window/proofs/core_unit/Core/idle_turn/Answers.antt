@@ -14,7 +14,7 @@ cause_at-why-requires c = let h : IsSound (view_of c.args.self.now) = sound _ c.
 pub returns-clause-does : goal.returns-clause-does
 returns-clause-does c =
     let a = view_of c.args.self.now in
-    let cause : stuck_cause a c.args.ahead.now.two ≡ c.cause_at-why.result =
-    sym (c.cause_at-why.ensures ∙ ap (λ n. cause_at a.config.width a.config.window n a.stats.issued a.stats.retired c.args.ahead.now.two 0) c.len.ensures.value) in
+    let cause : stuck_cause a c.args.self.now.found.two ≡ c.cause_at-why.result =
+    sym (c.cause_at-why.ensures ∙ ap (λ n. cause_at a.config.width a.config.window n a.stats.issued a.stats.retired c.args.self.now.found.two 0) c.len.ensures.value) in
     subst (λ why. Does a idle_row why None) cause
-    (stuck-does a c.args.ahead.now.one c.args.ahead.now.two c.args.ahead.now.entry c.requires.seen c.requires.undone c.requires.full)
+    (stuck-does a c.args.self.now.found.one c.args.self.now.found.two c.args.self.now.found.entry c.args.self.now.seen c.requires.undone c.requires.full)

@@ -12,7 +12,7 @@ turn-requires c = rest-standing (view_of c.args.self.now) c.requires.stands
 pub returns-then-row-eq0-2 : goal.returns-then-row-eq0-2
 returns-then-row-eq0-2 c s core trace rows mail h =
     at_rest s core trace rows mail (view_of c.args.self.now) c.turn.result.row c.turn.result.why c.turn.result.memory
-    (row_is_idle c.turn.result.row c.if-row-eq0.true c.if-row-eq0-2.true) c.turn.ensures h
+    (row_is_idle c.turn.result.row c.if-row-eq0.true c.if-row-eq0-2.true) c.turn.ensures.does h
 
 pub returns-else-row-eq0 : goal.returns-else-row-eq0
 returns-else-row-eq0 c s core trace rows mail h =
@@ -21,4 +21,4 @@ returns-else-row-eq0 c s core trace rows mail h =
       | else-row-eq0-via-then-row-eq0+else-row-eq0-2 w ↦ w.if-row-eq0-2.false (ap (λ (r : CoreRow). r.issued) e)
       | else-row-eq0-via-else-row-eq0 w ↦ w.if-row-eq0.false (ap (λ (r : CoreRow). r.retired) e)
     ])
-    c.turn.ensures h
+    c.turn.ensures.does h

@@ -1,5 +1,5 @@
 -- What the core does in the next cycle, it does in each until then.
-use Rattle.std.proofs.Common.{◌-◌, ap, arith}
+use Rattle.std.proofs.Common.{◌≡◌, ◌-◌, ap, arith}
 use Rattle.sim_base.specs.declared.history.CoreRow.{CoreRow}
 use Rattle.core_window.specs.CoreViews.{view_of}
 use Rattle.core_window.proofs.Stretching.{rest-steady, quiet-steady}
@@ -16,3 +16,8 @@ returns-clause-goes c =
     (rest-steady (view_of c.args.self.now) c.idle_turn-turn.result.row c.idle_turn-turn.result.why c.idle_turn-turn.result.memory _
     (ap (λ (r : CoreRow). r.retired) c.idle_turn-turn.ensures.idle) (ap (λ (r : CoreRow). r.issued) c.idle_turn-turn.ensures.idle) c.idle_turn-turn.ensures.does)
     c.pass.ensures (omega arith)
+
+pub pass-requires-clause-within : goal.pass-requires-clause-within
+pass-requires-clause-within c =
+    let none : c.idle_turn-turn.result.row.issued ≡ 0 = ap (λ (r : CoreRow). r.issued) c.idle_turn-turn.ensures.idle in
+    rw none (omega (arith, c.args.self.now.seen.ahead.first.is_from))

@@ -6,16 +6,19 @@ use Rattle.core_window.proofs.core_unit.Core.rest_or_step.Goals as goal
 
 pub pass-requires-clause-steady : goal.pass-requires-clause-steady
 pass-requires-clause-steady c =
-    rest-steady (view_of c.args.self.now) c.turn_with-turn.result.row c.turn_with-turn.result.why c.turn_with-turn.result.memory _ c.if-turn-eq0.true c.if-turn-eq0-2.true c.turn_with-turn.ensures.does
+    rest-steady (view_of c.args.self.now) c.turn-turn.result.row c.turn-turn.result.why c.turn-turn.result.memory _ c.if-turn-eq0.true c.if-turn-eq0-2.true c.turn-turn.ensures.does
 
-pub returns-then-turn-eq0-2-clause-goes : goal.returns-then-turn-eq0-2-clause-goes
-returns-then-turn-eq0-2-clause-goes c =
-    steady-goes (view_of c.args.self.now) (view_of c.pass.new.self) _ c.args.until c.turn_with-turn.result.row c.turn_with-turn.result.why c.args.sent.now.items
-    (rest-steady (view_of c.args.self.now) c.turn_with-turn.result.row c.turn_with-turn.result.why c.turn_with-turn.result.memory _ c.if-turn-eq0.true c.if-turn-eq0-2.true c.turn_with-turn.ensures.does)
+pub returns-then-turn-eq0-2 : goal.returns-then-turn-eq0-2
+returns-then-turn-eq0-2 c =
+    steady-goes (view_of c.args.self.now) (view_of c.pass.new.self) _ c.args.until c.turn-turn.result.row c.turn-turn.result.why c.args.sent.now.items
+    (rest-steady (view_of c.args.self.now) c.turn-turn.result.row c.turn-turn.result.why c.turn-turn.result.memory _ c.if-turn-eq0.true c.if-turn-eq0-2.true c.turn-turn.ensures.does)
     c.pass.ensures (omega arith) (omega arith)
 
-pub returns-else-turn-eq0-clause-goes : goal.returns-else-turn-eq0-clause-goes
-returns-else-turn-eq0-clause-goes c =
+pub returns-else-turn-eq0 : goal.returns-else-turn-eq0
+returns-else-turn-eq0 c =
     ok-both c.step.result _ _ _
     (λ e h. cycle-goes (view_of c.args.self.now) (view_of c.step.new.self) c.args.until c.args.sent.now.items c.step.new.sent.items c.requires.order e h)
     c.step.ensures.cycle c.step.ensures.advances
+
+pub pass-requires-clause-within : goal.pass-requires-clause-within
+pass-requires-clause-within c = rw c.if-turn-eq0-2.true (omega (arith, c.args.self.now.seen.ahead.first.is_from))

@@ -2,20 +2,13 @@
 use Rattle.std.proofs.Common.{subst, arith}
 use Rattle.core_window.specs.CoreViews.{view_of}
 use Rattle.core_window.specs.Rests.{IsNextAct}
-use Rattle.core_window.proofs.Resting.{rest-standing}
 use Rattle.core_window.proofs.Silent.{rest-silent, plain-silent}
 use Rattle.core_window.proofs.core_unit.Core.silent_until.Goals as goal
 
-pub ahead-requires : goal.ahead-requires
-ahead-requires c = rest-standing (view_of c.args.self.now) c.requires.stands
-
-pub plain_cycles-requires-clause-stands : goal.plain_cycles-requires-clause-stands
-plain_cycles-requires-clause-stands c = rest-standing (view_of c.args.self.now) c.requires.stands
-
 pub returns-in-Some-clause-silent : goal.returns-in-Some-clause-silent
 returns-in-Some-clause-silent c =
-    plain-silent (view_of c.args.self.now) c.ahead.result.one c.ahead.result.two c.plain_cycles.result c.saturating_add.result c.ahead.result.entry
-    c.ahead.ensures.seen c.plain_cycles.ensures (omega (arith, c.requires.at, c.saturating_add.ensures))
+    plain-silent (view_of c.args.self.now) c.args.self.now.found.one c.args.self.now.found.two c.plain_cycles.result c.saturating_add.result c.args.self.now.found.entry
+    c.args.self.now.seen c.plain_cycles.ensures (omega (arith, c.requires.at, c.saturating_add.ensures))
 
 pub returns-in-None-clause-silent : goal.returns-in-None-clause-silent
 returns-in-None-clause-silent c s core trace rows mail h =

@@ -17,7 +17,7 @@ pub joined-self-requires : goal.joined-self-requires
 joined-self-requires c =
     subst (λ (x : CoreStats). CoreFits (core_joined c.args.self.now.stats x))
     (sym (c.times.ensures ∙ ap (core_times (c.args.until - c.args.self.now.cycle)) c.cycle_counts-idle.ensures))
-    (skip-fits (view_of c.args.self.now) c.args.until c.turn-turn.result.row c.turn-turn.result.why c.turn-turn.result.memory c.requires.stands c.turn-turn.ensures c.requires.early)
+    (skip-fits (view_of c.args.self.now) c.args.until c.turn-turn.result.row c.turn-turn.result.why c.turn-turn.result.memory c.requires.stands c.turn-turn.ensures.does c.requires.early)
 
 pub returns : goal.returns
 returns c s core trace rows mail h =
@@ -29,4 +29,4 @@ returns c s core trace rows mail h =
     let counted : core_joined a.stats (core_times n (idle_counts why a.now)) ≡ c.joined-self.result =
     sym (c.joined-self.ensures ∙ ap (core_joined a.stats) (c.times.ensures ∙ ap (core_times n) c.cycle_counts-idle.ensures)) in
     subst (λ (v : CoreView). StandsFor s core trace (rows ++ replicate n idle_row) mail v × Rests s core trace rows mail n) (ap₂ with now counted)
-    (skipped a c.args.until c.turn-turn.result.row why c.turn-turn.result.memory c.requires.stands c.turn-turn.ensures s core trace rows mail h)
+    (skipped a c.args.until c.turn-turn.result.row why c.turn-turn.result.memory c.requires.stands c.turn-turn.ensures.does s core trace rows mail h)

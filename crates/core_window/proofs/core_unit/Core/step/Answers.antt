@@ -1,15 +1,16 @@
 -- The parts change a core as its turn says.
-use Rattle.std.proofs.Common.{◌≡◌, ◌∙◌, List, length, sym, ap, refl, subst, arith}
+use Rattle.std.proofs.Common.{◌≡◌, ◌∙◌, ◌+◌, List, length, sym, ap, refl, subst, arith}
 use Rattle.std.specs.Prelude.{slice_get}
 use Rattle.std.specs.Vec.{with_items}
 use Rattle.std.proofs.lemmas.List.{with_items_is}
 use Rattle.statistics.specs.Cores.{core_joined, CoreFits}
+use Rattle.statistics.specs.declared.cores.CoreStats.{CoreStats}
 use Rattle.statistics.specs.declared.final_state.Credits.{Credits}
 use Rattle.core_window.specs.CoreViews.{view_of}
 use Rattle.core_window.specs.Turns.{cycle_counts}
 use Rattle.core_window.proofs.Foreseeing.{issued-placed}
 use Rattle.core_window.proofs.Stepping.{step-fits, step-advances}
-use Rattle.core_window.proofs.Turning.{like-self}
+use Rattle.core_window.proofs.Turning.{like-self, two_least}
 use Rattle.core_window.proofs.core_unit.Core.step.Goals as goal
 
 pub count_cycle-requires : goal.count_cycle-requires
@@ -34,11 +35,24 @@ returns-clause-advances c =
       waiting = c.in_ok-wait_for.ensures {u = tt};
       channels = ap length kept ∙ c.spend.auto.credits ∙ ap length c.deref_mut.ensures.value;
       credits = λ channel x e. ap (λ (cs : List Credits). slice_get cs channel) kept
-          ∙ c.spend.ensures c.args.self.now.config (issued-placed c.args.self.now.config c.args.self.now.trace c.args.ahead.now c.args.turn.memory c.requires.known c.requires.entry) channel x (ap (λ (cs : List Credits). slice_get cs channel) c.deref_mut.ensures.value ∙ e);
+          ∙ c.spend.ensures c.args.self.now.config (issued-placed c.args.self.now.config c.args.self.now.trace c.args.self.now.found c.args.turn.memory c.args.self.now.known c.requires.entry) channel x (ap (λ (cs : List Credits). slice_get cs channel) c.deref_mut.ensures.value ∙ e);
       stats = c.count_cycle.ensures
           ∙ ap (λ n. core_joined c.args.self.now.stats (cycle_counts c.args.turn.row c.args.turn.why c.args.turn.memory c.args.self.now.stats.retired n c.args.self.now.cycle)) c.len-len.ensures.value;
     })
     (c.in_ok-send.ensures {u = tt})
 
 pub send-requires-clause-placed : goal.send-requires-clause-placed
-send-requires-clause-placed c = issued-placed c.args.self.now.config c.args.self.now.trace c.args.ahead.now c.args.turn.memory c.requires.known c.requires.entry
+send-requires-clause-placed c = issued-placed c.args.self.now.config c.args.self.now.trace c.args.self.now.found c.args.turn.memory c.args.self.now.known c.requires.entry
+
+pub look_ahead-requires-clause-seen : goal.look_ahead-requires-clause-seen
+look_ahead-requires-clause-seen c =
+    let grown : c.count_cycle.new.stats.issued ≡ c.args.self.now.stats.issued + c.args.turn.row.issued = ap (λ (x : CoreStats). x.issued) c.count_cycle.ensures in
+    (c.args.self.now.stats.issued, omega (arith, grown), c.args.self.now.seen)
+
+pub look_ahead-requires-clause-within : goal.look_ahead-requires-clause-within
+look_ahead-requires-clause-within c =
+    let grown : c.count_cycle.new.stats.issued ≡ c.args.self.now.stats.issued + c.args.turn.row.issued = ap (λ (x : CoreStats). x.issued) c.count_cycle.ensures in
+    omega (arith, grown, c.requires.within)
+
+pub look_ahead-requires-clause-room : goal.look_ahead-requires-clause-room
+look_ahead-requires-clause-room c = two_least c.args.self.now.trace _ _ _ c.args.self.now.seen.ahead

@@ -11,36 +11,36 @@ use Rattle.core_window.specs.declared.waiting.WaitingRead.{WaitingRead}
 use Rattle.statistics.specs.declared.final_state.Credits.{Credits}
 use Rattle.core_window.proofs.Stopping.{is_last}
 use Rattle.core_window.proofs.Turning.{IsSound, sound, turn-is, lacks_here, lazy-count, issues_within}
-use Rattle.core_window.proofs.core_unit.Core.turn_with.Goals as goal
-use Rattle.core_window.proofs.core_unit.Core.turn_with.Goals.{then-ahead-near, else-ahead-near}
+use Rattle.core_window.proofs.core_unit.Core.turn.Goals as goal
+use Rattle.core_window.proofs.core_unit.Core.turn.Goals.{then-self-near, else-self-near}
 
 pub overflow_add-gone : goal.overflow_add-gone
-overflow_add-gone c = let h : IsSound (view_of c.args.self.now) = sound _ c.requires.stands in omega arith
+overflow_add-gone c = let h : IsSound (view_of c.args.self.now) = sound _ c.requires in omega arith
 
 pub returns-clause-does : goal.returns-clause-does
 returns-clause-does c v s core trace rows mail i h =
     let a = view_of c.args.self.now in
-    let one = c.args.ahead.now.one in
-    let two = c.args.ahead.now.two in
+    let one = c.args.self.now.found.one in
+    let two = c.args.self.now.found.two in
     let r = c.retire_count-retired.result in
     let gone = a.stats.retired + r in
     let full : Bool = ltb one (length a.trace) && lacks_credit a.config core mail (core_messages s core trace rows) (length rows) (slice_get a.trace one) in
     let lack = λ (b : Bool). b && lacks_credit a.config core mail (core_messages s core trace rows) (length rows) (slice_get a.trace one) in
-    let lacks = c.if-ahead-near.lacks in
-    let seen = c.requires.seen in
-    let near : one < min (a.stats.issued + min a.config.width (a.config.window - (a.stats.issued - gone))) (length a.trace) → lacks ≡ full = λ l. elim c.if-ahead-near.branch [
-      | then-ahead-near w ↦
+    let lacks = c.if-self-near.lacks in
+    let seen = c.args.self.now.seen in
+    let near : one < min (a.stats.issued + min a.config.width (a.config.window - (a.stats.issued - gone))) (length a.trace) → lacks ≡ full = λ l. elim c.if-self-near.branch [
+      | then-self-near w ↦
           let inside : one < length a.trace = omega arith in
           w.lacks-is
-          ∙ lacks_here s core trace rows mail a v c.args.ahead.now.entry w.is_without_credit-lacks.result i h
-          (λ held says. w.is_without_credit-lacks.ensures a.config held c.requires.known.placed (λ channel b. ap (λ (cs : List Credits). slice_get cs channel) w.deref-then-ahead-near.ensures.value ∙ says channel b))
+          ∙ lacks_here s core trace rows mail a v c.args.self.now.found.entry w.is_without_credit-lacks.result i h
+          (λ held says. w.is_without_credit-lacks.ensures a.config held c.args.self.now.known.placed (λ channel b. ap (λ (cs : List Credits). slice_get cs channel) w.deref-then-self-near.ensures.value ∙ says channel b))
           ∙ ap (lacks_credit a.config core mail (core_messages s core trace rows) (length rows)) (sym (seen.is_at inside))
           ∙ ap lack (sym (lt-ltb one (length a.trace) inside))
-      | else-ahead-near w ↦ absurd (omega (arith, w.if-ahead-near.false, c.most_issued-near.ensures, c.from.ensures, c.len-len.ensures.value))
+      | else-self-near w ↦ absurd (omega (arith, w.if-self-near.false, c.most_issued-near.ensures, c.from.ensures, c.len-len.ensures.value))
     ] in
-    let far : min (a.stats.issued + min a.config.width (a.config.window - (a.stats.issued - gone))) (length a.trace) ≤ one → lacks ≡ false = λ g. elim c.if-ahead-near.branch [
-      | then-ahead-near w ↦ absurd (omega (arith, w.if-ahead-near.true, c.most_issued-near.ensures, c.from.ensures, c.len-len.ensures.value))
-      | else-ahead-near w ↦ w.lacks-is ∙ le-ltb one c.most_issued-near.result w.if-ahead-near.false
+    let far : min (a.stats.issued + min a.config.width (a.config.window - (a.stats.issued - gone))) (length a.trace) ≤ one → lacks ≡ false = λ g. elim c.if-self-near.branch [
+      | then-self-near w ↦ absurd (omega (arith, w.if-self-near.true, c.most_issued-near.ensures, c.from.ensures, c.len-len.ensures.value))
+      | else-self-near w ↦ w.lacks-is ∙ le-ltb one c.most_issued-near.result w.if-self-near.false
     ] in
     let count : c.issue_of-issue.result.count ≡ issue_count a.config.width a.config.window a.stats.issued gone one two full =
     c.issue_of-issue.ensures.count ∙ ap (λ n. issue_count a.config.width a.config.window a.stats.issued (a.stats.retired + n) one two lacks) c.from.ensures
@@ -58,7 +58,15 @@ returns-clause-does c v s core trace rows mail i h =
           (λ why. IsLast a.config core a.trace mail (core_messages s core trace rows) (length rows) a.stats.issued gone one two full c.issue_of-issue.result.count why) cause
           (is_last a.config core a.trace mail (core_messages s core trace rows) (length rows) a.stats.issued gone one two full may c.issue_of-issue.result.count count);
       issues = c.entry_issued-memory.ensures.issued a.trace seen
-          (issues_within a.trace a.config.width a.config.window a.stats.issued gone one two c.issue_of-issue.result.count full seen.ahead (sound _ c.requires.stands).issued count)
-          (sound _ c.requires.stands).issued;
+          (issues_within a.trace a.config.width a.config.window a.stats.issued gone one two c.issue_of-issue.result.count full seen.ahead (sound _ c.requires).issued count)
+          (sound _ c.requires).issued;
       at = c.entry_issued-memory.ensures.at;
     })
+
+pub returns-clause-within : goal.returns-clause-within
+returns-clause-within c =
+    let h : IsSound (view_of c.args.self.now) = sound _ c.requires in
+    let a = view_of c.args.self.now in
+    let gone = a.stats.retired + c.retire_count-retired.result in
+    issues_within a.trace a.config.width a.config.window a.stats.issued gone c.args.self.now.found.one c.args.self.now.found.two c.issue_of-issue.result.count c.if-self-near.lacks c.args.self.now.seen.ahead h.issued
+    (c.issue_of-issue.ensures.count ∙ ap (λ n. issue_count a.config.width a.config.window a.stats.issued (a.stats.retired + n) c.args.self.now.found.one c.args.self.now.found.two c.if-self-near.lacks) c.from.ensures)
