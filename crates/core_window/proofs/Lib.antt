@@ -16,3 +16,4 @@ pub mod Fitting
 pub mod Resting
 pub mod Silent
 pub mod Sticking
+pub mod Masking

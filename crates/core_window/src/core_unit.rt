@@ -26,7 +26,7 @@ use crate::counts::{count_cycle, count_cycles, cycle_counts};
 use crate::flow::{Flow, WindowNumbers, cycles_within, flow_of};
 use crate::issue::{Ahead, cause_at, entry_issued, issue_of, look_ahead, most_issued, next_two};
 use crate::issue_effects::{send, spend, wait_for};
-use crate::receive::{add_credit_at, count_reply, is_waiting, take_read};
+use crate::receive::{add_credit_at, channel_of, count_reply, is_waiting, take_read};
 use crate::retire::{is_next_done, is_stuck, retire_count};
 use crate::waiting::WaitingRead;
 use address_map::digits::Digits;
@@ -220,7 +220,7 @@ impl Core {
             → slice_get self.new.credits.items channel
             ≡ Some (if link / 3 % self.old.config.channels == channel then more_credit write c else c) }
     {
-        let channel = link / 3 % u64::from(self.config.channels);
+        let channel = channel_of(&self.config, link);
         add_credit_at(&mut self.credits, channel as usize, write);
     }
 

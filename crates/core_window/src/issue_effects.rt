@@ -1,8 +1,9 @@
 //! What an entry that issues changes.
 
-ghost use Rattle.std.specs.Prelude.{◌≡◌, ℕ, ◌^◌, ◌<◌, ◌++◌, ◌==◌, length, slice_get, Some, OnOk, if◌then◌else◌};
+ghost use Rattle.std.specs.Prelude.{◌≡◌, ℕ, ◌%◌, ◌^◌, ◌<◌, ◌++◌, ◌==◌, length, slice_get, Some, OnOk, if◌then◌else◌};
 ghost use Rattle.sim_base.specs.History.{request, request_of};
 ghost use Rattle.std.specs.Option.{IfSome};
+ghost use Rattle.sim_base.specs.Config.{latency};
 ghost use Rattle.sim_base.specs.Places.{place_of};
 ghost use Rattle.sim_base.specs.declared.config.Config.{Config};
 ghost use Rattle.core_window.specs.Ahead.{IsPlaced};
@@ -13,7 +14,7 @@ use crate::receive::take_credit;
 use crate::waiting::WaitingRead;
 use cpu_trace::entries::MemoryEntry;
 use sim_base::config::Config;
-use sim_base::message::{CoreId, Cycle, Load, Message, Request};
+use sim_base::message::{CoreId, Cycle, LinkId, Load, Message, Request};
 use sim_base::place::Place;
 use sim_base::trace::Entry;
 use statistics::final_state::Credits;
@@ -63,6 +64,18 @@ pub fn spend(credits: &mut [Credits], place: &Place, memory: Option<MemoryEntry>
     }
 }
 
+/// How many cycles a message travels on a link for requests.
+#[tactic(auto, unfolding(sim_base::specs::Config::latency))]
+fn request_latency(config: &Config, link: LinkId) -> u32
+    requires { link % 3 ≡ 0 }
+    ensures { result ≡ latency config.now link }
+{
+    match config.overrides.as_slice() {
+        [] => config.request_latency,
+        _ => config.latency(link),
+    }
+}
+
 #[tactic(auto, unfolding(sim_base::specs::History::request))]
 fn request_of_address(
     config: &Config,
@@ -78,7 +91,7 @@ fn request_of_address(
     ensures { result ≡ request config.now core now entry write address }
 {
     let link = config.request_link(core, place.channel);
-    let arrival = now + u64::from(config.latency(link));
+    let arrival = now + u64::from(request_latency(config, link));
     Message {
         link,
         arrival,

@@ -1,12 +1,14 @@
 //! What a message changes.
 
-ghost use Rattle.std.specs.Prelude.{◌≡◌, ◌+◌, ◌-◌, ◌<◌, ◌^◌, ◌==◌, not, filter, find, position, length, slice_get, ℕ, Some, if◌then◌else◌};
+ghost use Rattle.std.specs.Prelude.{◌≡◌, ◌+◌, ◌-◌, ◌/◌, ◌%◌, ◌<◌, ◌^◌, ◌==◌, not, filter, find, position, length, slice_get, ℕ, Some, if◌then◌else◌};
 ghost use Rattle.core_window.specs.Turns.{more_credit, less_credit, credits_of_kind};
 ghost use Rattle.core_window.specs.Waiting.{is_waiting, IsByNumber};
 ghost use Rattle.core_window.specs.declared.waiting.WaitingRead.{WaitingRead};
 ghost use Rattle.statistics.specs.declared.final_state.Credits.{Credits};
 
 use crate::waiting::WaitingRead;
+use sim_base::config::Config;
+use sim_base::message::LinkId;
 use statistics::cores::CoreStats;
 use statistics::final_state::Credits;
 
@@ -32,6 +34,13 @@ pub fn take_read(waiting: &mut Vec<WaitingRead>, entry: u64) -> Option<WaitingRe
 {
     let place = place_of_read(waiting, entry)?;
     Some(waiting.remove(place))
+}
+
+/// The channel of a link.
+pub fn channel_of(config: &Config, link: LinkId) -> u64
+    ensures { result ≡ link / 3 % config.now.channels }
+{
+    (link / 3) & u64::from(config.channels - 1)
 }
 
 /// One credit more.
