@@ -1,12 +1,13 @@
 -- Where the first entry of a full window waits, none retires and none issues.
-use Rattle.std.proofs.Common.{zero, suc, [], ◌∷◌, ◌<◌, List, Some, ⊎_elim, Bool, true, false, ◌≡◌, ◌&&◌, ℕ, length, refl, ap, ltb, ◌-◌, ◌+◌, ◌≤◌, None, subst, add-zero, arith}
+use Rattle.std.proofs.Common.{cond, eqb, zero, suc, [], ◌∷◌, ◌<◌, List, Some, ⊎_elim, Bool, true, false, ◌≡◌, ◌&&◌, ℕ, length, refl, ap, ltb, ◌-◌, ◌+◌, ◌≤◌, None, subst, add-zero, arith}
 use Rattle.std.specs.Prelude.{slice_get}
 use Rattle.sim_base.specs.History.{core_messages}
 use Rattle.std.specs.Prelude.{Option}
-use Rattle.std.proofs.lemmas.Bool.{cases_lt}
+use Rattle.std.proofs.lemmas.Bool.{cases_lt, ne_eqb, eq-eqb}
 use Rattle.sim_base.specs.Windows.{is_memory_in, lacks_credit}
 use Rattle.sim_base.specs.declared.trace.Entry.{Entry}
 use Rattle.sim_base.specs.declared.trace.Stop.{Stop}
+use Rattle.sim_base.specs.declared.trace.Stop.TheVariants.{End, Window}
 use Rattle.core_window.specs.Causes.{first_undone, issue_count, cause_at}
 use Rattle.core_window.specs.Inside.{Does}
 use Rattle.core_window.specs.Rests.{idle_row, IsAtRest}
@@ -48,6 +49,12 @@ stuck-does a one two entry seen undone most v s core trace rows mail i h =
       issues = λ k l b. absurd (omega arith);
       at = tt;
     })
+
+pub stuck_cause-full : (a : CoreView) (two : ℕ) → 0 < a.config.width → a.stats.issued - a.stats.retired ≡ a.config.window → stuck_cause a two ≡ cond (eqb a.stats.issued (length a.trace)) End Window
+stuck_cause-full a two some full =
+    let not_width : eqb 0 a.config.width ≡ false = ne_eqb 0 a.config.width (λ e. omega arith) in
+    let is_window : eqb (a.stats.issued - a.stats.retired) a.config.window ≡ true = eq-eqb (a.stats.issued - a.stats.retired) a.config.window full in
+    rw (add-zero a.stats.issued, not_width, is_window) refl
 
 -- an entry is Plain, or it is none
 plain_here : (o : Option Entry) → (o ≡ None → ⊥) → is_memory_in o ≡ false → o ≡ Some Plain

@@ -24,10 +24,10 @@ ghost use Rattle.core_window.specs.declared.waiting.WaitingRead.{WaitingRead};
 
 use crate::counts::{count_cycle, count_cycles, cycle_counts};
 use crate::flow::{Flow, WindowNumbers, cycles_within, flow_of};
-use crate::issue::{Ahead, cause_at, entry_issued, issue_of, look_ahead, most_issued, next_two};
+use crate::issue::{Ahead, entry_issued, issue_of, look_ahead, most_issued, next_two};
 use crate::issue_effects::{send, spend, wait_for};
 use crate::receive::{add_credit_at, channel_of, count_reply, is_waiting, take_read};
-use crate::retire::{is_next_done, is_stuck, retire_count};
+use crate::retire::{cause_where_full, is_next_done, is_stuck, retire_count};
 use crate::waiting::WaitingRead;
 use address_map::digits::Digits;
 use cpu_trace::entries::MemoryEntry;
@@ -99,15 +99,7 @@ impl Core {
         ensures does { Does (view_of self.now) result.row result.why result.memory }
         ensures idle { result.row ≡ idle_row }
     {
-        let why = cause_at(
-            self.config.width,
-            self.config.window,
-            self.trace.len(),
-            self.stats.issued,
-            self.stats.retired,
-            self.found.two,
-            0,
-        );
+        let why = cause_where_full(self.trace.len(), self.stats.issued);
         Turn {
             row: CoreRow {
                 retired: 0,

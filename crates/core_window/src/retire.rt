@@ -1,9 +1,10 @@
 //! How many entries retire in a cycle.
 
-ghost use Rattle.std.specs.Prelude.{◌≡◌, ◌-◌, ◌<◌, ◌≤◌, ◌↔◌, min, IsTrue};
+ghost use Rattle.std.specs.Prelude.{◌≡◌, ◌-◌, ◌<◌, ◌≤◌, ◌↔◌, ◌==◌, if◌then◌else◌, min, IsTrue};
 ghost use Rattle.core_window.specs.Causes.{first_undone};
 
 use crate::waiting::WaitingRead;
+use sim_base::trace::Stop;
 
 /// The first entry that isn't done, where so many were issued and these Reads wait.
 fn first_undone(waiting: &[WaitingRead], issued: u64) -> u64
@@ -40,5 +41,16 @@ pub fn is_stuck(window: u32, waiting: &[WaitingRead], issued: u64, retired: u64)
             read.entry <= retired && u64::from(window) <= issued.saturating_sub(retired)
         }
         [] => false,
+    }
+}
+
+/// Why no entry issues from a number on, where the window is full.
+pub fn cause_where_full(len: u64, number: u64) -> Stop
+    ensures { result ≡ (if number == len then Stop.End else Stop.Window) }
+{
+    if number == len {
+        Stop::End
+    } else {
+        Stop::Window
     }
 }
