@@ -126,7 +126,9 @@ pub fn send(
             Entry::Write(address) => (true, address),
             Entry::Plain => return Ok(()),
         };
-        sent.push(request_of_address(config, core, now, next.number, write, address, *place))?;
+        sent.reserve(1)?;
+        let request = request_of_address(config, core, now, next.number, write, address, *place);
+        sent.push_reserved(request);
     }
     Ok(())
 }
