@@ -1,2 +1,3 @@
+pub mod BlockLemmas
 pub mod RowLemmas
 pub mod TableLemmas

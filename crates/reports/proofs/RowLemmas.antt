@@ -1,5 +1,5 @@
 -- What `csv` makes of a line, and what a writer and the rows that wait for it hold then.
-use Rattle.std.proofs.Common.{◌≡◌, ℕ, ◌<◌, List, [], ◌∷◌, ◌++◌, length, codes, Option, None, Some, Result, Ok, Err, OnOk, refl, ap, ◌∙◌, arith}
+use Rattle.std.proofs.Common.{◌≡◌, ℕ, ◌<◌, List, [], ◌∷◌, ◌++◌, length, codes, Option, None, Some, Result, Ok, Err, OnOk, refl, sym, ap, ◌∙◌, arith, append_assoc}
 use Rattle.std.proofs.KnownBytes.{Appends-kept, Keeps-refl, append_known-grown}
 use Rattle.std.proofs.lemmas.Bool.{ne_eqb}
 use Rattle.std.proofs.lemmas.List.{append-nil}
@@ -18,6 +18,10 @@ row_text-plain (byte ∷ rest) some = rw (ne_eqb (length (byte ∷ rest)) 0 (λ 
 -- more rows wait
 pub held-more : (known : Option (List ℕ)) (old new text : List ℕ) → new ≡ old ++ text → Appends (append_known known old) (append_known known new) text
 held-more known old new text more = append_known-grown _ known old new text (Keeps-refl _) more
+
+-- a row waits behind a block of others, where what waited may have moved before
+pub held-behind : (known new : Option (List ℕ)) (front block row : List ℕ) → Keeps known (append_known new (front ++ block)) → Appends known (append_known new (front ++ (block ++ row))) row
+held-behind known new front block row kept = append_known-grown known new (front ++ block) (front ++ (block ++ row)) row kept (sym (append_assoc front block row))
 
 -- and go out, if they do
 pub held-sent : {T E : Type 0} (r : Result T E) (old mid new : Option (List ℕ)) (text : List ℕ) → Appends old mid text → OnOk r (Keeps mid new) → OnOk r (Appends old new text)

@@ -1,6 +1,7 @@
 -- The text of a table.
 --     optional number      a field for a number that may be missing
 --     row_text fields      a row
+--     ended text      rows with the line feed at their end
 --     rows_text rows      rows, one after the other
 --     table_text header rows      a table
 --     numbered f xs      what the items of a list give with their numbers
@@ -30,6 +31,11 @@ comma = 44
 -- a row: its fields, with a comma between each two, and a line feed
 unfoldable pub row_text : List (List ℕ) → List ℕ
 row_text fields = join_with_byte comma fields ++ codes "\n"
+
+-- the text of rows with the line feed at its end, which no rows have
+abbrev pub ended : List ℕ → List ℕ
+ended [] = []
+ended (byte ∷ rest) = byte ∷ rest ++ codes "\n"
 
 -- rows, one after the other
 unfoldable pub rows_text : List (List (List ℕ)) → List ℕ

@@ -8,7 +8,7 @@ use Rattle.reports.specs.declared.table.Table.{Table}
 
 -- the text of the rows that wait
 abbrev pub waiting : Table → List ℕ
-waiting table = (writer_under table.rows).items ++ writer_pending table.rows
+waiting table = (writer_under table.rows).items ++ writer_pending table.rows ++ table.block
 
 -- what the writer holds, and then the rows that wait
 abbrev pub held : {W : Type 0} → (W → Option (List ℕ)) → W → Table → Option (List ℕ)

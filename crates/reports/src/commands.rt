@@ -144,7 +144,7 @@ fn write_command<W: Write>(
 /// Writes the table of commands: a header, and then a row for each command, in their order.
 ///
 /// Where `ranks` is above 1 the table has a column for the rank. The memory that the call takes is that of a batch
-/// of rows, below 64 KB, and some 10 KB for the writer of `csv`.
+/// of rows, below 64 KB, and some 14 KB for the writer of `csv` and what it is handed.
 ///
 /// # Errors
 ///

@@ -406,7 +406,7 @@ fn write_in_flight<W: Write>(
 /// and the messages in flight. Fields that a row does not have are empty.
 ///
 /// Where `ranks` is above 1 the table has a column for the rank. The memory that the call takes is that of a batch
-/// of rows, below 64 KB, and some 10 KB for the writer of `csv`.
+/// of rows, below 64 KB, and some 14 KB for the writer of `csv` and what it is handed.
 ///
 /// # Errors
 ///

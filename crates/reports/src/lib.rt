@@ -1,6 +1,7 @@
 //! Writes the tables that a run leaves, as text of comma-separated values.
 #![tactic(auto)]
 
+mod block;
 mod commands;
 mod final_state;
 mod line;

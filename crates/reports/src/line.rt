@@ -41,7 +41,8 @@ impl Line {
     /// Its text.
     #[inline]
     pub(crate) fn text(&self) -> &[u8]
-        ensures { result.now ≡ self.now }
+        ensures text { result.now ≡ self.now }
+        ensures short { length result.now ≤ 256 }
     {
         &self.bytes[self.start..]
     }

@@ -169,7 +169,8 @@ fn write_channels<W: Write>(
 /// Writes the table of statistics: a header, how many cycles there were, and then a row for each count of each core and of
 /// each channel, by number. A channel that may drain its writes has a row `draining` after all others.
 ///
-/// The memory that the call takes is that of a batch of rows, below 64 KB, and some 10 KB for the writer of `csv`.
+/// The memory that the call takes is that of a batch of rows, below 64 KB, and some 14 KB for the writer of `csv` and what it is
+/// handed.
 ///
 /// # Errors
 ///

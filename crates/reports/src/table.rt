@@ -1,10 +1,11 @@
 //! A table on its way to a writer.
 
-ghost use Rattle.std.specs.Prelude.{◌≡◌, ◌<◌, ◌++◌, [], false, length, codes, IfErr, OnOk};
+ghost use Rattle.std.specs.Prelude.{◌≡◌, ◌<◌, ◌≤◌, ◌+◌, ◌++◌, [], false, length, codes, IfErr, OnOk};
 ghost use Rattle.std.specs.Io.KnownBytes.{Appends, Keeps};
 ghost use Rattle.csv.specs.Writing.{writer_setup, fields_written, has_written, writer_under, writer_pending};
 ghost use Rattle.reports.specs.Rows.{plain_writer, IsReportFault};
 
+use crate::block::Block;
 use crate::line::Line;
 use csv::{QuoteStyle, Writer, WriterBuilder};
 use sim_base::fault::Fault;
@@ -29,10 +30,11 @@ fn rows_after(text: Vec<u8>) -> Writer<Vec<u8>>
 }
 
 /// Rows that wait for a writer, below 64 KB of them, and the row that is being put together. They go out together, and the
-/// memory of their text serves for the next ones.
+/// memory of their text serves for the next ones. The last of them wait in a block, which `csv` gets as one text.
 #[derive(Drop)]
 pub(crate) struct Table {
     pub(crate) line: Line,
+    block: Block,
     alloc: Global,
     rows: Writer<Vec<u8>>,
     ghost plain: { writer_setup rows ≡ plain_writer },
@@ -49,18 +51,39 @@ impl Table {
     {
         Table {
             line: Line::new(),
+            block: Block::new(),
             alloc,
             rows: rows_after(Vec::new(alloc)),
         }
     }
 
-    // Hands all rows that wait to the writer. After an error none wait.
-    #[inline(never)]
+    // Hands the rows of the block to `csv`. After an error those that waited are lost.
+    fn put_block(&mut self) -> Result<(), Fault>
+        ensures waiting { OnOk result (waiting self.new ≡ waiting self.old) }
+        ensures empty { OnOk result (self.new.block ≡ []) }
+        ensures line { self.new.line ≡ self.old.line }
+        ensures refused { IfErr result (λ e. IsReportFault e) }
+    {
+        if self.block.is_empty() {
+            return Ok(());
+        }
+        let Ok(()) = self.rows.write_fields(&[self.block.text()]) else {
+            self.rows = rows_after(Vec::new(self.alloc));
+            return Err(Fault::Memory);
+        };
+        self.block.clear();
+        Ok(())
+    }
+
+    // Hands all rows that wait to the writer. After an error none wait but those of the block.
     fn send<W: Write>(&mut self, writer: &mut W) -> Result<(), Fault>
         ensures written { OnOk result (Keeps (held W.contents writer.old self.old) (held W.contents writer.new self.new)) }
         ensures none { OnOk result (waiting self.new ≡ []) }
+        ensures empty { OnOk result (self.new.block ≡ []) }
+        ensures line { self.new.line ≡ self.old.line }
         ensures refused { IfErr result (λ e. IsReportFault e) }
     {
+        self.put_block()?;
         let full = mem::replace(&mut self.rows, rows_after(Vec::new(self.alloc)));
         let Ok(mut batch) = full.into_inner() else {
             return Err(Fault::Memory);
@@ -73,19 +96,43 @@ impl Table {
         Ok(())
     }
 
+    // Empties the block. Where enough rows wait they go out.
+    #[inline(never)]
+    fn empty_block<W: Write>(&mut self, writer: &mut W) -> Result<(), Fault>
+        ensures written { OnOk result (Keeps (held W.contents writer.old self.old) (held W.contents writer.new self.new)) }
+        ensures empty { OnOk result (self.new.block ≡ []) }
+        ensures line { self.new.line ≡ self.old.line }
+        ensures refused { IfErr result (λ e. IsReportFault e) }
+    {
+        if self.rows.get_ref().len() >= BATCH {
+            return self.send(writer);
+        }
+        self.put_block()
+    }
+
+    // Sees that the block has room for a row.
+    #[inline(always)]
+    fn make_room<W: Write>(&mut self, writer: &mut W) -> Result<(), Fault>
+        ensures written { OnOk result (Keeps (held W.contents writer.old self.old) (held W.contents writer.new self.new)) }
+        ensures room { OnOk result (length self.new.block + 256 ≤ 4096) }
+        ensures line { self.new.line ≡ self.old.line }
+        ensures refused { IfErr result (λ e. IsReportFault e) }
+    {
+        if self.block.has_room() {
+            return Ok(());
+        }
+        self.empty_block(writer)
+    }
+
     /// Ends the row whose fields the line has. Where enough rows wait they go out. After an error those that waited are lost.
+    #[inline(always)]
     pub(crate) fn write_row<W: Write>(&mut self, writer: &mut W) -> Result<(), Fault>
         requires { 0 < length self.old.line }
         ensures written { OnOk result (Appends (held W.contents writer.old self.old) (held W.contents writer.new self.new) (self.old.line ++ codes "\n")) }
         ensures refused { IfErr result (λ e. IsReportFault e) }
     {
-        let Ok(()) = self.rows.write_fields(&[self.line.text()]) else {
-            self.rows = rows_after(Vec::new(self.alloc));
-            return Err(Fault::Memory);
-        };
-        if self.rows.get_ref().len() >= BATCH {
-            return self.send(writer);
-        }
+        self.make_room(writer)?;
+        self.block.push(self.line.text());
         Ok(())
     }
 
