@@ -1,3 +1,4 @@
 pub mod BlockLemmas
+pub mod LineLemmas
 pub mod RowLemmas
 pub mod TableLemmas

@@ -1,13 +1,13 @@
 //! The table of commands, `commands.csv`.
 
-ghost use Rattle.std.specs.Prelude.{◌≡◌, ◌<◌, ◌≤◌, [], ◌∷◌, length, Some, IfErr, OnOk};
+ghost use Rattle.std.specs.Prelude.{◌≡◌, ◌<◌, ◌≤◌, ◌+◌, [], ◌∷◌, ◌++◌, length, drop, decimal, IfErr, OnOk};
 ghost use Rattle.std.specs.Io.KnownBytes.{Appends};
 ghost use Rattle.std.specs.List.{join_with_byte};
 ghost use Rattle.reports.specs.Rows.{comma, row_text, optional, IsReportFault};
 ghost use Rattle.reports.specs.Tables.{held};
 ghost use Rattle.reports.specs.Commands.{header, kind_word, operand_fields, command_fields, commands_text};
 
-use crate::line::Line;
+use crate::line::{Line, put, put_last, put_last_word, put_rank, put_word};
 use crate::table::Table;
 use command_table::table::CommandTable;
 use sim_base::command::{Command, CommandRow, Kind, Source};
@@ -16,56 +16,36 @@ use sim_base::place::BankId;
 use std::alloc::Global;
 use std::io::Write;
 
-fn word_of(kind: Kind) -> &'static [u8]
-    ensures word { result.now ≡ kind_word kind }
-    ensures short { length result.now ≤ 4 }
-{
-    match kind {
-        Kind::Act => b"ACT",
-        Kind::Rd => b"RD",
-        Kind::Wr => b"WR",
-        Kind::Pre => b"PRE",
-        Kind::Prea => b"PREA",
-        Kind::Ref => b"REF",
-    }
-}
-
-// Where a command works and for whom, as far as it says so.
-#[derive(Clone, Copy)]
-struct Operands {
-    group: Option<u64>,
-    bank: Option<u64>,
-    row: Option<u64>,
-    column: Option<u64>,
-    core: Option<u64>,
-    entry: Option<u64>,
-}
-
-fn operands_of_request(
+// The fields of a command of a request, behind that of the rank.
+#[inline(always)]
+fn put_request(
+    line: &mut Line,
     bank: BankId,
-    row: Option<u64>,
-    column: Option<u64>,
+    row: Option<u32>,
+    column: Option<u32>,
     source: Source,
-) -> Operands
-    ensures { result ≡ record { group = Some bank.group; bank = Some bank.bank; row = row; column = column; core = Some source.core; entry = Some source.entry } }
+) -> usize
+    ensures text { drop result line.new ≡ join_with_byte comma (decimal bank.group ∷ decimal bank.bank ∷ optional row ∷ optional column ∷ decimal source.core ∷ decimal source.entry ∷ []) }
+    ensures low { 131 ≤ result }
+    ensures high { result ≤ 256 }
 {
-    Operands {
-        group: Some(u64::from(bank.group)),
-        bank: Some(u64::from(bank.bank)),
-        row,
-        column,
-        core: Some(u64::from(source.core)),
-        entry: Some(source.entry),
-    }
+    let start = put_last(line, Some(source.entry));
+    let start = put(line, start, Some(u64::from(source.core)));
+    let start = put(line, start, column.map(u64::from));
+    let start = put(line, start, row.map(u64::from));
+    let start = put(line, start, Some(u64::from(bank.bank)));
+    put(line, start, Some(u64::from(bank.group)))
 }
 
-fn operands_of(command: Command) -> Operands
-    ensures { optional result.group ∷ optional result.bank ∷ optional result.row ∷ optional result.column ∷ optional result.core ∷ optional result.entry ∷ [] ≡ operand_fields command }
+// The fields behind that of the rank, of which a command of a whole rank fills none.
+#[inline(always)]
+fn put_operands(line: &mut Line, command: Command) -> usize
+    ensures text { drop result line.new ≡ join_with_byte comma (operand_fields command) }
+    ensures low { 131 ≤ result }
+    ensures high { result ≤ 256 }
 {
     match command {
-        Command::Act { bank, row, source } => {
-            operands_of_request(bank, Some(u64::from(row)), None, source)
-        }
+        Command::Act { bank, row, source } => put_request(line, bank, Some(row), None, source),
         Command::Rd {
             bank,
             row,
@@ -77,16 +57,27 @@ fn operands_of(command: Command) -> Operands
             row,
             column,
             source,
-        } => operands_of_request(bank, Some(u64::from(row)), Some(u64::from(column)), source),
-        Command::Pre { bank, source } => operands_of_request(bank, None, None, source),
-        Command::Prea { .. } | Command::Ref { .. } => Operands {
-            group: None,
-            bank: None,
-            row: None,
-            column: None,
-            core: None,
-            entry: None,
-        },
+        } => put_request(line, bank, Some(row), Some(column), source),
+        Command::Pre { bank, source } => put_request(line, bank, None, None, source),
+        Command::Prea { .. } | Command::Ref { .. } => put_last_word(line, b",,,,,"),
+    }
+}
+
+// The word of a kind, before the fields behind it.
+#[inline(always)]
+fn put_kind(line: &mut Line, end: usize, kind: Kind) -> usize
+    requires { (5 ≤ end) × (end ≤ 256) }
+    ensures text { drop result line.new ≡ kind_word kind ++ comma ∷ drop end line.old }
+    ensures low { end ≤ result + 5 }
+    ensures high { result < end }
+{
+    match kind {
+        Kind::Act => put_word(line, end, b"ACT"),
+        Kind::Rd => put_word(line, end, b"RD"),
+        Kind::Wr => put_word(line, end, b"WR"),
+        Kind::Pre => put_word(line, end, b"PRE"),
+        Kind::Prea => put_word(line, end, b"PREA"),
+        Kind::Ref => put_word(line, end, b"REF"),
     }
 }
 
@@ -106,26 +97,21 @@ fn write_header<W: Write>(table: &mut Table, ranks: u32, writer: &mut W) -> Resu
     ensures written { OnOk result (Appends (held W.contents writer.old table.old) (held W.contents writer.new table.new) (row_text (header ranks))) }
     ensures refused { IfErr result (λ e. IsReportFault e) }
 {
-    table.line.end_with_word(columns(ranks));
-    table.write_row(writer)
+    let start = put_last_word(&mut table.line, columns(ranks));
+    table.write_row(start, writer)
 }
 
 // The fields of a row, from the last to the first.
-fn put_command(line: &mut Line, ranks: u32, row: &CommandRow)
-    ensures text { line.new ≡ join_with_byte comma (command_fields ranks row.now) }
-    ensures some { 0 < length line.new }
+#[inline(always)]
+fn put_command(line: &mut Line, ranks: u32, row: &CommandRow) -> usize
+    ensures text { drop result line.new ≡ join_with_byte comma (command_fields ranks row.now) }
+    ensures some { result < 256 }
 {
-    let operands = operands_of(row.command);
-    line.end_with(operands.entry);
-    line.put(operands.core);
-    line.put(operands.column);
-    line.put(operands.row);
-    line.put(operands.bank);
-    line.put(operands.group);
-    line.put_rank(ranks, Some(u64::from(row.command.rank())));
-    line.put_word(word_of(row.command.kind()));
-    line.put(Some(u64::from(row.channel)));
-    line.put(Some(row.cycle));
+    let start = put_operands(line, row.command);
+    let start = put_rank(line, start, ranks, Some(u64::from(row.command.rank())));
+    let start = put_kind(line, start, row.command.kind());
+    let start = put(line, start, Some(u64::from(row.channel)));
+    put(line, start, Some(row.cycle))
 }
 
 fn write_command<W: Write>(
@@ -137,8 +123,8 @@ fn write_command<W: Write>(
     ensures written { OnOk result (Appends (held W.contents writer.old table.old) (held W.contents writer.new table.new) (row_text (command_fields ranks row.now))) }
     ensures refused { IfErr result (λ e. IsReportFault e) }
 {
-    put_command(&mut table.line, ranks, row);
-    table.write_row(writer)
+    let start = put_command(&mut table.line, ranks, row);
+    table.write_row(start, writer)
 }
 
 /// Writes the table of commands: a header, and then a row for each command, in their order.

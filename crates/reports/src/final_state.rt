@@ -1,13 +1,13 @@
 //! The table of the state in which a run ends, `final.csv`.
 
-ghost use Rattle.std.specs.Prelude.{◌≡◌, ◌<◌, ◌≤◌, length, map, Some, IfErr, OnOk};
+ghost use Rattle.std.specs.Prelude.{◌≡◌, ◌<◌, ◌≤◌, length, drop, map, Some, IfErr, OnOk};
 ghost use Rattle.std.specs.Io.KnownBytes.{Appends};
 ghost use Rattle.std.specs.List.{join_with_byte};
 ghost use Rattle.reports.specs.Rows.{comma, row_text, rows_text, numbered, IsReportFault};
 ghost use Rattle.reports.specs.Final.{final_header, final_fields, progress_rows, credit_rows, credits_of_core, due_rows, open_numbers, open_fields, queued_item, queued_numbers, queued_fields, channel_rows, flight_item, flight_entry, core_of_link, channel_of_link, flight_numbers, flight_fields, final_text};
 ghost use Rattle.reports.specs.Tables.{held};
 
-use crate::line::Line;
+use crate::line::{Line, put, put_last, put_last_word, put_rank, put_word};
 use crate::table::Table;
 use sim_base::fault::Fault;
 use sim_base::message::{LinkId, Load, Message, Request};
@@ -55,25 +55,25 @@ fn write_header<W: Write>(table: &mut Table, ranks: u32, writer: &mut W) -> Resu
     ensures written { OnOk result (Appends (held W.contents writer.old table.old) (held W.contents writer.new table.new) (row_text (final_header ranks))) }
     ensures refused { IfErr result (λ e. IsReportFault e) }
 {
-    table.line.end_with_word(columns(ranks));
-    table.write_row(writer)
+    let start = put_last_word(&mut table.line, columns(ranks));
+    table.write_row(start, writer)
 }
 
 // The fields of a row, from the last to the first.
-fn put_numbers(line: &mut Line, ranks: u32, item: &[u8], numbers: &Numbers)
+fn put_numbers(line: &mut Line, ranks: u32, item: &[u8], numbers: &Numbers) -> usize
     requires { length item.now ≤ 32 }
-    ensures text { line.new ≡ join_with_byte comma (final_fields ranks item.now numbers.now) }
-    ensures some { 0 < length line.new }
+    ensures text { drop result line.new ≡ join_with_byte comma (final_fields ranks item.now numbers.now) }
+    ensures some { result < 256 }
 {
-    line.end_with(numbers.value);
-    line.put(numbers.cycle);
-    line.put(numbers.entry);
-    line.put(numbers.bank);
-    line.put(numbers.group);
-    line.put_rank(ranks, numbers.rank);
-    line.put(numbers.channel);
-    line.put(numbers.core);
-    line.put_word(item);
+    let start = put_last(line, numbers.value);
+    let start = put(line, start, numbers.cycle);
+    let start = put(line, start, numbers.entry);
+    let start = put(line, start, numbers.bank);
+    let start = put(line, start, numbers.group);
+    let start = put_rank(line, start, ranks, numbers.rank);
+    let start = put(line, start, numbers.channel);
+    let start = put(line, start, numbers.core);
+    put_word(line, start, item)
 }
 
 fn write_numbers<W: Write>(
@@ -87,8 +87,8 @@ fn write_numbers<W: Write>(
     ensures written { OnOk result (Appends (held W.contents writer.old table.old) (held W.contents writer.new table.new) (row_text (final_fields ranks item.now numbers.now))) }
     ensures refused { IfErr result (λ e. IsReportFault e) }
 {
-    put_numbers(&mut table.line, ranks, item, numbers);
-    table.write_row(writer)
+    let start = put_numbers(&mut table.line, ranks, item, numbers);
+    table.write_row(start, writer)
 }
 
 fn write_progress<W: Write>(

@@ -1,158 +1,137 @@
-//! The text of one row.
+//! The text of one row. It is put together from its last field to its first, since digits are found from the last to the first,
+//! so that each byte is written once, where it stays. What puts something before a place gives the place where that begins.
 
-ghost use Rattle.std.specs.Prelude.{◌≡◌, ◌≤◌, ◌<◌, ◌+◌, ◌++◌, ◌∷◌, [], if◌then◌else◌, nat_lt, Option, length, decimal};
+ghost use Rattle.std.specs.Prelude.{◌≡◌, ◌≤◌, ◌<◌, ◌+◌, ◌++◌, ◌∷◌, [], if◌then◌else◌, nat_lt, length, drop, decimal};
 ghost use Rattle.reports.specs.Rows.{comma, optional};
 
 use itoa::{Buffer, write_digits};
-use std::marker::Model;
 
 /// The room for a row, in bytes. A row of the tables here takes fewer: ten fields of 20 digits and their commas.
 pub(crate) const ROOM: usize = 256;
 
-/// The last fields of a row, with a comma between each two. It grows at its front, since digits are found from the last to
-/// the first, so that each byte is written once, where it stays.
-#[derive(Drop)]
-pub(crate) struct Line {
-    bytes: [u8; ROOM],
-    start: usize,
+/// The room for a row, which ends where the room does.
+pub(crate) type Line = [u8; ROOM];
+
+/// The text from a place on.
+#[inline(always)]
+pub(crate) fn text_from(line: &Line, start: usize) -> &[u8]
+    requires { start ≤ 256 }
+    ensures text { result.now ≡ drop start line.now }
+    ensures length { length result.now + start ≡ 256 }
+{
+    &line[start..]
 }
 
-impl Model for Line {
-    ghost use Rattle.std.specs.Prelude.{ℕ, List, ◌≤◌, drop};
-
-    ghost Value = { List ℕ };
-
-    ghost view = { λ line. drop line.start line.bytes };
-
-    ghost invariant = { λ line. line.start ≤ 256 };
+/// Puts bytes before a place.
+#[inline(always)]
+pub(crate) fn put_bytes(line: &mut Line, end: usize, bytes: &[u8]) -> usize
+    requires { (length bytes.now ≤ end) × (end ≤ 256) }
+    ensures text { drop result line.new ≡ bytes.now ++ drop end line.old }
+    ensures start { result + length bytes.now ≡ end }
+{
+    let start = end - bytes.len();
+    line[start..end].copy_from_slice(bytes);
+    start
 }
 
-impl Line {
-    /// No field.
-    pub(crate) fn new() -> Line
-        ensures { result ≡ [] }
-    {
-        Line {
-            bytes: [0; ROOM],
-            start: ROOM,
-        }
-    }
+#[inline(always)]
+fn put_byte(line: &mut Line, end: usize, byte: u8) -> usize
+    requires { (0 < end) × (end ≤ 256) }
+    ensures text { drop result line.new ≡ byte ∷ drop end line.old }
+    ensures start { result + 1 ≡ end }
+{
+    line[end - 1] = byte;
+    end - 1
+}
 
-    /// Its text.
-    #[inline]
-    pub(crate) fn text(&self) -> &[u8]
-        ensures text { result.now ≡ self.now }
-        ensures short { length result.now ≤ 256 }
-    {
-        &self.bytes[self.start..]
+// The numbers of a table are often of one digit.
+#[inline(always)]
+fn put_digits(line: &mut Line, end: usize, number: u64) -> usize
+    requires { (20 ≤ end) × (end ≤ 256) }
+    ensures text { drop result line.new ≡ decimal number ++ drop end line.old }
+    ensures low { end ≤ result + 20 }
+    ensures high { result ≤ end }
+{
+    if number < 10 {
+        return put_byte(line, end, b'0' + number as u8);
     }
+    write_digits(number, line, end)
+}
 
-    #[inline]
-    fn clear(&mut self)
-        ensures { self.new ≡ [] }
-    {
-        self.start = ROOM;
+/// Puts the last field.
+#[inline(always)]
+pub(crate) fn put_last(line: &mut Line, number: Option<u64>) -> usize
+    ensures text { drop result line.new ≡ optional number }
+    ensures low { 236 ≤ result }
+    ensures high { result ≤ 256 }
+{
+    match number {
+        Some(number) => put_digits(line, ROOM, number),
+        None => ROOM,
     }
+}
 
-    #[inline]
-    fn put_digits(&mut self, number: u64)
-        requires { length self.old + 20 ≤ 256 }
-        ensures text { self.new ≡ decimal number ++ self.old }
-        ensures short { length self.new ≤ length self.old + 20 }
-    {
-        self.start = write_digits(number, &mut self.bytes, self.start);
+/// The same with a number that may be wide.
+#[inline]
+pub(crate) fn put_last_wide(line: &mut Line, number: Option<u128>) -> usize
+    ensures text { drop result line.new ≡ optional number }
+    ensures low { 216 ≤ result }
+    ensures high { result ≤ 256 }
+{
+    let Some(number) = number else {
+        return ROOM;
+    };
+    match u64::try_from(number) {
+        Ok(number) => put_digits(line, ROOM, number),
+        Err(_) => put_bytes(line, ROOM, Buffer::new().format(number).as_bytes()),
     }
+}
 
-    #[inline]
-    fn put_comma(&mut self)
-        requires { length self.old < 256 }
-        ensures text { self.new ≡ comma ∷ self.old }
-        ensures short { length self.new ≡ length self.old + 1 }
-    {
-        self.start -= 1;
-        self.bytes[self.start] = b',';
-    }
+/// Puts the last field, or the text of all.
+pub(crate) fn put_last_word(line: &mut Line, word: &[u8]) -> usize
+    requires { length word.now ≤ 256 }
+    ensures text { drop result line.new ≡ word.now }
+    ensures start { result + length word.now ≡ 256 }
+{
+    put_bytes(line, ROOM, word)
+}
 
-    #[inline]
-    fn put_bytes(&mut self, bytes: &[u8])
-        requires { length self.old + length bytes.now ≤ 256 }
-        ensures text { self.new ≡ bytes.now ++ self.old }
-        ensures short { length self.new ≡ length self.old + length bytes.now }
-    {
-        let end = self.start;
-        self.start = end - bytes.len();
-        self.bytes[self.start..end].copy_from_slice(bytes);
+/// Puts a field before the others: a number, or nothing where there is none.
+#[inline(always)]
+pub(crate) fn put(line: &mut Line, end: usize, number: Option<u64>) -> usize
+    requires { (21 ≤ end) × (end ≤ 256) }
+    ensures text { drop result line.new ≡ optional number ++ comma ∷ drop end line.old }
+    ensures low { end ≤ result + 21 }
+    ensures high { result < end }
+{
+    let start = put_byte(line, end, b',');
+    match number {
+        Some(number) => put_digits(line, start, number),
+        None => start,
     }
-    /// Begins a row anew with its last field.
-    #[inline]
-    pub(crate) fn end_with(&mut self, number: Option<u64>)
-        ensures text { self.new ≡ optional number }
-        ensures short { length self.new ≤ 20 }
-    {
-        self.clear();
-        if let Some(number) = number {
-            self.put_digits(number);
-        }
-    }
+}
 
-    /// The same with a number that may be wide.
-    #[inline]
-    pub(crate) fn end_with_wide(&mut self, number: Option<u128>)
-        ensures text { self.new ≡ optional number }
-        ensures short { length self.new ≤ 40 }
-    {
-        self.clear();
-        let Some(number) = number else {
-            return;
-        };
-        match u64::try_from(number) {
-            Ok(number) => self.put_digits(number),
-            Err(_) => self.put_bytes(Buffer::new().format(number).as_bytes()),
-        }
+/// Puts a field of the column of the rank before the others, where there are several ranks.
+#[inline(always)]
+pub(crate) fn put_rank(line: &mut Line, end: usize, ranks: u32, rank: Option<u64>) -> usize
+    requires { (21 ≤ end) × (end ≤ 256) }
+    ensures text { drop result line.new ≡ (if nat_lt 1 ranks then optional rank ++ comma ∷ drop end line.old else drop end line.old) }
+    ensures low { end ≤ result + 21 }
+    ensures high { result ≤ end }
+{
+    if ranks > 1 {
+        return put(line, end, rank);
     }
+    end
+}
 
-    /// Begins a row anew with its last field, or with a text of several.
-    pub(crate) fn end_with_word(&mut self, word: &[u8])
-        requires { length word.now ≤ 256 }
-        ensures { self.new ≡ word.now }
-    {
-        self.clear();
-        self.put_bytes(word);
-    }
-
-    /// Puts a field before the others: a number, or nothing where there is none.
-    #[inline]
-    pub(crate) fn put(&mut self, number: Option<u64>)
-        requires { length self.old + 21 ≤ 256 }
-        ensures text { self.new ≡ optional number ++ comma ∷ self.old }
-        ensures short { length self.new ≤ length self.old + 21 }
-    {
-        self.put_comma();
-        if let Some(number) = number {
-            self.put_digits(number);
-        }
-    }
-
-    /// Puts a field of the column of the rank before the others, where there are several ranks.
-    #[inline]
-    pub(crate) fn put_rank(&mut self, ranks: u32, rank: Option<u64>)
-        requires { length self.old + 21 ≤ 256 }
-        ensures text { self.new ≡ (if nat_lt 1 ranks then optional rank ++ comma ∷ self.old else self.old) }
-        ensures short { length self.new ≤ length self.old + 21 }
-    {
-        if ranks > 1 {
-            self.put(rank);
-        }
-    }
-
-    /// Puts a word before the others.
-    #[inline]
-    pub(crate) fn put_word(&mut self, word: &[u8])
-        requires { length self.old + length word.now + 1 ≤ 256 }
-        ensures text { self.new ≡ word.now ++ comma ∷ self.old }
-        ensures short { length self.new ≡ length self.old + length word.now + 1 }
-    {
-        self.put_comma();
-        self.put_bytes(word);
-    }
+/// Puts a word before the others.
+#[inline(always)]
+pub(crate) fn put_word(line: &mut Line, end: usize, word: &[u8]) -> usize
+    requires { (length word.now + 1 ≤ end) × (end ≤ 256) }
+    ensures text { drop result line.new ≡ word.now ++ comma ∷ drop end line.old }
+    ensures start { result + length word.now + 1 ≡ end }
+{
+    let start = put_byte(line, end, b',');
+    put_bytes(line, start, word)
 }

@@ -1,6 +1,6 @@
 //! The table of statistics, `stats.csv`.
 
-ghost use Rattle.std.specs.Prelude.{◌≡◌, ◌<◌, ◌≤◌, length, map, IfErr, OnOk};
+ghost use Rattle.std.specs.Prelude.{◌≡◌, ◌<◌, ◌≤◌, length, drop, map, IfErr, OnOk};
 ghost use Rattle.std.specs.Io.KnownBytes.{Appends};
 ghost use Rattle.std.specs.List.{join_with_byte};
 ghost use Rattle.reports.specs.Rows.{comma, row_text, rows_text, numbered, IsReportFault};
@@ -10,7 +10,7 @@ ghost use Rattle.reports.specs.Tables.{held};
 mod named;
 
 use self::named::{NamedCount, named};
-use crate::line::Line;
+use crate::line::{Line, put, put_last_wide, put_last_word, put_word};
 use crate::table::Table;
 use sim_base::fault::Fault;
 use statistics::channels::ChannelStats;
@@ -75,15 +75,15 @@ fn channel_counts(channel: &ChannelStats) -> [NamedCount; 11]
 }
 
 // The fields of a row, from the last to the first.
-fn put_count(line: &mut Line, scope: &[u8], id: u64, name: &[u8], value: Option<u128>)
+fn put_count(line: &mut Line, scope: &[u8], id: u64, name: &[u8], value: Option<u128>) -> usize
     requires { (length scope.now ≤ 32) × (length name.now ≤ 32) }
-    ensures text { line.new ≡ join_with_byte comma (value_fields scope.now id (name.now, value)) }
-    ensures some { 0 < length line.new }
+    ensures text { drop result line.new ≡ join_with_byte comma (value_fields scope.now id (name.now, value)) }
+    ensures some { result < 256 }
 {
-    line.end_with_wide(value);
-    line.put_word(name);
-    line.put(Some(id));
-    line.put_word(scope);
+    let start = put_last_wide(line, value);
+    let start = put_word(line, start, name);
+    let start = put(line, start, Some(id));
+    put_word(line, start, scope)
 }
 
 fn write_count<W: Write>(
@@ -98,8 +98,8 @@ fn write_count<W: Write>(
     ensures written { OnOk result (Appends (held W.contents writer.old table.old) (held W.contents writer.new table.new) (row_text (value_fields scope.now id (name.now, value)))) }
     ensures refused { IfErr result (λ e. IsReportFault e) }
 {
-    put_count(&mut table.line, scope, id, name, value);
-    table.write_row(writer)
+    let start = put_count(&mut table.line, scope, id, name, value);
+    table.write_row(start, writer)
 }
 
 fn write_counts<W: Write>(
@@ -181,8 +181,8 @@ pub fn write_stats<W: Write>(alloc: Global, stats: &Stats, writer: &mut W) -> Re
     ensures refused { IfErr result (λ e. IsReportFault e) }
 {
     let mut table = Table::new(alloc);
-    table.line.end_with_word(b"scope,id,name,value");
-    table.write_row(writer)?;
+    let start = put_last_word(&mut table.line, b"scope,id,name,value");
+    table.write_row(start, writer)?;
     let cycles = Some(u128::from(stats.cycles));
     write_count(&mut table, b"run", 0, b"cycles", cycles, writer)?;
     write_cores(&mut table, &stats.cores, writer)?;

@@ -1,12 +1,12 @@
 //! A table on its way to a writer.
 
-ghost use Rattle.std.specs.Prelude.{◌≡◌, ◌<◌, ◌≤◌, ◌+◌, ◌++◌, [], false, length, codes, IfErr, OnOk};
+ghost use Rattle.std.specs.Prelude.{◌≡◌, ◌<◌, ◌≤◌, ◌+◌, ◌++◌, [], false, length, drop, codes, IfErr, OnOk};
 ghost use Rattle.std.specs.Io.KnownBytes.{Appends, Keeps};
 ghost use Rattle.csv.specs.Writing.{writer_setup, fields_written, has_written, writer_under, writer_pending};
 ghost use Rattle.reports.specs.Rows.{plain_writer, IsReportFault};
 
 use crate::block::Block;
-use crate::line::Line;
+use crate::line::{Line, ROOM, text_from};
 use csv::{QuoteStyle, Writer, WriterBuilder};
 use sim_base::fault::Fault;
 use std::alloc::Global;
@@ -50,7 +50,7 @@ impl Table {
         ensures { waiting result ≡ [] }
     {
         Table {
-            line: Line::new(),
+            line: [0; ROOM],
             block: Block::new(),
             alloc,
             rows: rows_after(Vec::new(alloc)),
@@ -124,15 +124,16 @@ impl Table {
         self.empty_block(writer)
     }
 
-    /// Ends the row whose fields the line has. Where enough rows wait they go out. After an error those that waited are lost.
+    /// Ends the row whose fields the line has from a place on. Where enough rows wait they go out. After an error those that
+    /// waited are lost.
     #[inline(always)]
-    pub(crate) fn write_row<W: Write>(&mut self, writer: &mut W) -> Result<(), Fault>
-        requires { 0 < length self.old.line }
-        ensures written { OnOk result (Appends (held W.contents writer.old self.old) (held W.contents writer.new self.new) (self.old.line ++ codes "\n")) }
+    pub(crate) fn write_row<W: Write>(&mut self, start: usize, writer: &mut W) -> Result<(), Fault>
+        requires { start < 256 }
+        ensures written { OnOk result (Appends (held W.contents writer.old self.old) (held W.contents writer.new self.new) (drop start self.old.line ++ codes "\n")) }
         ensures refused { IfErr result (λ e. IsReportFault e) }
     {
         self.make_room(writer)?;
-        self.block.push(self.line.text());
+        self.block.push(text_from(&self.line, start));
         Ok(())
     }
 

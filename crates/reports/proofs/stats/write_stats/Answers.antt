@@ -6,7 +6,7 @@ use Rattle.reports.proofs.stats.write_stats.Goals as goal
 
 pub returns-clause-written : goal.returns-clause-written
 returns-clause-written g c =
-    let header = held-first _ _ _ _ c.new-table.ensures (rw (c.end_with_word.ensures, line-row stats_header) at c.in_ok-write_row.ensures.written) in
+    let header = held-first _ _ _ _ c.new-table.ensures (rw (c.put_last_word-start.ensures.text, line-row stats_header) at c.in_ok-write_row.ensures.written) in
     let run = rw c.from.ensures at c.in_ok-write_count.ensures.written in
     let cores = rw c.deref.ensures.value at c.in_ok-write_cores.ensures.written in
     let channels = rw c.deref-2.ensures.value at c.in_ok-write_channels.ensures.written in
