@@ -1,3 +1,4 @@
+pub mod DigitTable
 pub mod Behind
 pub mod Digits
 pub mod GrammarLemmas

@@ -50,6 +50,16 @@ impl Entries {
         }
     }
 
+    /// No entries, with room for so many Read and Write ones. Only memory can be refused.
+    pub(crate) fn with_capacity(alloc: Global, capacity: usize) -> Result<Self, AllocError>
+        ensures { IfOk result (λ entries. entries ≡ []) }
+    {
+        Ok(Entries {
+            memory: Vec::with_capacity(alloc, capacity)?,
+            len: 0,
+        })
+    }
+
     /// How many entries there are.
     pub(crate) fn len(&self) -> u64
         ensures value { result ≡ length self.now }

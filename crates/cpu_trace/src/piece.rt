@@ -63,11 +63,15 @@ fn keep_usual_lines<'a>(
     }
 }
 
+// In most traces a Read or a Write entry takes as many bytes of the text, or more. Where it takes fewer, the room grows.
+const BYTES_OF_ENTRY: usize = 10;
+
 /// Reads the lines of a piece, one after another.
 pub(crate) fn read_piece(alloc: Global, piece: &[u8]) -> Result<Reading, Unread>
     ensures { IsRead (lines_of piece.now) result }
 {
-    let mut kept = Some(Entries::new(alloc));
+    let room = piece.len() / BYTES_OF_ENTRY;
+    let mut kept = Some(Entries::with_capacity(alloc, room)?);
     let mut lines = 0;
     let mut rest = piece;
     loop {

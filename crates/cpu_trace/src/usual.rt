@@ -2,14 +2,39 @@
 //! number has at most 19 decimal digits, or at most 16 hexadecimal ones behind `0x`, so that it fits 64 bits.
 
 ghost use Rattle.std.specs.Prelude.{◌≡◌, ◌^◌, ◌<◌, ◌≤◌, ◌∷◌, length, IfSome};
+ghost use Rattle.std.specs.Char.{digit_value};
 ghost use Rattle.cpu_trace.specs.Usual.{BeginsWithDigits, BeginsWithToken, BeginsWithLine};
 
 use crate::line::Line;
 
+// The value of each byte as a digit: from 0 for `0` to 35 for `Z` and `z`, and 36 where it is none.
+static DIGITS: [u8; 256] = [
+    36, 36, 36, 36, 36, 36, 36, 36, 36, 36, 36, 36, 36, 36, 36, 36, 36, 36, 36, 36, 36, 36, 36, 36,
+    36, 36, 36, 36, 36, 36, 36, 36, 36, 36, 36, 36, 36, 36, 36, 36, 36, 36, 36, 36, 36, 36, 36, 36,
+    0, 1, 2, 3, 4, 5, 6, 7, 8, 9, 36, 36, 36, 36, 36, 36, 36, 10, 11, 12, 13, 14, 15, 16, 17, 18,
+    19, 20, 21, 22, 23, 24, 25, 26, 27, 28, 29, 30, 31, 32, 33, 34, 35, 36, 36, 36, 36, 36, 36, 10,
+    11, 12, 13, 14, 15, 16, 17, 18, 19, 20, 21, 22, 23, 24, 25, 26, 27, 28, 29, 30, 31, 32, 33, 34,
+    35, 36, 36, 36, 36, 36, 36, 36, 36, 36, 36, 36, 36, 36, 36, 36, 36, 36, 36, 36, 36, 36, 36, 36,
+    36, 36, 36, 36, 36, 36, 36, 36, 36, 36, 36, 36, 36, 36, 36, 36, 36, 36, 36, 36, 36, 36, 36, 36,
+    36, 36, 36, 36, 36, 36, 36, 36, 36, 36, 36, 36, 36, 36, 36, 36, 36, 36, 36, 36, 36, 36, 36, 36,
+    36, 36, 36, 36, 36, 36, 36, 36, 36, 36, 36, 36, 36, 36, 36, 36, 36, 36, 36, 36, 36, 36, 36, 36,
+    36, 36, 36, 36, 36, 36, 36, 36, 36, 36, 36, 36, 36, 36, 36, 36, 36, 36, 36, 36, 36, 36, 36, 36,
+    36, 36, 36, 36, 36, 36, 36, 36, 36, 36, 36, 36, 36, 36,
+];
+
+// The value of a byte as a digit of a radix, if it is one.
+#[inline(always)]
+fn digit_of(radix: u64, byte: u8) -> Option<u64>
+    ensures { IfSome result (λ digit. (digit_value byte < radix) × (digit ≡ digit_value byte)) }
+{
+    let digit = u64::from(DIGITS[usize::from(byte)]);
+    if digit < radix { Some(digit) } else { None }
+}
+
 // The number that the digits at the start of a text write, of which no more than so many are read, and what stands
 // behind them; none where it reads no digit. It is inlined, so that each radix has a loop of its own.
 #[inline(always)]
-fn split_digits(radix: u32, most: usize, text: &[u8]) -> Option<(u64, &[u8])>
+fn split_digits(radix: u64, most: usize, text: &[u8]) -> Option<(u64, &[u8])>
     requires lower { 2 ≤ radix }
     requires upper { radix ≤ 36 }
     requires room { radix ^ most ≤ 2 ^ 64 }
@@ -19,10 +44,10 @@ fn split_digits(radix: u32, most: usize, text: &[u8]) -> Option<(u64, &[u8])>
     let mut number = 0;
     let mut len = 0;
     while len < end {
-        let Some(digit) = char::from(text[len]).to_digit(radix) else {
+        let Some(digit) = digit_of(radix, text[len]) else {
             break;
         };
-        number = number * u64::from(radix) + u64::from(digit);
+        number = number * radix + digit;
         len += 1;
     }
     if len == 0 {

@@ -1,4 +1,4 @@
-use Rattle.std.proofs.Common.{◌<◌, length, arith, rules}
+use Rattle.std.proofs.Common.{◌<◌, length, refl, arith, rules}
 use Rattle.cpu_trace.proofs.UsualLines.{one_more}
 use Rattle.cpu_trace.proofs.usual.split_digits.Goals as goal
 
@@ -6,19 +6,19 @@ pub overflow_mul-number : goal.overflow_mul-number
 overflow_mul-number c =
     let inside : c.loop-len.len < length c.args.text.now = search (rules, arith) in
     let below : c.loop-len.len < c.args.most = search (rules, arith) in
-    let h = one_more _ _ _ _ _ _ _ c.requires.lower c.requires.room below inside c.loop-len.invariant.all_digits c.loop-len.invariant.value c.from.ensures c.in-Some.ensures.value in
-    rw c.from-in-loop-len.ensures (omega (arith, h.room))
+    let h = one_more _ _ _ _ _ _ _ c.requires.lower c.requires.room below inside c.loop-len.invariant.all_digits c.loop-len.invariant.value refl c.in-Some.ensures in
+    omega (arith, h.room)
 
 pub overflow_add-number : goal.overflow_add-number
 overflow_add-number c =
     let inside : c.loop-len.len < length c.args.text.now = search (rules, arith) in
     let below : c.loop-len.len < c.args.most = search (rules, arith) in
-    let h = one_more _ _ _ _ _ _ _ c.requires.lower c.requires.room below inside c.loop-len.invariant.all_digits c.loop-len.invariant.value c.from.ensures c.in-Some.ensures.value in
-    rw (c.from-in-loop-len.ensures, c.from-in-loop-len-2.ensures) (omega (arith, h.room))
+    let h = one_more _ _ _ _ _ _ _ c.requires.lower c.requires.room below inside c.loop-len.invariant.all_digits c.loop-len.invariant.value refl c.in-Some.ensures in
+    omega (arith, h.room)
 
 pub loop-len-preserved : goal.loop-len-preserved
 loop-len-preserved c =
     let inside : c.loop-len.len < length c.args.text.now = search (rules, arith) in
     let below : c.loop-len.len < c.args.most = search (rules, arith) in
-    let h = one_more _ _ _ _ _ _ _ c.requires.lower c.requires.room below inside c.loop-len.invariant.all_digits c.loop-len.invariant.value c.from.ensures c.in-Some.ensures.value in
-    rw (c.from-in-loop-len.ensures, c.from-in-loop-len-2.ensures) (record { within = omega (arith, c.loop-len-test.true); all_digits = h.all_digits; value = h.value })
+    let h = one_more _ _ _ _ _ _ _ c.requires.lower c.requires.room below inside c.loop-len.invariant.all_digits c.loop-len.invariant.value refl c.in-Some.ensures in
+    record { within = omega (arith, c.loop-len-test.true); all_digits = h.all_digits; value = h.value }
