@@ -142,6 +142,14 @@ impl Table {
         ensures written { OnOk result (Keeps (held W.contents writer.old self) (W.contents writer.new)) }
         ensures refused { IfErr result (λ e. IsReportFault e) }
     {
-        self.send(writer)
+        self.put_block()?;
+        let Table { rows, .. } = self;
+        let Ok(batch) = rows.into_inner() else {
+            return Err(Fault::Memory);
+        };
+        let Ok(()) = writer.write_all(&batch) else {
+            return Err(Fault::Write);
+        };
+        Ok(())
     }
 }
