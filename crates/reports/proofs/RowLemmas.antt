@@ -28,6 +28,24 @@ pub held-sent : {T E : Type 0} (r : Result T E) (old mid new : Option (List ℕ)
 held-sent (Ok x) old mid new text more kept = Appends-kept old mid new text more kept
 held-sent (Err e) old mid new text more kept = tt
 
+-- what waits before a block of no row
+pub emptied : (front block waits : List ℕ) → block ≡ [] → front ++ block ≡ waits → front ≡ waits
+emptied front block waits none is = sym (append-nil front) ∙ ap (λ t. front ++ t) (sym none) ∙ is
+
+-- all that waited is written, and goes out with it
+pub held-out : {T E : Type 0} (r : Result T E) (old new : Option (List ℕ)) (front waits : List ℕ) → front ≡ waits → OnOk r (Appends old new front) → OnOk r (Keeps (append_known old waits) new)
+held-out (Ok x) None new front waits is more = tt
+held-out (Ok x) (Some known) None front waits is more = absurd more
+held-out (Ok x) (Some known) (Some all) front waits is more = more ∙ ap (λ t. known ++ t) is
+held-out (Err e) old new front waits is more = tt
+
+-- and nothing waits then
+pub held-none : {T E : Type 0} (r : Result T E) (old new : Option (List ℕ)) (rest : List ℕ) → rest ≡ [] → OnOk r (Keeps old new) → OnOk r (Keeps old (append_known new rest))
+held-none (Ok x) None new rest none kept = tt
+held-none (Ok x) (Some known) None rest none kept = absurd kept
+held-none (Ok x) (Some known) (Some all) rest none kept = ap (λ t. all ++ t) none ∙ append-nil all ∙ kept
+held-none (Err e) old new rest none kept = tt
+
 -- a line that has all fields of a row, and its end
 pub line-row : (fields : List (List ℕ)) → join_with_byte comma fields ++ codes "\n" ≡ row_text fields
 unfolding row_text

@@ -29,8 +29,23 @@ fn rows_after(text: Vec<u8>) -> Writer<Vec<u8>>
         .from_writer(text)
 }
 
-/// Rows that wait for a writer, below 64 KB of them, and the row that is being put together. They go out together, and the
-/// memory of their text serves for the next ones. The last of them wait in a block, which `csv` gets as one text.
+// Hands rows to the writer.
+#[inline(always)]
+fn write_out<W: Write>(rows: Writer<Vec<u8>>, writer: &mut W) -> Result<(), Fault>
+    ensures written { OnOk result (Appends (W.contents writer.old) (W.contents writer.new) ((writer_under rows).items ++ writer_pending rows)) }
+    ensures refused { IfErr result (λ e. IsReportFault e) }
+{
+    let Ok(batch) = rows.into_inner() else {
+        return Err(Fault::Memory);
+    };
+    let Ok(()) = writer.write_all(&batch) else {
+        return Err(Fault::Write);
+    };
+    Ok(())
+}
+
+/// Rows that wait for a writer, below 64 KB of them, and the row that is being put together. They go out together. The last
+/// of them wait in a block, which `csv` gets as one text.
 #[derive(Drop)]
 pub(crate) struct Table {
     pub(crate) line: Line,
@@ -85,15 +100,7 @@ impl Table {
     {
         self.put_block()?;
         let full = mem::replace(&mut self.rows, rows_after(Vec::new(self.alloc)));
-        let Ok(mut batch) = full.into_inner() else {
-            return Err(Fault::Memory);
-        };
-        let Ok(()) = writer.write_all(&batch) else {
-            return Err(Fault::Write);
-        };
-        batch.clear();
-        self.rows = rows_after(batch);
-        Ok(())
+        write_out(full, writer)
     }
 
     // Empties the block. Where enough rows wait they go out.
@@ -144,12 +151,6 @@ impl Table {
     {
         self.put_block()?;
         let Table { rows, .. } = self;
-        let Ok(batch) = rows.into_inner() else {
-            return Err(Fault::Memory);
-        };
-        let Ok(()) = writer.write_all(&batch) else {
-            return Err(Fault::Write);
-        };
-        Ok(())
+        write_out(rows, writer)
     }
 }
