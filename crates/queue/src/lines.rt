@@ -36,12 +36,12 @@ pub(crate) fn is_line_asked(place: Place, alike: u16, requests: &[Request]) -> b
     alike != 0 && first_for_line(place, requests).is_some()
 }
 
-/// Counters for the lines of so many requests, some 32 or more for each, so that few count two lines, and the highest of them.
+/// Counters for the lines of so many requests, 16 to 32 for each where they are many, so that few count two lines, and the highest of them.
 pub(crate) fn counters(alloc: Global, room: usize) -> Result<(Vec<u16>, usize), AllocError>
     ensures masked { IfOk result (λ made. made.1 < length made.0.items) }
     ensures counts { IfOk result (λ made. AreCounted made.1 made.0.items []) }
 {
-    let wanted = room.min(1 << 20) * 32;
+    let wanted = room.min(1 << 20) * 16;
     let mut mask = 255;
     while mask < wanted {
         mask = mask * 2 + 1;
