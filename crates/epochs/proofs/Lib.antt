@@ -21,3 +21,4 @@ pub mod Jumping
 pub mod Going
 pub mod Passing
 pub mod Calling
+pub mod Stopping

@@ -1,8 +1,9 @@
 -- Why a run stops before its limit.
-use Rattle.std.proofs.Common.{◌≡◌, ◌≢◌, ℕ, ◌<◌, ◌≤◌, List, map, Some, None, ◌⊎◌, inl, inr, refl, sym, ◌∙◌, arith}
+use Rattle.std.proofs.Common.{◌≡◌, ◌≢◌, ℕ, ◌<◌, ◌≤◌, false, List, map, Some, None, ◌⊎◌, inl, inr, refl, sym, ap, ◌∙◌, arith}
+use Rattle.sim_base.specs.declared.config.Config.{Config}
 use Rattle.sim_base.specs.declared.message.Unit.{Unit as MachineUnit}
 use Rattle.epochs.specs.Merging.{merge_fault}
-use Rattle.epochs.specs.Ordered.{IsOnTheWay, StopsAtMisfit, run_fault, IsWhyStopped, OnlyPermutes}
+use Rattle.epochs.specs.Ordered.{IsOnTheWay, run_fault, IsWhyStopped, OnlyPermutes}
 use Rattle.epochs.specs.Planning.{IsNext}
 use Rattle.epochs.specs.Views.{SimView, PhaseView, JobView, jobs_of}
 use Rattle.sim_base.specs.declared.fault.MergeFault.{MergeFault}
@@ -13,7 +14,7 @@ use Rattle.epochs.proofs.Whole.{whole-fits}
 
 pub next-on_the_way : (sim : SimView) (limit : ℕ) (phase : PhaseView) → sim.now < limit → IsNext sim limit phase → IsOnTheWay sim limit phase
 next-on_the_way sim limit phase l next =
-    record { at = sim; machine_is = refl; traces_are = refl; begun = omega arith; before = l; next = next }
+    record { at = sim; stop = limit; machine_is = refl; traces_are = refl; begun = omega arith; before = l; within = omega arith; undrained = λ d. refl; next = next }
 
 second : {P Q : Type 0} → (P → ⊥) → P ⊎ Q → Q
 second h (inl p) = absurd (h p)
@@ -46,16 +47,28 @@ told-as_memory (merging.Missing unit) e = cc
 told-as_memory (merging.Double place) e = cc
 told-as_memory (merging.Stranger place) e = cc
 
--- a phase on the way from further on is on the way
-further-way : (sim later : SimView) (limit : ℕ) (phase : PhaseView) → later.machine ≡ sim.machine → later.traces ≡ sim.traces → sim.now ≤ later.now → IsOnTheWay later limit phase → IsOnTheWay sim limit phase
-further-way sim later limit phase m t l way =
-    record { at = way.at; machine_is = way.machine_is ∙ m; traces_are = way.traces_are ∙ t; begun = omega (arith, l, way.begun); before = way.before; next = way.next }
+-- a phase on the way from further on, and to a stop on the way, is on the way
+further-way : (sim later : SimView) (stop limit : ℕ) (phase : PhaseView) → later.machine ≡ sim.machine → later.traces ≡ sim.traces → sim.now ≤ later.now
+    → stop ≤ limit → (later.machine.ends_drained ≡ false → stop ≡ limit) → IsOnTheWay later stop phase → IsOnTheWay sim limit phase
+further-way sim later stop limit phase m t l within undrained way =
+    let drains : later.machine.ends_drained ≡ sim.machine.ends_drained = ap (λ (s : Config). s.ends_drained) m in
+    record {
+      at = way.at;
+      stop = way.stop;
+      machine_is = way.machine_is ∙ m;
+      traces_are = way.traces_are ∙ t;
+      begun = omega (arith, l, way.begun);
+      before = way.before;
+      within = omega (arith, within, way.within);
+      undrained = λ d. way.undrained (drains ∙ d) ∙ undrained (drains ∙ d);
+      next = way.next;
+    }
 
-pub stopped-further : (may_give : ℕ → List JobView → List JobView → Type 0) (sim later : SimView) (limit : ℕ) (fault : Fault) → later.machine ≡ sim.machine → later.traces ≡ sim.traces → sim.now ≤ later.now
-    → IsWhyStopped may_give later limit fault → IsWhyStopped may_give sim limit fault
-stopped-further may_give sim later limit fault m t l (inl e) = inl e
-stopped-further may_give sim later limit fault m t l (inr why) =
-    inr (record { phase = why.phase; cause = why.cause; on_the_way = further-way sim later limit why.phase m t l why.on_the_way; misfit = why.misfit; fault_is = why.fault_is })
+pub stopped-further : (may_give : ℕ → List JobView → List JobView → Type 0) (sim later : SimView) (stop limit : ℕ) (fault : Fault) → later.machine ≡ sim.machine → later.traces ≡ sim.traces → sim.now ≤ later.now
+    → stop ≤ limit → (later.machine.ends_drained ≡ false → stop ≡ limit) → IsWhyStopped may_give later stop fault → IsWhyStopped may_give sim limit fault
+stopped-further may_give sim later stop limit fault m t l within undrained (inl e) = inl e
+stopped-further may_give sim later stop limit fault m t l within undrained (inr why) =
+    inr (record { phase = why.phase; cause = why.cause; on_the_way = further-way sim later stop limit why.phase m t l within undrained why.on_the_way; misfit = why.misfit; fault_is = why.fault_is })
 
 -- an order that only permutes leaves want of memory alone
 pub only-memory : (may_give : ℕ → List JobView → List JobView → Type 0) (sim : SimView) (limit : ℕ) (fault : Fault) → IsWhyStopped may_give sim limit fault → OnlyPermutes may_give → fault ≡ Memory

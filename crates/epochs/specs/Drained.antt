@@ -2,6 +2,7 @@
 --     HasFinished s traces now unit      a core has retired its trace, or a channel has no request left in its queue
 --     AllFinished s traces now      so has each unit
 --     GoesOn s traces from until      a run is not over before a cycle of a span
+--     NotEnded s traces from until      a run does not end before a cycle of a span
 use Rattle.std.specs.Prelude.{◌≡◌, ℕ, ◌<◌, ◌≤◌, false, List, [], length}
 use Rattle.sim_base.specs.declared.config.Config.{Config}
 use Rattle.sim_base.specs.Final.{queue_left}
@@ -12,6 +13,7 @@ use Rattle.sim_base.specs.declared.message.Unit.TheVariants.{Core, Channel}
 use Rattle.sim_base.specs.declared.trace.Entry.{Entry}
 use Rattle.laws.specs.Commands.{rows_of}
 use Rattle.span_laws.specs.Cores.{core_rows_of}
+use Rattle.span_laws.specs.Ends.{ends_before}
 use Rattle.span_laws.specs.Mail.{mail_before}
 use Rattle.epochs.specs.Units.{unit_at, unit_count}
 
@@ -27,3 +29,7 @@ AllFinished s traces now = (place : ℕ) → place < unit_count s → HasFinishe
 -- a run is not over before any of the cycles from one on and before another
 abbrev pub GoesOn : Config → List (List Entry) → ℕ → ℕ → Type 0
 GoesOn s traces from until = (t : ℕ) → from ≤ t → t < until → is_over s traces (run s traces t) ≡ false
+
+-- a run does not end before any of these cycles: it is not over, or it goes on up to the limit all the same
+abbrev pub NotEnded : Config → List (List Entry) → ℕ → ℕ → Type 0
+NotEnded s traces from until = (t : ℕ) → from ≤ t → t < until → ends_before s traces t ≡ false

@@ -1,12 +1,15 @@
 -- A simulator that is run in one thread.
 --     IsFurther sim limit after      the same run, further on, and not past a limit
 --     HasReached sim limit after      the same run, at a limit
+--     stop_of sim limit      where a run up to a limit stops
 --     IsOnTheWay sim limit phase      a phase of the same run, on the way to a limit
 --     DoNotFit may_give phase cause      the results of a phase, in an order that may be given, are not one of each job
 --     run_fault cause      what a run says where results do not fit
+--     StopsAtMisfit may_give sim limit fault      a phase has results that do not fit
 --     IsWhyStopped may_give sim limit fault      why a run does not come to a limit
 --     OnlyPermutes may_give      an order leaves no result out, and repeats none
-use Rattle.std.specs.Prelude.{◌≡◌, ◌⊎◌, ℕ, ◌<◌, ◌≤◌, List, map, Some, IsPermutation}
+use Rattle.std.specs.Prelude.{◌≡◌, ◌⊎◌, ℕ, ◌<◌, ◌≤◌, nat_lt, false, List, map, Some, IsPermutation, if◌then◌else◌}
+use Rattle.sim_base.specs.Machine.{cycles_run}
 use Rattle.epochs.specs.Merging.{merge_fault}
 use Rattle.epochs.specs.Planning.{IsNext}
 use Rattle.epochs.specs.Views.{SimView, PhaseView, JobView, jobs_of}
@@ -28,15 +31,23 @@ pub record HasReached (sim : SimView) (limit : ℕ) (after : SimView) : Type 0 w
   pub traces_are : after.traces ≡ sim.traces
   pub at_limit : after.now ≡ limit
 
--- a phase of the run of the same machine over the same traces: the one that comes next when the simulator stands somewhere
--- before the limit
+-- Where a run up to a limit stops: at its last cycle, which is the limit, or where the configuration ends it drained and it is over
+-- sooner, the first before which it is over. A simulator that stands there or further on stays.
+abbrev pub stop_of : SimView → ℕ → ℕ
+stop_of sim limit = let cycles = cycles_run sim.machine sim.traces limit in if nat_lt sim.now cycles then cycles else sim.now
+
+-- A phase of the run of the same machine over the same traces: the one that comes next when the simulator stands somewhere
+-- before a stop, which is the limit, or a cycle before it where the run may be drained there.
 pub record IsOnTheWay (sim : SimView) (limit : ℕ) (phase : PhaseView) : Type 0 where
   pub at : SimView
+  pub stop : ℕ
   pub machine_is : at.machine ≡ sim.machine
   pub traces_are : at.traces ≡ sim.traces
   pub begun : sim.now ≤ at.now
-  pub before : at.now < limit
-  pub next : IsNext at limit phase
+  pub before : at.now < stop
+  pub within : stop ≤ limit
+  pub undrained : sim.machine.ends_drained ≡ false → stop ≡ limit
+  pub next : IsNext at stop phase
 
 -- What an order may give for the results of a phase is not one result of each job, and this is what is wrong with it.
 pub record DoNotFit (may_give : ℕ → List JobView → List JobView → Type 0) (phase : PhaseView) (cause : MergeFault) : Type 0 where

@@ -1,7 +1,7 @@
 //! A run in one thread, in which the results of each phase come in an order that someone chooses.
 
 ghost use Rattle.std.specs.Prelude.{◌≡◌, ◌≢◌, ◌<◌, ◌≤◌, ◌^◌, All, Any, IfOk, IfErr};
-ghost use Rattle.epochs.specs.Ordered.{IsFurther, HasReached, IsWhyStopped, OnlyPermutes, run_fault};
+ghost use Rattle.epochs.specs.Ordered.{IsFurther, HasReached, stop_of, IsWhyStopped, OnlyPermutes, run_fault};
 
 use crate::job::{Done, Job};
 use crate::merging::merge;
@@ -69,7 +69,23 @@ fn one_phase<O: Order>(sim: Sim, alloc: Global, limit: Cycle, order: &mut O) -> 
     }
 }
 
-/// Runs a simulator up to a limit, at most 10^12 cycles. What comes of each job is put together in the order that is given,
+/// A simulator at a stop, phase by phase.
+fn run_phases<O: Order>(sim: Sim, alloc: Global, stop: Cycle, order: &mut O) -> Result<Sim, Fault>
+    requires not_past { sim.now ≤ stop }
+    requires early { stop ≤ 10 ^ 12 }
+    ensures ok { IfOk result (HasReached sim stop) }
+    ensures stopped { IfErr result (IsWhyStopped O.may_give sim stop) }
+    ensures not_memory { IfErr result (λ fault. fault ≢ Fault.Merge MergeFault.Memory) }
+{
+    let mut sim = sim;
+    while sim.now() < stop {
+        sim = one_phase(sim, alloc, stop, order)?;
+    }
+    Ok(sim)
+}
+
+/// Runs a simulator up to a limit, at most 10^12 cycles, or, where the configuration ends it drained, up to the first cycle before which
+/// all is done. What comes of each job is put together in the order that is given,
 /// and the simulator that comes back does not depend on it. What the order gives for the results of a phase may not be one of
 /// each job: the run then stops at this phase, and fault 16 says what is wrong, as `merge` finds it. Only memory (fault 10) is another,
 /// and the only one with an order that leaves no result out, repeats none, and brings none of another phase.
@@ -81,14 +97,14 @@ pub fn run_in_order<O: Order>(
 ) -> Result<Sim, Fault>
     requires not_past { sim.now ≤ limit }
     requires early { limit ≤ 10 ^ 12 }
-    ensures ok { IfOk result (HasReached sim limit) }
+    ensures ok { IfOk result (HasReached sim (stop_of sim limit)) }
     ensures stopped { IfErr result (IsWhyStopped O.may_give sim limit) }
     ensures not_memory { IfErr result (λ fault. fault ≢ Fault.Merge MergeFault.Memory) }
     ensures whole { OnlyPermutes O.may_give → IfErr result (λ fault. fault ≡ Fault.Memory) }
 {
     let mut sim = sim;
-    while sim.now() < limit {
-        sim = one_phase(sim, alloc, limit, order)?;
+    while let Some(stop) = sim.next_stop(limit) {
+        sim = run_phases(sim, alloc, stop, order)?;
     }
     Ok(sim)
 }

@@ -1,12 +1,13 @@
 //! All units of a machine between two spans.
 
-ghost use Rattle.std.specs.Prelude.{◌≡◌, ◌<◌, ◌≤◌, ◌^◌, ◌+◌, ℕ, false, List, [], length, IfOk, OnOk};
+ghost use Rattle.std.specs.Prelude.{◌≡◌, ◌<◌, ◌≤◌, ◌^◌, ◌+◌, ℕ, true, false, List, [], length, IfOk, OnOk, IfSome, IfNone};
 ghost use Rattle.sim_base.specs.declared.trace.Entry.{Entry};
 ghost use Rattle.sim_base.specs.Machine.{run, is_over};
+ghost use Rattle.span_laws.specs.Ends.{ends_before};
 ghost use Rattle.statistics.specs.Runs.{stats_of, final_of, outcome_of};
 ghost use Rattle.epochs.specs.Units.{unit_count};
 ghost use Rattle.epochs.specs.Parts.{StandAt, IsSim};
-ghost use Rattle.epochs.specs.Drained.{GoesOn};
+ghost use Rattle.epochs.specs.Drained.{GoesOn, NotEnded};
 
 use crate::counts::{stats_of_channels, stats_of_cores};
 use crate::drained::{all_finished, cores_until, flight_until};
@@ -148,6 +149,27 @@ impl Sim {
         let cores = cores_until(&self.machine, self.now, &self.parts);
         let flight = flight_until(&self.links, self.now);
         cores.max(flight).max(self.now + 1).min(limit)
+    }
+
+    /// A later cycle, at most the limit, up to which the run can be taken: it surely does not end before the last cycle up to there. None
+    /// where the run has no more cycles, at the limit, or where it is over and the configuration ends it drained.
+    pub fn next_stop(&self, limit: Cycle) -> Option<Cycle>
+        ensures later { IfSome result (λ stop. self.entry.now.now < stop) }
+        ensures within { IfSome result (λ stop. stop ≤ limit) }
+        ensures undrained { IfSome result (λ stop. self.entry.now.machine.ends_drained ≡ false → stop ≡ limit) }
+        ensures goes_on { IfSome result (NotEnded self.entry.now.machine self.entry.now.traces self.entry.now.now) }
+        ensures ended { IfNone result (self.entry.now.now < limit → ends_before self.entry.now.machine self.entry.now.traces self.entry.now.now ≡ true) }
+    {
+        if self.now >= limit {
+            return None;
+        }
+        if !self.machine.config.ends_drained {
+            return Some(limit);
+        }
+        if self.is_over() {
+            return None;
+        }
+        Some(self.surely_until(limit))
     }
 
     /// The statistics of the cycles that are over. Only memory can be refused.

@@ -1,11 +1,9 @@
 //! A whole machine, run by workers.
 
-ghost use Rattle.std.specs.Prelude.{◌≡◌, ◌<◌, ◌≤◌, ◌^◌, ◌*◌, true, length, IfOk, IfErr, IfSome, IfNone};
+ghost use Rattle.std.specs.Prelude.{◌≡◌, ◌<◌, ◌≤◌, ◌^◌, ◌*◌, length, IfOk, IfErr};
 ghost use Rattle.sim_base.specs.Machine.{cycles_run};
 ghost use Rattle.statistics.specs.Runs.{outcome_of};
-ghost use Rattle.span_laws.specs.Ends.{ends_before};
 ghost use Rattle.epochs.specs.Ordered.{HasReached, IsFurther};
-ghost use Rattle.workers.specs.Ends.{NotEnded};
 ghost use Rattle.workers.specs.Runs.{IsRefusedTo};
 
 use crate::gate::Gate;
@@ -89,27 +87,6 @@ fn run_steps<N: Runner>(
     Ok(rested.brought_up(alloc)?)
 }
 
-/// A later cycle up to which the run can be taken, as it surely does not end before the last cycle up to there. None where the
-/// run has no more cycles.
-fn next_stop(config: &Config, sim: &Sim, limit: Cycle) -> Option<Cycle>
-    requires machine { sim.now.machine ≡ config.now }
-    ensures later { IfSome result (λ stop. sim.entry.now.now < stop) }
-    ensures within { IfSome result (λ stop. stop ≤ limit) }
-    ensures goes_on { IfSome result (NotEnded config.now sim.entry.now.traces sim.entry.now.now) }
-    ensures ended { IfNone result (sim.entry.now.now < limit → ends_before config.now sim.entry.now.traces sim.entry.now.now ≡ true) }
-{
-    if sim.now() >= limit {
-        return None;
-    }
-    if !config.ends_drained {
-        return Some(limit);
-    }
-    if sim.is_over() {
-        return None;
-    }
-    Some(sim.surely_until(limit))
-}
-
 /// Runs a machine to its end: by phases, or in place by the caller alone. Only memory can be refused.
 fn run_by<N: Runner>(
     alloc: Global,
@@ -125,7 +102,7 @@ fn run_by<N: Runner>(
     ensures refused { IfErr result (λ fault. fault ≡ Fault.Memory) }
 {
     let mut sim = Sim::start(alloc, config, traces)?;
-    while let Some(stop) = next_stop(config, &sim, cycles) {
+    while let Some(stop) = sim.next_stop(cycles) {
         sim = match way {
             Way::Alone => sim.run_alone(alloc, stop)?,
             Way::Together { few } => run_steps(sim, alloc, stop, few, runner)?,

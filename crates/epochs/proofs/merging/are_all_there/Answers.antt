@@ -1,4 +1,4 @@
-use Rattle.std.proofs.Common.{◌≡◌, Some, ap, ap₂, sym, ◌∙◌, arith}
+use Rattle.std.proofs.Common.{Some, ap, sym, ◌∙◌, arith}
 use Rattle.epochs.specs.Units.{unit_at}
 use Rattle.epochs.specs.Views.{PhaseView}
 use Rattle.epochs.specs.declared.machine.Machine.{Machine}

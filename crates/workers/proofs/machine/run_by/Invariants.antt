@@ -1,6 +1,6 @@
 -- The run is the same, not past the limit, and did not end; in each turn it comes nearer to the limit.
 use Rattle.std.proofs.Common.{◌≡◌, ◌≤◌, ◌-◌}
-use Rattle.workers.specs.Ends.{NotEnded}
+use Rattle.epochs.specs.Drained.{NotEnded}
 use Rattle.workers.proofs.machine.run_by.Given as goal
 
 abbrev pub invariant-loop-stop : goal.invariant-loop-stop
