@@ -1,13 +1,15 @@
 -- Paths in a folder, and what several steps change.
-use Rattle.std.proofs.Common.{◌≡◌, ◌≢◌, ℕ, false, List, ◌++◌, ◌⊎◌, codes, Some, string_bytes, sym, ◌∙◌, refl, inl, inr}
+use Rattle.std.proofs.Common.{◌≡◌, ◌≢◌, ℕ, false, List, ◌++◌, ◌⊎◌, codes, Some, None, string_bytes, sym, ◌∙◌, refl, inl, inr}
 use Rattle.std.specs.Str.{bytes_eq}
 use Rattle.std.proofs.lemmas.List.{append_cancel_left}
 use Rattle.std.proofs.lemmas.Slice.Eq.{bytes_eq-Decides}
 use Rattle.std.proofs.lemmas.Bool.{false≢true}
 use Rattle.statistics.specs.Values.{RunOutcome}
 use Rattle.program.specs.Files.{Held, SameFiles, SameBut, IsRenamed}
-use Rattle.program.specs.Tables.{path_in, commands_name, stats_name, final_name, commands_part, stats_part, final_part, part_names, SameApart, IsMoveIn, commands_of, stats_of, final_of, HoldsParts, IsWritten, IsWaiting, IsMoved, IsPlaced, IsPartlyPlaced, IsKeptBeside, IsTorn, IsUnplaced}
+use Rattle.program.specs.Tables.{path_in, commands_name, stats_name, final_name, commands_part, stats_part, final_part, part_names, SameApart, IsMoveIn, commands_of, stats_of, final_of, HoldsParts, HasNoParts, IsKeptBack, IsWritten, IsWaiting, IsMoved, IsPlaced, IsPartlyPlaced, IsKeptBeside, IsTorn, IsUnplaced, IsLeftBy}
 use Rattle.program.specs.declared.tables.Move.{Move}
+use Rattle.program.specs.declared.tables.Refusal.{Refusal}
+use Rattle.program.specs.declared.tables.Refusal.TheVariants.{Kept, Torn}
 
 -- different names have different paths
 same_name : (folder a b : List ℕ) → path_in folder a ≡ path_in folder b → a ≡ b
@@ -28,6 +30,45 @@ staged folder run a b c ha hb sb hc sc =
       stats_is = sc (path_in folder stats_part) (apart folder stats_part final_part refl) ∙ hb;
       final_is = hc;
     }
+
+-- the same, written to paths in the folder
+pub staged_at : (folder : List ℕ) (run : RunOutcome) (p q r : List ℕ) (a b c : Held) → p ≡ path_in folder commands_part → q ≡ path_in folder stats_part → r ≡ path_in folder final_part →
+    a p ≡ Some (commands_of run) → b q ≡ Some (stats_of run) → SameBut q a b → c r ≡ Some (final_of run) → SameBut r b c → HoldsParts folder run c
+staged_at folder run p q r a b c is_p is_q is_r ha hb sb hc sc =
+    staged folder run a b c (rw is_p at ha) (rw is_q at hb) (rw is_q at sb) (rw is_r at hc) (rw is_r at sc)
+
+-- what one, two or three steps leave alone
+pub one_apart : (folder : List ℕ) (p : List ℕ) (a b : Held) → p ≡ path_in folder commands_part → SameBut p a b → SameApart folder part_names a b
+one_apart folder p a b is_p sa = λ path w. sa path (rw is_p w.0)
+
+pub two_apart : (folder : List ℕ) (p q : List ℕ) (a b c : Held) → p ≡ path_in folder commands_part → q ≡ path_in folder stats_part → SameBut p a b → SameBut q b c → SameApart folder part_names a c
+two_apart folder p q a b c is_p is_q sa sb = λ path w. sb path (rw is_q w.1.0) ∙ sa path (rw is_p w.0)
+
+pub three_apart : (folder : List ℕ) (p q r : List ℕ) (a b c d : Held) → p ≡ path_in folder commands_part → q ≡ path_in folder stats_part → r ≡ path_in folder final_part →
+    SameBut p a b → SameBut q b c → SameBut r c d → SameApart folder part_names a d
+three_apart folder p q r a b c d is_p is_q is_r sa sb sc = λ path w. sc path (rw is_r w.1.1.0) ∙ sb path (rw is_q w.1.0) ∙ sa path (rw is_p w.0)
+
+-- three tables, removed in reverse order
+pub all_gone : (folder : List ℕ) (p q r : List ℕ) (a b c : Held) → p ≡ path_in folder commands_part → q ≡ path_in folder stats_part → r ≡ path_in folder final_part →
+    a r ≡ None → b q ≡ None → SameBut q a b → c p ≡ None → SameBut p b c → HasNoParts folder c
+all_gone folder p q r a b c is_p is_q is_r ra rb sb rc sc =
+    let last = rw is_r at ra in
+    let stats = rw is_q at rb in
+    let second = rw is_q at sb in
+    let third = rw is_p at sc in
+    record {
+      commands_gone = rw is_p at rc;
+      stats_gone = third (path_in folder stats_part) (apart folder stats_part commands_part refl) ∙ stats;
+      final_gone = third (path_in folder final_part) (apart folder final_part commands_part refl) ∙ second (path_in folder final_part) (apart folder final_part stats_part refl) ∙ last;
+    }
+
+pub all_gone_apart : (folder : List ℕ) (p q r : List ℕ) (a b c d : Held) → p ≡ path_in folder commands_part → q ≡ path_in folder stats_part → r ≡ path_in folder final_part →
+    SameBut r a b → SameBut q b c → SameBut p c d → SameApart folder part_names a d
+all_gone_apart folder p q r a b c d is_p is_q is_r sa sb sc = λ path w. sc path (rw is_p w.0) ∙ sb path (rw is_q w.1.0) ∙ sa path (rw is_r w.1.1.0)
+
+-- tables that were written, and removed
+pub kept_back : (folder : List ℕ) (a b c d : Held) → SameApart folder part_names a b → SameFiles b c → HasNoParts folder d → SameApart folder part_names c d → IsKeptBack folder a d
+kept_back folder a b c d before same gone after = record { no_parts = gone; others = λ path w. after path w ∙ same path ∙ before path w }
 
 -- a table that got its place in a folder
 abbrev pub IsRenamedIn : List ℕ → List ℕ → List ℕ → Held → Held → Type 0
@@ -136,12 +177,18 @@ stats_from : (folder : List ℕ) (run : RunOutcome) (a b c : Held) → SameFiles
 stats_from folder run a b c same (inl h) = inl h
 stats_from folder run a b c same (inr h) = inr (beside_from folder stats_part stats_name (stats_of run) a b c same h)
 
-pub unplaced_from : (folder : List ℕ) (run : RunOutcome) (a b c : Held) → SameFiles a b → IsUnplaced folder run b c → IsUnplaced folder run a c
-unplaced_from folder run a b c same (inl h) = inl (λ path w. h path w ∙ same path)
-unplaced_from folder run a b c same (inr h) =
-    inr (record {
+unplaced_from : (refusal : Refusal) (folder : List ℕ) (run : RunOutcome) (a b c : Held) → SameFiles a b → IsUnplaced refusal folder run b c → IsUnplaced refusal folder run a c
+unplaced_from (Kept fault) folder run a b c same h = record { no_parts = h.no_parts; others = λ path w. h.others path w ∙ same path }
+unplaced_from (Torn fault) folder run a b c same h =
+    record {
       commands_is = h.commands_is;
       stats_is = stats_from folder run a b c same h.stats_is;
       final_is = beside_from folder final_part final_name (final_of run) a b c same h.final_is;
       others = λ path w. h.others path w ∙ same path;
-    })
+    }
+
+pub left_from : (refusal : Refusal) (folder : List ℕ) (run : RunOutcome) (a b c : Held) (before mid after : List (List ℕ)) → SameFiles a b → mid ≡ before → IsLeftBy refusal folder run b c mid after
+    → IsLeftBy refusal folder run a c before after
+left_from refusal folder run a b c before mid after same unopened (inl all) =
+    inl (record { kept = all.kept; untouched = record { same = λ path. all.untouched.same path ∙ same path; unopened = all.untouched.unopened ∙ unopened } })
+left_from refusal folder run a b c before mid after same unopened (inr unplaced) = inr (unplaced_from refusal folder run a b c same unplaced)

@@ -1,14 +1,13 @@
 -- What the program does for what the words ask, where the set of files tells what it holds.
 --     Seen      what can be seen of the files and the stream
---     IsUntouched old new before after      no file has changed, and none was opened to be written
 --     IsOutcome config cycles workers traces held run      the outcome of a run over what the named files hold
 --     IsRunDone config cycles workers out traces old new      its tables are in the folder
---     IsUnfinished config cycles workers out traces old new before after      what is left of a run that is refused
+--     IsUnfinished refusal config cycles workers out traces old new before after      what is left of a run that is refused
 --     IsVerdict config commands held found      what a table of commands is found to be
 --     place_line ranks place, verdict_line found      the lines that are printed
 --     IsAnswer ask status old new      what is asked has been done
---     IsLeft ask old new      what is left where it has not
---     IsAnswered words status old new, IsRefused words old new      the same of the words of a command line
+--     IsLeft refusal ask old new      what is left where it has not
+--     IsAnswered words status old new, IsRefusedBy refusal words old new, IsRefused words old new      the same of the words of a command line
 use Rattle.std.specs.Prelude.{◌≡◌, ◌⊎◌, ℕ, nat_lt, List, [], ◌++◌, map, codes, decimal, string_bytes, Option, Some, Ok, if◌then◌else◌}
 use Rattle.std.specs.Io.KnownBytes.{Appends}
 use Rattle.sim_base.specs.declared.config.Config.{Config}
@@ -22,8 +21,9 @@ use Rattle.rule_check.specs.declared.verdict.Verdict.{Verdict}
 use Rattle.rule_check.specs.declared.verdict.Verdict.TheVariants.{Legal, Broken}
 use Rattle.simulation.specs.Runs.{IsRunOf, IsJudgedLegal}
 use Rattle.program.specs.Ask.{IsAskedBy}
-use Rattle.program.specs.Files.{Held, SameFiles}
-use Rattle.program.specs.Tables.{parts, IsWritten, IsUnplaced}
+use Rattle.program.specs.Files.{Held, IsUntouched}
+use Rattle.program.specs.Tables.{parts, IsWritten, LeavesAll, IsUnplaced}
+use Rattle.program.specs.declared.tables.Refusal.{Refusal}
 use Rattle.program.specs.declared.words.Ask.{Ask}
 use Rattle.program.specs.declared.words.Ask.TheVariants.{Run, Check, Map, Help}
 
@@ -35,11 +35,6 @@ pub record Seen : Type 0 where
 
 abbrev pub seen : Held → List (List ℕ) → Option (List ℕ) → Seen
 seen held opened printed = record { held = held; opened = opened; printed = printed }
-
--- no file has changed, and none was opened to be written
-pub record IsUntouched (old new : Held) (before after : List (List ℕ)) : Type 0 where
-  pub same : SameFiles old new
-  pub unopened : after ≡ before
 
 -- The files that are named hold a configuration and traces, this is the outcome of the one-clock machine that they describe, and
 -- `check` says of the table of its commands that it is legal.
@@ -58,16 +53,16 @@ pub record IsRunDone (config : List ℕ) (cycles workers : ℕ) (out : List ℕ)
   pub written : IsWritten out run old new
 
 -- the run has an outcome, and its tables could not all be given their places
-pub record IsRunLeft (config : List ℕ) (cycles workers : ℕ) (out : List ℕ) (traces : List (List ℕ)) (old new : Held) : Type 0 where
+pub record IsRunLeft (refusal : Refusal) (config : List ℕ) (cycles workers : ℕ) (out : List ℕ) (traces : List (List ℕ)) (old new : Held) : Type 0 where
   pub run : RunOutcome
   pub outcome : IsOutcome config cycles workers traces old run
-  pub unplaced : IsUnplaced out run old new
+  pub unplaced : IsUnplaced refusal out run old new
 
 -- What is left of a run that is refused: it had no outcome, or memory was refused, and no file has changed and none was opened to be
 -- written; or it is left undone after its outcome was there.
-abbrev pub IsUnfinished : List ℕ → ℕ → ℕ → List ℕ → List (List ℕ) → Held → Held → List (List ℕ) → List (List ℕ) → Type 0
-IsUnfinished config cycles workers out traces old new before after =
-    IsUntouched old new before after ⊎ IsRunLeft config cycles workers out traces old new
+abbrev pub IsUnfinished : Refusal → List ℕ → ℕ → ℕ → List ℕ → List (List ℕ) → Held → Held → List (List ℕ) → List (List ℕ) → Type 0
+IsUnfinished refusal config cycles workers out traces old new before after =
+    LeavesAll refusal old new before after ⊎ IsRunLeft refusal config cycles workers out traces old new
 
 -- what `check` finds of the table that a file holds, under the configuration that another holds
 pub record IsVerdict (config commands : List ℕ) (held : Held) (found : Verdict) : Type 0 where
@@ -155,10 +150,10 @@ IsAnswer (Map config address) status old new = IsMapAnswer config.now address st
 IsAnswer (Help text) status old new = IsHelpAnswer (string_bytes text) status old new
 
 -- what is left where it has not been done: nothing was touched, or a run is left undone after its outcome was there
-abbrev pub IsLeft : Ask → Seen → Seen → Type 0
-IsLeft (Run config cycles workers out traces) old new =
-    IsUnfinished config.now cycles workers out.now (map (λ t. t.now) traces.items) old.held new.held old.opened new.opened
-IsLeft _ old new = IsUntouched old.held new.held old.opened new.opened
+abbrev pub IsLeft : Refusal → Ask → Seen → Seen → Type 0
+IsLeft refusal (Run config cycles workers out traces) old new =
+    IsUnfinished refusal config.now cycles workers out.now (map (λ t. t.now) traces.items) old.held new.held old.opened new.opened
+IsLeft refusal _ old new = LeavesAll refusal old.held new.held old.opened new.opened
 
 -- what the words ask for has been done
 pub record IsAnswered (words : List (List ℕ)) (status : ℕ) (old new : Seen) : Type 0 where
@@ -167,11 +162,17 @@ pub record IsAnswered (words : List (List ℕ)) (status : ℕ) (old new : Seen) 
   pub answer : IsAnswer ask status old new
 
 -- what the words ask for has not been done
-pub record IsUndone (words : List (List ℕ)) (old new : Seen) : Type 0 where
+pub record IsUndone (refusal : Refusal) (words : List (List ℕ)) (old new : Seen) : Type 0 where
   pub ask : Ask
   pub asked : IsAskedBy words ask
-  pub left : IsLeft ask old new
+  pub left : IsLeft refusal ask old new
 
 -- the words are none that the program knows, or memory was refused, and nothing was touched; or what they ask for has not been done
-abbrev pub IsRefused : List (List ℕ) → Seen → Seen → Type 0
-IsRefused words old new = IsUntouched old.held new.held old.opened new.opened ⊎ IsUndone words old new
+abbrev pub IsRefusedBy : Refusal → List (List ℕ) → Seen → Seen → Type 0
+IsRefusedBy refusal words old new =
+    LeavesAll refusal old.held new.held old.opened new.opened ⊎ IsUndone refusal words old new
+
+-- the same of some refusal
+pub record IsRefused (words : List (List ℕ)) (old new : Seen) : Type 0 where
+  pub refusal : Refusal
+  pub left : IsRefusedBy refusal words old new

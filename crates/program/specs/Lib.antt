@@ -3,3 +3,5 @@ pub mod Ask
 pub mod Files
 pub mod Tables
 pub mod Answered
+pub mod Refused
+pub mod Lines

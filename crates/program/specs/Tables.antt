@@ -7,13 +7,17 @@
 --     IsWritten folder run old new      the tables of an outcome are in their places
 --     IsPlaced, IsPartlyPlaced folder old new      all tables got their places, or only the first of them
 --     IsTorn folder run old new      only the first tables of an outcome are in their places
---     IsUnplaced folder run old new      what is left where not all tables could be given their places
+--     fault_of refusal      why a run is refused
+--     IsKeptBack folder old new      no table is in its place
+--     LeavesAll refusal old new before after      a refusal leaves everything as it was
+--     IsUnplaced, IsLeftBy refusal folder run old new      what a refusal leaves
 use Rattle.std.specs.Prelude.{◌≡◌, ◌≢◌, ◌⊎◌, ℕ, ⊤, List, [], ◌∷◌, ◌++◌, codes, Some, None, string_bytes}
+use Rattle.sim_base.specs.declared.fault.Fault.{Fault}
 use Rattle.statistics.specs.Values.{RunOutcome}
 use Rattle.reports.specs.Commands.{commands_text}
 use Rattle.reports.specs.Stats.{stats_text}
 use Rattle.reports.specs.Final.{final_text}
-use Rattle.program.specs.Files.{Held}
+use Rattle.program.specs.Files.{Held, IsUntouched}
 use Rattle.program.specs.declared.tables.Move.{Move}
 use Rattle.program.specs.declared.tables.Moves.{Moves}
 use Rattle.program.specs.declared.tables.Refusal.{Refusal}
@@ -73,6 +77,10 @@ pub record AreMovesIn (folder : List ℕ) (moves : Moves) : Type 0 where
   pub commands_is : IsMoveIn folder commands_part commands_name moves.commands
   pub stats_is : IsMoveIn folder stats_part stats_name moves.stats
   pub final_is : IsMoveIn folder final_part final_name moves.last
+
+-- a fact of the folder in which the ways lie
+abbrev pub InFolder : Moves → (List ℕ → Type 0) → Type 0
+InFolder moves P = (folder : List ℕ) → AreMovesIn folder moves → P folder
 
 -- the texts of the tables of an outcome
 abbrev pub commands_of : RunOutcome → List ℕ
@@ -141,6 +149,11 @@ pub record IsTorn (folder : List ℕ) (run : RunOutcome) (old new : Held) : Type
   pub final_is : IsKeptBeside folder final_part final_name (final_of run) old new
   pub others : SameApart folder all_names old new
 
+-- why it is refused
+abbrev pub fault_of : Refusal → Fault
+fault_of (Kept fault) = fault
+fault_of (Torn fault) = fault
+
 -- no table got its place
 abbrev pub IsKept : Refusal → Type 0
 IsKept (Kept fault) = ⊤
@@ -151,7 +164,22 @@ abbrev pub IsTornRefusal : Refusal → Type 0
 IsTornRefusal (Kept fault) = ⊥
 IsTornRefusal (Torn fault) = ⊤
 
--- What is left where the tables could not all be given their places: the places hold what they held, and whatever stands
--- under the names under which tables were written; or the tables are torn.
-abbrev pub IsUnplaced : List ℕ → RunOutcome → Held → Held → Type 0
-IsUnplaced folder run old new = SameApart folder part_names old new ⊎ IsTorn folder run old new
+-- the places hold what they held, and no table is left under the names under which they are written
+pub record IsKeptBack (folder : List ℕ) (old new : Held) : Type 0 where
+  pub no_parts : HasNoParts folder new
+  pub others : SameApart folder part_names old new
+
+-- what a refusal leaves of tables that could not all be given their places
+abbrev pub IsUnplaced : Refusal → List ℕ → RunOutcome → Held → Held → Type 0
+IsUnplaced (Kept fault) folder run old new = IsKeptBack folder old new
+IsUnplaced (Torn fault) folder run old new = IsTorn folder run old new
+
+-- a refusal leaves everything as it was
+pub record LeavesAll (refusal : Refusal) (old new : Held) (before after : List (List ℕ)) : Type 0 where
+  pub kept : IsKept refusal
+  pub untouched : IsUntouched old new before after
+
+-- what a refusal leaves: nothing was touched, or tables were written
+abbrev pub IsLeftBy : Refusal → List ℕ → RunOutcome → Held → Held → List (List ℕ) → List (List ℕ) → Type 0
+IsLeftBy refusal folder run old new before after =
+    LeavesAll refusal old new before after ⊎ IsUnplaced refusal folder run old new

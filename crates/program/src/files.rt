@@ -1,7 +1,7 @@
 //! The files that the program reads and writes.
 
-ghost use Rattle.std.specs.Prelude.{◌≡◌, ◌++◌, ◌∷◌, [], Some, None, IfOk, OnOk, OnErr, List, ℕ};
-ghost use Rattle.program.specs.Files.{Held, SameFiles, SameBut, IsRenamed};
+ghost use Rattle.std.specs.Prelude.{◌≡◌, ◌⊎◌, ◌++◌, ◌∷◌, [], Some, None, IfOk, IfErr, OnOk, OnErr, List, ℕ};
+ghost use Rattle.program.specs.Files.{Held, SameFiles, SameBut, IsRenamed, IsReadFault, IsWriteFault};
 
 use sim_base::fault::Fault;
 use std::alloc::Global;
@@ -11,8 +11,9 @@ use std::rt::Files;
 
 /// Files by their paths, as the program sees them. Tests put memory in their place.
 ///
-/// A set that *tells* says by its clauses what each path holds, and what was opened to be written. The files of the host do not
-/// tell, since no clause can say what a file system gives: nothing is claimed of them here.
+/// A set that *tells* says by its clauses what each path holds, and what was opened to be written. It reads whatever it holds, and
+/// removes whatever it is told to. The files of the host do not tell, since no clause can say what a file system gives: of them only
+/// the faults are claimed here.
 pub trait FileSet {
     /// A file that is being written.
     type Out: Write + Drop;
@@ -29,6 +30,7 @@ pub trait FileSet {
     /// The whole of a file. Refuses by `Fault::Read` where it cannot be read, and by `Fault::Memory`.
     fn read(&mut self, alloc: Global, path: &str) -> Result<Vec<u8>, Fault>
         ensures bytes { IfOk result (λ v. tells → held self.old path.now ≡ Some v.items) }
+        ensures fault { IfErr result (IsReadFault tells (held self.old path.now)) }
         ensures same { tells → SameFiles (held self.old) (held self.new) }
         ensures unopened { tells → opened self.new ≡ opened self.old };
 
@@ -36,18 +38,21 @@ pub trait FileSet {
     /// opened, and by `Fault::Memory`.
     fn create(&mut self, alloc: Global, path: &str) -> Result<Self::Out, Fault>
         ensures empty { IfOk result (λ out. tells → Self.Out.contents out ≡ Some []) }
+        ensures fault { IfErr result (λ e. IsWriteFault e) }
         ensures noted { OnOk result (tells → opened self.new ≡ opened self.old ++ path.now ∷ []) }
         ensures others { tells → SameBut path.now (held self.old) (held self.new) };
 
     /// Ends the writing of a file. Refuses by `Fault::Write` where what is left cannot be written, and by `Fault::Memory`.
     fn close(&mut self, alloc: Global, path: &str, out: Self::Out) -> Result<(), Fault>
         ensures written { OnOk result (tells → held self.new path.now ≡ Self.Out.contents out) }
+        ensures fault { IfErr result (λ e. IsWriteFault e) }
         ensures others { tells → SameBut path.now (held self.old) (held self.new) }
         ensures unopened { tells → opened self.new ≡ opened self.old };
 
     /// Tests whether a file could be given this path. Refuses by `Fault::Write` where something stands there that no file
     /// replaces, as a folder, or that is not to be replaced, as a file that may not be written, or where that cannot be told.
     fn test_place(&mut self, path: &str) -> Result<(), Fault>
+        ensures fault { IfErr result (λ e. IsWriteFault e) }
         ensures same { tells → SameFiles (held self.old) (held self.new) }
         ensures unopened { tells → opened self.new ≡ opened self.old };
 
@@ -56,11 +61,12 @@ pub trait FileSet {
     fn rename(&mut self, alloc: Global, from: &str, to: &str) -> Result<(), Fault>
         ensures renamed { OnOk result (tells → IsRenamed from.now to.now (held self.old) (held self.new)) }
         ensures refused { OnErr result (tells → SameFiles (held self.old) (held self.new)) }
+        ensures fault { IfErr result (λ e. IsWriteFault e) }
         ensures unopened { tells → opened self.new ≡ opened self.old };
 
-    /// Removes a file. Refuses by `Fault::Write` where it cannot, or where there is none.
+    /// Removes a file. Refuses by `Fault::Write` where it cannot, or where there is none. A set that tells always can.
     fn remove(&mut self, path: &str) -> Result<(), Fault>
-        ensures removed { OnOk result (tells → held self.new path.now ≡ None) }
+        ensures removed { tells → held self.new path.now ≡ None }
         ensures others { tells → SameBut path.now (held self.old) (held self.new) }
         ensures unopened { tells → opened self.new ≡ opened self.old };
 }
@@ -71,14 +77,18 @@ pub struct HostFiles<'a, R> {
     pub rt: &'a R,
 }
 
-fn read_fault(error: &io::Error) -> Fault {
+fn read_fault(error: &io::Error) -> Fault
+    ensures { (result ≡ Fault.Memory) ⊎ (result ≡ Fault.Read) }
+{
     match error.kind() {
         ErrorKind::OutOfMemory => Fault::Memory,
         _ => Fault::Read,
     }
 }
 
-fn written(answer: io::Result<()>) -> Result<(), Fault> {
+fn written(answer: io::Result<()>) -> Result<(), Fault>
+    ensures { IfErr result (λ e. e ≡ Fault.Write) }
+{
     match answer {
         Ok(()) => Ok(()),
         Err(_) => Err(Fault::Write),
@@ -86,7 +96,9 @@ fn written(answer: io::Result<()>) -> Result<(), Fault> {
 }
 
 // Opens a file as if to write it, and leaves it as it is: one that is protected, as by its mode or its folder's, refuses that.
-fn test_writing(files: &impl Files, path: &str) -> Result<(), Fault> {
+fn test_writing(files: &impl Files, path: &str) -> Result<(), Fault>
+    ensures { IfErr result (λ e. e ≡ Fault.Write) }
+{
     let mut options = OpenOptions::new();
     options.write(true);
     match options.open(files, path) {

@@ -3,6 +3,8 @@
 
 pub mod command_line;
 pub mod files;
+mod lines;
 pub mod perform;
+mod shared;
 mod tables;
 pub mod words;

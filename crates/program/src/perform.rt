@@ -1,12 +1,16 @@
 //! What the program does, over files and streams that are handed in.
 
-ghost use Rattle.std.specs.Prelude.{◌≡◌, ◌≢◌, ◌≤◌, ◌++◌, map, Some, IfOk, OnOk, OnErr, string_bytes};
+ghost use Rattle.std.specs.Prelude.{◌≡◌, ◌≢◌, ◌<◌, ◌≤◌, ◌++◌, ◌∷◌, [], length, map, slice_index_or, Some, IfOk, IfErr, IfSome, OnOk, OnErr, string_bytes};
 ghost use Rattle.std.specs.Io.KnownBytes.{Appends};
-ghost use Rattle.program.specs.Files.{SameFiles};
-ghost use Rattle.program.specs.Tables.{parts};
-ghost use Rattle.program.specs.Answered.{seen, IsOutcome, IsRunDone, IsUnfinished, IsVerdict, verdict_line, verdict_status, IsChecked, IsPlace, rank_words, place_line, IsMapped, IsAnswer, IsLeft, IsAnswered, IsRefused};
+ghost use Rattle.program.specs.Files.{SameFiles, AreHeld, IsReadFault};
+ghost use Rattle.program.specs.Lines.{IsTold};
+ghost use Rattle.program.specs.Refused.{IsRunFault, IsRightRun, IsTableFault, IsRightTable, IsMapFault, IsRightMap, IsFilesFault, IsReady, IsInputFault, IsAnswerFault, IsAskFault, IsFaultOf};
+ghost use Rattle.program.specs.Tables.{fault_of, parts};
+ghost use Rattle.program.specs.Answered.{seen, IsOutcome, IsRunDone, IsUnfinished, IsVerdict, verdict_line, verdict_status, IsChecked, IsPlace, rank_words, place_line, IsMapped, IsAnswer, IsLeft, IsAnswered, IsRefusedBy, IsRefused};
 
 use crate::files::FileSet;
+use crate::lines::tell;
+use crate::shared::SharedText;
 use crate::tables::{Refusal, write_tables};
 use crate::words::{Ask, read_words};
 use address_map::place_of;
@@ -17,7 +21,7 @@ use sim_base::message::Cycle;
 use sim_base::place::Place;
 use simulation::runs::simulate;
 use statistics::outcome::Outcome;
-use std::alloc::Global;
+use std::alloc::{AllocError, Global};
 use std::io::Write;
 use std::sync::Wait;
 use std::thread::Threads;
@@ -34,7 +38,8 @@ pub const REFUSED: u8 = 2;
 
 // A text on a stream.
 fn print_text<P: Write>(print: &mut P, text: &str) -> Result<(), Fault>
-    ensures { OnOk result (Appends (P.contents print.old) (P.contents print.new) text.now) }
+    ensures printed { OnOk result (Appends (P.contents print.old) (P.contents print.new) text.now) }
+    ensures fault { IfErr result (λ e. e ≡ Fault.Write) }
 {
     let Ok(()) = print.write_all(text.as_bytes()) else {
         return Err(Fault::Write);
@@ -45,21 +50,68 @@ fn print_text<P: Write>(print: &mut P, text: &str) -> Result<(), Fault>
     Ok(())
 }
 
+// An earlier place with the same path.
+fn earlier(paths: &[&str], place: usize, path: &str) -> Option<usize>
+    ensures before { IfSome result (λ first. first < place) }
+    ensures same { IfSome result (λ first. (slice_index_or paths.now first path.entry).now ≡ path.now) }
+{
+    for first in 0..place.min(paths.len()) {
+        if paths[first] == path {
+            return Some(first);
+        }
+    }
+    None
+}
+
+// The text of the next file, which it shares with an earlier one of the same path.
+fn next_text<F: FileSet>(
+    alloc: Global,
+    files: &mut F,
+    paths: &[&str],
+    texts: &[SharedText],
+    path: &str,
+) -> Result<SharedText, Fault>
+    requires read { F.tells → AreHeld (F.held files.old) (map (λ p. p.now) paths.now) texts.now }
+    ensures text { IfOk result (λ t. F.tells → F.held files.old path.now ≡ Some t) }
+    ensures fault { IfErr result (IsReadFault F.tells (F.held files.old path.now)) }
+    ensures same { F.tells → SameFiles (F.held files.old) (F.held files.new) }
+    ensures unopened { F.tells → F.opened files.new ≡ F.opened files.old }
+{
+    match earlier(paths, texts.len(), path) {
+        Some(first) => Ok(texts[first].copy()?),
+        None => Ok(SharedText::new(alloc, files.read(alloc, path)?)?),
+    }
+}
+
 fn read_texts<F: FileSet>(
     alloc: Global,
     files: &mut F,
     paths: &[&str],
-) -> Result<Vec<Vec<u8>>, Fault>
-    ensures texts { IfOk result (λ v. F.tells → map (λ p. F.held files.old p.now) paths.now ≡ map (λ t. Some t.items) v.items) }
+) -> Result<Vec<SharedText>, Fault>
+    ensures texts { IfOk result (λ v. F.tells → map (λ p. F.held files.old p.now) paths.now ≡ map (λ t. Some t) v.items) }
+    ensures count { IfOk result (λ v. length v.items ≡ length paths.now) }
+    ensures fault { IfErr result (IsFilesFault F.tells (F.held files.old) (map (λ p. p.now) paths.now)) }
     ensures same { F.tells → SameFiles (F.held files.old) (F.held files.new) }
     ensures unopened { F.tells → F.opened files.new ≡ F.opened files.old }
 {
     let mut texts = Vec::new(alloc);
     for path in paths {
-        let text = files.read(alloc, path)?;
+        let text = next_text(alloc, files, paths, &texts, path)?;
         texts.push(text).map_err(|_| Fault::Memory)?;
     }
     Ok(texts)
+}
+
+// The texts as slices of bytes.
+#[tactic(auto, using(std::proofs::lemmas::List::map_more))]
+fn slices_of<'a>(alloc: Global, texts: &'a [SharedText]) -> Result<Vec<&'a [u8]>, AllocError>
+    ensures { IfOk result (λ slices. map (λ s. s.now) slices.items ≡ map (λ t. t) texts.now) }
+{
+    let mut slices = Vec::new(alloc);
+    for text in texts {
+        slices.push(text.as_slice())?;
+    }
+    Ok(slices)
 }
 
 // The outcome of a run over the files that are named.
@@ -73,12 +125,15 @@ fn run_files<R: Threads + Wait + Sync, F: FileSet>(
     traces: &[&str],
 ) -> Result<Outcome, Fault>
     ensures outcome { IfOk result (λ run. F.tells → IsOutcome config.now cycles workers (map (λ t. t.now) traces.now) (F.held files.old) run) }
+    ensures ready { OnOk result (IsReady F.tells (F.held files.old) (config.now ∷ map (λ t. t.now) traces.now) (IsRightRun cycles workers)) }
+    ensures fault { IfErr result (IsInputFault F.tells (F.held files.old) (config.now ∷ map (λ t. t.now) traces.now) (IsRunFault cycles workers)) }
     ensures same { F.tells → SameFiles (F.held files.old) (F.held files.new) }
     ensures unopened { F.tells → F.opened files.new ≡ F.opened files.old }
 {
     let document = files.read(alloc, config)?;
     let texts = read_texts(alloc, files, traces)?;
-    simulate(rt, alloc, &Open, &document, &texts, cycles, workers)
+    let slices = slices_of(alloc, &texts)?;
+    simulate(rt, alloc, &Open, &document, &slices, cycles, workers)
 }
 
 // `run CONFIG --cycles N --workers N --out DIR TRACE...`: nothing is opened before the run is over.
@@ -94,7 +149,8 @@ fn perform_run<R: Threads + Wait + Sync, F: FileSet>(
 ) -> Result<(), Refusal>
     ensures done { OnOk result (F.tells → IsRunDone config.now cycles workers out.now (map (λ t. t.now) traces.now) (F.held files.old) (F.held files.new)) }
     ensures noted { OnOk result (F.tells → F.opened files.new ≡ F.opened files.old ++ parts out.now) }
-    ensures refused { OnErr result (F.tells → IsUnfinished config.now cycles workers out.now (map (λ t. t.now) traces.now) (F.held files.old) (F.held files.new) (F.opened files.old) (F.opened files.new)) }
+    ensures refused { IfErr result (λ e. F.tells → IsUnfinished e config.now cycles workers out.now (map (λ t. t.now) traces.now) (F.held files.old) (F.held files.new) (F.opened files.old) (F.opened files.new)) }
+    ensures fault { IfErr result (λ e. IsAnswerFault F.tells (F.held files.old) (config.now ∷ map (λ t. t.now) traces.now) (IsRunFault cycles workers) (IsRightRun cycles workers) (fault_of e)) }
 {
     let run = run_files(rt, alloc, files, config, cycles, workers, traces)?;
     write_tables(alloc, files, out, &run)
@@ -108,6 +164,8 @@ fn find_place<F: FileSet>(
     address: u64,
 ) -> Result<(u32, Place), Fault>
     ensures place { IfOk result (λ found. F.tells → IsPlace config.now address (F.held files.old) found.0 found.1) }
+    ensures ready { OnOk result (IsReady F.tells (F.held files.old) (config.now ∷ []) IsRightMap) }
+    ensures fault { IfErr result (IsInputFault F.tells (F.held files.old) (config.now ∷ []) IsMapFault) }
     ensures same { F.tells → SameFiles (F.held files.old) (F.held files.new) }
     ensures unopened { F.tells → F.opened files.new ≡ F.opened files.old }
 {
@@ -117,7 +175,8 @@ fn find_place<F: FileSet>(
 }
 
 fn rank_words_of(alloc: Global, ranks: u32, rank: u32) -> Result<String, Fault>
-    ensures { IfOk result (λ s. string_bytes s ≡ rank_words ranks rank) }
+    ensures words { IfOk result (λ s. string_bytes s ≡ rank_words ranks rank) }
+    ensures fault { IfErr result (λ e. e ≡ Fault.Memory) }
 {
     if ranks > 1 {
         Ok(format!(in alloc; " rank {rank}")?)
@@ -127,7 +186,8 @@ fn rank_words_of(alloc: Global, ranks: u32, rank: u32) -> Result<String, Fault>
 }
 
 fn place_line_of(alloc: Global, ranks: u32, place: Place) -> Result<String, Fault>
-    ensures { IfOk result (λ s. string_bytes s ≡ place_line ranks place) }
+    ensures line { IfOk result (λ s. string_bytes s ≡ place_line ranks place) }
+    ensures fault { IfErr result (λ e. e ≡ Fault.Memory) }
 {
     let words = rank_words_of(alloc, ranks, place.rank)?;
     Ok(format!(in alloc;
@@ -145,6 +205,7 @@ fn perform_map<F: FileSet, P: Write>(
     address: u64,
 ) -> Result<(), Fault>
     ensures mapped { OnOk result (F.tells → IsMapped config.now address (F.held files.old) (P.contents print.old) (P.contents print.new)) }
+    ensures fault { IfErr result (IsAnswerFault F.tells (F.held files.old) (config.now ∷ []) IsMapFault IsRightMap) }
     ensures same { F.tells → SameFiles (F.held files.old) (F.held files.new) }
     ensures unopened { F.tells → F.opened files.new ≡ F.opened files.old }
 {
@@ -161,6 +222,8 @@ fn judge<F: FileSet>(
     commands: &str,
 ) -> Result<Verdict, Fault>
     ensures found { IfOk result (λ found. F.tells → IsVerdict config.now commands.now (F.held files.old) found) }
+    ensures ready { OnOk result (IsReady F.tells (F.held files.old) (config.now ∷ commands.now ∷ []) IsRightTable) }
+    ensures fault { IfErr result (IsInputFault F.tells (F.held files.old) (config.now ∷ commands.now ∷ []) IsTableFault) }
     ensures same { F.tells → SameFiles (F.held files.old) (F.held files.new) }
     ensures unopened { F.tells → F.opened files.new ≡ F.opened files.old }
 {
@@ -171,7 +234,8 @@ fn judge<F: FileSet>(
 }
 
 fn verdict_line_of(alloc: Global, found: Verdict) -> Result<String, Fault>
-    ensures { IfOk result (λ s. string_bytes s ≡ verdict_line found) }
+    ensures line { IfOk result (λ s. string_bytes s ≡ verdict_line found) }
+    ensures fault { IfErr result (λ e. e ≡ Fault.Memory) }
 {
     match found {
         Verdict::Legal => Ok(String::from_str(alloc, "legal\n")?),
@@ -201,6 +265,7 @@ fn perform_check<F: FileSet, P: Write>(
 ) -> Result<u8, Fault>
     ensures checked { IfOk result (λ status. F.tells → IsChecked config.now commands.now status (F.held files.old) (P.contents print.old) (P.contents print.new)) }
     ensures status { IfOk result (λ status. status ≤ 1) }
+    ensures fault { IfErr result (IsAnswerFault F.tells (F.held files.old) (config.now ∷ commands.now ∷ []) IsTableFault IsRightTable) }
     ensures same { F.tells → SameFiles (F.held files.old) (F.held files.new) }
     ensures unopened { F.tells → F.opened files.new ≡ F.opened files.old }
 {
@@ -220,7 +285,8 @@ fn answer<R: Threads + Wait + Sync, F: FileSet, P: Write>(
 ) -> Result<u8, Refusal>
     ensures answered { IfOk result (λ status. F.tells → IsAnswer ask.now status (seen (F.held files.old) (F.opened files.old) (P.contents print.old)) (seen (F.held files.new) (F.opened files.new) (P.contents print.new))) }
     ensures status { IfOk result (λ status. status ≤ 1) }
-    ensures refused { OnErr result (F.tells → IsLeft ask.now (seen (F.held files.old) (F.opened files.old) (P.contents print.old)) (seen (F.held files.new) (F.opened files.new) (P.contents print.new))) }
+    ensures refused { IfErr result (λ e. F.tells → IsLeft e ask.now (seen (F.held files.old) (F.opened files.old) (P.contents print.old)) (seen (F.held files.new) (F.opened files.new) (P.contents print.new))) }
+    ensures fault { IfErr result (λ e. IsAskFault F.tells (F.held files.old) ask.now (fault_of e)) }
 {
     match ask {
         Ask::Run {
@@ -257,20 +323,25 @@ fn answer_words<R: Threads + Wait + Sync, F: FileSet, P: Write>(
 ) -> Result<u8, Refusal>
     ensures answered { IfOk result (λ status. F.tells → IsAnswered (map (λ w. w.now) words.now) status (seen (F.held files.old) (F.opened files.old) (P.contents print.old)) (seen (F.held files.new) (F.opened files.new) (P.contents print.new))) }
     ensures status { IfOk result (λ status. status ≤ 1) }
-    ensures refused { OnErr result (F.tells → IsRefused (map (λ w. w.now) words.now) (seen (F.held files.old) (F.opened files.old) (P.contents print.old)) (seen (F.held files.new) (F.opened files.new) (P.contents print.new))) }
+    ensures refused { IfErr result (λ e. F.tells → IsRefusedBy e (map (λ w. w.now) words.now) (seen (F.held files.old) (F.opened files.old) (P.contents print.old)) (seen (F.held files.new) (F.opened files.new) (P.contents print.new))) }
+    ensures fault { IfErr result (λ e. IsFaultOf F.tells (F.held files.old) (map (λ w. w.now) words.now) (fault_of e)) }
 {
     let ask = read_words(alloc, words)?;
     answer(rt, alloc, &ask, files, print)
 }
 
 /// Does what the words ask for, of which the first is the program's name, and gives the status: 0 done, 1 a table that breaks
-/// a rule, 2 refused. A run's workers are threads of `rt`. A refusal is one line on `errors`, `fault N: ...`, and a second one
-/// where the tables in the folder are of two runs.
+/// a rule, 2 refused. A run's workers are threads of `rt`.
+///
+/// A refusal is one line on `errors`, `fault N: ...`, and a second one where the tables in the folder are of two runs; where the
+/// stream refuses, it has a beginning of these lines. The fault is the first in this order: the words, the files that they name,
+/// what stands in these (the configuration, and then as `simulate` and `check` say), and what cannot be written. Memory may be
+/// refused at any time.
 ///
 /// What is promised of files is promised where the set of files tells what it holds. A run whose status is 0 has put the tables of its
 /// outcome into the folder. Where it is 2, either the run had no outcome, and nothing was opened; or the places of the
-/// tables hold what they held; or a file could not be renamed after another one was, and each table is the earlier one or the new one,
-/// whole.
+/// tables hold what they held, and none is left under a name that ends in `.part`; or a file could not be renamed after another one
+/// was, and each table is the earlier one or the new one, whole: then there is the second line.
 pub fn perform<R: Threads + Wait + Sync, F: FileSet, P: Write, E: Write>(
     rt: &R,
     alloc: Global,
@@ -282,11 +353,13 @@ pub fn perform<R: Threads + Wait + Sync, F: FileSet, P: Write, E: Write>(
     ensures status { result ≤ 2 }
     ensures answered { result ≢ 2 → F.tells → IsAnswered (map (λ w. w.now) words.now) result (seen (F.held files.old) (F.opened files.old) (P.contents print.old)) (seen (F.held files.new) (F.opened files.new) (P.contents print.new)) }
     ensures refused { result ≡ 2 → F.tells → IsRefused (map (λ w. w.now) words.now) (seen (F.held files.old) (F.opened files.old) (P.contents print.old)) (seen (F.held files.new) (F.opened files.new) (P.contents print.new)) }
+    ensures told { result ≡ 2 → IsTold F.tells (map (λ w. w.now) words.now) (seen (F.held files.old) (F.opened files.old) (P.contents print.old)) (seen (F.held files.new) (F.opened files.new) (P.contents print.new)) (E.contents errors.old) (E.contents errors.new) }
+    ensures silent { result ≢ 2 → E.contents errors.new ≡ E.contents errors.old }
 {
     match answer_words(rt, alloc, words, files, print) {
         Ok(status) => status,
         Err(refusal) => {
-            let _ = writeln!(errors, "{refusal}");
+            let _ = tell(errors, refusal);
             REFUSED
         }
     }

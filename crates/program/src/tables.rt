@@ -1,15 +1,14 @@
 //! The tables of a run in a folder: each is written under a name of its own, and gets its place once all three are whole.
 
-ghost use Rattle.std.specs.Prelude.{◌≡◌, ◌++◌, ◌∷◌, [], Some, IfOk, IfErr, OnOk, OnErr, string_bytes};
-ghost use Rattle.program.specs.Files.{SameFiles, SameBut, IsRenamed};
-ghost use Rattle.program.specs.Tables.{path_in, commands_part, stats_part, final_part, part_names, parts, SameApart, IsMoveIn, AreMovesIn, commands_of, stats_of, final_of, HoldsParts, IsWritten, IsPlaced, IsPartlyPlaced, IsKept, IsTornRefusal, IsUnplaced};
+ghost use Rattle.std.specs.Prelude.{◌≡◌, ◌++◌, ◌∷◌, [], Some, None, IfOk, IfErr, OnOk, OnErr, string_bytes};
+ghost use Rattle.program.specs.Files.{SameFiles, SameBut, IsRenamed, IsWriteFault};
+ghost use Rattle.program.specs.Tables.{fault_of, path_in, part_names, parts, SameApart, IsMoveIn, AreMovesIn, InFolder, commands_of, stats_of, final_of, HoldsParts, HasNoParts, IsWritten, IsPlaced, IsPartlyPlaced, IsKept, IsTornRefusal, IsLeftBy};
 
 use crate::files::FileSet;
 use reports::{write_commands, write_final, write_stats};
 use sim_base::fault::Fault;
 use statistics::outcome::Outcome;
 use std::alloc::Global;
-use std::fmt;
 
 /// Why the program refuses, and what it leaves of a run's tables.
 #[derive(Clone, Copy, PartialEq, Eq, Debug)]
@@ -18,18 +17,6 @@ pub(crate) enum Refusal {
     Kept(Fault),
     /// A table could not be given its place after another one was.
     Torn(Fault),
-}
-
-impl fmt::Display for Refusal {
-    fn fmt<W: fmt::Write>(&self, f: &mut fmt::Formatter<W>) -> fmt::Result {
-        match self {
-            Refusal::Kept(fault) => write!(f, "{fault}"),
-            Refusal::Torn(fault) => write!(
-                f,
-                "{fault}\nthe tables are of two runs: what is missing of this one stands beside them under names that end in .part"
-            ),
-        }
-    }
 }
 
 impl From<Fault> for Refusal {
@@ -44,7 +31,8 @@ impl From<Fault> for Refusal {
 
 // The path of a name in a folder.
 fn path_of(alloc: Global, folder: &str, name: &str) -> Result<String, Fault>
-    ensures { IfOk result (λ s. string_bytes s ≡ path_in folder.now name.now) }
+    ensures path { IfOk result (λ s. string_bytes s ≡ path_in folder.now name.now) }
+    ensures fault { IfErr result (λ e. e ≡ Fault.Memory) }
 {
     Ok(format!(in alloc; "{folder}/{name}")?)
 }
@@ -52,60 +40,49 @@ fn path_of(alloc: Global, folder: &str, name: &str) -> Result<String, Fault>
 fn stage_commands<F: FileSet>(
     alloc: Global,
     files: &mut F,
-    folder: &str,
+    path: &str,
     run: &Outcome,
 ) -> Result<(), Fault>
-    ensures whole { OnOk result (F.tells → F.held files.new (path_in folder.now commands_part) ≡ Some (commands_of run.now)) }
-    ensures noted { OnOk result (F.tells → F.opened files.new ≡ F.opened files.old ++ path_in folder.now commands_part ∷ []) }
-    ensures others { F.tells → SameBut (path_in folder.now commands_part) (F.held files.old) (F.held files.new) }
+    ensures whole { OnOk result (F.tells → F.held files.new path.now ≡ Some (commands_of run.now)) }
+    ensures noted { OnOk result (F.tells → F.opened files.new ≡ F.opened files.old ++ path.now ∷ []) }
+    ensures fault { IfErr result (λ e. IsWriteFault e) }
+    ensures others { F.tells → SameBut path.now (F.held files.old) (F.held files.new) }
 {
-    let path = path_of(alloc, folder, "commands.csv.part")?;
-    let mut table = files.create(alloc, path.as_str())?;
+    let mut table = files.create(alloc, path)?;
     write_commands(alloc, run.ranks, &run.commands, &mut table)?;
-    files.close(alloc, path.as_str(), table)
+    files.close(alloc, path, table)
 }
 
 fn stage_stats<F: FileSet>(
     alloc: Global,
     files: &mut F,
-    folder: &str,
+    path: &str,
     run: &Outcome,
 ) -> Result<(), Fault>
-    ensures whole { OnOk result (F.tells → F.held files.new (path_in folder.now stats_part) ≡ Some (stats_of run.now)) }
-    ensures noted { OnOk result (F.tells → F.opened files.new ≡ F.opened files.old ++ path_in folder.now stats_part ∷ []) }
-    ensures others { F.tells → SameBut (path_in folder.now stats_part) (F.held files.old) (F.held files.new) }
+    ensures whole { OnOk result (F.tells → F.held files.new path.now ≡ Some (stats_of run.now)) }
+    ensures noted { OnOk result (F.tells → F.opened files.new ≡ F.opened files.old ++ path.now ∷ []) }
+    ensures fault { IfErr result (λ e. IsWriteFault e) }
+    ensures others { F.tells → SameBut path.now (F.held files.old) (F.held files.new) }
 {
-    let path = path_of(alloc, folder, "stats.csv.part")?;
-    let mut table = files.create(alloc, path.as_str())?;
+    let mut table = files.create(alloc, path)?;
     write_stats(alloc, &run.stats, &mut table)?;
-    files.close(alloc, path.as_str(), table)
+    files.close(alloc, path, table)
 }
 
 fn stage_final<F: FileSet>(
     alloc: Global,
     files: &mut F,
-    folder: &str,
+    path: &str,
     run: &Outcome,
 ) -> Result<(), Fault>
-    ensures whole { OnOk result (F.tells → F.held files.new (path_in folder.now final_part) ≡ Some (final_of run.now)) }
-    ensures noted { OnOk result (F.tells → F.opened files.new ≡ F.opened files.old ++ path_in folder.now final_part ∷ []) }
-    ensures others { F.tells → SameBut (path_in folder.now final_part) (F.held files.old) (F.held files.new) }
+    ensures whole { OnOk result (F.tells → F.held files.new path.now ≡ Some (final_of run.now)) }
+    ensures noted { OnOk result (F.tells → F.opened files.new ≡ F.opened files.old ++ path.now ∷ []) }
+    ensures fault { IfErr result (λ e. IsWriteFault e) }
+    ensures others { F.tells → SameBut path.now (F.held files.old) (F.held files.new) }
 {
-    let path = path_of(alloc, folder, "final.csv.part")?;
-    let mut table = files.create(alloc, path.as_str())?;
+    let mut table = files.create(alloc, path)?;
     write_final(alloc, &run.last, run.ranks, &mut table)?;
-    files.close(alloc, path.as_str(), table)
-}
-
-// Writes the tables, one after the other, under the names that end in `.part`.
-fn stage<F: FileSet>(alloc: Global, files: &mut F, folder: &str, run: &Outcome) -> Result<(), Fault>
-    ensures whole { OnOk result (F.tells → HoldsParts folder.now run.now (F.held files.new)) }
-    ensures noted { OnOk result (F.tells → F.opened files.new ≡ F.opened files.old ++ parts folder.now) }
-    ensures others { F.tells → SameApart folder.now part_names (F.held files.old) (F.held files.new) }
-{
-    stage_commands(alloc, files, folder, run)?;
-    stage_stats(alloc, files, folder, run)?;
-    stage_final(alloc, files, folder, run)
+    files.close(alloc, path, table)
 }
 
 // A table's way to its place.
@@ -116,7 +93,8 @@ struct Move {
 }
 
 fn move_of(alloc: Global, folder: &str, part: &str, name: &str) -> Result<Move, Fault>
-    ensures { IfOk result (IsMoveIn folder.now part.now name.now) }
+    ensures way { IfOk result (IsMoveIn folder.now part.now name.now) }
+    ensures fault { IfErr result (λ e. e ≡ Fault.Memory) }
 {
     Ok(Move {
         from: path_of(alloc, folder, part)?,
@@ -133,7 +111,8 @@ struct Moves {
 }
 
 fn moves_of(alloc: Global, folder: &str) -> Result<Moves, Fault>
-    ensures { IfOk result (AreMovesIn folder.now) }
+    ensures ways { IfOk result (AreMovesIn folder.now) }
+    ensures fault { IfErr result (λ e. e ≡ Fault.Memory) }
 {
     Ok(Moves {
         commands: move_of(alloc, folder, "commands.csv.part", "commands.csv")?,
@@ -142,8 +121,26 @@ fn moves_of(alloc: Global, folder: &str) -> Result<Moves, Fault>
     })
 }
 
+// Writes the tables, one after the other, under the names that end in `.part`.
+fn stage<F: FileSet>(
+    alloc: Global,
+    files: &mut F,
+    moves: &Moves,
+    run: &Outcome,
+) -> Result<(), Fault>
+    ensures whole { OnOk result (InFolder moves.now (λ folder. F.tells → HoldsParts folder run.now (F.held files.new))) }
+    ensures noted { OnOk result (InFolder moves.now (λ folder. F.tells → F.opened files.new ≡ F.opened files.old ++ parts folder)) }
+    ensures fault { IfErr result (λ e. IsWriteFault e) }
+    ensures others { InFolder moves.now (λ folder. F.tells → SameApart folder part_names (F.held files.old) (F.held files.new)) }
+{
+    stage_commands(alloc, files, moves.commands.from.as_str(), run)?;
+    stage_stats(alloc, files, moves.stats.from.as_str(), run)?;
+    stage_final(alloc, files, moves.last.from.as_str(), run)
+}
+
 // Tests whether each table could get its place.
 fn test_places<F: FileSet>(files: &mut F, moves: &Moves) -> Result<(), Fault>
+    ensures fault { IfErr result (λ e. IsWriteFault e) }
     ensures same { F.tells → SameFiles (F.held files.old) (F.held files.new) }
     ensures unopened { F.tells → F.opened files.new ≡ F.opened files.old }
 {
@@ -155,20 +152,21 @@ fn test_places<F: FileSet>(files: &mut F, moves: &Moves) -> Result<(), Fault>
 fn place_one<F: FileSet>(alloc: Global, files: &mut F, table: &Move) -> Result<(), Fault>
     ensures renamed { OnOk result (F.tells → IsRenamed (string_bytes table.now.from) (string_bytes table.now.to) (F.held files.old) (F.held files.new)) }
     ensures refused { OnErr result (F.tells → SameFiles (F.held files.old) (F.held files.new)) }
+    ensures fault { IfErr result (λ e. IsWriteFault e) }
     ensures unopened { F.tells → F.opened files.new ≡ F.opened files.old }
 {
     files.rename(alloc, table.from.as_str(), table.to.as_str())
 }
 
 // Gives the tables their places, one right after the other. What can be found before the first has its place refuses before that.
-fn place<F: FileSet>(alloc: Global, files: &mut F, folder: &str) -> Result<(), Refusal>
-    ensures placed { OnOk result (F.tells → IsPlaced folder.now (F.held files.old) (F.held files.new)) }
+fn place<F: FileSet>(alloc: Global, files: &mut F, moves: &Moves) -> Result<(), Refusal>
+    ensures placed { OnOk result (InFolder moves.now (λ folder. F.tells → IsPlaced folder (F.held files.old) (F.held files.new))) }
     ensures kept { IfErr result (λ e. IsKept e → F.tells → SameFiles (F.held files.old) (F.held files.new)) }
-    ensures torn { IfErr result (λ e. IsTornRefusal e → F.tells → IsPartlyPlaced folder.now (F.held files.old) (F.held files.new)) }
+    ensures torn { IfErr result (λ e. IsTornRefusal e → InFolder moves.now (λ folder. F.tells → IsPartlyPlaced folder (F.held files.old) (F.held files.new))) }
+    ensures fault { IfErr result (λ e. IsWriteFault (fault_of e)) }
     ensures unopened { F.tells → F.opened files.new ≡ F.opened files.old }
 {
-    let moves = moves_of(alloc, folder)?;
-    test_places(files, &moves)?;
+    test_places(files, moves)?;
     place_one(alloc, files, &moves.commands)?;
     if let Err(fault) = place_one(alloc, files, &moves.stats) {
         return Err(Refusal::Torn(fault));
@@ -179,23 +177,23 @@ fn place<F: FileSet>(alloc: Global, files: &mut F, folder: &str) -> Result<(), R
     Ok(())
 }
 
-// Removes a file, if it can be.
-fn discard_one<F: FileSet>(alloc: Global, files: &mut F, folder: &str, name: &str)
-    ensures others { F.tells → SameBut (path_in folder.now name.now) (F.held files.old) (F.held files.new) }
+// Removes what was written under a name that ends in `.part`, if it can be.
+fn discard_one<F: FileSet>(files: &mut F, table: &Move)
+    ensures gone { F.tells → F.held files.new (string_bytes table.now.from) ≡ None }
+    ensures others { F.tells → SameBut (string_bytes table.now.from) (F.held files.old) (F.held files.new) }
 {
-    if let Ok(path) = path_of(alloc, folder, name) {
-        let _ = files.remove(path.as_str());
-    }
+    let _ = files.remove(table.from.as_str());
 }
 
-// Removes what was written under the names that end in `.part`, in reverse order: where only the first is gone, the others are whole and
-// wait for their places.
-fn discard<F: FileSet>(alloc: Global, files: &mut F, folder: &str)
-    ensures others { F.tells → SameApart folder.now part_names (F.held files.old) (F.held files.new) }
+// Removes all that was written under such names, in reverse order: where only the first is gone, the others are whole and wait for
+// their places.
+fn discard<F: FileSet>(files: &mut F, moves: &Moves)
+    ensures gone { InFolder moves.now (λ folder. F.tells → HasNoParts folder (F.held files.new)) }
+    ensures others { InFolder moves.now (λ folder. F.tells → SameApart folder part_names (F.held files.old) (F.held files.new)) }
 {
-    discard_one(alloc, files, folder, "final.csv.part");
-    discard_one(alloc, files, folder, "stats.csv.part");
-    discard_one(alloc, files, folder, "commands.csv.part");
+    discard_one(files, &moves.last);
+    discard_one(files, &moves.stats);
+    discard_one(files, &moves.commands);
 }
 
 /// Writes the tables of a run into a folder. Each is written under its name and `.part`, and when all three are whole, they get their
@@ -209,16 +207,18 @@ pub(crate) fn write_tables<F: FileSet>(
 ) -> Result<(), Refusal>
     ensures written { OnOk result (F.tells → IsWritten folder.now run.now (F.held files.old) (F.held files.new)) }
     ensures noted { OnOk result (F.tells → F.opened files.new ≡ F.opened files.old ++ parts folder.now) }
-    ensures refused { OnErr result (F.tells → IsUnplaced folder.now run.now (F.held files.old) (F.held files.new)) }
+    ensures refused { IfErr result (λ e. F.tells → IsLeftBy e folder.now run.now (F.held files.old) (F.held files.new) (F.opened files.old) (F.opened files.new)) }
+    ensures fault { IfErr result (λ e. IsWriteFault (fault_of e)) }
 {
-    if let Err(fault) = stage(alloc, files, folder, run) {
-        discard(alloc, files, folder);
+    let moves = moves_of(alloc, folder)?;
+    if let Err(fault) = stage(alloc, files, &moves, run) {
+        discard(files, &moves);
         return Err(Refusal::Kept(fault));
     }
-    match place(alloc, files, folder) {
+    match place(alloc, files, &moves) {
         Ok(()) => Ok(()),
         Err(Refusal::Kept(fault)) => {
-            discard(alloc, files, folder);
+            discard(files, &moves);
             Err(Refusal::Kept(fault))
         }
         Err(Refusal::Torn(fault)) => Err(Refusal::Torn(fault)),

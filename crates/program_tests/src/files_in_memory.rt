@@ -1,5 +1,7 @@
 //! Files in memory, in place of the host's.
 
+ghost use Rattle.std.specs.Prelude.{◌≡◌, IfErr};
+
 use program::files::FileSet;
 use sim_base::fault::Fault;
 use std::alloc::{AllocError, Global};
@@ -71,7 +73,9 @@ impl MemoryFiles {
         str::from_utf8(self.files.get(path)?).ok()
     }
 
-    fn test(&self, failure: Failure, path: &str) -> Result<(), Fault> {
+    fn test(&self, failure: Failure, path: &str) -> Result<(), Fault>
+        ensures { IfErr result (λ e. e ≡ Fault.Write) }
+    {
         match self.failing {
             Some((kind, name)) if kind == failure && name == path => Err(Fault::Write),
             _ => Ok(()),

@@ -2,7 +2,7 @@
 //! with workers and by the plain one.
 
 use crate::expect::expect_at;
-use crate::outcomes::Texts;
+use crate::outcomes::{Texts, slices_of};
 use sim_base::fault::{Fault, LineCause};
 use sim_base::key::Key;
 use sim_base::message::Cycle;
@@ -34,8 +34,9 @@ fn refused<R: Threads + Wait + Sync>(
     let texts = Texts::of(alloc, case.changes, "", case.traces)?;
     let run = texts.run(case.cycles);
     let bytes = run.config.as_bytes();
-    let by_workers = simulate(rt, alloc, &Open, bytes, run.texts, run.cycles, case.workers).err();
-    let plain = simulate_plain(rt, alloc, bytes, run.texts, run.cycles, case.workers).err();
+    let texts = slices_of(alloc, run.texts)?;
+    let by_workers = simulate(rt, alloc, &Open, bytes, &texts, run.cycles, case.workers).err();
+    let plain = simulate_plain(rt, alloc, bytes, &texts, run.cycles, case.workers).err();
     Ok([by_workers, plain])
 }
 

@@ -5,7 +5,6 @@ use crate::expect::expect;
 use crate::outcomes::Watching;
 use fixtures::one_read::{CHANNELS, CORES};
 use fixtures::small::SMALL;
-use fixtures::texts::texts_of;
 use sim_base::command::Kind;
 use sim_base::fault::Fault;
 use simulation::runs::simulate;
@@ -45,9 +44,7 @@ fn is_right(alloc: Global, outcome: &Outcome) -> bool {
 
 /// Whether a run by so many workers gives what it is to give, or is refused for want of memory, or of a worker.
 fn is_right_or_refused<R: Threads + Wait + Sync>(rt: &R, alloc: Global, workers: u64) -> bool {
-    let Ok(texts) = texts_of(alloc, &["0 0\n"]) else {
-        return true;
-    };
+    let texts: [&[u8]; 1] = [b"0 0\n"];
     match simulate(rt, alloc, &Watching, SMALL.as_bytes(), &texts, 16, workers) {
         Ok(outcome) => is_right(alloc, &outcome),
         Err(fault) => fault == Fault::Memory || workers > 1 && fault == Fault::WorkerStart,

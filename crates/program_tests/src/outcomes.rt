@@ -77,6 +77,14 @@ impl Texts {
     }
 }
 
+/// The texts as slices of bytes.
+pub(crate) fn slices_of<'a>(
+    alloc: Global,
+    texts: &'a [Vec<u8>],
+) -> Result<Vec<&'a [u8]>, AllocError> {
+    texts.iter().map(|text| text.as_slice()).collect(alloc)
+}
+
 /// The tables of a run by the plain machine.
 pub(crate) fn plain_tables<R: Threads + Sync>(
     rt: &R,
@@ -84,7 +92,8 @@ pub(crate) fn plain_tables<R: Threads + Sync>(
     run: &Run<'_>,
 ) -> Result<Vec<u8>, Fault> {
     let bytes = run.config.as_bytes();
-    let outcome = simulate_plain(rt, alloc, bytes, run.texts, run.cycles, 1)?;
+    let texts = slices_of(alloc, run.texts)?;
+    let outcome = simulate_plain(rt, alloc, bytes, &texts, run.cycles, 1)?;
     tables_of(alloc, &outcome)
 }
 
@@ -97,7 +106,8 @@ pub(crate) fn tables_by<R: Threads + Wait + Sync, G: Gate + Sync>(
     workers: u64,
 ) -> Result<Vec<u8>, Fault> {
     let bytes = run.config.as_bytes();
-    let outcome = simulate(rt, alloc, gate, bytes, run.texts, run.cycles, workers)?;
+    let texts = slices_of(alloc, run.texts)?;
+    let outcome = simulate(rt, alloc, gate, bytes, &texts, run.cycles, workers)?;
     tables_of(alloc, &outcome)
 }
 

@@ -1,11 +1,12 @@
 -- What a run over the bytes of a configuration and of traces gives, and why it is refused.
 --     traces_of core texts      the entries of traces, of which the first is that of this core
+--     AreRead texts traces      the traces of the first cores are what their texts mean
 --     limits_of cores texts cycles workers      whether there is one trace a core, and so on
 --     input_of config texts cycles workers      the entries of all traces, or the first fault of a run's input
 --     IsRefusal config texts cycles workers fault      why a run with these workers is refused
 --     IsRunOf config texts cycles workers outcome      what the one-clock machine that the bytes describe did and left
 --     IsJudgedLegal config outcome      `check` says of the table of its commands that it is legal
-use Rattle.std.specs.Prelude.{◌≡◌, ◌⊎◌, ℕ, ◌+◌, ◌≤◌, ◌==◌, nat_le, Bool, ◌&&◌, List, [], ◌∷◌, length, Result, Ok, Err, IsOk, if◌then◌else◌}
+use Rattle.std.specs.Prelude.{◌≡◌, ◌⊎◌, ℕ, ◌+◌, ◌<◌, ◌≤◌, ◌==◌, nat_le, Bool, ◌&&◌, List, [], ◌∷◌, length, slice_index_or, Result, Ok, Err, IsOk, if◌then◌else◌}
 use Rattle.sim_base.specs.declared.config.Config.{Config}
 use Rattle.sim_base.specs.declared.fault.Fault.{Fault}
 use Rattle.sim_base.specs.declared.fault.Fault.TheVariants.{TraceCount, Workers, Cycles, Memory, WorkerStart}
@@ -31,6 +32,10 @@ traces_of core (text ∷ texts) = do
   first ← trace_answer core text
   others ← traces_of (core + 1) texts
   Ok (first ∷ others)
+
+-- each of these traces is what the text of its core means
+abbrev pub AreRead : List (List ℕ) → List (List Entry) → Type 0
+AreRead texts traces = (k : ℕ) (text : List ℕ) (trace : List Entry) → k < length traces → trace_answer k (slice_index_or texts k text) ≡ Ok (slice_index_or traces k trace)
 
 -- what is tested between the configuration and the traces: one trace a core, 1 to 64 workers, and at most 10^12 cycles
 unfoldable pub limits_of : ℕ → ℕ → ℕ → ℕ → Result (Unit {0}) Fault

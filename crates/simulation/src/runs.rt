@@ -1,9 +1,10 @@
 //! A run of the simulator, from the bytes of its input.
 
-ghost use Rattle.std.specs.Prelude.{◌≡◌, ◌≢◌, ◌≤◌, ◌^◌, ◌==◌, ◌&&◌, nat_le, length, vec_len, map, Ok, Err, IfOk, IfErr};
+ghost use Rattle.std.specs.Prelude.{◌≡◌, ◌≢◌, ◌≤◌, ◌<◌, ◌^◌, ◌==◌, ◌&&◌, nat_le, length, vec_len, map, slice_index_or, Ok, Err, IfOk, IfErr, IfSome};
 ghost use Rattle.config_reader.specs.Document.{document_of};
+ghost use Rattle.sim_base.specs.TraceText.{trace_answer};
 ghost use Rattle.sim_base.specs.Values.{values_of};
-ghost use Rattle.simulation.specs.Runs.{unless, limits_of, traces_of, input_of, IsRefusal, IsRunOf, IsJudgedLegal};
+ghost use Rattle.simulation.specs.Runs.{unless, limits_of, traces_of, AreRead, input_of, IsRefusal, IsRunOf, IsJudgedLegal};
 
 use config_reader::read_config;
 use cpu_trace::reader::read_trace;
@@ -65,21 +66,53 @@ fn check_limits(cores: u16, texts: usize, cycles: Cycle, workers: u64) -> Result
     check_cycles(cycles)
 }
 
+// A core before this one that is given the same text.
+fn earlier(texts: &[&[u8]], core: usize, text: &[u8]) -> Option<usize>
+    ensures before { IfSome result (λ first. first < core) }
+    ensures same { IfSome result (λ first. (slice_index_or texts.now first text.entry).now ≡ text.now) }
+{
+    for first in 0..core.min(texts.len()) {
+        if texts[first] == text {
+            return Some(first);
+        }
+    }
+    None
+}
+
+// The trace of the next core, which it shares with an earlier one that is given the same text.
+fn next_trace<R: Threads + Sync>(
+    rt: &R,
+    alloc: Global,
+    texts: &[&[u8]],
+    traces: &[Trace],
+    text: &[u8],
+) -> Result<Trace, Fault>
+    requires few { length traces.now < 256 }
+    requires read { AreRead (map (λ t. t.now) texts.now) traces.now }
+    ensures answer { IfOk result (λ trace. trace_answer (length traces.now) text.now ≡ Ok trace) }
+    ensures refused { IfErr result (λ e. e ≢ Fault.Memory → trace_answer (length traces.now) text.now ≡ Err e) }
+{
+    let core = traces.len();
+    match earlier(texts, core, text) {
+        Some(first) => Ok(traces[first].copy()?),
+        None => read_trace(rt, alloc, core as CoreId, text),
+    }
+}
+
 // The traces of the cores, in their order.
 fn read_traces<R: Threads + Sync>(
     rt: &R,
     alloc: Global,
-    texts: &[Vec<u8>],
+    texts: &[&[u8]],
 ) -> Result<Vec<Trace>, Fault>
     requires { length texts.now ≤ 256 }
-    ensures ok { IfOk result (λ v. traces_of 0 (map (λ t. t.items) texts.now) ≡ Ok v.items) }
+    ensures ok { IfOk result (λ v. traces_of 0 (map (λ t. t.now) texts.now) ≡ Ok v.items) }
     ensures count { IfOk result (λ v. vec_len v ≡ length texts.now) }
-    ensures refused { IfErr result (λ e. e ≢ Fault.Memory → traces_of 0 (map (λ t. t.items) texts.now) ≡ Err e) }
+    ensures refused { IfErr result (λ e. e ≢ Fault.Memory → traces_of 0 (map (λ t. t.now) texts.now) ≡ Err e) }
 {
     let mut traces = Vec::new(alloc);
     for text in texts {
-        let core = traces.len() as CoreId;
-        let trace = match read_trace(rt, alloc, core, text) {
+        let trace = match next_trace(rt, alloc, texts, &traces, text) {
             Ok(trace) => trace,
             Err(fault) => return Err(fault),
         };
@@ -95,17 +128,17 @@ fn read_input<R: Threads + Sync>(
     rt: &R,
     alloc: Global,
     config: &[u8],
-    texts: &[Vec<u8>],
+    texts: &[&[u8]],
     cycles: Cycle,
     workers: u64,
 ) -> Result<(Config, Vec<Trace>), Fault>
     ensures configured { IfOk result (λ r. document_of config.now ≡ Ok (values_of r.0)) }
-    ensures traces { IfOk result (λ r. traces_of 0 (map (λ t. t.items) texts.now) ≡ Ok r.1.items) }
-    ensures input { IfOk result (λ r. input_of config.now (map (λ t. t.items) texts.now) cycles workers ≡ Ok r.1.items) }
+    ensures traces { IfOk result (λ r. traces_of 0 (map (λ t. t.now) texts.now) ≡ Ok r.1.items) }
+    ensures input { IfOk result (λ r. input_of config.now (map (λ t. t.now) texts.now) cycles workers ≡ Ok r.1.items) }
     ensures count { IfOk result (λ r. vec_len r.1 ≡ r.0.cores) }
     ensures workers { IfOk result (λ _. (1 ≤ workers) × (workers ≤ 64)) }
     ensures cycles { IfOk result (λ _. cycles ≤ 10 ^ 12) }
-    ensures refused { IfErr result (λ e. e ≢ Fault.Memory → input_of config.now (map (λ t. t.items) texts.now) cycles workers ≡ Err e) }
+    ensures refused { IfErr result (λ e. e ≢ Fault.Memory → input_of config.now (map (λ t. t.now) texts.now) cycles workers ≡ Err e) }
 {
     let config = match read_config(alloc, config) {
         Ok(config) => config,
@@ -135,13 +168,13 @@ pub fn simulate<R: Threads + Wait + Sync, G: Gate + Sync>(
     alloc: Global,
     gate: &G,
     config: &[u8],
-    texts: &[Vec<u8>],
+    texts: &[&[u8]],
     cycles: Cycle,
     workers: u64,
 ) -> Result<Outcome, Fault>
-    ensures run { IfOk result (IsRunOf config.now (map (λ t. t.items) texts.now) cycles workers) }
+    ensures run { IfOk result (IsRunOf config.now (map (λ t. t.now) texts.now) cycles workers) }
     ensures legal { IfOk result (IsJudgedLegal config.now) }
-    ensures refused { IfErr result (IsRefusal config.now (map (λ t. t.items) texts.now) cycles workers) }
+    ensures refused { IfErr result (IsRefusal config.now (map (λ t. t.now) texts.now) cycles workers) }
 {
     let (config, traces) = match read_input(rt, alloc, config, texts, cycles, workers) {
         Ok(input) => input,
@@ -156,13 +189,13 @@ pub fn simulate_plain<R: Threads + Sync>(
     rt: &R,
     alloc: Global,
     config: &[u8],
-    texts: &[Vec<u8>],
+    texts: &[&[u8]],
     cycles: Cycle,
     workers: u64,
 ) -> Result<Outcome, Fault>
-    ensures run { IfOk result (IsRunOf config.now (map (λ t. t.items) texts.now) cycles workers) }
+    ensures run { IfOk result (IsRunOf config.now (map (λ t. t.now) texts.now) cycles workers) }
     ensures legal { IfOk result (IsJudgedLegal config.now) }
-    ensures refused { IfErr result (λ e. e ≢ Fault.Memory → input_of config.now (map (λ t. t.items) texts.now) cycles workers ≡ Err e) }
+    ensures refused { IfErr result (λ e. e ≢ Fault.Memory → input_of config.now (map (λ t. t.now) texts.now) cycles workers ≡ Err e) }
 {
     let (config, traces) = match read_input(rt, alloc, config, texts, cycles, workers) {
         Ok(input) => input,

@@ -1,7 +1,8 @@
-use Rattle.std.proofs.Common.{sym, ap, ◌∙◌}
-use Rattle.std.proofs.lemmas.Result.{IfOk-weaker}
+use Rattle.std.proofs.Common.{◌≡◌, Err, [], ◌∷◌, rules, sym, ap, ◌∙◌}
+use Rattle.std.proofs.lemmas.Result.{IfOk-weaker, IfErr-weaker}
 use Rattle.config_reader.specs.Document.{document_of}
 use Rattle.rule_check.specs.Verdict.{records_of, verdict}
+use Rattle.program.proofs.RefusedFacts.{two_texts, config_fault, row_fault}
 use Rattle.program.proofs.perform.judge.Goals as goal
 
 pub returns-clause-found : goal.returns-clause-found
@@ -14,3 +15,27 @@ returns-clause-found g c = IfOk-weaker c.check.result _ _ (λ found judged. λ t
   configured = ap document_of (sym c.deref.ensures.value) ∙ c.in_ok-config.ensures.ok;
   found_is = ap (λ t. verdict c.in_ok-config.config (records_of t)) (sym c.deref-2.ensures.value) ∙ judged;
 }) c.check.ensures.ok
+
+pub returns-clause-ready : goal.returns-clause-ready
+returns-clause-ready g c = IfOk-weaker c.check.result _ _ (λ found judged. record {
+  texts = c.in_ok-document.document.items ∷ c.in_ok-table.table.items ∷ [];
+  read = two_texts _ _ _ _ _ _ _ c.in_ok-document.ensures.bytes c.in_ok-document.ensures.same c.in_ok-table.ensures.bytes;
+  right = record {
+    machine = c.in_ok-config.config;
+    found = found;
+    configured = ap document_of (sym c.deref.ensures.value) ∙ c.in_ok-config.ensures.ok;
+    found_is = ap (λ t. verdict c.in_ok-config.config (records_of t)) (sym c.deref-2.ensures.value) ∙ judged;
+  };
+}) c.check.ensures.ok
+
+pub returns-in_err-config-clause-fault : goal.returns-in_err-config-clause-fault
+returns-in_err-config-clause-fault g c =
+    let kept : c.from_residual-in_err-config.result ≡ Err c.in_err-config.field-0.0 = search rules in
+    rw kept (config_fault _ _ _ _ _ _ _ _
+    (two_texts _ _ _ _ _ _ _ c.in_ok-document.ensures.bytes c.in_ok-document.ensures.same c.in_ok-table.ensures.bytes)
+    c.deref.ensures.value c.in_err-config.ensures.refused)
+
+pub returns-clause-fault : goal.returns-clause-fault
+returns-clause-fault g c = IfErr-weaker c.check.result _ _ (λ fault refused. row_fault _ _ _ _ _ _ _ _ fault
+    (two_texts _ _ _ _ _ _ _ c.in_ok-document.ensures.bytes c.in_ok-document.ensures.same c.in_ok-table.ensures.bytes)
+    (ap document_of (sym c.deref.ensures.value) ∙ c.in_ok-config.ensures.ok) c.deref-2.ensures.value refused) c.check.ensures.refused

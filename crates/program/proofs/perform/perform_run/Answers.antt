@@ -1,6 +1,6 @@
-use Rattle.std.proofs.Common.{inr}
-use Rattle.std.proofs.lemmas.Result.{on_ok_weaker, on_err_weaker}
-use Rattle.program.proofs.Places.{written_from, unplaced_from}
+use Rattle.std.proofs.Common.{inl, inr}
+use Rattle.std.proofs.lemmas.Result.{on_ok_weaker, IfErr-weaker}
+use Rattle.program.proofs.Places.{written_from, left_from}
 use Rattle.program.proofs.perform.perform_run.Goals as goal
 
 pub returns-clause-done : goal.returns-clause-done
@@ -11,6 +11,9 @@ returns-clause-done g c =
 
 pub returns-clause-refused : goal.returns-clause-refused
 returns-clause-refused g c =
-    on_err_weaker c.write_tables.result
-    (λ h tells. inr (record { run = c.in_ok-run.run'; outcome = c.in_ok-run.ensures.outcome tells; unplaced = unplaced_from _ _ _ _ _ (c.run_files.ensures.same tells) (h tells) }))
+    IfErr-weaker c.write_tables.result _ _
+    (λ refusal h tells. elim (left_from refusal _ _ _ _ _ _ _ _ (c.run_files.ensures.same tells) (c.run_files.ensures.unopened tells) (h tells)) [
+      | inl all ↦ inl all
+      | inr unplaced ↦ inr (record { run = c.in_ok-run.run'; outcome = c.in_ok-run.ensures.outcome tells; unplaced = unplaced })
+    ])
     c.write_tables.ensures.refused
