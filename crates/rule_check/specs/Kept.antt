@@ -6,6 +6,7 @@
 --     bank_after, group_after, rank_after      what one row more makes of them
 --     IsKept channel s history      a `Channel` keeps just this of the rows of a channel
 --     kept_breaks s rules channel row number      which rules a row breaks, by what is kept
+--     keeps_each s rules channel row      a row keeps every rule of its channel, by what is kept
 use Rattle.std.specs.Prelude.{◌≡◌, ℕ, ◌+◌, ◌*◌, ◌/◌, ◌%◌, ◌<◌, ◌==◌, nat_lt, max, min, Bool, false, true, not, ◌&&◌, List, length, slice_get, slice_index_or, fold, Option, Some, None, option_map, option_and_then, unwrap_or, is_some, if◌then◌else◌}
 use Rattle.std.specs.List.{list_any}
 use Rattle.sim_base.specs.declared.config.Config.{Config}
@@ -260,3 +261,12 @@ kept_breaks s table c row number =
     else (if number == 16 then kept_breaks_window c row
     else (if number == 18 then kept_breaks_refresh s c row
     else kept_breaks_distance table c row number))
+
+-- a row comes too soon by some rule
+abbrev pub comes_too_soon : List Rule → Channel → CommandRow → Bool
+comes_too_soon table c row = list_any (λ r. is_too_soon c r row) table
+
+-- a row keeps every rule of its channel: they are not taken by their numbers, but all at once
+abbrev pub keeps_each : Config → List Rule → Channel → CommandRow → Bool
+keeps_each s table c row =
+    kept_finds_banks s c.banks.items row.command && not (kept_breaks_window c row) && not (kept_breaks_refresh s c row) && not (comes_too_soon table c row)

@@ -3,6 +3,7 @@ pub mod Fields
 pub mod Broken
 pub mod Verdict
 pub mod Kept
+pub mod Around
 pub mod Past
 pub mod Left
 pub mod Judged

@@ -22,6 +22,10 @@ capped_digit number digit = min (with_digit number digit) number_limit
 unfoldable pub value_of : List ℕ → ℕ
 value_of digits = fold with_digit 0 digits
 
+-- the number that a text writes, if it has digits alone, where the limit stands for each number from it on
+abbrev pub digits_value : List ℕ → Option ℕ
+digits_value text = if list_all is_ascii_digit text then Some (fold capped_digit 0 text) else None
+
 -- one digit or more, and nothing else; zeros may lead
 abbrev pub is_number : List ℕ → Bool
 is_number text = not (length text == 0) && list_all is_ascii_digit text

@@ -6,8 +6,9 @@ ghost use Rattle.sim_base.specs.History.{below};
 ghost use Rattle.sim_base.specs.Rules.{is_kind, kind_of, rank_of, bank_of, is_row};
 ghost use Rattle.rule_check.specs.Kept.{number_of, group_number, latest_of, is_ahead, kept_in_bank, kept_in_group, kept_across_groups, kept_in_rank, kept_across_ranks, kept};
 ghost use Rattle.rule_check.specs.Kept.{is_too_soon, kept_breaks_distance, kept_window, kept_breaks_window, kept_overdue, kept_breaks_refresh};
-ghost use Rattle.rule_check.specs.Kept.{kept_row, has_kept_open_in_group, has_kept_open, kept_finds_banks, kept_breaks};
+ghost use Rattle.rule_check.specs.Kept.{kept_row, has_kept_open_in_group, has_kept_open, kept_finds_banks, kept_breaks, comes_too_soon, keeps_each};
 
+use crate::around::{around_bank, is_any_ahead};
 use crate::channel::{group_number, number_of};
 use crate::latest::{is_ahead, latest_of};
 use crate::rules::{is_row, is_same_kind};
@@ -187,6 +188,36 @@ fn finds_banks(config: &Config, banks: &[Bank], command: Command) -> bool
         Command::Ref { rank } => !has_open(config, banks, rank),
         Command::Pre { .. } | Command::Prea { .. } => true,
     }
+}
+
+// Whether a row comes too soon by some rule. Most commands name a bank, and what is kept around that is found once.
+#[tactic(auto, unfolding(crate::specs::Kept::is_too_soon))]
+fn comes_too_soon(table: &[Rule], channel: &Channel, row: CommandRow) -> bool
+    ensures { result ≡ comes_too_soon table.now channel.now row }
+{
+    let around = match row.command.bank() {
+        Some(bank) => around_bank(channel, bank),
+        None => None,
+    };
+    match around {
+        Some(around) => is_any_ahead(around, table, row.command.kind(), row.cycle),
+        None => table.iter().any(|rule| is_too_soon(channel, rule, row)),
+    }
+}
+
+/// Whether a row keeps every rule of its channel: one pass over the rules, which tells no number of one.
+pub(crate) fn keeps_each(
+    config: &Config,
+    table: &[Rule],
+    channel: &Channel,
+    row: CommandRow,
+) -> bool
+    ensures { result ≡ keeps_each config.now table.now channel.now row }
+{
+    finds_banks(config, &channel.banks, row.command)
+        && !breaks_window(channel, row)
+        && !breaks_refresh(config, channel, row)
+        && !comes_too_soon(table, channel, row)
 }
 
 /// Whether a row breaks a rule of its channel.

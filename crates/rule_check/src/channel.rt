@@ -9,42 +9,42 @@ ghost use Rattle.sim_base.specs.Rules.{kind_of, bank_of, rank_of};
 ghost use Rattle.sim_base.specs.Scheduling.{refreshes};
 ghost use Rattle.rule_check.specs.Numbers.{number_limit};
 ghost use Rattle.rule_check.specs.Fields.{CommandFits, RowFits};
-ghost use Rattle.rule_check.specs.Kept.{activates, deadline_where, first_deadline, bank_after, group_after, rank_after, number_of, bank_numbered, group_number, IsKept};
+ghost use Rattle.rule_check.specs.Kept.{activates, deadline_after, first_deadline, bank_after, group_after, rank_after, number_of, bank_numbered, group_number, IsKept};
 
-use crate::latest::{noted_where, nothing};
-use crate::rules::{is_same_kind, lies, row_after};
+use crate::latest::{self, nothing};
+use crate::rules::{is_same_kind, lies, relation_to, row_after};
 use crate::state::{Bank, Channel, Group, Rank};
-use crate::window::{no_window, window_where};
-use sim_base::command::{Command, CommandRow, Kind};
+use crate::window::{no_window, window_after};
+use sim_base::command::{Command, CommandRow, Kind, Relation};
 use sim_base::config::Config;
 use sim_base::place::BankId;
 use sim_base::rule::Scope;
 use sim_base::timing::Timing;
 use std::alloc::{AllocError, Global};
 
-fn bank_after(bank: BankId, cycle: u64, command: Command, state: Bank) -> Bank
-    ensures { result ≡ bank_after bank cycle command state }
+fn note_in_bank(state: &mut Bank, bank: BankId, command: Command, cycle: u64)
+    ensures { state.new ≡ bank_after bank cycle command state.old }
 {
-    let reached = lies(Scope::InBank, bank.rank, Some(bank), command);
-    Bank {
-        latest: noted_where(reached, command.kind(), cycle, state.latest),
-        row: row_after(bank, state.row, command),
+    if lies(Scope::InBank, bank.rank, Some(bank), command) {
+        latest::note(&mut state.latest, command.kind(), cycle);
     }
+    state.row = row_after(bank, state.row, command);
 }
 
-fn group_after(rank: u32, group: u32, cycle: u64, command: Command, state: Group) -> Group
-    ensures { result ≡ group_after rank group cycle command state }
+fn note_in_group(state: &mut Group, rank: u32, group: u32, command: Command, cycle: u64)
+    ensures { state.new ≡ group_after rank group cycle command state.old }
 {
-    let bank = Some(BankId {
+    let bank = BankId {
         rank,
         group,
         bank: 0,
-    });
-    let within = lies(Scope::InGroup, rank, bank, command);
-    let across = lies(Scope::AcrossGroups, rank, bank, command);
-    Group {
-        within: noted_where(within, command.kind(), cycle, state.within),
-        across: noted_where(across, command.kind(), cycle, state.across),
+    };
+    match relation_to(command, rank, Some(bank)) {
+        Relation::SameBank | Relation::SameGroup => {
+            latest::note(&mut state.within, command.kind(), cycle)
+        }
+        Relation::OtherGroup => latest::note(&mut state.across, command.kind(), cycle),
+        Relation::OtherRank => {}
     }
 }
 
@@ -60,28 +60,30 @@ fn refreshes(rank: u32, command: Command) -> bool
     is_same_kind(command.kind(), Kind::Ref) && command.rank() == rank
 }
 
-fn deadline_where(counts: bool, interval: u32, deadline: u64) -> u64
-    ensures { result ≡ deadline_where counts interval deadline }
+fn deadline_after(interval: u32, deadline: u64) -> u64
+    ensures { result ≡ deadline_after interval deadline }
 {
-    if counts && deadline < (1 << 62) {
+    if deadline < (1 << 62) {
         deadline + u64::from(interval)
     } else {
         deadline
     }
 }
 
-fn rank_after(t: &Timing, rank: u32, cycle: u64, command: Command, state: Rank) -> Rank
+fn note_in_rank(state: &mut Rank, t: &Timing, rank: u32, command: Command, cycle: u64)
     requires { cycle < number_limit }
-    ensures { result ≡ rank_after t.now rank cycle command state }
+    ensures { state.new ≡ rank_after t.now rank cycle command state.old }
 {
-    let within = lies(Scope::InRank, rank, None, command);
-    let across = lies(Scope::AcrossRanks, rank, None, command);
-    let end = cycle + u64::from(t.n_faw);
-    Rank {
-        within: noted_where(within, command.kind(), cycle, state.within),
-        across: noted_where(across, command.kind(), cycle, state.across),
-        window: window_where(activates(rank, command), end, state.window),
-        deadline: deadline_where(refreshes(rank, command), t.n_refi, state.deadline),
+    if command.rank() == rank {
+        latest::note(&mut state.within, command.kind(), cycle);
+    } else {
+        latest::note(&mut state.across, command.kind(), cycle);
+    }
+    if activates(rank, command) {
+        state.window = window_after(cycle + u64::from(t.n_faw), state.window);
+    }
+    if refreshes(rank, command) {
+        state.deadline = deadline_after(t.n_refi, state.deadline);
     }
 }
 
@@ -115,11 +117,11 @@ fn note_in_all_banks(banks: &mut [Bank], command: Command, cycle: u64)
         → slice_index_or banks.new k d ≡ bank_after (bank_numbered k) cycle command (slice_index_or banks.old k d) }
 {
     for (k, state) in banks.iter_mut().enumerate() {
-        *state = bank_after(bank_numbered(k), cycle, command, *state);
+        note_in_bank(state, bank_numbered(k), command, cycle);
     }
 }
 
-fn note_in_bank(banks: &mut [Bank], bank: BankId, command: Command, cycle: u64)
+fn note_in_own_bank(banks: &mut [Bank], bank: BankId, command: Command, cycle: u64)
     requires names { bank_of command ≡ Some bank }
     requires group { bank.group < 4 }
     requires bank { bank.bank < 4 }
@@ -127,8 +129,7 @@ fn note_in_bank(banks: &mut [Bank], bank: BankId, command: Command, cycle: u64)
     ensures each { (k : ℕ) (d : Bank) → k < length banks.old
         → slice_index_or banks.new k d ≡ bank_after (bank_numbered k) cycle command (slice_index_or banks.old k d) }
 {
-    let k = number_of(bank);
-    banks[k] = bank_after(bank, cycle, command, banks[k]);
+    note_in_bank(&mut banks[number_of(bank)], bank, command, cycle);
 }
 
 // A command that names no bank may speak of each.
@@ -139,7 +140,7 @@ fn note_in_banks(banks: &mut [Bank], command: Command, cycle: u64)
         → slice_index_or banks.new k d ≡ bank_after (bank_numbered k) cycle command (slice_index_or banks.old k d) }
 {
     match command.bank() {
-        Some(bank) => note_in_bank(banks, bank, command, cycle),
+        Some(bank) => note_in_own_bank(banks, bank, command, cycle),
         None => note_in_all_banks(banks, command, cycle),
     }
 }
@@ -152,7 +153,7 @@ fn note_in_groups(groups: &mut [Group], command: Command, cycle: u64)
     for (k, state) in groups.iter_mut().enumerate() {
         let rank = k as u32 / 4;
         let group = k as u32 % 4;
-        *state = group_after(rank, group, cycle, command, *state);
+        note_in_group(state, rank, group, command, cycle);
     }
 }
 
@@ -163,7 +164,7 @@ fn note_in_ranks(t: &Timing, ranks: &mut [Rank], command: Command, cycle: u64)
         → slice_index_or ranks.new k d ≡ rank_after t.now k cycle command (slice_index_or ranks.old k d) }
 {
     for (k, state) in ranks.iter_mut().enumerate() {
-        *state = rank_after(t, k as u32, cycle, command, *state);
+        note_in_rank(state, t, k as u32, command, cycle);
     }
 }
 

@@ -1,7 +1,7 @@
 //! The latest command of each kind.
 
 ghost use Rattle.std.specs.Prelude.{◌≡◌, ◌+◌, nat_lt};
-ghost use Rattle.rule_check.specs.Kept.{later_cycle, latest_of, noted, noted_where, nothing, is_ahead};
+ghost use Rattle.rule_check.specs.Kept.{later_cycle, latest_of, noted, nothing, is_ahead};
 
 use sim_base::command::Kind;
 
@@ -53,8 +53,9 @@ pub(crate) fn latest_of(latest: &Latest, kind: Kind) -> Option<u64>
     }
 }
 
-fn noted(kind: Kind, cycle: u64, mut latest: Latest) -> Latest
-    ensures { result ≡ noted kind cycle latest }
+/// Notes one command more.
+pub(crate) fn note(latest: &mut Latest, kind: Kind, cycle: u64)
+    ensures { latest.new ≡ noted kind cycle latest.old }
 {
     match kind {
         Kind::Act => latest.act = later_cycle(latest.act, cycle),
@@ -63,18 +64,6 @@ fn noted(kind: Kind, cycle: u64, mut latest: Latest) -> Latest
         Kind::Pre => latest.pre = later_cycle(latest.pre, cycle),
         Kind::Prea => latest.prea = later_cycle(latest.prea, cycle),
         Kind::Ref => latest.refresh = later_cycle(latest.refresh, cycle),
-    }
-    latest
-}
-
-/// One command more, if it is to be noted.
-pub(crate) fn noted_where(counts: bool, kind: Kind, cycle: u64, latest: Latest) -> Latest
-    ensures { result ≡ noted_where counts kind cycle latest }
-{
-    if counts {
-        noted(kind, cycle, latest)
-    } else {
-        latest
     }
 }
 

@@ -1,6 +1,7 @@
 //! Tests a table of commands that someone else wrote: its form, and every rule of DDR4 over it.
 #![tactic(auto)]
 
+mod around;
 mod broken;
 mod channel;
 mod fields;

@@ -3,29 +3,23 @@
 ghost use Rattle.std.specs.Prelude.{◌≡◌, ◌+◌, ◌-◌, ◌*◌, ◌^◌, ◌<◌, ◌≤◌, ◌&&◌, min, not, fold, IfSome};
 ghost use Rattle.std.specs.Char.{is_ascii_digit};
 ghost use Rattle.std.specs.List.{list_all};
-ghost use Rattle.rule_check.specs.Numbers.{number_limit, capped_digit, is_number, number_below};
+ghost use Rattle.rule_check.specs.Numbers.{number_limit, capped_digit, digits_value, number_below};
 
 /// Each number of a table is below this one.
 pub(crate) const NUMBER_LIMIT: u64 = 1 << 62;
 
 // The number with one more digit; the limit stands for each number from it on.
-fn with_digit(number: u64, digit: u8) -> u64
-    ensures { result ≡ capped_digit number digit }
+fn with_digit(number: u64, byte: u8) -> u64
+    ensures { result ≡ capped_digit number byte }
 {
-    if number < NUMBER_LIMIT / 4 {
-        (number * 10 + u64::from(digit.saturating_sub(b'0'))).min(NUMBER_LIMIT)
+    let digit = u64::from(byte.saturating_sub(b'0'));
+    if number < NUMBER_LIMIT / 16 {
+        number * 10 + digit
+    } else if number < NUMBER_LIMIT / 4 {
+        (number * 10 + digit).min(NUMBER_LIMIT)
     } else {
         NUMBER_LIMIT
     }
-}
-
-// The number that digits write; the limit stands for each number from it on.
-fn capped_value(digits: &[u8]) -> u64
-    ensures { result ≡ fold capped_digit 0 digits.now }
-{
-    digits
-        .iter()
-        .fold(0, |number, digit| with_digit(number, *digit))
 }
 
 fn is_digit(byte: u8) -> bool
@@ -34,16 +28,18 @@ fn is_digit(byte: u8) -> bool
     byte.is_ascii_digit()
 }
 
-fn are_digits(text: &[u8]) -> bool
-    ensures { result ≡ list_all is_ascii_digit text.now }
+// The number that a text writes, if it has digits alone; the limit stands for each number from it on.
+fn digits_value(text: &[u8]) -> Option<u64>
+    ensures { result ≡ digits_value text.now }
 {
-    text.iter().all(|byte| is_digit(*byte))
-}
-
-fn is_number(text: &[u8]) -> bool
-    ensures { result ≡ is_number text.now }
-{
-    !text.is_empty() && are_digits(text)
+    let mut number = 0;
+    for byte in text {
+        if !is_digit(*byte) {
+            return None;
+        }
+        number = with_digit(number, *byte);
+    }
+    Some(number)
 }
 
 /// The number in a field, where it is one below a limit of at most 2^62.
@@ -53,11 +49,9 @@ pub(crate) fn number_below(limit: u64, text: &[u8]) -> Option<u64>
     ensures value { result ≡ number_below limit text.now }
     ensures below { IfSome result (λ n. n < limit) }
 {
-    let value = capped_value(text);
-    if is_number(text) && value < limit {
-        Some(value)
-    } else {
-        None
+    match digits_value(text) {
+        Some(value) if !text.is_empty() && value < limit => Some(value),
+        _ => None,
     }
 }
 

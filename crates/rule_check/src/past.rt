@@ -76,6 +76,23 @@ fn lowest_by(
     (1u8..22).find(|number| breaks(config, table, last, channel, row, u32::from(*number)))
 }
 
+// Most rows break none, which is found at once.
+fn lowest_if_any(
+    config: &Config,
+    table: &[Rule],
+    last: Option<CommandRow>,
+    channel: &Channel,
+    row: CommandRow,
+) -> Option<u8>
+    ensures { result ≡ find (past_breaks config.now table.now last channel.now row) (range_with_len 1 21) }
+{
+    if !stands_wrongly(last, row) && broken::keeps_each(config, table, channel, row) {
+        None
+    } else {
+        lowest_by(config, table, last, channel, row)
+    }
+}
+
 /// The lowest rule that a row breaks after the rows that are kept, if it breaks one.
 pub(crate) fn lowest_broken(
     past: &Past,
@@ -89,7 +106,7 @@ pub(crate) fn lowest_broken(
     ensures { (rows : List CommandRow) → IsPast past.now config.now rows → result ≡ lowest_broken config.now rows row }
 {
     let channel = &past.channels[row.channel as usize];
-    lowest_by(config, table, past.last, channel, row)
+    lowest_if_any(config, table, past.last, channel, row)
 }
 
 /// Keeps one row more.

@@ -84,7 +84,7 @@ fn relation_in_rank(earlier: Option<BankId>, other: Option<BankId>) -> Relation
     }
 }
 
-fn relation_to(earlier: Command, rank: u32, bank: Option<BankId>) -> Relation
+pub(crate) fn relation_to(earlier: Command, rank: u32, bank: Option<BankId>) -> Relation
     ensures { result ≡ relation_to earlier rank bank }
 {
     if earlier.rank() == rank {

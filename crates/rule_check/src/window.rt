@@ -1,7 +1,7 @@
 //! The last four ACTs of a rank.
 
 ghost use Rattle.std.specs.Prelude.{◌≡◌, max, min};
-ghost use Rattle.rule_check.specs.Kept.{no_window, window_after, window_where};
+ghost use Rattle.rule_check.specs.Kept.{no_window, window_after};
 
 /// The four latest of the cycles from which on an ACT no longer counts, the latest first; 0 where there were not so many.
 #[derive(Clone, Copy)]
@@ -24,7 +24,8 @@ pub(crate) fn no_window() -> Window
     }
 }
 
-fn window_after(end: u64, w: Window) -> Window
+/// One ACT more, which counts up to this cycle.
+pub(crate) fn window_after(end: u64, w: Window) -> Window
     ensures { result ≡ window_after end w }
 {
     Window {
@@ -32,16 +33,5 @@ fn window_after(end: u64, w: Window) -> Window
         second: w.second.max(w.first.min(end)),
         third: w.third.max(w.second.min(end)),
         fourth: w.fourth.max(w.third.min(end)),
-    }
-}
-
-/// One ACT more, if it is one of the rank.
-pub(crate) fn window_where(counts: bool, end: u64, window: Window) -> Window
-    ensures { result ≡ window_where counts end window }
-{
-    if counts {
-        window_after(end, window)
-    } else {
-        window
     }
 }

@@ -12,8 +12,8 @@ loop-k-preserved c =
     let none : Bank = record { latest = nothing; row = None } in
     record {
       noted =
-          one_changed (λ k (x : Bank). bank_after (bank_numbered k) c.args.cycle c.args.command x) c.loop-k.banks c.args.banks.now c.loop-k.k c.bank_after.result none inside
+          one_changed (λ k (x : Bank). bank_after (bank_numbered k) c.args.cycle c.args.command x) c.loop-k.banks c.args.banks.now c.loop-k.k c.note_in_bank.new.state none inside
           c.loop-k.invariant.noted c.loop-k.invariant.left
-          (c.bank_after.ensures ∙ ap (λ (b : BankId). bank_after b c.args.cycle c.args.command (get_or c.loop-k.banks c.loop-k.k none)) c.bank_numbered.ensures);
-      left = others_left c.loop-k.banks c.args.banks.now c.loop-k.k c.bank_after.result c.loop-k.invariant.left;
+          (c.note_in_bank.ensures ∙ ap (λ (b : BankId). bank_after b c.args.cycle c.args.command (get_or c.loop-k.banks c.loop-k.k none)) c.bank_numbered.ensures);
+      left = others_left c.loop-k.banks c.args.banks.now c.loop-k.k c.note_in_bank.new.state c.loop-k.invariant.left;
     }

@@ -10,7 +10,7 @@ loop-k-preserved c =
     let inside : c.loop-k.k < length c.loop-k.groups = omega arith in
     record {
       noted =
-          one_changed (λ k (x : Group). group_after (k / 4) (k % 4) c.args.cycle c.args.command x) c.loop-k.groups c.args.groups.now c.loop-k.k c.group_after.result _ inside
-          c.loop-k.invariant.noted c.loop-k.invariant.left c.group_after.ensures;
-      left = others_left c.loop-k.groups c.args.groups.now c.loop-k.k c.group_after.result c.loop-k.invariant.left;
+          one_changed (λ k (x : Group). group_after (k / 4) (k % 4) c.args.cycle c.args.command x) c.loop-k.groups c.args.groups.now c.loop-k.k c.note_in_group.new.state _ inside
+          c.loop-k.invariant.noted c.loop-k.invariant.left c.note_in_group.ensures;
+      left = others_left c.loop-k.groups c.args.groups.now c.loop-k.k c.note_in_group.new.state c.loop-k.invariant.left;
     }

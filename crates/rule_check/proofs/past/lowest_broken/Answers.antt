@@ -10,6 +10,6 @@ use Rattle.rule_check.proofs.past.lowest_broken.Goals as goal
 pub returns : goal.returns
 returns c rows h =
     let channel = c.index-channel.result.now in
-    c.lowest_by.ensures
+    c.lowest_if_any.ensures
     ∙ ap (λ (t : List Rule). find (past_breaks c.args.config.now t c.args.past.now.last channel c.args.row) (range_with_len 1 21)) c.requires.table
     ∙ lowest-is c.args.past.now c.args.config.now rows c.args.row channel h c.requires.fits c.index-channel.ensures

@@ -1,7 +1,5 @@
 -- A table has few records.
-use Rattle.std.proofs.Common.{◌≡◌, length, ap, arith}
-use Rattle.rule_check.specs.Left.{left_of}
-use Rattle.rule_check.specs.Verdict.{records_of}
+use Rattle.std.proofs.Common.{length, ap, arith}
 use Rattle.rule_check.proofs.Left.{few_records}
 use Rattle.rule_check.proofs.table.check_records.Goals as goal
 
