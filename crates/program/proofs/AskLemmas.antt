@@ -11,7 +11,7 @@ use Rattle.sim_base.specs.declared.fault.Fault.TheVariants.{Memory, CommandLine}
 use Rattle.program.specs.CommandLine.{program_app}
 use Rattle.program.specs.Ask.{is_taken, command_of, kinds_of_fault, IsCommandOf, IsCallForHelp, IsCommandFault, IsHelp, IsHelpUnlessMemory, IsNoHelp, IsAskedBy, IsAnswerTo}
 use Rattle.program.specs.declared.words.Ask.{Ask}
-use Rattle.program.specs.declared.words.Ask.TheVariants.{Run, Check, Map, Help}
+use Rattle.program.specs.declared.words.Ask.TheVariants.{Run, Check, Map, Show, Help}
 
 -- the command line is one whose matches and faults `clap` defines
 simple : is_simple program_app ≡ true
@@ -40,6 +40,7 @@ asked_from words None ask e h = absurd h
 asked_from words (Some p) (Run config cycles workers out traces) e h = rw (← e) h
 asked_from words (Some p) (Check config commands) e h = rw (← e) h
 asked_from words (Some p) (Map config address) e h = rw (← e) h
+asked_from words (Some p) (Show dir all) e h = rw (← e) h
 asked_from words (Some p) (Help t) e h = absurd h
 
 pub answered_from : (words : List Text) (o : Option (Text × List Row)) (r : Result Ask Fault) → o ≡ command_of words → IfOk r (IsCommandOf o) → IfErr r (IsCommandFault o) → IsAnswerTo words r
@@ -47,6 +48,7 @@ answered_from words None (Ok ask) e ok err = absurd ok
 answered_from words (Some p) (Ok (Run config cycles workers out traces)) e ok err = tt
 answered_from words (Some p) (Ok (Check config commands)) e ok err = tt
 answered_from words (Some p) (Ok (Map config address)) e ok err = tt
+answered_from words (Some p) (Ok (Show dir all)) e ok err = tt
 answered_from words (Some p) (Ok (Help t)) e ok err = absurd ok
 answered_from words o (Err fault) e ok err = subst (λ command. IsCommandFault command fault) e err
 
@@ -55,6 +57,7 @@ pub help_from : (words : List Text) (e : Error) (ask : Ask) → HasKind (kinds_o
 help_from words e (Run config cycles workers out traces) has h = absurd h.0
 help_from words e (Check config commands) has h = absurd h.0
 help_from words e (Map config address) has h = absurd h.0
+help_from words e (Show dir all) has h = absurd h.0
 help_from words e (Help t) (inl memory) h = let both : OutOfMemory ≡ DisplayHelp = sym memory ∙ h.1 in cc
 help_from words e (Help t) (inr among) h = subst (λ k. IsAmong k (kinds_of_fault words)) h.1 among
 

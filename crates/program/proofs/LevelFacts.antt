@@ -8,9 +8,9 @@ use Rattle.clap.proofs.WalkLemmas.{both}
 use Rattle.clap.specs.Facts.{explicit_source}
 use Rattle.clap.specs.Lexer.{long_of, short_of}
 use Rattle.clap.specs.Simple.{Shape}
-use Rattle.clap.specs.Walk.{Held, Names, Outcome, Row, Rule, Step, Text, Waiting, Walk, after_flag, after_step, all_of, arg_by_index, arg_by_long, bundle, done, first_of, has_row, idle, long_met, long_or_other, next, nothing_held, one_of, option, plain, plain_word, positional, refused, rows_after, settled, short_or_plain, subcommand, subcommand_met, subcommand_or_other, to_positional, trailing, value, waits, walk, walk_from, walked, walked_from, with_default, word_met}
-use Rattle.clap.specs.Takes.{is_given, is_valid, level_passes, other_passes, settle_passes, turn_passes, walk_passes, word_passes}
-use Rattle.program.proofs.RowFacts.{AreFit, FitRows, FitsRow, passes_for}
+use Rattle.clap.specs.Walk.{Held, Names, Outcome, Row, Rule, Step, Text, Waiting, Walk, after_flag, after_step, all_of, arg_by_index, arg_by_long, bundle, default_rows, done, first_of, has_row, idle, long_met, long_or_other, next, nothing_held, one_of, option, plain, plain_word, positional, reading_by, refused, rows_after, settled, short_or_plain, subcommand, subcommand_met, subcommand_or_other, to_positional, trailing, value, waits, walk, walk_from, walked, walked_from, with_default, word_met}
+use Rattle.clap.specs.Takes.{is_given, is_valid, level_passes, other_passes, settle_passes, turn_passes, values_pass, walk_passes, word_passes}
+use Rattle.program.proofs.RowFacts.{AreFit, AreKnown, FitRows, FitsRow, IsKnown, all-known, each_passes, passes_for, with_values-fits}
 use Rattle.program.proofs.WalkFacts.{settled-fits, walk-fits}
 
 -- ---- a subcommand that is met is not `help`
@@ -98,30 +98,36 @@ module _ (s : Shape) (names : Names) (has_help : s.disable_help_subcommand ≡ f
 
 -- ---- the end of a level
 
-abbrev pub HasNoDefaults : List Rule → Type 0
-HasNoDefaults [] = Unit {0}
-HasNoDefaults (a ∷ rules) = (a.defaults ≡ []) × HasNoDefaults rules
+-- the default values of each argument pass
+abbrev pub DefaultsPass : List Rule → Type 0
+DefaultsPass [] = Unit {0}
+DefaultsPass (a ∷ rules) = (values_pass a a.defaults ≡ true) × DefaultsPass rules
 
-with_default-none : (rs : List Row) (a : Rule) → a.defaults ≡ [] → with_default rs a ≡ rs
-with_default-none rs a none = go (has_row a.id rs) refl
+default_rows-fits : (rules : List Rule) (a : Rule) (defaults : List Text) (rs : List Row) → IsKnown rules a → values_pass a defaults ≡ true → FitRows rules rs
+    → FitRows rules (default_rows a.id (reading_by a) defaults rs)
+default_rows-fits rules a [] rs known pass fits = fits
+default_rows-fits rules a (v ∷ vs) rs known pass fits = with_values-fits rules a.id (reading_by a) _ (v ∷ vs) rs (omega arith) (each_passes rules a (v ∷ vs) known pass) known.fit.1 fits
+
+with_default-fits : (rules : List Rule) (a : Rule) (rs : List Row) → IsKnown rules a → values_pass a a.defaults ≡ true → FitRows rules rs → FitRows rules (with_default rs a)
+with_default-fits rules a rs known pass fits = go (has_row a.id rs) refl
   where
-    go : (b : Bool) → has_row a.id rs ≡ b → with_default rs a ≡ rs
-    go true e = rw e refl
-    go false e = rw (e, none) refl
+    go : (b : Bool) → has_row a.id rs ≡ b → FitRows rules (with_default rs a)
+    go true e = rw e fits
+    go false e = rw e (default_rows-fits rules a a.defaults rs known pass fits)
 
-defaults-none : (rules : List Rule) (rs : List Row) → HasNoDefaults rules → fold with_default rs rules ≡ rs
-defaults-none [] rs none = refl
-defaults-none (a ∷ rules) rs none = ap (λ xs. fold with_default xs rules) (with_default-none rs a none.0) ∙ defaults-none rules rs none.1
+defaults-fits : (rules some : List Rule) (rs : List Row) → AreKnown rules some → DefaultsPass some → FitRows rules rs → FitRows rules (fold with_default rs some)
+defaults-fits rules [] rs known pass fits = fits
+defaults-fits rules (a ∷ some) rs known pass fits = defaults-fits rules some (with_default rs a) known.1 pass.1 (with_default-fits rules a rs known.0 pass.0 fits)
 
 -- the values that a level gives pass, and those that it needs are there
-pub level-gives : (s : Shape) (words : List Text) → AreFit s.rules → HasNoDefaults s.rules → level_passes s [] nothing_held words false ≡ true
+pub level-gives : (s : Shape) (words : List Text) → AreFit s.rules → DefaultsPass s.rules → level_passes s [] nothing_held words false ≡ true
     → FitRows s.rules (rows_after s.rules [] words) × (is_valid s (rows_after s.rules [] words) false ≡ true)
-level-gives s words fit none pass =
+level-gives s words fit defaults pass =
     let end = (walk s.rules [] nothing_held words).held in
     let walked = both (walk_passes s [] (walk_from nothing_held) words) _ pass in
     let settles = both (settle_passes s.rules s.args_override_self end) _ walked.1 in
     let rows = settled-fits s.rules s.args_override_self fit end settles.0 (walk-fits s [] fit (walk_from nothing_held) words walked.0 tt) in (
-      subst (FitRows s.rules) (sym (defaults-none s.rules (settled s.rules end).rows none)) rows,
+      defaults-fits s.rules s.rules (settled s.rules end).rows (all-known s.rules fit) defaults rows,
       (both _ _ settles.1).1,
     )
 

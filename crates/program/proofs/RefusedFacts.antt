@@ -4,14 +4,15 @@ use Rattle.std.specs.Result.{is_ok}
 use Rattle.std.proofs.lemmas.List.{length-map}
 use Rattle.sim_base.specs.declared.config.Config.{Config}
 use Rattle.sim_base.specs.declared.fault.Fault.{Fault}
-use Rattle.sim_base.specs.declared.fault.Fault.TheVariants.{Memory}
+use Rattle.sim_base.specs.declared.fault.Fault.TheVariants.{Memory, CheckRow}
 use Rattle.sim_base.specs.Values.{values_of}
 use Rattle.config_reader.specs.Document.{document_of}
 use Rattle.rule_check.specs.Verdict.{records_of, verdict}
+use Rattle.run_tables.specs.Records as Stats
 use Rattle.simulation.specs.Runs.{IsRunOf}
 use Rattle.statistics.specs.Values.{RunOutcome}
 use Rattle.program.specs.Files.{Held, SameFiles, IsReadFault}
-use Rattle.program.specs.Refused.{LacksOne, AreTexts, IsFilesFault, IsInputFault, IsRightRun, IsMapFault, IsTableFault}
+use Rattle.program.specs.Refused.{LacksOne, AreTexts, IsFilesFault, IsInputFault, IsRightRun, IsMapFault, IsTableFault, IsRowRefusal, IsShowFault}
 use Rattle.program.proofs.HeldTexts.{texts_held}
 
 -- ---- files that are not read
@@ -90,3 +91,13 @@ row_fault tells held config commands document table text machine fault read conf
     found_or_memory tells held (config ∷ commands ∷ []) (document ∷ table ∷ []) IsTableFault fault read
     (unless_memory (λ f. IsTableFault (document ∷ table ∷ []) f) fault
     (λ other. inr (record { machine = machine; configured = configured; row_is = ap (λ t. verdict machine (records_of t)) (sym same) ∙ refused other })))
+
+-- a table of statistics is refused for memory, or by a row
+memory_or_row : (fault : Fault) → Stats.IsTableFault fault → (fault ≡ Memory) ⊎ IsRowRefusal fault
+memory_or_row (CheckRow row) refused = inr tt
+memory_or_row Memory refused = inl refl
+memory_or_row fault refused = absurd refused
+
+pub show_fault : (tells : Type 0) (held : Held) (path table : List ℕ) (fault : Fault) → AreTexts tells held (path ∷ []) (table ∷ []) → Stats.IsTableFault fault
+    → IsInputFault tells held (path ∷ []) IsShowFault fault
+show_fault tells held path table fault read refused = found_or_memory tells held (path ∷ []) (table ∷ []) IsShowFault fault read (memory_or_row fault refused)

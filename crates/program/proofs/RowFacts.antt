@@ -47,7 +47,7 @@ at_row-fits rules id change missing (r ∷ rs) fit changed fits =
 without-fits : (rules : List Rule) (id : Text) (rs : List Row) → FitRows rules rs → FitRows rules (without id rs)
 without-fits rules id rs fit = at_row-fits rules id (λ _. []) [] rs fit (λ r e h. tt) tt
 
-with_values-fits : (rules : List Rule) (id : Text) (how : Reading) (source : ValueSource) (values : List Text) (rs : List Row)
+pub with_values-fits : (rules : List Rule) (id : Text) (how : Reading) (source : ValueSource) (values : List Text) (rs : List Row)
     → 0 < length values → list_all (passes_for rules id) values ≡ true → how ≡ AsWritten → FitRows rules rs
     → FitRows rules (with_values id how source values rs)
 with_values-fits rules id how source values rs some pass written fit =
@@ -67,20 +67,25 @@ with_values-fits rules id how source values rs some pass written fit =
 
 -- ---- arguments
 
--- the argument takes a value at each use, or it calls for help
-abbrev pub takes_a_value : ArgAction → ℕ → Bool
-takes_a_value Set least = nat_le 1 least
-takes_a_value Append least = nat_le 1 least
-takes_a_value SetTrue least = false
-takes_a_value SetFalse least = false
-takes_a_value Count least = false
-takes_a_value Help least = true
-takes_a_value HelpShort least = true
-takes_a_value HelpLong least = true
-takes_a_value Version least = true
+-- there is a text
+abbrev pub has_text : List Text → Bool
+has_text [] = false
+has_text (v ∷ vs) = true
+
+-- the argument takes a value at each use, or has one for a use without any, or it calls for help
+abbrev pub takes_a_value : ArgAction → ℕ → List Text → Bool
+takes_a_value Set least missing = nat_le 1 least
+takes_a_value Append least missing = nat_le 1 least
+takes_a_value SetTrue least missing = has_text missing
+takes_a_value SetFalse least missing = false
+takes_a_value Count least missing = false
+takes_a_value Help least missing = true
+takes_a_value HelpShort least missing = true
+takes_a_value HelpLong least missing = true
+takes_a_value Version least missing = true
 
 abbrev pub IsFit : Rule → Type 0
-IsFit a = (takes_a_value (action_of a) (unwrap_or_range a.range).start_inclusive ≡ true) × (reading_by a ≡ AsWritten)
+IsFit a = (takes_a_value (action_of a) (unwrap_or_range a.range).start_inclusive a.missing ≡ true) × (reading_by a ≡ AsWritten)
 
 abbrev pub AreFit : List Rule → Type 0
 AreFit [] = Unit {0}
@@ -117,9 +122,37 @@ found-IsKnown p (x ∷ rules) a fit found = go (p x) refl (λ later. found-IsKno
           passes = λ v pass. ap (λ b. (bytes_eq x.id a.id && value_passes x v) || b) (rest.passes v pass) ∙ or_true _;
         }
 
+-- an argument of a command is one of the command with an argument more
+known-later : (x : Rule) (rules : List Rule) (a : Rule) → IsKnown rules a → IsKnown (x ∷ rules) a
+known-later x rules a known = record {
+  fit = known.fit;
+  passes = λ v pass. ap (λ b. (bytes_eq x.id a.id && value_passes x v) || b) (known.passes v pass) ∙ or_true _;
+}
+
+known-first : (x : Rule) (rules : List Rule) → IsFit x → IsKnown (x ∷ rules) x
+known-first x rules fit = record {
+  fit = fit;
+  passes = λ v pass.
+      let own : bytes_eq x.id x.id ≡ true = (bytes_eq-Decides x.id x.id).1 refl in
+      rw (own, pass) refl;
+}
+
+-- all of these are arguments of the command
+abbrev pub AreKnown : List Rule → List Rule → Type 0
+AreKnown rules [] = Unit {0}
+AreKnown rules (a ∷ some) = IsKnown rules a × AreKnown rules some
+
+AreKnown-later : (x : Rule) (rules some : List Rule) → AreKnown rules some → AreKnown (x ∷ rules) some
+AreKnown-later x rules [] known = tt
+AreKnown-later x rules (a ∷ some) known = (known-later x rules a known.0, AreKnown-later x rules some known.1)
+
+pub all-known : (rules : List Rule) → AreFit rules → AreKnown rules rules
+all-known [] fit = tt
+all-known (x ∷ rules) fit = (known-first x rules fit.0, AreKnown-later x rules rules (all-known rules fit.1))
+
 -- ---- one use of an argument
 
-each_passes : (rules : List Rule) (a : Rule) (values : List Text) → IsKnown rules a → values_pass a values ≡ true → list_all (passes_for rules a.id) values ≡ true
+pub each_passes : (rules : List Rule) (a : Rule) (values : List Text) → IsKnown rules a → values_pass a values ≡ true → list_all (passes_for rules a.id) values ≡ true
 each_passes rules a [] known pass = refl
 each_passes rules a (v ∷ values) known pass =
     let parts = both _ _ pass in
@@ -129,8 +162,16 @@ some_values : (a : Rule) (values : List Text) (least : ℕ) → nat_le 1 least �
 some_values a [] least one enough = let low : 1 ≤ least = leb-true _ _ one in let high : least ≤ 0 = leb-true _ _ enough in absurd (omega (arith, low, high))
 some_values a (v ∷ values) least one enough = omega arith
 
+some_texts : (vs : List Text) → has_text vs ≡ true → 0 < length vs
+some_texts [] has = cc
+some_texts (v ∷ vs) has = omega arith
+
+some_or_missing : (a : Rule) (values : List Text) → has_text a.missing ≡ true → 0 < length (values_or_missing a values)
+some_or_missing a [] has = some_texts a.missing has
+some_or_missing a (v ∷ values) has = omega arith
+
 used_as-fits : (x : ArgAction) (again : Bool) (rules : List Rule) (a : Rule) (values : List Text) (rs : List Row) → IsKnown rules a
-    → takes_a_value x (unwrap_or_range a.range).start_inclusive ≡ true
+    → takes_a_value x (unwrap_or_range a.range).start_inclusive a.missing ≡ true
     → nat_le (unwrap_or_range a.range).start_inclusive (length values) ≡ true
     → action_passes x again a (values_or_missing a values) rs ≡ true → FitRows rules rs
     → FitRows rules (used_as x a.id (reading_by a) (values_or_missing a values) rs)
@@ -138,7 +179,8 @@ used_as-fits Set again rules a values rs known one enough pass fit =
     with_values-fits rules a.id (reading_by a) _ (values_or_missing a values) (without a.id rs) (some_values a values _ one enough) (each_passes rules a _ known (both _ _ pass).1) known.fit.1 (without-fits rules a.id rs fit)
 used_as-fits Append again rules a values rs known one enough pass fit =
     with_values-fits rules a.id (reading_by a) _ (values_or_missing a values) rs (some_values a values _ one enough) (each_passes rules a _ known pass) known.fit.1 fit
-used_as-fits SetTrue again rules a values rs known one enough pass fit = cc
+used_as-fits SetTrue again rules a values rs known one enough pass fit =
+    with_values-fits rules a.id (reading_by a) _ (values_or_missing a values) (without a.id rs) (some_or_missing a values one) (each_passes rules a _ known (both _ _ pass).1) known.fit.1 (without-fits rules a.id rs fit)
 used_as-fits SetFalse again rules a values rs known one enough pass fit = cc
 used_as-fits Count again rules a values rs known one enough pass fit = cc
 used_as-fits Help again rules a values rs known one enough pass fit = cc

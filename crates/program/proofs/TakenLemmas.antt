@@ -5,6 +5,7 @@ use Rattle.std.specs.List.{find}
 use Rattle.std.specs.Option.{option_map_or}
 use Rattle.std.specs.Str.{bytes_eq}
 use Rattle.std.proofs.lemmas.Slice.Eq.{bytes_eq-Decides}
+use Rattle.clap.proofs.OnLiterals.{clap_on_literals}
 use Rattle.clap.proofs.ValueTestLemmas.{accepts-Accepts}
 use Rattle.clap.proofs.WalkLemmas.{both}
 use Rattle.clap.specs.Simple.{App, Shape, argument_words, built, built_leaf, entered, help_shape, inherited, is_simple, label_of, marked_built, names_of, with_leaf_noted}
@@ -12,8 +13,8 @@ use Rattle.clap.specs.Walk.{Text, answers_to, nothing_held, rows_after, walk, wa
 use Rattle.clap.specs.ValueTests.{accepts}
 use Rattle.clap.specs.Takes.{built_takes, entered_passes, is_given, level_passes, settle_passes, walk_passes}
 use Rattle.clap.specs.declared.builder.value_parser.ValueParser.TheVariants.{Unsigned}
-use Rattle.program.specs.CommandLine.{program_app, run_app, check_app, map_app}
-use Rattle.program.specs.Ask.{is_taken, command_of, GivesAll, GivesRun, GivesCheck, GivesMap, IsCountText}
+use Rattle.program.specs.CommandLine.{program_app, run_app, check_app, map_app, show_app}
+use Rattle.program.specs.Ask.{is_taken, command_of, GivesAll, GivesRun, GivesCheck, GivesMap, GivesShow, IsCountText}
 use Rattle.program.proofs.RowFacts.{AreFit}
 use Rattle.program.proofs.LevelFacts.{StopsOn, given, level-gives, walk-stop}
 
@@ -58,7 +59,7 @@ enters app words required has_help pass =
     let valid = both _ _ (both _ _ settles.1).1 in
     enters_at app stop (walk-stop app.top (names_of app) has_help (walk_from nothing_held) words walked.0 tt) parts.0 (wanted _ _ required (both _ _ valid.1).0)
 
--- ---- the three commands
+-- ---- the four commands
 
 or_false : (b : Bool) → (b || false) ≡ true → b ≡ true
 or_false true h = h
@@ -84,6 +85,9 @@ check_leaf = built_leaf (inherited above check_app.top)
 
 abbrev map_leaf : Shape
 map_leaf = built_leaf (inherited above map_app.top)
+
+abbrev show_leaf : Shape
+show_leaf = built_leaf (inherited above show_app.top)
 
 abbrev help_leaf : Shape
 help_leaf = built_leaf help_shape
@@ -132,16 +136,27 @@ map_gives words pass =
     let address = given rules (codes "address") rows level.0 (both _ _ (both _ _ needs).1).0 in
     record { config = is_there _ _ config.first; address = is_there _ _ address.first }
 
+show_gives : (words : List Text) → level_passes show_leaf [] nothing_held words false ≡ true → GivesShow (rows_after show_leaf.rules [] words)
+unfolding clap_on_literals
+show_gives words pass =
+    let rules = show_leaf.rules in
+    let rows = rows_after rules [] words in
+    let level = level-gives show_leaf words ((refl, refl), ((refl, refl), ((refl, refl), tt))) (refl, (refl, (refl, tt))) pass in
+    let needs : (is_given (codes "dir") rows && true) ≡ true = level.1 in
+    let dir = given rules (codes "dir") rows level.0 (both _ _ needs).0 in
+    record { dir = is_there _ _ dir.first }
+
 -- ---- which of them the words name
 
-among_three : (p : Shape → Bool) (x y z last s : Shape) → p last ≡ false → find p (x ∷ y ∷ z ∷ last ∷ []) ≡ Some s → (s ≡ x) ⊎ ((s ≡ y) ⊎ (s ≡ z))
-among_three p x y z last s not_last found = go (p x) (p y) (p z) refl refl refl
+among_four : (p : Shape → Bool) (x y z w last s : Shape) → p last ≡ false → find p (x ∷ y ∷ z ∷ w ∷ last ∷ []) ≡ Some s → (s ≡ x) ⊎ ((s ≡ y) ⊎ ((s ≡ z) ⊎ (s ≡ w)))
+among_four p x y z w last s not_last found = go (p x) (p y) (p z) (p w) refl refl refl refl
   where
-    go : (a b c : Bool) → p x ≡ a → p y ≡ b → p z ≡ c → (s ≡ x) ⊎ ((s ≡ y) ⊎ (s ≡ z))
-    go true b c is_x is_y is_z = let e : Some x ≡ Some s = rw is_x at found in inl (cc e)
-    go false true c is_x is_y is_z = let e : Some y ≡ Some s = rw (is_x, is_y) at found in inr (inl (cc e))
-    go false false true is_x is_y is_z = let e : Some z ≡ Some s = rw (is_x, is_y, is_z) at found in inr (inr (cc e))
-    go false false false is_x is_y is_z = let e : None ≡ Some s = rw (is_x, is_y, is_z, not_last) at found in cc
+    go : (a b c d : Bool) → p x ≡ a → p y ≡ b → p z ≡ c → p w ≡ d → (s ≡ x) ⊎ ((s ≡ y) ⊎ ((s ≡ z) ⊎ (s ≡ w)))
+    go true b c d is_x is_y is_z is_w = let e : Some x ≡ Some s = rw is_x at found in inl (cc e)
+    go false true c d is_x is_y is_z is_w = let e : Some y ≡ Some s = rw (is_x, is_y) at found in inr (inl (cc e))
+    go false false true d is_x is_y is_z is_w = let e : Some z ≡ Some s = rw (is_x, is_y, is_z) at found in inr (inr (inl (cc e)))
+    go false false false true is_x is_y is_z is_w = let e : Some w ≡ Some s = rw (is_x, is_y, is_z, is_w) at found in inr (inr (inr (cc e)))
+    go false false false false is_x is_y is_z is_w = let e : None ≡ Some s = rw (is_x, is_y, is_z, is_w, not_last) at found in cc
 
 not_help : (name : Text) → bytes_eq name (codes "help") ≡ false → answers_to name (label_of help_leaf) ≡ false
 not_help name named = go (bytes_eq (codes "help") name) refl
@@ -153,7 +168,7 @@ not_help name named = go (bytes_eq (codes "help") name) refl
         let is_help : bytes_eq name (codes "help") ≡ true = (bytes_eq-Decides name (codes "help")).1 same in
         cc
 
-shape_gives : (s : Shape) (words : List Text) → (s ≡ run_leaf) ⊎ ((s ≡ check_leaf) ⊎ (s ≡ map_leaf)) → level_passes s [] nothing_held words false ≡ true
+shape_gives : (s : Shape) (words : List Text) → (s ≡ run_leaf) ⊎ ((s ≡ check_leaf) ⊎ ((s ≡ map_leaf) ⊎ (s ≡ show_leaf))) → level_passes s [] nothing_held words false ≡ true
     → GivesAll (Some (s.name, rows_after s.rules [] words))
 shape_gives s words which pass =
     let P : Shape → Type 0 = λ s. level_passes s [] nothing_held words false ≡ true → GivesAll (Some (s.name, rows_after s.rules [] words)) in
@@ -161,7 +176,10 @@ shape_gives s words which pass =
       | inl is_run ↦ subst P (sym is_run) (λ pass. inl (refl, run_gives words pass)) pass
       | inr others ↦ elim others [
         | inl is_check ↦ subst P (sym is_check) (λ pass. inr (inl (refl, check_gives words pass))) pass
-        | inr is_map ↦ subst P (sym is_map) (λ pass. inr (inr (refl, map_gives words pass))) pass
+        | inr later ↦ elim later [
+          | inl is_map ↦ subst P (sym is_map) (λ pass. inr (inr (inl (refl, map_gives words pass)))) pass
+          | inr is_show ↦ subst P (sym is_show) (λ pass. inr (inr (inr (refl, show_gives words pass)))) pass
+        ]
       ]
     ]
 
@@ -170,5 +188,5 @@ unfolding is_taken command_of
 taken_gives_all words taken =
     let pass = (both (is_simple program_app) _ taken).1 in
     let sub = enters (built program_app) (argument_words program_app words) refl refl pass in
-    let which = among_three (λ s. answers_to sub.name (label_of s)) run_leaf check_leaf map_leaf help_leaf sub.shape (not_help sub.name sub.named) sub.found in
+    let which = among_four (λ s. answers_to sub.name (label_of s)) run_leaf check_leaf map_leaf show_leaf help_leaf sub.shape (not_help sub.name sub.named) sub.found in
     subst GivesAll (sym sub.is) (shape_gives sub.shape sub.words which sub.passes)

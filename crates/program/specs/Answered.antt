@@ -4,28 +4,30 @@
 --     IsRunDone config cycles workers out traces old new      its tables are in the folder
 --     IsUnfinished refusal config cycles workers out traces old new before after      what is left of a run that is refused
 --     IsVerdict config commands held found      what a table of commands is found to be
+--     IsStatsOf path held stats      the statistics whose table a file holds
 --     place_line ranks place, verdict_line found      the lines that are printed
 --     IsAnswer ask status old new      what is asked has been done
 --     IsLeft refusal ask old new      what is left where it has not
 --     IsAnswered words status old new, IsRefusedBy refusal words old new, IsRefused words old new      the same of the words of a command line
-use Rattle.std.specs.Prelude.{◌≡◌, ◌⊎◌, ℕ, nat_lt, List, [], ◌++◌, map, codes, decimal, string_bytes, Option, Some, Ok, if◌then◌else◌}
+use Rattle.std.specs.Prelude.{◌≡◌, ◌⊎◌, ℕ, nat_lt, List, [], ◌∷◌, ◌++◌, map, codes, decimal, string_bytes, Option, Some, Ok, if◌then◌else◌}
 use Rattle.std.specs.Io.KnownBytes.{Appends}
 use Rattle.sim_base.specs.declared.config.Config.{Config}
 use Rattle.sim_base.specs.declared.place.Place.{Place}
 use Rattle.sim_base.specs.Places.{place_of}
 use Rattle.sim_base.specs.Values.{values_of}
 use Rattle.config_reader.specs.Document.{document_of}
-use Rattle.statistics.specs.Values.{RunOutcome}
+use Rattle.reports.specs.Stats.{stats_header, stats_rows}
+use Rattle.statistics.specs.Values.{RunOutcome, RunStats}
 use Rattle.rule_check.specs.Verdict.{records_of, verdict}
 use Rattle.rule_check.specs.declared.verdict.Verdict.{Verdict}
 use Rattle.rule_check.specs.declared.verdict.Verdict.TheVariants.{Legal, Broken}
 use Rattle.simulation.specs.Runs.{IsRunOf, IsJudgedLegal}
 use Rattle.program.specs.Ask.{IsAskedBy}
 use Rattle.program.specs.Files.{Held, IsUntouched}
-use Rattle.program.specs.Tables.{parts, IsWritten, LeavesAll, IsUnplaced}
+use Rattle.program.specs.Tables.{path_in, stats_name, parts, IsWritten, LeavesAll, IsUnplaced}
 use Rattle.program.specs.declared.tables.Refusal.{Refusal}
 use Rattle.program.specs.declared.words.Ask.{Ask}
-use Rattle.program.specs.declared.words.Ask.TheVariants.{Run, Check, Map, Help}
+use Rattle.program.specs.declared.words.Ask.TheVariants.{Run, Check, Map, Show, Help}
 
 -- what the paths hold, which of them were opened to be written, and what the stream of answers holds, where that is told
 pub record Seen : Type 0 where
@@ -135,6 +137,25 @@ pub record IsMapAnswer (config : List ℕ) (address status : ℕ) (old new : See
   pub mapped : IsMapped config address old.held old.printed new.printed
   pub untouched : IsUntouched old.held new.held old.opened new.opened
 
+-- the statistics whose table a file holds
+pub record IsStatsOf (path : List ℕ) (held : Held) (stats : RunStats) : Type 0 where
+  pub table : List ℕ
+  pub table_is : held path ≡ Some table
+  pub rows_are : records_of table ≡ stats_header ∷ stats_rows stats
+
+-- a folder has the table of statistics, and a text that tells of them was printed
+pub record IsShown (dir : List ℕ) (held : Held) (before after : Option (List ℕ)) : Type 0 where
+  pub stats : RunStats
+  pub text : List ℕ
+  pub stats_are : IsStatsOf (path_in dir stats_name) held stats
+  pub printed : Appends before after text
+
+-- a run has been shown
+pub record IsShowAnswer (dir : List ℕ) (status : ℕ) (old new : Seen) : Type 0 where
+  pub status_is : status ≡ 0
+  pub shown : IsShown dir old.held old.printed new.printed
+  pub untouched : IsUntouched old.held new.held old.opened new.opened
+
 -- help has been given
 pub record IsHelpAnswer (text : List ℕ) (status : ℕ) (old new : Seen) : Type 0 where
   pub status_is : status ≡ 0
@@ -147,6 +168,7 @@ IsAnswer (Run config cycles workers out traces) status old new =
     IsRunAnswer config.now cycles workers out.now (map (λ t. t.now) traces.items) status old new
 IsAnswer (Check config commands) status old new = IsCheckAnswer config.now commands.now status old new
 IsAnswer (Map config address) status old new = IsMapAnswer config.now address status old new
+IsAnswer (Show dir all) status old new = IsShowAnswer dir.now status old new
 IsAnswer (Help text) status old new = IsHelpAnswer (string_bytes text) status old new
 
 -- what is left where it has not been done: nothing was touched, or a run is left undone after its outcome was there

@@ -7,7 +7,7 @@
 --     GivesAll command      each argument that the command needs is there
 --     HasBadAddress command      a `map` of what is no number
 --     IsAnswerTo words result      an answer to words that the command line takes
-use Rattle.std.specs.Prelude.{◌≡◌, ◌≢◌, ◌⊎◌, ℕ, ◌<◌, ◌^◌, ⊤, Bool, List, [], ◌∷◌, map, codes, Option, Some, None, Result, Ok, Err, IsSome, IsErr}
+use Rattle.std.specs.Prelude.{◌≡◌, ◌≢◌, ◌⊎◌, ℕ, ◌<◌, ◌^◌, ⊤, Bool, true, false, List, [], ◌∷◌, map, codes, Option, Some, None, Result, Ok, Err, IsSome, IsErr}
 use Rattle.std.specs.Str.Parse.{IsNumeral, digits_value, without_leading_plus}
 use Rattle.clap.specs.Words.{Row, Text, all_of, fault_of, first_of, one_of, subcommand_of, takes, Kinds, IsAmong}
 use Rattle.clap.specs.declared.error.kind.ErrorKind.{ErrorKind}
@@ -17,7 +17,7 @@ use Rattle.sim_base.specs.declared.fault.Fault.TheVariants.{Memory, CommandLine}
 use Rattle.program.specs.CommandLine.{program_app}
 use Rattle.sim_base.specs.TraceText.{number_of}
 use Rattle.program.specs.declared.words.Ask.{Ask}
-use Rattle.program.specs.declared.words.Ask.TheVariants.{Run, Check, Map, Help}
+use Rattle.program.specs.declared.words.Ask.TheVariants.{Run, Check, Map, Show, Help}
 
 -- the command line takes the words
 unfoldable pub is_taken : List Text → Bool
@@ -45,6 +45,12 @@ abbrev pub IsAddress : Option Text → ℕ → Type 0
 IsAddress None n = ⊥
 IsAddress (Some text) n = number_of text ≡ Ok n
 
+-- whether a flag is set, as its text says
+pub record IsFlag (o : Option Text) (set : Bool) : Type 0 where
+  pub none : o ≡ None → set ≡ false
+  pub set_by : o ≡ Some (codes "true") → set ≡ true
+  pub unset_by : o ≡ Some (codes "false") → set ≡ false
+
 -- a run with these values
 pub record IsRun (rows : List Row) (config : Text) (cycles workers : ℕ) (out : Text) (traces : List Text) : Type 0 where
   pub config_is : first_of (codes "config") rows ≡ Some config
@@ -63,12 +69,18 @@ pub record IsMap (rows : List Row) (config : Text) (address : ℕ) : Type 0 wher
   pub config_is : first_of (codes "config") rows ≡ Some config
   pub address_is : IsAddress (first_of (codes "address") rows) address
 
+-- a show with these values
+pub record IsShow (rows : List Row) (dir : Text) (all : Bool) : Type 0 where
+  pub dir_is : first_of (codes "dir") rows ≡ Some dir
+  pub all_is : IsFlag (one_of (codes "all") rows) all
+
 -- the command of this name, with these rows, is what is asked for
 abbrev pub IsCommand : Text → List Row → Ask → Type 0
 IsCommand name rows (Run config cycles workers out traces) =
     (name ≡ codes "run") × IsRun rows config.now cycles workers out.now (map (λ t. t.now) traces.items)
 IsCommand name rows (Check config commands) = (name ≡ codes "check") × IsCheck rows config.now commands.now
 IsCommand name rows (Map config address) = (name ≡ codes "map") × IsMap rows config.now address
+IsCommand name rows (Show dir all) = (name ≡ codes "show") × IsShow rows dir.now all
 IsCommand name rows (Help text) = ⊥
 
 abbrev pub IsCommandOf : Option (Text × List Row) → Ask → Type 0
@@ -117,6 +129,10 @@ pub record GivesMap (rows : List Row) : Type 0 where
   pub config : IsSome (first_of (codes "config") rows)
   pub address : IsSome (first_of (codes "address") rows)
 
+-- the argument that a show needs is there
+pub record GivesShow (rows : List Row) : Type 0 where
+  pub dir : IsSome (first_of (codes "dir") rows)
+
 -- the text of an address is no number of a trace
 abbrev pub IsNoAddress : Option Text → Type 0
 IsNoAddress None = ⊥
@@ -127,12 +143,12 @@ abbrev pub HasBadAddress : Option (Text × List Row) → Type 0
 HasBadAddress None = ⊥
 HasBadAddress (Some command) = (command.0 ≡ codes "map") × IsNoAddress (first_of (codes "address") command.1)
 
--- each argument of the command is there
+-- each argument that the command needs is there
 abbrev pub GivesAll : Option (Text × List Row) → Type 0
 GivesAll None = ⊥
 GivesAll (Some command) =
     ((command.0 ≡ codes "run") × GivesRun command.1) ⊎ ((command.0 ≡ codes "check") × GivesCheck command.1)
-    ⊎ ((command.0 ≡ codes "map") × GivesMap command.1)
+    ⊎ ((command.0 ≡ codes "map") × GivesMap command.1) ⊎ ((command.0 ≡ codes "show") × GivesShow command.1)
 
 -- why a command is refused that has each argument: want of memory, or an address that is no number
 abbrev pub IsCommandFault : Option (Text × List Row) → Fault → Type 0

@@ -1,10 +1,10 @@
 -- The command line, as `clap` sees it.
---     text_rule id, texts_rule id, option_rule id, number_rule id      one argument
---     run_app, check_app, map_app      one command
+--     text_rule id, texts_rule id, option_rule id, number_rule id, flag_rule id      one argument
+--     run_app, check_app, map_app, show_app      one command
 --     program_app      the whole
 use Rattle.std.specs.Prelude.{true, codes, Some, List, [], ◌∷◌, fold}
 use Rattle.clap.specs.Words.{App, Rule, Text, new_app, new_rule, with_rule, with_subcommand}
-use Rattle.clap.specs.declared.builder.action.ArgAction.TheVariants.{Append}
+use Rattle.clap.specs.declared.builder.action.ArgAction.TheVariants.{Append, SetTrue}
 use Rattle.clap.specs.declared.builder.value_parser.ValueParser.TheVariants.{Unsigned}
 
 -- a word that has to be given
@@ -22,6 +22,10 @@ option_rule id = record (text_rule id) { long = Some id }
 -- an option that takes a number of 64 bits
 abbrev pub number_rule : Text → Rule
 number_rule id = record (option_rule id) { parser = Some (Unsigned 0 18446744073709551615) }
+
+-- an option that takes nothing
+abbrev pub flag_rule : Text → Rule
+flag_rule id = record (new_rule id) { long = Some id; action = Some SetTrue }
 
 -- CONFIG
 abbrev pub config_rule : Rule
@@ -45,6 +49,10 @@ check_app = command_app (codes "check") (config_rule ∷ text_rule (codes "comma
 abbrev pub map_app : App
 map_app = command_app (codes "map") (config_rule ∷ text_rule (codes "address") ∷ [])
 
+-- `show DIR [--all]`
+abbrev pub show_app : App
+show_app = command_app (codes "show") (text_rule (codes "dir") ∷ flag_rule (codes "all") ∷ [])
+
 -- a command that wants a subcommand
 abbrev pub with_subcommand_required : App → App
 with_subcommand_required app = record app { top = record app.top { subcommand_required = true } }
@@ -52,4 +60,5 @@ with_subcommand_required app = record app { top = record app.top { subcommand_re
 -- the program's command line
 abbrev pub program_app : App
 program_app =
-    with_subcommand (with_subcommand (with_subcommand (with_subcommand_required (new_app (codes "dramsim"))) run_app.top) check_app.top) map_app.top
+    with_subcommand (with_subcommand (with_subcommand (with_subcommand (with_subcommand_required (new_app (codes "dramsim"))) run_app.top) check_app.top) map_app.top)
+    show_app.top

@@ -15,16 +15,19 @@ use Rattle.std.specs.Prelude.{◌≡◌, ◌⊎◌, ℕ, true, ⊤, List, [], �
 use Rattle.clap.specs.Words.{Text}
 use Rattle.sim_base.specs.declared.config.Config.{Config}
 use Rattle.sim_base.specs.declared.fault.Fault.{Fault}
-use Rattle.sim_base.specs.declared.fault.Fault.TheVariants.{Memory, CommandLine, Read, Write}
+use Rattle.sim_base.specs.declared.fault.Fault.TheVariants.{Memory, CommandLine, Read, Write, CheckRow}
 use Rattle.sim_base.specs.Values.{values_of}
 use Rattle.config_reader.specs.Document.{document_of}
 use Rattle.rule_check.specs.Verdict.{records_of, verdict}
 use Rattle.rule_check.specs.declared.verdict.Verdict.{Verdict}
+use Rattle.reports.specs.Stats.{stats_header, stats_rows}
 use Rattle.simulation.specs.Runs.{input_of, IsRefusal}
+use Rattle.statistics.specs.Values.{RunStats}
 use Rattle.program.specs.Ask.{is_taken, command_of, IsCallForHelp, HasBadAddress, IsAskedBy}
 use Rattle.program.specs.Files.{Held}
+use Rattle.program.specs.Tables.{path_in, stats_name}
 use Rattle.program.specs.declared.words.Ask.{Ask}
-use Rattle.program.specs.declared.words.Ask.TheVariants.{Run, Check, Map, Help}
+use Rattle.program.specs.declared.words.Ask.TheVariants.{Run, Check, Map, Show, Help}
 
 -- the words call for no help, and the command line does not take them, unless they are a `map` of what is no number
 pub record HasNoAsk (words : List Text) : Type 0 where
@@ -36,6 +39,7 @@ abbrev pub named : Ask → List (List ℕ)
 named (Run config cycles workers out traces) = config.now ∷ map (λ t. t.now) traces.items
 named (Check config commands) = config.now ∷ commands.now ∷ []
 named (Map config address) = config.now ∷ []
+named (Show dir all) = path_in dir.now stats_name ∷ []
 named (Help text) = []
 
 -- one of these paths holds no file, where the set of files tells
@@ -89,11 +93,31 @@ abbrev pub IsRightMap : List (List ℕ) → Type 0
 IsRightMap (document ∷ []) = IsOk (document_of document)
 IsRightMap _ = ⊥
 
+-- a row is refused
+abbrev pub IsRowRefusal : Fault → Type 0
+IsRowRefusal (CheckRow row) = ⊤
+IsRowRefusal _ = ⊥
+
+-- what is wrong with the table of a show: a row of it
+abbrev pub IsShowFault : List (List ℕ) → Fault → Type 0
+IsShowFault (table ∷ []) fault = IsRowRefusal fault
+IsShowFault _ fault = ⊥
+
+-- the records of a table are just those of statistics
+pub record IsStatsTable (table : List ℕ) : Type 0 where
+  pub stats : RunStats
+  pub rows_are : records_of table ≡ stats_header ∷ stats_rows stats
+
+abbrev pub IsRightShow : List (List ℕ) → Type 0
+IsRightShow (table ∷ []) = IsStatsTable table
+IsRightShow _ = ⊥
+
 -- what is wrong with the texts of the files that are read
 abbrev pub IsFaultIn : Ask → List (List ℕ) → Fault → Type 0
 IsFaultIn (Run config cycles workers out traces) = IsRunFault cycles workers
 IsFaultIn (Check config commands) = IsTableFault
 IsFaultIn (Map config address) = IsMapFault
+IsFaultIn (Show dir all) = IsShowFault
 IsFaultIn (Help text) = λ _ _. ⊥
 
 -- nothing is
@@ -101,6 +125,7 @@ abbrev pub IsRight : Ask → List (List ℕ) → Type 0
 IsRight (Run config cycles workers out traces) = IsRightRun cycles workers
 IsRight (Check config commands) = IsRightTable
 IsRight (Map config address) = IsRightMap
+IsRight (Show dir all) = IsRightShow
 IsRight (Help text) = λ _. ⊤
 
 -- memory was refused, or one of the files cannot be read

@@ -2,7 +2,7 @@
 
 ghost use Rattle.std.specs.Prelude.{◌≡◌, IfOk, false};
 ghost use Rattle.clap.specs.Words.{app_of, new_app, rule_of};
-ghost use Rattle.program.specs.CommandLine.{text_rule, config_rule, option_rule, number_rule, texts_rule, run_app, check_app, map_app, program_app};
+ghost use Rattle.program.specs.CommandLine.{text_rule, config_rule, option_rule, number_rule, texts_rule, flag_rule, run_app, check_app, map_app, show_app, program_app};
 
 use clap::{Arg, ArgAction, Command, value_parser};
 use std::alloc::{AllocError, Global};
@@ -40,6 +40,17 @@ fn number_arg<'a>(alloc: Global, id: &'a str, name: &'a str, help: &'a str) -> A
     ensures own { result.global ≡ false }
 {
     option_arg(alloc, id, name, help).value_parser(value_parser!(u64))
+}
+
+// An option that takes nothing.
+fn flag_arg<'a>(alloc: Global, id: &'a str, help: &'a str) -> Arg<'a>
+    ensures rule { rule_of result ≡ flag_rule id.entry.now }
+    ensures own { result.global ≡ false }
+{
+    Arg::new(alloc, id)
+        .long(id)
+        .action(ArgAction::SetTrue)
+        .help(help)
 }
 
 fn config_arg<'a>(alloc: Global) -> Arg<'a>
@@ -111,6 +122,17 @@ fn map_command<'a>(alloc: Global) -> Result<Command<'a>, AllocError>
         .arg(address)
 }
 
+// `show DIR [--all]`
+fn show_command<'a>(alloc: Global) -> Result<Command<'a>, AllocError>
+    ensures { IfOk result (λ c. app_of c ≡ show_app) }
+{
+    let dir = text_arg(alloc, "dir", "DIR", "The folder with the tables of a run");
+    let all = flag_arg(alloc, "all", "Tells of each core, however many there are");
+    command(alloc, "show", "Prints what a run did")
+        .arg(dir)?
+        .arg(all)
+}
+
 /// The program's command line.
 pub fn program<'a>(alloc: Global) -> Result<Command<'a>, AllocError>
     ensures { IfOk result (λ c. app_of c ≡ program_app) }
@@ -119,5 +141,6 @@ pub fn program<'a>(alloc: Global) -> Result<Command<'a>, AllocError>
         .subcommand_required(true)
         .subcommand(run_command(alloc)?)?
         .subcommand(check_command(alloc)?)?
-        .subcommand(map_command(alloc)?)
+        .subcommand(map_command(alloc)?)?
+        .subcommand(show_command(alloc)?)
 }

@@ -4,23 +4,26 @@ ghost use Rattle.std.specs.Prelude.{◌≡◌, ◌≢◌, ◌<◌, ◌≤◌, �
 ghost use Rattle.std.specs.Io.KnownBytes.{Appends};
 ghost use Rattle.program.specs.Files.{SameFiles, AreHeld, IsReadFault};
 ghost use Rattle.program.specs.Lines.{IsTold};
-ghost use Rattle.program.specs.Refused.{IsRunFault, IsRightRun, IsTableFault, IsRightTable, IsMapFault, IsRightMap, IsFilesFault, IsReady, IsInputFault, IsAnswerFault, IsAskFault, IsFaultOf};
-ghost use Rattle.program.specs.Tables.{fault_of, parts};
-ghost use Rattle.program.specs.Answered.{seen, IsOutcome, IsRunDone, IsUnfinished, IsVerdict, verdict_line, verdict_status, IsChecked, IsPlace, rank_words, place_line, IsMapped, IsAnswer, IsLeft, IsAnswered, IsRefusedBy, IsRefused};
+ghost use Rattle.program.specs.Refused.{IsRunFault, IsRightRun, IsTableFault, IsRightTable, IsMapFault, IsRightMap, IsShowFault, IsRightShow, IsFilesFault, IsReady, IsInputFault, IsAnswerFault, IsAskFault, IsFaultOf};
+ghost use Rattle.program.specs.Tables.{fault_of, parts, path_in, stats_name};
+ghost use Rattle.program.specs.Answered.{seen, IsOutcome, IsRunDone, IsUnfinished, IsVerdict, verdict_line, verdict_status, IsChecked, IsPlace, rank_words, place_line, IsMapped, IsStatsOf, IsShown, IsAnswer, IsLeft, IsAnswered, IsRefusedBy, IsRefused};
 
 use crate::files::FileSet;
 use crate::lines::tell;
 use crate::shared::SharedText;
-use crate::tables::{Refusal, write_tables};
+use crate::tables::{Refusal, path_of, write_tables};
 use crate::words::{Ask, read_words};
 use address_map::place_of;
 use config_reader::read_config;
 use rule_check::{Verdict, check};
+use run_tables::read_stats;
+use show::show_text;
 use sim_base::fault::Fault;
 use sim_base::message::Cycle;
 use sim_base::place::Place;
 use simulation::runs::simulate;
 use statistics::outcome::Outcome;
+use statistics::stats::Stats;
 use std::alloc::{AllocError, Global};
 use std::io::Write;
 use std::sync::Wait;
@@ -275,6 +278,48 @@ fn perform_check<F: FileSet, P: Write>(
     Ok(status_of(found))
 }
 
+// The statistics whose table a file holds.
+fn stats_of<F: FileSet>(alloc: Global, files: &mut F, path: &str) -> Result<Stats, Fault>
+    ensures stats { IfOk result (λ stats. F.tells → IsStatsOf path.now (F.held files.old) stats) }
+    ensures ready { OnOk result (IsReady F.tells (F.held files.old) (path.now ∷ []) IsRightShow) }
+    ensures fault { IfErr result (IsInputFault F.tells (F.held files.old) (path.now ∷ []) IsShowFault) }
+    ensures same { F.tells → SameFiles (F.held files.old) (F.held files.new) }
+    ensures unopened { F.tells → F.opened files.new ≡ F.opened files.old }
+{
+    let table = files.read(alloc, path)?;
+    read_stats(alloc, &table)
+}
+
+// The statistics of the run whose tables are in a folder.
+fn stats_in<F: FileSet>(alloc: Global, files: &mut F, dir: &str) -> Result<Stats, Fault>
+    ensures stats { IfOk result (λ stats. F.tells → IsStatsOf (path_in dir.now stats_name) (F.held files.old) stats) }
+    ensures ready { OnOk result (IsReady F.tells (F.held files.old) (path_in dir.now stats_name ∷ []) IsRightShow) }
+    ensures fault { IfErr result (IsInputFault F.tells (F.held files.old) (path_in dir.now stats_name ∷ []) IsShowFault) }
+    ensures same { F.tells → SameFiles (F.held files.old) (F.held files.new) }
+    ensures unopened { F.tells → F.opened files.new ≡ F.opened files.old }
+{
+    let path = path_of(alloc, dir, "stats.csv")?;
+    stats_of(alloc, files, path.as_str())
+}
+
+// `show DIR [--all]`
+fn perform_show<F: FileSet, P: Write>(
+    alloc: Global,
+    files: &mut F,
+    print: &mut P,
+    dir: &str,
+    all: bool,
+) -> Result<(), Fault>
+    ensures shown { OnOk result (F.tells → IsShown dir.now (F.held files.old) (P.contents print.old) (P.contents print.new)) }
+    ensures fault { IfErr result (IsAnswerFault F.tells (F.held files.old) (path_in dir.now stats_name ∷ []) IsShowFault IsRightShow) }
+    ensures same { F.tells → SameFiles (F.held files.old) (F.held files.new) }
+    ensures unopened { F.tells → F.opened files.new ≡ F.opened files.old }
+{
+    let stats = stats_in(alloc, files, dir)?;
+    let screen = show_text(alloc, &stats, all)?;
+    print_text(print, screen.as_str())
+}
+
 // Does what is asked, and gives the status.
 fn answer<R: Threads + Wait + Sync, F: FileSet, P: Write>(
     rt: &R,
@@ -304,6 +349,10 @@ fn answer<R: Threads + Wait + Sync, F: FileSet, P: Write>(
         }
         Ask::Map { config, address } => {
             perform_map(alloc, files, print, config, *address)?;
+            Ok(DONE)
+        }
+        Ask::Show { dir, all } => {
+            perform_show(alloc, files, print, dir, *all)?;
             Ok(DONE)
         }
         Ask::Help(text) => {

@@ -29,8 +29,8 @@ impl From<Fault> for Refusal {
     }
 }
 
-// The path of a name in a folder.
-fn path_of(alloc: Global, folder: &str, name: &str) -> Result<String, Fault>
+/// The path of a name in a folder.
+pub(crate) fn path_of(alloc: Global, folder: &str, name: &str) -> Result<String, Fault>
     ensures path { IfOk result (λ s. string_bytes s ≡ path_in folder.now name.now) }
     ensures fault { IfErr result (λ e. e ≡ Fault.Memory) }
 {

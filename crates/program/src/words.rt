@@ -3,7 +3,7 @@
 ghost use Rattle.std.specs.Prelude.{◌≡◌, ◌⊎◌, true, Some, None, Ok, IfOk, IfErr, IsOk, IsErr, map, codes};
 ghost use Rattle.clap.specs.Words.{Row, app_of, all_of, first_of, found_of, kind_of, one_of, rows_of, subcommand_rows_of};
 ghost use Rattle.sim_base.specs.TraceText.{number_of};
-ghost use Rattle.program.specs.Ask.{is_taken, IsCallForHelp, IsCount, IsCountText, IsNoAddress, IsCommand, IsCommandOf, IsCommandFault, IsHelp, IsHelpUnlessMemory, IsNoHelp, IsAskedBy, IsAnswerTo, IsWordsFault, GivesRun, GivesCheck, GivesMap, GivesAll};
+ghost use Rattle.program.specs.Ask.{is_taken, IsCallForHelp, IsCount, IsCountText, IsFlag, IsNoAddress, IsCommand, IsCommandOf, IsCommandFault, IsHelp, IsHelpUnlessMemory, IsNoHelp, IsAskedBy, IsAnswerTo, IsWordsFault, GivesRun, GivesCheck, GivesMap, GivesShow, GivesAll};
 
 use crate::command_line::program;
 use clap::error::{Error, ErrorKind};
@@ -33,6 +33,11 @@ pub enum Ask<'a> {
         config: &'a str,
         address: u64,
     },
+    /// `show DIR [--all]`: tells what the run did whose tables are in a folder.
+    Show {
+        dir: &'a str,
+        all: bool,
+    },
     /// A call for help, with the text that answers it.
     Help(String),
 }
@@ -57,6 +62,13 @@ fn count_of(found: &ArgMatches<'_>, id: &str) -> Result<u64, Fault>
         Some(count) => Ok(count),
         None => Err(Fault::CommandLine),
     }
+}
+
+// Whether a flag is set.
+fn is_set(found: &ArgMatches<'_>, id: &str) -> bool
+    ensures { IsFlag (one_of id.now (rows_of (found_of found.now))) result }
+{
+    found.get_flag(id)
 }
 
 // The texts of an argument that may have several.
@@ -117,6 +129,17 @@ fn map_ask<'a>(found: &ArgMatches<'a>) -> Result<Ask<'a>, Fault>
     })
 }
 
+fn show_ask<'a>(found: &ArgMatches<'a>) -> Result<Ask<'a>, Fault>
+    ensures asked { IfOk result (IsCommand (codes "show") (rows_of (found_of found.now))) }
+    ensures refused { GivesShow (rows_of (found_of found.now)) → IsOk result }
+    ensures fault { IfErr result (λ e. e ≡ Fault.CommandLine) }
+{
+    Ok(Ask::Show {
+        dir: text_of(found, "dir")?,
+        all: is_set(found, "all"),
+    })
+}
+
 // What the matches of a command line ask for.
 fn ask_of<'a>(alloc: Global, matches: &ArgMatches<'a>) -> Result<Ask<'a>, Fault>
     ensures asked { IfOk result (IsCommandOf (subcommand_rows_of matches.now)) }
@@ -127,6 +150,7 @@ fn ask_of<'a>(alloc: Global, matches: &ArgMatches<'a>) -> Result<Ask<'a>, Fault>
         Some(("run", found)) => run_ask(alloc, found),
         Some(("check", found)) => check_ask(found),
         Some(("map", found)) => map_ask(found),
+        Some(("show", found)) => show_ask(found),
         _ => Err(Fault::CommandLine),
     }
 }

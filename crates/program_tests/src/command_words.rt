@@ -53,6 +53,17 @@ fn is_map(ask: &Ask<'_>) -> bool {
     }
 }
 
+const SHOW: &[&str] = &["dramsim", "show", "tables"];
+
+const SHOW_ALL: &[&str] = &["dramsim", "show", "--all", "tables"];
+
+fn is_show(ask: &Ask<'_>, each: bool) -> bool {
+    match ask {
+        Ask::Show { dir, all } => (*dir, *all) == ("tables", each),
+        _ => false,
+    }
+}
+
 fn is_help(ask: &Ask<'_>) -> bool {
     match ask {
         Ask::Help(text) => text.as_str().contains("Usage:"),
@@ -66,6 +77,8 @@ enum Want {
     Run,
     Check,
     Map,
+    Show,
+    ShowAll,
     Help,
 }
 
@@ -74,14 +87,18 @@ fn is_right(ask: &Ask<'_>, want: Want) -> bool {
         Want::Run => is_run(ask),
         Want::Check => is_check(ask),
         Want::Map => is_map(ask),
+        Want::Show => is_show(ask, false),
+        Want::ShowAll => is_show(ask, true),
         Want::Help => is_help(ask),
     }
 }
 
-static WORDS: [(&[&str], Want); 5] = [
+static WORDS: [(&[&str], Want); 7] = [
     (RUN, Want::Run),
     (CHECK, Want::Check),
     (MAP, Want::Map),
+    (SHOW, Want::Show),
+    (SHOW_ALL, Want::ShowAll),
     (&["dramsim", "--help"], Want::Help),
     (&["dramsim", "help", "run"], Want::Help),
 ];
@@ -95,8 +112,9 @@ fn reads_words(rt: HostRuntime) -> Result<(), Fail> {
     Ok(())
 }
 
-static NO_WORDS: [(&str, &[&str]); 4] = [
+static NO_WORDS: [(&str, &[&str]); 5] = [
     ("no command", &["dramsim"]),
+    ("no folder", &["dramsim", "show", "--all"]),
     (
         "no trace",
         &[

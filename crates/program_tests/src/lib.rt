@@ -42,6 +42,8 @@ mod rows;
 #[cfg(test)]
 mod same;
 #[cfg(test)]
+mod shows;
+#[cfg(test)]
 mod table_lines;
 #[cfg(test)]
 mod told_files;

@@ -11,7 +11,9 @@ returns c =
     let run_is = c.in_ok-run_command.ensures in
     let check_is = c.in_ok-check_command.ensures in
     let map_is = c.in_ok-map_command.ensures in
+    let show_is = c.in_ok-show_command.ensures in
     let start : app_of c.subcommand_required.result ≡ with_subcommand_required (new_app (codes "dramsim")) = ap app_of_fields c.subcommand_required.ensures ∙ ap with_subcommand_required c.command.ensures.app in
     let one = c.in_ok-subcommand.ensures.shape (no_global _ _ _ _ _ _ run_is refl refl) ∙ ap₂ with_subcommand start (ap (λ (a : App). a.top) run_is) in
     let two = c.in_ok-subcommand-2.ensures.shape (no_global _ _ _ _ _ _ check_is refl refl) ∙ ap₂ with_subcommand one (ap (λ (a : App). a.top) check_is) in
-    IfOk-weaker c.subcommand-3.result _ _ (λ r added. added.shape (no_global _ _ _ _ _ _ map_is refl refl) ∙ ap₂ with_subcommand two (ap (λ (a : App). a.top) map_is)) c.subcommand-3.ensures
+    let three = c.in_ok-subcommand-3.ensures.shape (no_global _ _ _ _ _ _ map_is refl refl) ∙ ap₂ with_subcommand two (ap (λ (a : App). a.top) map_is) in
+    IfOk-weaker c.subcommand-4.result _ _ (λ r added. added.shape (no_global _ _ _ _ _ _ show_is refl refl) ∙ ap₂ with_subcommand three (ap (λ (a : App). a.top) show_is)) c.subcommand-4.ensures

@@ -1,0 +1,65 @@
+//! Screens of a run's tables, through the whole program.
+
+use crate::files_in_memory::MemoryFiles;
+use crate::program_runs::said_to;
+use std::test::Fail;
+
+const TABLE: &str = "scope,id,name,value
+run,0,cycles,16
+core,0,issued,1
+core,0,retired,1
+core,0,reads,1
+core,0,writes,0
+core,0,replies,1
+core,0,read_latency,15
+core,0,stop_end,16
+core,0,stop_width,0
+core,0,stop_window,0
+core,0,stop_memory,0
+core,0,stop_credit,0
+core,0,finish,15
+channel,0,act,1
+channel,0,rd,1
+channel,0,wr,0
+channel,0,pre,0
+channel,0,prea,0
+channel,0,ref,0
+channel,0,hits,0
+channel,0,queued,4
+channel,0,queued_max,1
+channel,0,idle,12
+channel,0,refreshing,0
+";
+
+// A RD in 16 cycles moves data in four of them; one entry in 16 cycles is 0.0625 of one in a cycle.
+const SCREEN: &str = "cycles 16
+
+Channels (1): row hits in % of rd and wr, all else in % of the cycles
+channel  rd  wr  hits %  bus %  queue mean  queue max  idle %  refresh %  drain %
+      0   1   0     0.0   25.0       0.250          1    75.0        0.0        -
+
+Cores (1): entries retired, reads, and why no more was issued, in % of the cycles
+core  retired  per cycle  reads  latency (cycles)  end %  width %  window %  memory %  credit %
+   0        1      0.063      1              15.0  100.0      0.0       0.0       0.0       0.0
+";
+
+#[test]
+fn shows_a_run(rt: HostRuntime) -> Result<(), Fail> {
+    let alloc = rt.alloc();
+    let mut files = MemoryFiles::new(alloc);
+    files.add(alloc, "out/stats.csv", TABLE)?;
+    files.add(alloc, "cut/stats.csv", "scope,id,name,value\n")?;
+    for (words, want) in [
+        ("dramsim show out", (0, SCREEN, "")),
+        ("dramsim show out --all", (0, SCREEN, "")),
+        ("dramsim show --all out", (0, SCREEN, "")),
+        ("dramsim show none", (2, "", "fault 13: read\n")),
+        ("dramsim show cut", (2, "", "fault 15: check row 1\n")),
+        ("dramsim show", (2, "", "fault 14: command line\n")),
+        ("dramsim show out cut", (2, "", "fault 14: command line\n")),
+    ] {
+        let said = said_to(&rt, &mut files, words)?;
+        said.assert_is(&rt, words, want);
+    }
+    Ok(())
+}

@@ -1,0 +1,5 @@
+pub mod FourFields
+pub mod InlineTexts
+pub mod Numbered
+pub mod RisingRows
+pub mod Standing

@@ -1,0 +1,32 @@
+-- What is left of a table that is read.
+--     Left      the number of the first record that is left, and the records
+--     left_from found first rest      the records that are left, of which one was read
+--     Stands reader first found row      what a reader keeps
+--     IsTableFault fault      why a table may be refused
+use Rattle.std.specs.Borrow.{Bor}
+use Rattle.std.specs.Prelude.{◌≡◌, ℕ, ◌+◌, ◌<◌, ◌^◌, Bool, true, false, List, [], ◌∷◌, length, ⊤}
+use Rattle.csv.specs.declared.reader.Reader.{Reader}
+use Rattle.sim_base.specs.declared.fault.Fault.{Fault}
+use Rattle.sim_base.specs.declared.fault.Fault.TheVariants.{CheckRow, Memory}
+use Rattle.rule_check.specs.Left.{IsReading, left_of}
+
+-- the number of the first record that is left, and the records
+pub record Left : Type 0 where
+  pub row : ℕ
+  pub records : List (List (List ℕ))
+
+-- the records that are left, of which one was read, if there was one
+abbrev pub left_from : Bool → List (List ℕ) → List (List (List ℕ)) → List (List (List ℕ))
+left_from true first rest = first ∷ rest
+left_from false first rest = []
+
+-- a reader can go on after the record that it read, and the records can be counted
+pub record Stands (reader : Reader (Bor (List ℕ))) (first : List (List ℕ)) (found : Bool) (row : ℕ) : Type 0 where
+  pub reading : found ≡ true → IsReading reader
+  pub few : row + length (left_from found first (left_of reader)) < 2 ^ 64
+
+-- a row is none that must stand there, or memory was refused
+abbrev pub IsTableFault : Fault → Type 0
+IsTableFault (CheckRow row) = ⊤
+IsTableFault Memory = ⊤
+IsTableFault _ = ⊥

@@ -1,0 +1,110 @@
+//! The records of a table, read one after the other.
+
+ghost use Rattle.std.specs.Prelude.{◌≡◌, ◌+◌, ◌<◌, ◌↔◌, [], ◌∷◌, length, drop, IsTrue, IfOk, IfErr, OnOk};
+ghost use Rattle.csv.specs.Records.{fields_of};
+ghost use Rattle.rule_check.specs.Left.{IsReading, Takes, left_of};
+ghost use Rattle.rule_check.specs.Verdict.{records_of};
+
+use csv::{ByteRecord, Reader, ReaderBuilder};
+use sim_base::fault::Fault;
+use std::alloc::Global;
+use std::marker::Model;
+
+/// The records of a table that are left, of which the first can be looked at, and its number: that of the header is 0.
+#[derive(Drop)]
+pub(crate) struct Records<'t> {
+    reader: Reader<&'t [u8]>,
+    first: ByteRecord,
+    found: bool,
+    row: u64,
+}
+
+impl<'t> Model for Records<'t> {
+    ghost use Rattle.csv.specs.Records.{fields_of};
+    ghost use Rattle.rule_check.specs.Left.{left_of};
+    ghost use Rattle.run_tables.specs.Records.{Left, left_from, Stands};
+
+    ghost Value = { Left };
+
+    ghost view = { λ r. record { row = r.row; records = left_from r.found (fields_of r.first) (left_of r.reader) } };
+
+    ghost invariant = { λ r. Stands r.reader (fields_of r.first) r.found r.row };
+}
+
+// A reader of a table, before its first record.
+fn open<'t>(alloc: Global, table: &'t [u8]) -> Reader<&'t [u8]>
+    ensures reading { IsReading result }
+    ensures left { left_of result ≡ records_of table.now }
+{
+    ReaderBuilder::new()
+        .has_headers(false)
+        .flexible(true)
+        .from_reader(alloc, table)
+}
+
+// Reads the next record, and tells whether there was one. The only error is want of memory.
+fn read_next(reader: &mut Reader<&[u8]>, row: &mut ByteRecord) -> Result<bool, Fault>
+    requires { IsReading reader.old }
+    ensures takes { IfOk result (λ found. Takes reader.old found (fields_of row.new) reader.new) }
+    ensures fault { IfErr result (λ e. e ≡ Fault.Memory) }
+{
+    let Ok(found) = reader.read_byte_record(row) else {
+        return Err(Fault::Memory);
+    };
+    Ok(found)
+}
+
+impl<'t> Records<'t> {
+    /// All records of a table. Only memory can be refused.
+    pub(crate) fn of(alloc: Global, table: &'t [u8]) -> Result<Records<'t>, Fault>
+        ensures all { IfOk result (λ r. r.records ≡ records_of table.now) }
+        ensures header { IfOk result (λ r. r.row ≡ 0) }
+        ensures fault { IfErr result (λ e. e ≡ Fault.Memory) }
+    {
+        let mut reader = open(alloc, table);
+        let mut first = ByteRecord::new(alloc);
+        let found = read_next(&mut reader, &mut first)?;
+        let _few = table.len();
+        Ok(Records {
+            reader,
+            first,
+            found,
+            row: 0,
+        })
+    }
+
+    /// Whether no record is left.
+    pub(crate) fn is_empty(&self) -> bool
+        ensures { IsTrue result ↔ (self.now.records ≡ []) }
+    {
+        !self.found
+    }
+
+    /// The first record that is left.
+    pub(crate) fn first(&self) -> &ByteRecord
+        requires { 0 < length self.now.records }
+        ensures { self.now.records ≡ fields_of result.now ∷ drop 1 self.now.records }
+    {
+        &self.first
+    }
+
+    /// The fault of the first record that is left, or of its want.
+    pub(crate) fn fault(&self) -> Fault
+        ensures { result ≡ Fault.CheckRow self.now.row }
+    {
+        Fault::CheckRow(self.row)
+    }
+
+    /// Lets go of the first record that is left. Only memory can be refused.
+    pub(crate) fn drop_first(&mut self) -> Result<(), Fault>
+        requires { 0 < length self.old.records }
+        ensures rest { OnOk result (self.new.records ≡ drop 1 self.old.records) }
+        ensures row { OnOk result (self.new.row ≡ self.old.row + 1) }
+        ensures fault { IfErr result (λ e. e ≡ Fault.Memory) }
+    {
+        self.found = false;
+        self.found = read_next(&mut self.reader, &mut self.first)?;
+        self.row += 1;
+        Ok(())
+    }
+}

@@ -1,0 +1,196 @@
+//! Numbers as the screen shows them: at most four digits that say something.
+
+ghost use Rattle.std.specs.Prelude.{◌≡◌, ◌*◌, ◌/◌, ◌^◌, ◌<◌, Some, None, min, is_some};
+ghost use Rattle.show.specs.Number.{halves_of};
+
+use std::fmt;
+
+/// How a number is shown.
+#[derive(Clone, Copy, PartialEq, Eq, PartialOrd, Ord, Debug)]
+pub(crate) enum Form {
+    /// With up to three decimals: `0.456`, `4.56`, `45.6`, `456`, `4567`, `45.7k`.
+    Mean,
+    /// With one decimal: `0.5`, `45.6`, `100.0`.
+    Percent,
+    /// With none as long as it is below ten thousand: `4567`, `45.7k`.
+    Count,
+}
+
+impl Form {
+    fn most_decimals(self) -> u8 {
+        match self {
+            Form::Mean => 3,
+            Form::Percent => 1,
+            Form::Count => 0,
+        }
+    }
+
+    /// With one decimal, the digits of a number of this form are below this one.
+    fn limit_of_tenths(self) -> u128 {
+        match self {
+            Form::Percent => 10_000,
+            Form::Mean | Form::Count => 1_000,
+        }
+    }
+}
+
+/// A number of the screen.
+#[derive(Clone, Copy, PartialEq, Eq, PartialOrd, Ord, Debug)]
+pub(crate) struct Number {
+    /// The number in halves of a thousandth, rounded down; none where there is nothing to divide by. So to round it to thousandths or
+    /// coarser gives what the exact number gives.
+    pub(crate) halves: Option<u128>,
+    pub(crate) form: Form,
+}
+
+/// A sum above this one counts as this one.
+const GREATEST_SUM: u128 = 1 << 70;
+
+/// A way to write a number: as digits, of which the last is worth so many halves of a thousandth.
+#[derive(Clone, Copy)]
+struct Scale {
+    last_digit: u128,
+    decimals: u8,
+    /// The digits, read as a number, are below this one.
+    limit: u128,
+    unit: &'static str,
+    ghost some: { 0 < last_digit },
+}
+
+impl Scale {
+    fn new(last_digit: u128, decimals: u8, limit: u128, unit: &'static str) -> Scale
+        requires { 0 < last_digit }
+    {
+        Scale {
+            last_digit,
+            decimals,
+            limit,
+            unit,
+        }
+    }
+
+    /// The digits of a number that is given in halves of a thousandth, rounded half up.
+    fn digits(self, halves: u128) -> u128 {
+        (halves / self.last_digit).div_ceil(2)
+    }
+
+    fn fits(self, halves: u128) -> bool {
+        self.digits(halves) < self.limit
+    }
+
+    fn write<W: fmt::Write>(self, halves: u128, f: &mut fmt::Formatter<W>) -> fmt::Result {
+        let digits = self.digits(halves);
+        let unit = self.unit;
+        match self.decimals {
+            0 => write!(f, "{digits}{unit}"),
+            1 => write!(f, "{}.{}{unit}", digits / 10, digits % 10),
+            2 => write!(f, "{}.{:02}{unit}", digits / 100, digits % 100),
+            _ => write!(f, "{}.{:03}{unit}", digits / 1_000, digits % 1_000),
+        }
+    }
+}
+
+// The first scale that fits a number and has no more decimals than its form.
+fn scale_of(form: Form, halves: u128) -> Scale {
+    let scales = [
+        Scale::new(1, 3, 1_000, ""),
+        Scale::new(10, 2, 1_000, ""),
+        Scale::new(100, 1, form.limit_of_tenths(), ""),
+        Scale::new(1_000, 0, 10_000, ""),
+    ];
+    scales
+        .iter()
+        .copied()
+        .find(|scale| scale.decimals <= form.most_decimals() && scale.fits(halves))
+        .unwrap_or(coarse_scale(halves))
+}
+
+// The first scale with a unit that fits a number.
+fn coarse_scale(halves: u128) -> Scale {
+    let scales = [
+        Scale::new(100_000, 1, 1_000, "k"),
+        Scale::new(1_000_000, 0, 1_000, "k"),
+        Scale::new(10_000_000, 2, 1_000, "M"),
+        Scale::new(100_000_000, 1, 1_000, "M"),
+        Scale::new(1_000_000_000, 0, 1_000, "M"),
+        Scale::new(10_000_000_000, 2, 1_000, "G"),
+        Scale::new(100_000_000_000, 1, 1_000, "G"),
+        Scale::new(1_000_000_000_000, 0, 1_000, "G"),
+        Scale::new(10_000_000_000_000, 2, 1_000, "T"),
+        Scale::new(100_000_000_000_000, 1, 1_000, "T"),
+        Scale::new(1_000_000_000_000_000, 0, 1_000, "T"),
+        Scale::new(10_000_000_000_000_000, 2, 1_000, "P"),
+        Scale::new(100_000_000_000_000_000, 1, 1_000, "P"),
+        Scale::new(1_000_000_000_000_000_000, 0, 1_000, "P"),
+        Scale::new(10_000_000_000_000_000_000, 2, 1_000, "E"),
+        Scale::new(100_000_000_000_000_000_000, 1, 1_000, "E"),
+    ];
+    scales
+        .iter()
+        .copied()
+        .find(|scale| scale.fits(halves))
+        .unwrap_or(Scale::new(1_000_000_000_000_000_000_000, 0, 10_000, "E"))
+}
+
+impl Number {
+    /// A count.
+    pub(crate) fn count(count: u64) -> Number
+        ensures { result ≡ record { halves = Some (2000 * count); form = Form.Count } }
+    {
+        Number {
+            halves: Some(2_000 * u128::from(count)),
+            form: Form::Count,
+        }
+    }
+
+    // A quotient; none where the divisor is 0.
+    fn quotient(dividend: u128, divisor: u128, form: Form) -> Number
+        ensures { result ≡ record { halves = halves_of dividend divisor; form = form } }
+    {
+        let halves = 2_000 * dividend.min(GREATEST_SUM);
+        Number {
+            halves: halves.checked_div(divisor),
+            form,
+        }
+    }
+
+    /// The mean of a sum over so many; none over nothing. A sum above 2^70 counts as 2^70.
+    pub(crate) fn mean(sum: u128, count: u64) -> Number
+        ensures { result ≡ record { halves = halves_of sum count; form = Form.Mean } }
+    {
+        Number::quotient(sum, u128::from(count), Form::Mean)
+    }
+
+    /// How many in a hundred of the whole a part is; none of nothing.
+    pub(crate) fn percent(part: u128, whole: u128) -> Number
+        requires { part < 2 ^ 80 }
+        ensures { result ≡ record { halves = halves_of (100 * part) whole; form = Form.Percent } }
+    {
+        Number::quotient(100 * part, whole, Form::Percent)
+    }
+
+    /// A number that is not there.
+    pub(crate) fn absent() -> Number
+        ensures { result.halves ≡ None }
+    {
+        Number {
+            halves: None,
+            form: Form::Count,
+        }
+    }
+
+    pub(crate) fn is_known(self) -> bool
+        ensures { result ≡ is_some self.halves }
+    {
+        self.halves.is_some()
+    }
+}
+
+impl fmt::Display for Number {
+    fn fmt<W: fmt::Write>(&self, f: &mut fmt::Formatter<W>) -> fmt::Result {
+        let Some(halves) = self.halves else {
+            return f.write_str("-");
+        };
+        scale_of(self.form, halves).write(halves, f)
+    }
+}

@@ -1,0 +1,63 @@
+//! The screen: the cycles, a table of channels and a table of cores.
+
+use crate::channels::channel_columns;
+use crate::column::Column;
+use crate::cores::core_columns;
+use crate::table::Table;
+use statistics::stats::Stats;
+use std::alloc::{AllocError, Global};
+
+/// A table with more lines than this one is told in three, unless all are asked for.
+const MOST_LINES: usize = 16;
+
+// The table of so many units.
+fn table_of(
+    alloc: Global,
+    heading: &str,
+    count: usize,
+    columns: &[Column],
+    all: bool,
+) -> Result<Table, AllocError> {
+    let summarized = count > MOST_LINES && !all;
+    let mut table = if summarized {
+        Table::of_summaries(alloc, heading)?
+    } else {
+        Table::of_units(alloc, heading, count)?
+    };
+    for column in columns {
+        if summarized {
+            table.push(alloc, &column.summary(alloc)?)?;
+        } else {
+            table.push(alloc, column)?;
+        }
+    }
+    Ok(table)
+}
+
+/// What a run did, on one screen of lines of at most 100 characters: its cycles, a table of its channels and one of its cores.
+///
+/// - Of a channel: its RDs and WRs, how many of a hundred of them were row hits, in how many of a hundred cycles its data bus was taken (4
+///   cycles for each RD and WR), the mean and the greatest length of its queue, and in how many of a hundred cycles its queue was empty, a
+///   refresh was due, and it drained its writes.
+/// - Of a core: the entries that it retired, and in a cycle, the reads that it issued, the mean latency in cycles of those that were
+///   answered, and in how many of a hundred cycles it issued no more for each of the reasons.
+///
+/// Numbers have at most four digits, rounded half up, with `k` for a thousand, `M` for a million and so on. `-` stands where there is
+/// nothing to divide by, and for the drain of a channel that never does. A table of more than 16 units has the least, the median and the
+/// greatest number of each column instead, unless `all` is set; the median of an even count is the lower of the two in the middle. Only
+/// memory can be refused.
+pub fn show_text(alloc: Global, stats: &Stats, all: bool) -> Result<String, AllocError> {
+    let (cycles, channels, cores) = (stats.cycles, stats.channels.len(), stats.cores.len());
+    let mut text = format!(in alloc;
+        "cycles {cycles}\n\nChannels ({channels}): row hits in % of rd and wr, all else in % of the cycles\n"
+    )?;
+    let columns = channel_columns(alloc, cycles, &stats.channels)?;
+    table_of(alloc, "channel", channels, &columns, all)?.write(&mut text)?;
+    let title = format!(in alloc;
+        "\nCores ({cores}): entries retired, reads, and why no more was issued, in % of the cycles\n"
+    )?;
+    text.push_str(title.as_str())?;
+    let columns = core_columns(alloc, cycles, &stats.cores)?;
+    table_of(alloc, "core", cores, &columns, all)?.write(&mut text)?;
+    Ok(text)
+}
