@@ -1,0 +1,17 @@
+//! Why no page is made.
+
+use thiserror::Error;
+
+/// Why no page is made.
+#[derive(Clone, Copy, PartialEq, Eq, Debug, Error)]
+pub enum PageFault {
+    /// The command at this place of the list, counted from 0, is of a channel or of a cycle that the run does not have.
+    #[error("command {0} is none of the run")]
+    Command(usize),
+    /// Memory was refused.
+    #[error("memory")]
+    Memory,
+    /// The writer failed or took no byte.
+    #[error("write")]
+    Write,
+}

@@ -1,0 +1,35 @@
+//! Whether commands are those of a run.
+
+ghost use Rattle.std.specs.Prelude.{◌↔◌, ℕ, IsTrue, IfErr, OnOk};
+ghost use Rattle.page.specs.Rows.{IsOfRun, IsOfRunAt, IsReason};
+
+use crate::fault::PageFault;
+use command_table::list::CommandList;
+use sim_base::command::CommandRow;
+use statistics::stats::Stats;
+
+// Whether the run has the channel and the cycle of a command.
+fn is_of_run(stats: &Stats, row: &CommandRow) -> bool
+    ensures { IsTrue result ↔ IsOfRun stats.now row.now }
+{
+    row.cycle < stats.cycles && (row.channel as usize) < stats.channels.len()
+}
+
+/// Whether each command is of a channel and of a cycle of the run.
+///
+/// # Errors
+///
+/// `PageFault::Command` with the place of a command that is not.
+pub(crate) fn check_rows(stats: &Stats, commands: &CommandList) -> Result<(), PageFault>
+    ensures all { OnOk result ((place : ℕ) → IsOfRunAt stats.now commands.now place) }
+    ensures stranger { IfErr result (IsReason stats.now commands.now) }
+{
+    'rows: for place in 0..commands.len() {
+        if let Some(row) = commands.get(place)
+            && !is_of_run(stats, &row)
+        {
+            return Err(PageFault::Command(place));
+        }
+    }
+    Ok(())
+}

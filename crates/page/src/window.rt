@@ -1,0 +1,19 @@
+//! The cycles that a timeline shows.
+
+ghost use Rattle.std.specs.Prelude.{◌≡◌, ◌<◌, ◌≤◌, ◌+◌, ◌^◌, ◌↔◌, min, IsTrue};
+
+/// So many cycles, from a cycle on.
+#[derive(Clone, Copy, PartialEq, Eq, Debug)]
+pub struct Window {
+    pub from: u64,
+    pub cycles: u64,
+}
+
+impl Window {
+    /// The cycle behind the last, in a run of so many cycles.
+    pub(crate) fn end_in(self, cycles: u64) -> u64
+        ensures { result ≡ min (self.from + self.cycles) cycles }
+    {
+        self.from.saturating_add(self.cycles).min(cycles)
+    }
+}
