@@ -21,6 +21,7 @@ use Rattle.statistics.specs.Values.{RunOutcome, RunStats}
 use Rattle.rule_check.specs.Verdict.{records_of, verdict}
 use Rattle.rule_check.specs.declared.verdict.Verdict.{Verdict}
 use Rattle.rule_check.specs.declared.verdict.Verdict.TheVariants.{Legal, Broken}
+use Rattle.show.specs.Screen.{IsScreen}
 use Rattle.simulation.specs.Runs.{IsRunOf, IsJudgedLegal}
 use Rattle.program.specs.Ask.{IsAskedBy}
 use Rattle.program.specs.Files.{Held, IsUntouched}
@@ -143,11 +144,12 @@ pub record IsStatsOf (path : List ℕ) (held : Held) (stats : RunStats) : Type 0
   pub table_is : held path ≡ Some table
   pub rows_are : records_of table ≡ stats_header ∷ stats_rows stats
 
--- a folder has the table of statistics, and a text that tells of them was printed
+-- a folder has the table of statistics, and their screen was printed
 pub record IsShown (dir : List ℕ) (held : Held) (before after : Option (List ℕ)) : Type 0 where
   pub stats : RunStats
   pub text : List ℕ
   pub stats_are : IsStatsOf (path_in dir stats_name) held stats
+  pub screen : IsScreen stats text
   pub printed : Appends before after text
 
 -- a run has been shown

@@ -1,5 +1,8 @@
 //! The screen: the cycles, a table of channels and a table of cores.
 
+ghost use Rattle.std.specs.Prelude.{IfOk, string_bytes};
+ghost use Rattle.show.specs.Screen.{IsScreen};
+
 use crate::channels::channel_columns;
 use crate::column::Column;
 use crate::cores::core_columns;
@@ -46,7 +49,9 @@ fn table_of(
 /// nothing to divide by, and for the drain of a channel that never does. A table of more than 16 units has the least, the median and the
 /// greatest number of each column instead, unless `all` is set; the median of an even count is the lower of the two in the middle. Only
 /// memory can be refused.
-pub fn show_text(alloc: Global, stats: &Stats, all: bool) -> Result<String, AllocError> {
+pub fn show_text(alloc: Global, stats: &Stats, all: bool) -> Result<String, AllocError>
+    ensures { IfOk result (λ text. IsScreen stats.now (string_bytes text)) }
+{
     let (cycles, channels, cores) = (stats.cycles, stats.channels.len(), stats.cores.len());
     let mut text = format!(in alloc;
         "cycles {cycles}\n\nChannels ({channels}): row hits in % of rd and wr, all else in % of the cycles\n"

@@ -1,5 +1,8 @@
 //! Tables of text: a line of headings, and below it a line for each unit, with each column flush right.
 
+ghost use Rattle.std.specs.Prelude.{OnOk, string_bytes};
+ghost use Rattle.show.specs.Screen.{Extends};
+
 use crate::column::Column;
 use std::alloc::{AllocError, Global};
 
@@ -36,7 +39,9 @@ impl Cells {
     }
 
     // A cell, after as many blanks as make it as wide as the others.
-    fn write_cell(&self, line: usize, out: &mut String) -> Result<(), AllocError> {
+    fn write_cell(&self, line: usize, out: &mut String) -> Result<(), AllocError>
+        ensures { OnOk result (Extends (string_bytes out.old) (string_bytes out.new)) }
+    {
         let Some(text) = self.texts.get(line) else {
             return Ok(());
         };
@@ -89,7 +94,9 @@ impl Table {
         Ok(())
     }
 
-    fn write_line(&self, line: usize, out: &mut String) -> Result<(), AllocError> {
+    fn write_line(&self, line: usize, out: &mut String) -> Result<(), AllocError>
+        ensures { OnOk result (Extends (string_bytes out.old) (string_bytes out.new)) }
+    {
         self.labels.write_cell(line, out)?;
         for column in &self.columns {
             out.push_str("  ")?;
@@ -99,7 +106,9 @@ impl Table {
     }
 
     /// Writes all lines, of which the first has the headings.
-    pub(crate) fn write(&self, out: &mut String) -> Result<(), AllocError> {
+    pub(crate) fn write(&self, out: &mut String) -> Result<(), AllocError>
+        ensures { OnOk result (Extends (string_bytes out.old) (string_bytes out.new)) }
+    {
         for line in 0..self.labels.texts.len() {
             self.write_line(line, out)?;
         }

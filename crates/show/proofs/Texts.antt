@@ -1,0 +1,27 @@
+-- Texts that grow.
+use Rattle.std.proofs.Common.{◌≡◌, ℕ, List, [], ◌++◌, length, sym, ap, ap₂, ◌∙◌, append-nil, append_assoc}
+use Rattle.show.specs.Screen.{Extends, IsScreen, channels_head, cores_head}
+use Rattle.statistics.specs.Values.{RunStats}
+
+-- a text has no less behind it than nothing
+pub extends_none : (old : List ℕ) → Extends old old
+extends_none old = ([], sym (append-nil old))
+
+-- more was put behind a text
+pub extends_by : (old mid new more : List ℕ) → Extends old mid → new ≡ mid ++ more → Extends old new
+extends_by old mid new more h e = (h.0 ++ more, e ∙ ap (λ t. t ++ more) h.1 ∙ append_assoc old h.0 more)
+
+pub extends_more : (old mid new : List ℕ) → Extends old mid → Extends mid new → Extends old new
+extends_more old mid new h k = extends_by old mid new k.0 h k.1
+
+-- a screen, from its parts
+pub screen_of : (stats : RunStats) (cycles channels cores : ℕ) (head above title below screen : List ℕ) → cycles ≡ stats.cycles → channels ≡ length stats.channels → cores ≡ length stats.cores
+    → head ≡ channels_head cycles channels → Extends head above → title ≡ cores_head cores → below ≡ above ++ title → Extends below screen → IsScreen stats screen
+screen_of stats cycles channels cores head above title below screen cycles_is channels_is cores_is head_is upper title_is joined lower = record {
+  channel_lines = upper.0;
+  core_lines = lower.0;
+  text_is =
+      lower.1
+      ∙ ap (λ t. t ++ lower.0)
+      (joined ∙ ap₂ (λ s t. s ++ t) (upper.1 ∙ ap (λ t. t ++ upper.0) (head_is ∙ ap₂ channels_head cycles_is channels_is)) (title_is ∙ ap cores_head cores_is));
+}
