@@ -92,6 +92,9 @@ fn phase_at(alloc: Global, config: &Config, cycle: Cycle) -> Result<Found, Fault
 {
     let sim = two_cores(alloc, config)?;
     let sim = run_in_order(sim, alloc, cycle, &mut AsTheyCome)?;
+    if sim.now() >= 16 {
+        return Err(Fault::Memory);
+    }
     match plan(sim, alloc, 16)? {
         Planned::Quiet(_) => Err(Fault::Memory),
         Planned::Work(phase, jobs) => {
