@@ -1,6 +1,6 @@
 //! The table of a few commands, to writers that take all, little or nothing.
 
-use crate::written::{Report, assert_slow, assert_text};
+use crate::written::{Report, assert_report};
 use command_table::table::CommandTable;
 use sim_base::command::{Command, CommandRow, Source};
 use sim_base::place::BankId;
@@ -120,7 +120,9 @@ const OF_RANKS: [CommandRow; 6] = [
 ];
 
 // A number of ranks, commands, and their table.
-static TABLES: [(u32, &[CommandRow], &str); 3] = [
+type Case<'x> = (u32, &'x [CommandRow], &'x str);
+
+static TABLES: [Case<'static>; 3] = [
     (1, &OF_ONE_READ, ONE_READ),
     (
         1,
@@ -149,13 +151,7 @@ static TABLES: [(u32, &[CommandRow], &str); 3] = [
 fn writes_commands(rt: HostRuntime) -> Result<(), Fail> {
     for (ranks, rows, want) in &TABLES {
         let table = CommandTable::of_rows(rt.alloc(), rows)?;
-        assert_text(&rt, rt.alloc(), Report::Commands(*ranks, &table), want)?;
+        assert_report(&rt, rt.alloc(), Report::Commands(*ranks, &table), want)?;
     }
     Ok(())
-}
-
-#[test]
-fn writes_byte_by_byte(rt: HostRuntime) -> Result<(), Fail> {
-    let table = CommandTable::of_rows(rt.alloc(), &OF_ONE_READ)?;
-    assert_slow(&rt, rt.alloc(), Report::Commands(1, &table), ONE_READ)
 }

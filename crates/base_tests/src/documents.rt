@@ -11,7 +11,7 @@ use std::alloc::{AllocError, Global};
 use std::process::Abort;
 use std::test::Fail;
 
-static TIMING: Timing = Timing {
+const TIMING: Timing = Timing {
     n_rcd: 3,
     n_rp: 3,
     n_ras: 8,
@@ -83,7 +83,7 @@ fn assert_answers(
     Ok(())
 }
 
-static ORDER: [Field; 5] = [
+const ORDER: &[Field] = &[
     Field::Channel,
     Field::Column,
     Field::Group,
@@ -91,8 +91,79 @@ static ORDER: [Field; 5] = [
     Field::Row,
 ];
 
-/// Asserts the numbers of the small machine.
-fn assert_small(rt: &impl Abort, config: &Config) {
+const RANKS: Edit = ("groups = 2\n", "groups = 2\nranks = 2\n");
+
+const RANK_FIELD: Edit = ("\"column\", \"group\"", "\"column\", \"rank\", \"group\"");
+
+const TOO_EARLY: Edit = ("nREFI = 0\n", "nRTRS = 2\nnREFI = 38\n");
+
+const IN_TIME: Edit = ("nREFI = 0\n", "nRTRS = 2\nnREFI = 39\nend = \"drained\"\n");
+
+const MANY_CORES: Edit = ("cores = 1\n", "cores = 256\n");
+
+const READS: Edit = ("read_credits = 4\n", "read_credits = 16\n");
+
+const MORE_READS: Edit = ("read_credits = 4\n", "read_credits = 17\n");
+
+const WRITES: Edit = ("write_credits = 4\n", "write_credits = 16\n");
+
+const ORDER_WITH_RANKS: &[Field] = &[
+    Field::Channel,
+    Field::Column,
+    Field::Rank,
+    Field::Group,
+    Field::Bank,
+    Field::Row,
+];
+
+const OWN_LINK: Edit = ("nREFI = 0\n", "nREFI = 0\n[[link]]\nid = 2\nlatency = 1\n");
+
+/// Edits of the small machine; and of the machine that is meant its ranks, its timing, the order of its fields, whether it ends
+/// drained, the links with latencies of their own, and the latency of link 2.
+struct Case<'x> {
+    edits: &'x [Edit],
+    ranks: u32,
+    timing: Timing,
+    order: &'x [Field],
+    ends_drained: bool,
+    overrides: usize,
+    latency: u32,
+}
+
+const UNCHANGED: Case<'static> = Case {
+    edits: &[],
+    ranks: 1,
+    timing: TIMING,
+    order: ORDER,
+    ends_drained: false,
+    overrides: 0,
+    latency: 2,
+};
+
+static CASES: [Case<'static>; 3] = [
+    UNCHANGED,
+    Case {
+        edits: &[RANKS, RANK_FIELD, IN_TIME],
+        ranks: 2,
+        timing: Timing {
+            n_rtrs: 2,
+            n_refi: 39,
+            ..TIMING
+        },
+        order: ORDER_WITH_RANKS,
+        ends_drained: true,
+        ..UNCHANGED
+    },
+    Case {
+        edits: &[OWN_LINK],
+        overrides: 1,
+        latency: 1,
+        ..UNCHANGED
+    },
+];
+
+/// Asserts the numbers of a machine.
+fn assert_numbers(rt: &impl Abort, config: &Config, case: &Case<'_>) {
     let core = (
         config.cores,
         config.window,
@@ -113,32 +184,67 @@ fn assert_small(rt: &impl Abort, config: &Config) {
         config.credit_latency,
     );
     let drain = (config.write_high, config.write_low, config.ends_drained);
-    let overrides = config.overrides.as_slice().len();
     expect(
         rt,
+        &(core, memory, latencies, drain),
         &(
-            (core, memory, latencies),
-            config.fields.as_slice(),
-            config.timing,
-            (drain, overrides),
-        ),
-        &(
-            ((1, 8, 2, 4, 4), (1, 1, 2, 128, 65536), (2, 2, 2)),
-            ORDER.as_slice(),
-            TIMING,
-            ((0, 0, false), 0),
+            (1, 8, 2, 4, 4),
+            (1, case.ranks, 2, 128, 65536),
+            (2, 2, 2),
+            (0, 0, case.ends_drained),
         ),
     );
 }
 
-#[test]
-fn reads_each_key(rt: HostRuntime) -> Result<(), Fail> {
-    let config = read_config(rt.alloc(), SMALL.as_bytes())?;
-    assert_small(&rt, &config);
+/// Asserts the fields, the timing and the links of a machine.
+fn assert_parts(rt: &impl Abort, config: &Config, case: &Case<'_>) {
+    let overrides = config.overrides.as_slice().len();
+    let latencies = (config.latency(1), config.latency(2));
+    expect(
+        rt,
+        &(
+            config.fields.as_slice(),
+            config.timing,
+            overrides,
+            latencies,
+        ),
+        &(case.order, case.timing, case.overrides, (2, case.latency)),
+    );
+}
+
+/// Asserts what a machine and its copy are.
+fn assert_copied(
+    rt: &impl Abort,
+    alloc: Global,
+    config: &Config,
+    case: &Case<'_>,
+) -> Result<(), AllocError> {
+    assert_numbers(rt, config, case);
+    let copy = config.copy(alloc)?;
+    assert_parts(rt, config, case);
+    assert_parts(rt, &copy, case);
     Ok(())
 }
 
-static OF_KEYS: [(&[Edit], &str); 11] = [
+fn assert_read(rt: &impl Abort, alloc: Global, case: &Case<'_>) -> Result<(), Fault> {
+    let config = read_changed(alloc, case.edits)?;
+    Ok(assert_copied(rt, alloc, &config, case)?)
+}
+
+fn assert_all_read(rt: &impl Abort, alloc: Global, cases: &[Case<'_>]) -> Result<(), Fault> {
+    for case in cases {
+        assert_read(rt, alloc, case)?;
+    }
+    Ok(())
+}
+
+#[test]
+fn reads_documents(rt: HostRuntime) -> Result<(), Fail> {
+    Ok(assert_all_read(&rt, rt.alloc(), &CASES)?)
+}
+
+static ANSWERS: [(&[Edit], &str); 25] = [
+    // Keys.
     (
         &[("cores = 1\n", "cores = \"1\"\n")],
         "fault 2: configuration key cores",
@@ -180,9 +286,7 @@ static OF_KEYS: [(&[Edit], &str); 11] = [
         &[("cores = 1\n", "cores = 257\n")],
         "fault 3: configuration range cores",
     ),
-];
-
-static OF_RELATIONS: [(&[Edit], &str); 7] = [
+    // Relations.
     (
         &[("nRTW = 7\n", "nRTW = 4\n")],
         "fault 4: configuration relation 1",
@@ -205,9 +309,7 @@ static OF_RELATIONS: [(&[Edit], &str); 7] = [
         &[("nREFI = 0\n", "nREFI = 0\nwrite_high = 5\n")],
         "fault 4: configuration relation 12",
     ),
-];
-
-static OF_LINKS: [(&[Edit], &str); 4] = [
+    // Links.
     (
         &[("nREFI = 0\n", "nREFI = 0\n[[link]]\nid = 3\nlatency = 1\n")],
         "fault 4: configuration relation 8",
@@ -233,25 +335,7 @@ static OF_LINKS: [(&[Edit], &str); 4] = [
         )],
         "fault 2: configuration key link",
     ),
-];
-
-const RANKS: Edit = ("groups = 2\n", "groups = 2\nranks = 2\n");
-
-const RANK_FIELD: Edit = ("\"column\", \"group\"", "\"column\", \"rank\", \"group\"");
-
-const TOO_EARLY: Edit = ("nREFI = 0\n", "nRTRS = 2\nnREFI = 38\n");
-
-const IN_TIME: Edit = ("nREFI = 0\n", "nRTRS = 2\nnREFI = 39\nend = \"drained\"\n");
-
-const MANY_CORES: Edit = ("cores = 1\n", "cores = 256\n");
-
-const READS: Edit = ("read_credits = 4\n", "read_credits = 16\n");
-
-const MORE_READS: Edit = ("read_credits = 4\n", "read_credits = 17\n");
-
-const WRITES: Edit = ("write_credits = 4\n", "write_credits = 16\n");
-
-static LARGE_MACHINES: [(&[Edit], &str); 3] = [
+    // Large machines.
     (
         &[RANKS, RANK_FIELD, TOO_EARLY],
         "fault 4: configuration relation 6",
@@ -265,66 +349,9 @@ static LARGE_MACHINES: [(&[Edit], &str); 3] = [
 
 #[test]
 fn refuses_documents(rt: HostRuntime) -> Result<(), Fail> {
-    for cases in [
-        OF_KEYS.as_slice(),
-        &OF_RELATIONS,
-        &OF_LINKS,
-        &LARGE_MACHINES,
-    ] {
-        assert_answers(&rt, rt.alloc(), cases)?;
-    }
-    Ok(())
-}
-
-static ORDER_WITH_RANKS: [Field; 6] = [
-    Field::Channel,
-    Field::Column,
-    Field::Rank,
-    Field::Group,
-    Field::Bank,
-    Field::Row,
-];
-
-/// Asserts the numbers of the machine with two ranks.
-fn assert_ranks(rt: &impl Abort, config: &Config) {
-    expect(
-        rt,
-        &(
-            config.ranks,
-            config.timing.n_rtrs,
-            config.timing.n_refi,
-            config.ends_drained,
-            config.fields.as_slice(),
-        ),
-        &(2, 2, 39, true, ORDER_WITH_RANKS.as_slice()),
-    );
-}
-
-#[test]
-fn reads_ranks(rt: HostRuntime) -> Result<(), Fail> {
-    let config = read_changed(rt.alloc(), &[RANKS, RANK_FIELD, IN_TIME])?;
-    assert_ranks(&rt, &config);
-    Ok(())
-}
-
-const OWN_LINK: Edit = ("nREFI = 0\n", "nREFI = 0\n[[link]]\nid = 2\nlatency = 1\n");
-
-/// Asserts that link 2 of a machine has a latency of its own, also in a copy.
-fn assert_own_link(rt: &impl Abort, config: &Config, copy: &Config) {
-    let overrides = config.overrides.as_slice().len();
-    let latencies = (config.latency(1), config.latency(2), copy.latency(2));
-    expect(
-        rt,
-        &(overrides, latencies, copy.timing),
-        &(1, (2, 1, 1), TIMING),
-    );
-}
-
-#[test]
-fn reads_links_and_copies(rt: HostRuntime) -> Result<(), Fail> {
-    let config = read_changed(rt.alloc(), &[OWN_LINK])?;
-    let copy = config.copy(rt.alloc())?;
-    assert_own_link(&rt, &config, &copy);
+    assert_answers(&rt, rt.alloc(), &ANSWERS)?;
+    let said = answer(rt.alloc(), b"cores = \xff\n")?;
+    assert_said(&rt, &[], &said, "fault 1: configuration is not TOML");
     Ok(())
 }
 
@@ -358,12 +385,5 @@ fn refuses_what_is_cut(rt: HostRuntime) -> Result<(), Fail> {
     let cut = first_accepted(rt.alloc(), line);
     let cores = read_config(rt.alloc(), line)?.cores;
     expect(&rt, &(cut, end, cores), &(None, b"\n".as_slice(), 1));
-    Ok(())
-}
-
-#[test]
-fn refuses_what_is_no_text(rt: HostRuntime) -> Result<(), Fail> {
-    let said = answer(rt.alloc(), b"cores = \xff\n")?;
-    expect(&rt, &said.as_str(), &"fault 1: configuration is not TOML");
     Ok(())
 }

@@ -1,6 +1,6 @@
 //! The states in which small runs end, found by hand.
 
-use crate::written::{Report, assert_slow, assert_text};
+use crate::written::{Report, assert_report};
 use sim_base::message::{Load, Message, Request};
 use sim_base::place::{BankId, Place};
 use statistics::final_state::{ChannelState, CoreState, Credits, FinalState, OpenRow};
@@ -249,21 +249,17 @@ static CASES: [Case<'static>; 4] = [ONE_READ, A_REPLY, A_QUEUE, RANKS];
 
 fn assert_case(rt: &impl Abort, alloc: Global, case: &Case<'_>) -> Result<(), Fail> {
     let state = state_of(alloc, case)?;
-    assert_text(rt, alloc, Report::Last(case.ranks, &state), case.table)
+    assert_report(rt, alloc, Report::Last(case.ranks, &state), case.table)
 }
 
-#[test]
-fn writes_states(rt: HostRuntime) -> Result<(), Fail> {
-    for case in &CASES {
-        assert_case(&rt, rt.alloc(), case)?;
+fn assert_cases(rt: &impl Abort, alloc: Global, cases: &[Case<'_>]) -> Result<(), Fail> {
+    for case in cases {
+        assert_case(rt, alloc, case)?;
     }
     Ok(())
 }
 
-static WRITTEN: Case<'static> = ONE_READ;
-
 #[test]
-fn writes_byte_by_byte(rt: HostRuntime) -> Result<(), Fail> {
-    let state = state_of(rt.alloc(), &WRITTEN)?;
-    assert_slow(&rt, rt.alloc(), Report::Last(1, &state), WRITTEN.table)
+fn writes_states(rt: HostRuntime) -> Result<(), Fail> {
+    assert_cases(&rt, rt.alloc(), &CASES)
 }

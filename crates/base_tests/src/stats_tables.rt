@@ -1,50 +1,13 @@
 //! The statistics of small runs whose counts were found by hand.
 
-use crate::written::{Report, assert_slow, assert_text};
+use crate::none::{NO_CHANNEL, NO_CORE};
+use crate::written::{Report, assert_report};
 use statistics::channels::ChannelStats;
 use statistics::cores::CoreStats;
 use statistics::stats::Stats;
-use std::alloc::{AllocError, Global};
+use std::alloc::Global;
+use std::process::Abort;
 use std::test::Fail;
-
-// A core that reads the first line, in a run of so many cycles. Its reply arrives in cycle 15.
-fn core_of_one_read(cycles: u64) -> CoreStats {
-    let issued = CoreStats {
-        issued: 1,
-        reads: 1,
-        stop_end: cycles,
-        ..CoreStats::new()
-    };
-    if cycles < 16 {
-        return issued;
-    }
-    CoreStats {
-        retired: 1,
-        replies: 1,
-        read_latency: 15,
-        finish: Some(15),
-        ..issued
-    }
-}
-
-// Its channel: the request is in the queue in the cycles 2 to 5.
-fn channel_of_one_read(cycles: u64) -> ChannelStats {
-    let (rd, queued) = if cycles < 6 { (0, 1) } else { (1, 4) };
-    ChannelStats {
-        act: 1,
-        rd,
-        queued,
-        queued_max: 1,
-        idle: cycles.saturating_sub(if cycles < 6 { 1 } else { 4 }),
-        ..ChannelStats::new()
-    }
-}
-
-fn one_read(alloc: Global, cycles: u64) -> Result<Stats, AllocError> {
-    let cores = [core_of_one_read(cycles)];
-    let channels = [channel_of_one_read(cycles)];
-    Stats::of_parts(alloc, cycles, &cores, &channels)
-}
 
 const ONE_READ: &str = "scope,id,name,value
 run,0,cycles,16
@@ -128,18 +91,6 @@ channel,0,idle,2
 channel,0,refreshing,0
 ";
 
-// The limit of a run of one read, and its table.
-static READS: [(u64, &str); 3] = [(16, ONE_READ), (15, UNFINISHED), (3, SHORT)];
-
-#[test]
-fn writes_one_read(rt: HostRuntime) -> Result<(), Fail> {
-    for (cycles, want) in &READS {
-        let stats = one_read(rt.alloc(), *cycles)?;
-        assert_text(&rt, rt.alloc(), Report::Stats(&stats), want)?;
-    }
-    Ok(())
-}
-
 const DRAINED: &str = "scope,id,name,value
 run,0,cycles,64
 channel,0,act,0
@@ -167,30 +118,98 @@ channel,1,refreshing,0
 channel,1,draining,5
 ";
 
-// Two channels, of which the second may drain its writes, and counts past 64 bits.
-fn drains(alloc: Global) -> Result<Stats, AllocError> {
-    let plain = ChannelStats {
-        queued: 1 << 64,
-        ..ChannelStats::new()
-    };
-    let drains = ChannelStats {
-        act: 2,
-        rd: 1,
-        wr: 1,
-        draining: Some(5),
-        ..ChannelStats::new()
-    };
-    Stats::of_parts(alloc, 64, &[], &[plain, drains])
+/// Cycles, what each core and each channel counts in them, and their table.
+type Case<'x> = (u64, &'x [CoreStats], &'x [ChannelStats], &'x str);
+
+// A core that reads the first line and its channel, up to the end of cycles 15, 14 and 2; and two channels, of which the second may
+// drain its writes, and counts past 64 bits.
+static CASES: [Case<'static>; 4] = [
+    (
+        16,
+        &[CoreStats {
+            issued: 1,
+            retired: 1,
+            reads: 1,
+            replies: 1,
+            read_latency: 15,
+            stop_end: 16,
+            finish: Some(15),
+            ..NO_CORE
+        }],
+        &[ChannelStats {
+            act: 1,
+            rd: 1,
+            queued: 4,
+            queued_max: 1,
+            idle: 12,
+            ..NO_CHANNEL
+        }],
+        ONE_READ,
+    ),
+    (
+        15,
+        &[CoreStats {
+            issued: 1,
+            reads: 1,
+            stop_end: 15,
+            ..NO_CORE
+        }],
+        &[ChannelStats {
+            act: 1,
+            rd: 1,
+            queued: 4,
+            queued_max: 1,
+            idle: 11,
+            ..NO_CHANNEL
+        }],
+        UNFINISHED,
+    ),
+    (
+        3,
+        &[CoreStats {
+            issued: 1,
+            reads: 1,
+            stop_end: 3,
+            ..NO_CORE
+        }],
+        &[ChannelStats {
+            act: 1,
+            queued: 1,
+            queued_max: 1,
+            idle: 2,
+            ..NO_CHANNEL
+        }],
+        SHORT,
+    ),
+    (
+        64,
+        &[],
+        &[
+            ChannelStats {
+                queued: 1 << 64,
+                ..NO_CHANNEL
+            },
+            ChannelStats {
+                act: 2,
+                rd: 1,
+                wr: 1,
+                draining: Some(5),
+                ..NO_CHANNEL
+            },
+        ],
+        DRAINED,
+    ),
+];
+
+fn assert_cases(rt: &impl Abort, alloc: Global, cases: &[Case<'_>]) -> Result<(), Fail> {
+    for (cycles, cores, channels, want) in cases {
+        let stats = Stats::of_parts(alloc, *cycles, cores, channels)?;
+        assert_report(rt, alloc, Report::Stats(&stats), want)?;
+    }
+    Ok(())
 }
 
 #[test]
-fn shows_drains_and_wide_counts(rt: HostRuntime) -> Result<(), Fail> {
-    let stats = drains(rt.alloc())?;
-    assert_text(&rt, rt.alloc(), Report::Stats(&stats), DRAINED)
-}
-
-#[test]
-fn writes_byte_by_byte(rt: HostRuntime) -> Result<(), Fail> {
-    let stats = one_read(rt.alloc(), 16)?;
-    assert_slow(&rt, rt.alloc(), Report::Stats(&stats), ONE_READ)
+fn writes_statistics(rt: HostRuntime) -> Result<(), Fail> {
+    assert_cases(&rt, rt.alloc(), &CASES)
 }

@@ -112,27 +112,25 @@ fn assert_entries(rt: &impl Abort, trace: &Trace, wanted: &[Entry]) {
 // The entries that a text means, or what is said of it.
 type Read<'x> = Result<&'x [Entry], &'x str>;
 
-// Asserts what comes of a text, whatever the size of the pieces.
-fn assert_read<R: Abort + Threads + Sync>(
-    rt: &R,
+// Asserts what came of a text.
+fn assert_read(
+    rt: &impl Abort,
     alloc: Global,
-    text: &[u8],
     found: &Result<Trace, Fault>,
     want: &Read<'_>,
 ) -> Result<(), AllocError> {
-    assert_pieces(rt, alloc, text, found)?;
     match (found, want) {
         (Ok(trace), Ok(wanted)) => assert_entries(rt, trace, wanted),
         (Err(fault), Err(wanted)) => {
             let said = fault.to_string(alloc)?;
-            expect_at(rt, &text, &said.as_str(), wanted);
+            expect(rt, &said.as_str(), wanted);
         }
-        _ => expect_at(rt, &text, &found.is_ok(), &want.is_ok()),
+        _ => expect_at(rt, want, &found.is_ok(), &want.is_ok()),
     }
     Ok(())
 }
 
-// Asserts what core 0's trace is.
+// Asserts what core 0's trace is, whatever the size of the pieces.
 fn assert_text<R: Abort + Threads + Sync>(
     rt: &R,
     alloc: Global,
@@ -140,7 +138,8 @@ fn assert_text<R: Abort + Threads + Sync>(
     want: &Read<'_>,
 ) -> Result<(), AllocError> {
     let found = read_trace(rt, alloc, 0, text);
-    assert_read(rt, alloc, text, &found, want)
+    assert_pieces(rt, alloc, text, &found)?;
+    assert_read(rt, alloc, &found, want)
 }
 
 // Asserts what these texts are.
@@ -157,18 +156,6 @@ fn assert_texts<R: Abort + Threads + Sync>(
 
 // A trace of three lines, of which the second is blank and the last has no end.
 const THREE_LINES: &[u8] = b"0\t0x40\r\n\n 1  128";
-
-static LINES: [(&[u8], Read<'static>); 3] = [
-    (
-        THREE_LINES,
-        Ok(&[Entry::Read(64), Entry::Plain, Entry::Read(128)]),
-    ),
-    (b" \t\r\n\r\n", Ok(&[])),
-    (
-        b"1 0X1f 007\n",
-        Ok(&[Entry::Plain, Entry::Read(31), Entry::Write(7)]),
-    ),
-];
 
 // Their entries.
 static OF_THREE_LINES: [Entry; 3] = [Entry::Read(64), Entry::Plain, Entry::Read(128)];
@@ -199,28 +186,6 @@ fn entries_of_copies(rt: HostRuntime) -> Result<(), Fail> {
     Ok(())
 }
 
-static BAD_LINES: [(&[u8], Read<'static>); 10] = [
-    (b"3", Err("fault 5: trace 0 line 1 too-few")),
-    (b"1 2 3 4", Err("fault 5: trace 0 line 1 too-many")),
-    (b"1 x", Err("fault 5: trace 0 line 1 not-a-number")),
-    (
-        b"0 18446744073709551616",
-        Err("fault 5: trace 0 line 1 too-large"),
-    ),
-    (b"#x", Err("fault 5: trace 0 line 1 too-few")),
-    (b"# a", Err("fault 5: trace 0 line 1 not-a-number")),
-    (b"# a b c", Err("fault 5: trace 0 line 1 too-many")),
-    (b"0 \xff", Err("fault 5: trace 0 line 1 not-a-number")),
-    (
-        b"\xef\xbb\xbf0 0",
-        Err("fault 5: trace 0 line 1 not-a-number"),
-    ),
-    (
-        b"\n0 0\r\n \n0 0x\n5",
-        Err("fault 5: trace 0 line 4 not-a-number"),
-    ),
-];
-
 // The beginnings of the three lines, by their lengths.
 static BEGINNINGS: [Read<'static>; 17] = [
     Ok(&[]),
@@ -242,14 +207,23 @@ static BEGINNINGS: [Read<'static>; 17] = [
     Ok(&[Entry::Read(64), Entry::Plain, Entry::Read(128)]),
 ];
 
+fn assert_beginnings<R: Abort + Threads + Sync>(
+    rt: &R,
+    alloc: Global,
+    text: &[u8],
+    beginnings: &[Read<'_>],
+) -> Result<(), AllocError> {
+    for (len, want) in beginnings.iter().enumerate() {
+        let cut = text.get(..len).unwrap_or(b"none");
+        assert_text(rt, alloc, cut, want)?;
+    }
+    Ok(())
+}
+
 #[test]
 fn beginnings_of_each_length(rt: HostRuntime) -> Result<(), Fail> {
     expect(&rt, &THREE_LINES.len(), &16);
-    for (len, want) in BEGINNINGS.iter().enumerate() {
-        let cut = THREE_LINES.get(..len).unwrap_or(b"none");
-        assert_text(&rt, rt.alloc(), cut, want)?;
-    }
-    Ok(())
+    Ok(assert_beginnings(&rt, rt.alloc(), THREE_LINES, &BEGINNINGS)?)
 }
 
 // Many bytes of one kind between a beginning and an end.
@@ -280,32 +254,43 @@ fn read_long(
     read_trace(rt, alloc, 0, &line)
 }
 
-fn assert_long_line(
-    rt: &(impl Abort + Threads + Sync),
+// The first bytes of a text of 1 MiB, the byte that fills it, its last bytes, and what it means.
+type Long<'x> = (&'x [u8], u8, &'x [u8], Read<'x>);
+
+static LONG_LINES: [Long<'static>; 4] = [
+    (b"1", b' ', b"2 3\r\n", Ok(LAST_LINE)),
+    (b"1 0x", b'0', b"2 3", Ok(LAST_LINE)),
+    (
+        b"\n1 ",
+        b'9',
+        b" 3",
+        Err("fault 5: trace 0 line 2 too-large"),
+    ),
+    (
+        b"\n1 ",
+        b'9',
+        b"x 3",
+        Err("fault 5: trace 0 line 2 not-a-number"),
+    ),
+];
+
+const LAST_LINE: &[Entry] = &[Entry::Plain, Entry::Read(2), Entry::Write(3)];
+
+fn assert_long_lines<R: Abort + Threads + Sync>(
+    rt: &R,
     alloc: Global,
-    first: &[u8],
-    byte: u8,
-    last: &[u8],
-) -> Result<(), Fault> {
-    let trace = read_long(rt, alloc, first, byte, last)?;
-    assert_entries(rt, &trace, &[Entry::Plain, Entry::Read(2), Entry::Write(3)]);
+    cases: &[Long<'_>],
+) -> Result<(), AllocError> {
+    for (first, byte, last, want) in cases {
+        let found = read_long(rt, alloc, first, *byte, last);
+        assert_read(rt, alloc, &found, want)?;
+    }
     Ok(())
 }
 
 #[test]
 fn long_lines(rt: HostRuntime) -> Result<(), Fail> {
-    assert_long_line(&rt, rt.alloc(), b"1", b' ', b"2 3\r\n")?;
-    assert_long_line(&rt, rt.alloc(), b"1 0x", b'0', b"2 3")?;
-    Ok(())
-}
-
-#[test]
-fn faults_of_long_lines(rt: HostRuntime) {
-    let large = read_long(&rt, rt.alloc(), b"\n1 ", b'9', b" 3").err();
-    let bad = read_long(&rt, rt.alloc(), b"\n1 ", b'9', b"x 3").err();
-    let too_large = at_line(2, LineCause::TooLarge);
-    let no_number = at_line(2, LineCause::NotANumber);
-    expect(&rt, &(large, bad), &(Some(too_large), Some(no_number)));
+    Ok(assert_long_lines(&rt, rt.alloc(), &LONG_LINES)?)
 }
 
 static NUMBERS: [(&[u8], Result<u64, LineCause>); 10] = [
@@ -321,10 +306,9 @@ static NUMBERS: [(&[u8], Result<u64, LineCause>); 10] = [
     (b"+1", Err(LineCause::NotANumber)),
 ];
 
-#[test]
-fn numbers_of_tokens(rt: HostRuntime) {
-    for (token, want) in &NUMBERS {
-        expect_at(&rt, &token, &read_number(token), want);
+fn assert_numbers(rt: &impl Abort, cases: &[(&[u8], Result<u64, LineCause>)]) {
+    for (token, want) in cases {
+        expect_at(rt, token, &read_number(token), want);
     }
 }
 
@@ -339,7 +323,8 @@ fn long_number(
 }
 
 #[test]
-fn numbers_of_long_tokens(rt: HostRuntime) -> Result<(), Fail> {
+fn numbers_of_tokens(rt: HostRuntime) -> Result<(), Fail> {
+    assert_numbers(&rt, &NUMBERS);
     let decimal = long_number(rt.alloc(), b"", b"7")?;
     let hexadecimal = long_number(rt.alloc(), b"0X", b"fF")?;
     expect(&rt, &(decimal, hexadecimal), &(Ok(7), Ok(255)));
@@ -378,25 +363,6 @@ fn runs_are_counts(rt: HostRuntime) -> Result<(), Fail> {
     expect(&rt, &(long, most), &((4_000_000_001, entries), 1 << 62));
     Ok(())
 }
-
-static LONG_RUNS: [(&[u8], Read<'static>); 4] = [
-    (
-        b"4611686018427387903 0\n0 0",
-        Err("fault 6: trace 0 too long"),
-    ),
-    (
-        b"4611686018427387902 0 0\n0 0",
-        Err("fault 6: trace 0 too long"),
-    ),
-    (
-        b"18446744073709551615 0\n18446744073709551615 0",
-        Err("fault 6: trace 0 too long"),
-    ),
-    (
-        b"18446744073709551615 0\n18446744073709551615 0\n1",
-        Err("fault 5: trace 0 line 3 too-few"),
-    ),
-];
 
 // A text of 100,000 lines, of which the numbered ones are bad.
 fn long_text(alloc: Global, bad: bool) -> Result<Vec<u8>, AllocError> {
@@ -489,30 +455,64 @@ const TWO_LINES: &[Entry] = &[
     Entry::Write(3),
 ];
 
-static GOOD_CUTS: [(&[u8], Read<'static>); 5] = [
+static TEXTS: [(&[u8], Read<'static>); 24] = [
+    (
+        THREE_LINES,
+        Ok(&[Entry::Read(64), Entry::Plain, Entry::Read(128)]),
+    ),
+    (b" \t\r\n\r\n", Ok(&[])),
+    (
+        b"1 0X1f 007\n",
+        Ok(&[Entry::Plain, Entry::Read(31), Entry::Write(7)]),
+    ),
+    // Bad lines.
+    (b"3", Err("fault 5: trace 0 line 1 too-few")),
+    (b"1 2 3 4", Err("fault 5: trace 0 line 1 too-many")),
+    (b"1 x", Err("fault 5: trace 0 line 1 not-a-number")),
+    (
+        b"0 18446744073709551616",
+        Err("fault 5: trace 0 line 1 too-large"),
+    ),
+    (b"#x", Err("fault 5: trace 0 line 1 too-few")),
+    (b"# a", Err("fault 5: trace 0 line 1 not-a-number")),
+    (b"# a b c", Err("fault 5: trace 0 line 1 too-many")),
+    (b"0 \xff", Err("fault 5: trace 0 line 1 not-a-number")),
+    (
+        b"\xef\xbb\xbf0 0",
+        Err("fault 5: trace 0 line 1 not-a-number"),
+    ),
+    (
+        b"\n0 0\r\n \n0 0x\n5",
+        Err("fault 5: trace 0 line 4 not-a-number"),
+    ),
+    // Runs that are too long together.
+    (
+        b"4611686018427387903 0\n0 0",
+        Err("fault 6: trace 0 too long"),
+    ),
+    (
+        b"4611686018427387902 0 0\n0 0",
+        Err("fault 6: trace 0 too long"),
+    ),
+    (
+        b"18446744073709551615 0\n18446744073709551615 0",
+        Err("fault 6: trace 0 too long"),
+    ),
+    (
+        b"18446744073709551615 0\n18446744073709551615 0\n1",
+        Err("fault 5: trace 0 line 3 too-few"),
+    ),
+    // Texts that are cut at blank lines, at line ends of two bytes, and with no last line end.
     (b"0 1\n1 2 3", Ok(TWO_LINES)),
     (b"0 1\n1 2 3\n", Ok(TWO_LINES)),
     (b"0 1\r\n1 2 3\r\n", Ok(TWO_LINES)),
     (b"\n0 1\n\n\n1 2 3\n\n", Ok(TWO_LINES)),
     (b"\r\n0 1\r\n\r\n \t\r\n1 2 3", Ok(TWO_LINES)),
-];
-
-static BAD_CUTS: [(&[u8], Read<'static>); 2] = [
     (b"\n\n1\n\n2\n", Err("fault 5: trace 0 line 3 too-few")),
     (b"0 1\n0 2\n0 3\n4", Err("fault 5: trace 0 line 4 too-few")),
 ];
 
-// The cuts have blank lines, line ends of two bytes and no last line end.
 #[test]
 fn texts_are_read_or_refused(rt: HostRuntime) -> Result<(), Fail> {
-    for cases in [
-        LINES.as_slice(),
-        &GOOD_CUTS,
-        &BAD_LINES,
-        &LONG_RUNS,
-        &BAD_CUTS,
-    ] {
-        assert_texts(&rt, rt.alloc(), cases)?;
-    }
-    Ok(())
+    Ok(assert_texts(&rt, rt.alloc(), &TEXTS)?)
 }

@@ -280,12 +280,16 @@ static RULES: [(Layout, &[Case]); 5] = [
     (RANKS_REFRESHED, &OF_REFRESHES_OF_RANKS),
 ];
 
-#[test]
-fn each_rule_is_kept_exactly(rt: HostRuntime) -> Result<(), Fail> {
-    for (layout, cases) in &RULES {
-        assert_kept_exactly(&rt, rt.alloc(), layout, cases)?;
+fn assert_rules(rt: &impl Abort, alloc: Global, rules: &[(Layout, &[Case])]) -> Result<(), Fault> {
+    for (layout, cases) in rules {
+        assert_kept_exactly(rt, alloc, layout, cases)?;
     }
     Ok(())
+}
+
+#[test]
+fn each_rule_is_kept_exactly(rt: HostRuntime) -> Result<(), Fail> {
+    Ok(assert_rules(&rt, rt.alloc(), &RULES)?)
 }
 
 /// Not the last command alone counts: the write before the last is of the read's group.
@@ -327,7 +331,10 @@ const WRONG_HEADERS: &[&str] = &[
     " cycle,channel,command,group,bank,row,column,core,entry\n",
 ];
 
-static VERDICTS: [(Layout, &[&str], Result<Verdict, Fault>); 5] = [
+// Tables of a machine, and their verdict.
+type Tables<'x> = (Layout, &'x [&'x str], Result<Verdict, Fault>);
+
+static VERDICTS: [Tables<'static>; 5] = [
     (
         NO_REFRESH,
         EARLIER_COMMANDS,
@@ -339,10 +346,14 @@ static VERDICTS: [(Layout, &[&str], Result<Verdict, Fault>); 5] = [
     (WHOLE, WRONG_HEADERS, Err(Fault::CheckRow(0))),
 ];
 
-#[test]
-fn each_table_has_its_verdict(rt: HostRuntime) -> Result<(), Fail> {
-    for (layout, tables, want) in &VERDICTS {
-        assert_verdicts(&rt, rt.alloc(), layout, tables, *want)?;
+fn assert_all_verdicts(rt: &impl Abort, alloc: Global, cases: &[Tables<'_>]) -> Result<(), Fault> {
+    for (layout, tables, want) in cases {
+        assert_verdicts(rt, alloc, layout, tables, *want)?;
     }
     Ok(())
+}
+
+#[test]
+fn each_table_has_its_verdict(rt: HostRuntime) -> Result<(), Fail> {
+    Ok(assert_all_verdicts(&rt, rt.alloc(), &VERDICTS)?)
 }

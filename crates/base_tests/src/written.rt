@@ -36,12 +36,7 @@ fn text_of(alloc: Global, report: Report<'_>) -> Result<Vec<u8>, Fault> {
 }
 
 /// Asserts the text of a report.
-pub(crate) fn assert_text(
-    rt: &impl Abort,
-    alloc: Global,
-    report: Report<'_>,
-    want: &str,
-) -> Result<(), Fail> {
+fn assert_text(rt: &impl Abort, alloc: Global, report: Report<'_>, want: &str) -> Result<(), Fail> {
     let text = text_of(alloc, report)?;
     expect(rt, &str::from_utf8(text.as_slice()), &Ok(want));
     Ok(())
@@ -74,12 +69,7 @@ fn assert_refused(
 }
 
 /// Asserts the text of a report that is written byte by byte, and that it is refused where a byte is not taken.
-pub(crate) fn assert_slow(
-    rt: &impl Abort,
-    alloc: Global,
-    report: Report<'_>,
-    want: &str,
-) -> Result<(), Fail> {
+fn assert_slow(rt: &impl Abort, alloc: Global, report: Report<'_>, want: &str) -> Result<(), Fail> {
     let (text, ended) = slowly(alloc, report, 600, false)?;
     expect(
         rt,
@@ -88,6 +78,20 @@ pub(crate) fn assert_slow(
     );
     for calls in 0..want.len() {
         assert_refused(rt, alloc, report, calls)?;
+    }
+    Ok(())
+}
+
+/// Asserts the text of a report, and that of a short one byte by byte.
+pub(crate) fn assert_report(
+    rt: &impl Abort,
+    alloc: Global,
+    report: Report<'_>,
+    want: &str,
+) -> Result<(), Fail> {
+    assert_text(rt, alloc, report, want)?;
+    if want.len() < 500 {
+        assert_slow(rt, alloc, report, want)?;
     }
     Ok(())
 }

@@ -1,4 +1,4 @@
-//! How long calls take.
+//! How long calls take, and lines that say how much of something there is.
 
 use anyhow::{Context, Result};
 use std::io;
@@ -20,15 +20,15 @@ impl Effort {
     }
 }
 
-/// The nanoseconds since the start, at most 2^64 - 1.
-pub fn nanoseconds_since(rt: &impl Clock, start: Instant) -> Result<u64> {
-    Ok(u64::try_from(start.elapsed(rt)?.as_nanos()).unwrap_or(u64::MAX))
-}
-
 /// Adds up how long calls take. Where the clock fails, that is told as it is read, so that nothing large is held then.
 #[derive(Clone, Copy)]
 pub struct Stopwatch {
     nanoseconds: Option<u64>,
+}
+
+/// The nanoseconds since a call began, at most 2^64 - 1.
+fn nanoseconds_since(rt: &impl Clock, start: Instant) -> io::Result<u64> {
+    Ok(u64::try_from(start.elapsed(rt)?.as_nanos()).unwrap_or(u64::MAX))
 }
 
 impl Stopwatch {
@@ -56,7 +56,13 @@ impl Stopwatch {
     }
 }
 
-/// The share of each of so many, rounded down.
-pub fn share(nanoseconds: u64, count: u64) -> u64 {
-    nanoseconds / count.max(1)
+/// Prints a number, and what it counts.
+pub fn show_count(rt: &impl Print, count: u64, what: &str) -> Result<()> {
+    println!(rt; "{count} {what}")?;
+    Ok(())
+}
+
+/// Prints the share of each of so many calls, in nanoseconds, rounded down.
+pub fn show_share(rt: &impl Print, watch: Stopwatch, calls: u64, what: &str) -> Result<()> {
+    show_count(rt, watch.read()? / calls.max(1), what)
 }

@@ -1,14 +1,15 @@
 //! Times each lane kernel beside a plain loop over the same columns, and sees that both give the same.
 
-ghost use Rattle.std.specs.Prelude.{◌<◌, ◌≤◌};
-
 mod kernels;
 
-use crate::clock::Effort;
+use crate::clock::{Effort, Stopwatch, show_count};
 use crate::lane_times::kernels::{Kernel, LanesFirst, LanesLeast, PlainFirst, PlainLeast};
 use anyhow::{Result, ensure};
 use std::rt::Clock;
 use std::time::Instant;
+
+/// Words of the longest column.
+const LONGEST: usize = 272;
 
 /// Runs that are made to measure a kernel.
 #[derive(Clone, Copy)]
@@ -36,50 +37,40 @@ const MANY: Runs = Runs {
 struct Measured {
     sum: u64,
     /// Tenths of a nanosecond a call.
-    tenths: u128,
+    tenths: u64,
 }
 
-/// A column of N great words, and then one.
-fn column<const N: usize>(last: u64) -> [u64; N]
-    requires { 0 < N }
-{
-    let mut words = [0u64; N];
+/// A column of great words, and then one.
+fn column(last: u64) -> [u64; LONGEST] {
+    let mut words = [0u64; LONGEST];
     for (i, word) in words.iter_mut().enumerate() {
         *word = (i as u64).wrapping_mul(0x9e37_79b9_7f4a_7c15) | 1 << 62;
     }
-    words[N - 1] = last;
+    words[LONGEST - 1] = last;
     words
 }
 
-/// Calls a kernel over and over on two columns of N words, in turn: in one of them the last word is below the bound, in the other none is.
-fn run<K: Kernel, const N: usize>(rt: &impl Clock, scanned: u64) -> Result<Measured>
-    requires some { 0 < N }
-    requires few { N ≤ 1024 }
-{
-    let even: [u64; N] = column(0);
-    let odd: [u64; N] = column(u64::MAX);
-    let calls = scanned / N as u64;
+/// Calls a kernel over and over on two columns of the same length, in turn.
+fn run<K: Kernel>(rt: &impl Clock, columns: [&[u64]; 2], scanned: u64) -> Result<Measured> {
+    let calls = scanned / (columns[0].len() as u64).max(1);
     let mut sum = 0u64;
-    let start = Instant::now(rt)?;
+    let mut watch = Stopwatch::new();
+    let start = Instant::now(rt);
     for call in 0..calls {
-        let words = if call % 2 == 0 { &even } else { &odd };
-        sum = sum.wrapping_add(K::call(words, call));
+        sum = sum.wrapping_add(K::call(columns[(call % 2) as usize], call));
     }
-    let spent = start.elapsed(rt)?.as_nanos();
+    watch.stop(rt, start);
     Ok(Measured {
         sum,
-        tenths: spent * 10 / u128::from(calls.max(1)),
+        tenths: watch.read()?.saturating_mul(10) / calls.max(1),
     })
 }
 
 /// The fastest of some runs.
-fn fastest<K: Kernel, const N: usize>(rt: &impl Clock, runs: Runs) -> Result<Measured>
-    requires some { 0 < N }
-    requires few { N ≤ 1024 }
-{
-    let mut best = run::<K, N>(rt, runs.scanned)?;
+fn fastest<K: Kernel>(rt: &impl Clock, columns: [&[u64]; 2], runs: Runs) -> Result<Measured> {
+    let mut best = run::<K>(rt, columns, runs.scanned)?;
     for _ in 1..runs.count {
-        let next = run::<K, N>(rt, runs.scanned)?;
+        let next = run::<K>(rt, columns, runs.scanned)?;
         if next.tenths < best.tenths {
             best = next;
         }
@@ -87,48 +78,37 @@ fn fastest<K: Kernel, const N: usize>(rt: &impl Clock, runs: Runs) -> Result<Mea
     Ok(best)
 }
 
-/// A plain loop and a lane kernel at N words, which have to give the same. Where they are timed, prints a row: the kernel, the
-/// words, and the nanoseconds of a call by the plain loop and by lanes.
-fn show_row<R: Clock + Print, P: Kernel, L: Kernel, const N: usize>(
-    rt: &R,
+/// Prints how long a call of a kernel takes.
+fn show_time(rt: &impl Print, name: &str, how: &str, tenths: u64, words: usize) -> Result<()> {
+    println!(rt; "{name} {how}: {tenths} tenths of a ns at {words} words")?;
+    Ok(())
+}
+
+/// A plain loop and a lane kernel, which have to give the same. Where they are timed, prints both times.
+fn compare<P: Kernel, L: Kernel>(
+    rt: &(impl Clock + Print),
+    columns: [&[u64]; 2],
     effort: Effort,
-) -> Result<()>
-    requires some { 0 < N }
-    requires few { N ≤ 1024 }
-{
+) -> Result<()> {
     let runs = if effort.is_timed() { MANY } else { FEW };
-    let plain = fastest::<P, N>(rt, runs)?;
-    let lanes = fastest::<L, N>(rt, runs)?;
+    let plain = fastest::<P>(rt, columns, runs)?;
+    let lanes = fastest::<L>(rt, columns, runs)?;
     ensure!(plain.sum == lanes.sum, "the two differ");
     if effort.is_timed() {
-        println!(rt;
-            "{:>12} {:>5} {:>5}.{} {:>5}.{}",
-            P::NAME,
-            N,
-            plain.tenths / 10,
-            plain.tenths % 10,
-            lanes.tenths / 10,
-            lanes.tenths % 10
-        )?;
+        let words = columns[0].len();
+        show_time(rt, P::NAME, "by a plain loop", plain.tenths, words)?;
+        show_time(rt, P::NAME, "by lanes", lanes.tenths, words)?;
     }
     Ok(())
 }
 
-fn show_kernel<R: Clock + Print, P: Kernel, L: Kernel>(rt: &R, effort: Effort) -> Result<()> {
-    show_row::<R, P, L, 8>(rt, effort)?;
-    show_row::<R, P, L, 129>(rt, effort)?;
-    show_row::<R, P, L, 272>(rt, effort)
-}
-
-/// Each kernel at 8, 129 and 272 words.
-pub fn show<R: Clock + Print>(rt: &R, effort: Effort) -> Result<()> {
-    if effort.is_timed() {
-        println!(rt; "      kernel words   plain   lanes   ns a call")?;
+/// Each kernel at 8, 129 and 272 words. In one of two columns the last word is below each bound, in the other none is.
+pub fn show(rt: &(impl Clock + Print), effort: Effort) -> Result<()> {
+    let (even, odd) = (column(0), column(u64::MAX));
+    for words in [8, 129, LONGEST] {
+        let columns = [&even[LONGEST - words..], &odd[LONGEST - words..]];
+        compare::<PlainFirst, LanesFirst>(rt, columns, effort)?;
+        compare::<PlainLeast, LanesLeast>(rt, columns, effort)?;
     }
-    show_kernel::<R, PlainFirst, LanesFirst>(rt, effort)?;
-    show_kernel::<R, PlainLeast, LanesLeast>(rt, effort)?;
-    if !effort.is_timed() {
-        println!(rt; "2 kernels give what plain loops give")?;
-    }
-    Ok(())
+    show_count(rt, 2, "kernels give what plain loops give")
 }

@@ -3,8 +3,8 @@
 
 mod phases;
 
-use crate::clock::{Effort, share};
-use crate::link_times::phases::{UNITS, run_phases};
+use crate::clock::{Effort, show_count, show_share};
+use crate::link_times::phases::{Times, UNITS, run_phases};
 use anyhow::Result;
 use std::alloc::Global;
 use std::rt::Clock;
@@ -15,20 +15,26 @@ const FEW: u64 = 10;
 /// Phases in which a million messages are sent.
 const MANY: u64 = 3_473;
 
+/// Prints the time of a call of each kind.
+fn show_times(rt: &impl Print, times: Times) -> Result<()> {
+    show_share(rt, times.accept, times.arrived, "ns a message, accept")?;
+    show_share(rt, times.take_due, UNITS * MANY, "ns a call, take_due")?;
+    show_share(rt, times.next_arrival, MANY, "ns a call, next_arrival")?;
+    show_share(
+        rt,
+        times.idle,
+        MANY,
+        "ns a call, next_arrival with nothing in flight",
+    )
+}
+
 /// Sends messages in some phases, with an effort.
 pub fn show(rt: &(impl Clock + Print), alloc: Global, effort: Effort) -> Result<()> {
     let phases = if effort.is_timed() { MANY } else { FEW };
     let times = run_phases(rt, alloc, phases)?;
-    println!(rt; "{} messages", times.arrived)?;
+    show_count(rt, times.arrived, "messages")?;
     if effort.is_timed() {
-        let accept = share(times.accept.read()?, times.arrived);
-        let take_due = share(times.take_due.read()?, UNITS * MANY);
-        let next_arrival = share(times.next_arrival.read()?, MANY);
-        let idle = share(times.idle.read()?, MANY);
-        println!(rt; "accept {accept} ns a message")?;
-        println!(rt; "take_due {take_due} ns a call")?;
-        println!(rt; "next_arrival {next_arrival} ns a call")?;
-        println!(rt; "next_arrival {idle} ns a call with nothing in flight")?;
+        show_times(rt, times)?;
     }
     Ok(())
 }

@@ -34,7 +34,7 @@ nRFC = 420
 ";
 
 /// The machine of DDR4-2400 that has these keys beside.
-pub fn ddr4_2400(alloc: Global, own: &str) -> Result<Config> {
-    let document = format!(in alloc; "{own}{DDR4_2400}")?;
+pub fn ddr4_2400(alloc: Global, own: &str, more: &str) -> Result<Config> {
+    let document = format!(in alloc; "{own}{more}{DDR4_2400}")?;
     Ok(read_config(alloc, document.as_bytes())?)
 }

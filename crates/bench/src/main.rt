@@ -10,6 +10,7 @@ mod link_times;
 mod machines;
 mod trace_times;
 
+use crate::channel_times::machine::{LONG_QUEUE, SHORT_QUEUE};
 use crate::clock::Effort;
 use anyhow::Result;
 use std::alloc::Global;
@@ -22,14 +23,68 @@ const USAGE: &str = "\
 usage: bench lanes [time]
        bench trace FILE [time]
        bench links [time]
-       bench core [time|span|busy]
-       bench channel [time|short|long|idle]
+       bench core [time|span]
+       bench channel [time|short|long]
        bench all FILE";
 
 /// The status where the words name no measurement.
 const UNKNOWN_WORDS: u8 = 2;
 
-/// A little of each measurement. FILE is a trace.
+/// What is measured.
+#[derive(Clone, Copy)]
+enum Measurement {
+    Lanes(Effort),
+    /// Of a file.
+    Trace(Effort),
+    Links(Effort),
+    /// Over so many lines.
+    Core(u64),
+    Channel(Effort),
+    ChannelShort,
+    ChannelLong,
+    /// A little of each.
+    All,
+}
+
+/// Of each measurement its word, the word that asks for much, or none, and what it is.
+static MEASUREMENTS: [(&'static str, &'static str, Measurement); 13] = [
+    ("lanes", "", Measurement::Lanes(Effort::Little)),
+    ("lanes", "time", Measurement::Lanes(Effort::Timed)),
+    ("trace", "", Measurement::Trace(Effort::Little)),
+    ("trace", "time", Measurement::Trace(Effort::Timed)),
+    ("links", "", Measurement::Links(Effort::Little)),
+    ("links", "time", Measurement::Links(Effort::Timed)),
+    ("core", "", Measurement::Core(core_times::FEW)),
+    ("core", "time", Measurement::Core(core_times::MANY)),
+    ("core", "span", Measurement::Core(core_times::MOST)),
+    ("channel", "", Measurement::Channel(Effort::Little)),
+    ("channel", "time", Measurement::Channel(Effort::Timed)),
+    ("channel", "short", Measurement::ChannelShort),
+    ("channel", "long", Measurement::ChannelLong),
+];
+
+/// The word at a place, empty where there are fewer.
+fn word(words: &[String], place: usize) -> &str {
+    match words.get(place) {
+        Some(word) => word.as_str(),
+        None => "",
+    }
+}
+
+/// The measurement that the words name, if they name one.
+fn measurement_of(words: &[String]) -> Option<Measurement> {
+    let name = word(words, 0);
+    let extent = word(words, if name == "trace" { 2 } else { 1 });
+    if name == "all" {
+        return Some(Measurement::All);
+    }
+    let found = MEASUREMENTS
+        .iter()
+        .find(|named| named.0 == name && named.1 == extent);
+    found.map(|named| named.2)
+}
+
+/// A little of each measurement, with the trace of a file.
 fn show_all<R: Alloc + Clock + Files + Print + Threads + Sync>(
     rt: &R,
     alloc: Global,
@@ -38,80 +93,48 @@ fn show_all<R: Alloc + Clock + Files + Print + Threads + Sync>(
     lane_times::show(rt, Effort::Little)?;
     trace_times::show(rt, alloc, path, Effort::Little)?;
     link_times::show(rt, alloc, Effort::Little)?;
-    core_times::show_lines(rt, alloc, core_times::FEW)?;
+    core_times::show(rt, alloc, core_times::FEW)?;
     channel_times::show_each(rt, alloc, Effort::Little)
-}
-
-/// What the words name.
-#[derive(Clone, Copy)]
-enum Measurement<'a> {
-    Lanes(Effort),
-    Trace(&'a str, Effort),
-    Links(Effort),
-    /// Of so many lines.
-    CoreLines(u64),
-    CoreBusy,
-    Channel(Effort),
-    ChannelShort,
-    ChannelLong,
-    ChannelIdle,
-    All(&'a str),
-}
-
-/// The measurement that the words name, if they name one.
-fn measurement_of<'a>(words: &[&'a str]) -> Option<Measurement<'a>> {
-    match words {
-        ["lanes"] => Some(Measurement::Lanes(Effort::Little)),
-        ["lanes", "time"] => Some(Measurement::Lanes(Effort::Timed)),
-        ["trace", path] => Some(Measurement::Trace(path, Effort::Little)),
-        ["trace", path, "time"] => Some(Measurement::Trace(path, Effort::Timed)),
-        ["links"] => Some(Measurement::Links(Effort::Little)),
-        ["links", "time"] => Some(Measurement::Links(Effort::Timed)),
-        ["core"] => Some(Measurement::CoreLines(core_times::FEW)),
-        ["core", "time"] => Some(Measurement::CoreLines(core_times::MANY)),
-        ["core", "span"] => Some(Measurement::CoreLines(core_times::MOST)),
-        ["core", "busy"] => Some(Measurement::CoreBusy),
-        ["channel"] => Some(Measurement::Channel(Effort::Little)),
-        ["channel", "time"] => Some(Measurement::Channel(Effort::Timed)),
-        ["channel", "short"] => Some(Measurement::ChannelShort),
-        ["channel", "long"] => Some(Measurement::ChannelLong),
-        ["channel", "idle"] => Some(Measurement::ChannelIdle),
-        ["all", path] => Some(Measurement::All(path)),
-        _ => None,
-    }
 }
 
 fn measure<R: Alloc + Clock + Files + Print + Threads + Sync>(
     rt: &R,
     alloc: Global,
-    measurement: Measurement<'_>,
+    measurement: Measurement,
+    path: &str,
 ) -> Result<()> {
     match measurement {
         Measurement::Lanes(effort) => lane_times::show(rt, effort),
-        Measurement::Trace(path, effort) => trace_times::show(rt, alloc, path, effort),
+        Measurement::Trace(effort) => trace_times::show(rt, alloc, path, effort),
         Measurement::Links(effort) => link_times::show(rt, alloc, effort),
-        Measurement::CoreLines(lines) => core_times::show_lines(rt, alloc, lines),
-        Measurement::CoreBusy => core_times::show_busy(rt, alloc),
+        Measurement::Core(lines) => core_times::show(rt, alloc, lines),
         Measurement::Channel(effort) => channel_times::show_each(rt, alloc, effort),
-        Measurement::ChannelShort => channel_times::show_short(rt, alloc, Effort::Timed),
-        Measurement::ChannelLong => channel_times::show_long(rt, alloc, Effort::Timed),
-        Measurement::ChannelIdle => channel_times::show_idle(rt, alloc, Effort::Timed),
-        Measurement::All(path) => show_all(rt, alloc, path),
+        Measurement::ChannelShort => channel_times::show(rt, alloc, &SHORT_QUEUE, Effort::Timed),
+        Measurement::ChannelLong => channel_times::show(rt, alloc, &LONG_QUEUE, Effort::Timed),
+        Measurement::All => show_all(rt, alloc, path),
+    }
+}
+
+/// Measures what the words name.
+fn run<R: Alloc + Clock + Eprint + Files + Print + Threads + Sync>(
+    rt: &R,
+    alloc: Global,
+    words: &[String],
+) -> Result<ExitCode> {
+    match measurement_of(words) {
+        Some(measurement) => {
+            measure(rt, alloc, measurement, word(words, 1))?;
+            Ok(ExitCode::SUCCESS)
+        }
+        None => {
+            rt.eprintln(USAGE)?;
+            Ok(ExitCode::from(UNKNOWN_WORDS))
+        }
     }
 }
 
 fn main(rt: HostRuntime) -> Result<ExitCode> {
     let alloc = rt.alloc();
-    let arguments: Vec<String> = env::args(&rt)?.skip(1).collect(alloc)?;
-    let words: Vec<&str> = arguments.iter().map(|word| word.as_str()).collect(alloc)?;
-    match measurement_of(&words) {
-        Some(measurement) => {
-            measure(&rt, alloc, measurement)?;
-            Ok(ExitCode::SUCCESS)
-        }
-        None => {
-            eprintln!(rt; "{USAGE}")?;
-            Ok(ExitCode::from(UNKNOWN_WORDS))
-        }
-    }
+    let words: Vec<String> = env::args(&rt)?.skip(1).collect(alloc)?;
+    run(&rt, alloc, &words)
 }

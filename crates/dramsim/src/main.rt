@@ -2,15 +2,17 @@
 #![tactic(auto)]
 
 use program::files::HostFiles;
+use program::host::Host;
 use program::perform::{REFUSED, perform};
+use progress::watcher::ProgressLine;
 use sim_base::fault::Fault;
-use std::io::ErrorKind;
+use std::io::{ErrorKind, IsTerminal};
 use std::process::ExitCode;
 use std::sync::Wait;
 use std::thread::Threads;
 use std::{env, io};
 
-// Hands the words, the files, the streams and the threads of the host over.
+// Hands the words, the files, the streams and the threads of the host over. How far a run is is told where standard error is a terminal.
 fn perform_words<T: Threads + Wait + Sync>(rt: &HostRuntime, threads: &T) -> io::Result<u8> {
     let arguments: Vec<String> = env::args(rt)?.collect(rt.alloc())?;
     let words: Vec<&str> = arguments
@@ -20,8 +22,14 @@ fn perform_words<T: Threads + Wait + Sync>(rt: &HostRuntime, threads: &T) -> io:
     let mut files = HostFiles { rt };
     let mut print = rt.stdout();
     let mut errors = rt.stderr();
-    Ok(perform(
+    let is_terminal = errors.is_terminal();
+    let mut watch = ProgressLine::new(rt.alloc(), rt, rt.stderr(), is_terminal);
+    let mut host = Host {
         threads,
+        watch: &mut watch,
+    };
+    Ok(perform(
+        &mut host,
         rt.alloc(),
         &words,
         &mut files,

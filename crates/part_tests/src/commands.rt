@@ -1,15 +1,15 @@
 //! Commands of two channels, whose order in a table is known by hand.
 
-ghost use Rattle.std.specs.Prelude.{◌≡◌, ◌≤◌, IfOk};
+ghost use Rattle.std.specs.Prelude.{◌≤◌, IfOk};
 ghost use Rattle.command_table.specs.Tables.{IsRising};
 
 use crate::expect::expect;
 use command_table::list::CommandList;
 use command_table::table::{CommandTable, Rows};
 use sim_base::command::{Command, CommandRow, Source};
-use sim_base::message::{ChannelId, Cycle};
 use sim_base::place::BankId;
 use std::alloc::{AllocError, Global};
+use std::process::Abort;
 use std::test::Fail;
 
 const BANK: BankId = BankId {
@@ -27,54 +27,42 @@ const LARGE: Source = Source {
     entry: 1 << 32,
 };
 
-fn row(cycle: Cycle, channel: ChannelId, command: Command) -> CommandRow
-    ensures { result.cycle ≡ cycle }
-{
-    CommandRow {
-        cycle,
-        channel,
-        command,
-    }
-}
-
-fn act(cycle: Cycle) -> CommandRow
-    ensures { result.cycle ≡ cycle }
-{
-    let command = Command::Act {
+/// Two commands of the first channel, and two of the second.
+const ACT: CommandRow = CommandRow {
+    cycle: 3,
+    channel: 0,
+    command: Command::Act {
         bank: BANK,
         row: 6,
         source: SMALL,
-    };
-    row(cycle, 0, command)
-}
+    },
+};
 
-fn rd(cycle: Cycle) -> CommandRow
-    ensures { result.cycle ≡ cycle }
-{
-    let command = Command::Rd {
+const RD: CommandRow = CommandRow {
+    cycle: 9,
+    channel: 0,
+    command: Command::Rd {
         bank: BANK,
         row: 6,
         column: 7,
         source: LARGE,
-    };
-    row(cycle, 0, command)
-}
+    },
+};
 
-fn pre(cycle: Cycle) -> CommandRow
-    ensures { result.cycle ≡ cycle }
-{
-    let command = Command::Pre {
+const PRE: CommandRow = CommandRow {
+    cycle: 3,
+    channel: 1,
+    command: Command::Pre {
         bank: BANK,
         source: SMALL,
-    };
-    row(cycle, 1, command)
-}
+    },
+};
 
-fn refresh(cycle: Cycle) -> CommandRow
-    ensures { result.cycle ≡ cycle }
-{
-    row(cycle, 1, Command::Ref { rank: 1 })
-}
+const REF: CommandRow = CommandRow {
+    cycle: 5,
+    channel: 1,
+    command: Command::Ref { rank: 1 },
+};
 
 fn list_of(alloc: Global, first: CommandRow, second: CommandRow) -> Result<CommandList, AllocError>
     requires { first.cycle ≤ second.cycle }
@@ -97,79 +85,96 @@ fn table_of(
     Ok(CommandTable::of(vec![in alloc; first, second]?))
 }
 
+// Three commands, where there are so many.
+type Three = [Option<CommandRow>; 3];
+
 // The commands in the first three places.
-fn three_of(list: &CommandList) -> [Option<CommandRow>; 3] {
+fn three_of(list: &CommandList) -> Three {
     [list.get(0), list.get(1), list.get(2)]
 }
 
-// How many commands a list has, and whether it has none; those of two commands, and all of them.
-type Kept = ((usize, bool), [Option<CommandRow>; 3], Vec<CommandRow>);
+static KEPT: Three = [Some(ACT), Some(RD), None];
 
-fn kept(alloc: Global) -> Result<Kept, AllocError> {
-    let list = list_of(alloc, act(3), rd(9))?;
-    let size = (list.len(), list.is_empty());
-    let three = three_of(&list);
-    Ok((size, three, list.to_vec(alloc)?))
+static BOTH: [CommandRow; 2] = [ACT, RD];
+
+// Asserts how many commands a list has, and whether it has none; those of two commands, and all of them.
+fn assert_kept(rt: &impl Abort, alloc: Global, list: &CommandList) -> Result<(), AllocError> {
+    let rows = list.to_vec(alloc)?;
+    expect(
+        rt,
+        &(
+            (list.len(), list.is_empty()),
+            three_of(list),
+            rows.as_slice(),
+        ),
+        &((2, false), KEPT, BOTH.as_slice()),
+    );
+    Ok(())
+}
+
+fn size_of_none(alloc: Global) -> (usize, bool) {
+    let none = CommandList::new(alloc);
+    (none.len(), none.is_empty())
 }
 
 #[test]
 fn keeps_commands(rt: HostRuntime) -> Result<(), Fail> {
-    let none = CommandList::new(rt.alloc());
-    let size = (none.len(), none.is_empty());
-    let (sizes, three, rows) = kept(rt.alloc())?;
-    let are_all = rows.as_slice() == [act(3), rd(9)].as_slice();
-    expect(
-        &rt,
-        &(size, sizes, three, are_all),
-        &(
-            (0, true),
-            (2, false),
-            [Some(act(3)), Some(rd(9)), None],
-            true,
-        ),
-    );
-    Ok(())
+    expect(&rt, &size_of_none(rt.alloc()), &(0, true));
+    let list = list_of(rt.alloc(), ACT, RD)?;
+    Ok(assert_kept(&rt, rt.alloc(), &list)?)
 }
 
 // The next three commands.
-fn next_three(rows: &mut Rows<'_>) -> [Option<CommandRow>; 3] {
+fn next_three(rows: &mut Rows<'_>) -> Three {
     [rows.next(), rows.next(), rows.next()]
 }
 
 fn table_of_two(alloc: Global) -> Result<CommandTable, AllocError> {
-    let first = list_of(alloc, act(3), rd(9))?;
-    let second = list_of(alloc, pre(3), refresh(5))?;
+    let first = list_of(alloc, ACT, RD)?;
+    let second = list_of(alloc, PRE, REF)?;
     table_of(alloc, first, second)
 }
 
-// Three commands, where there are so many.
-type Three = [Option<CommandRow>; 3];
+// The commands of two lists by cycle, three and three; of one cycle, the command of the first list comes first.
+const BY_CYCLE: (Three, Three) = ([Some(ACT), Some(PRE), Some(REF)], [Some(RD), None, None]);
 
-// The commands of two lists, three and three, and all of them.
-type Merged = ((Three, Three), Vec<CommandRow>);
+static ALL: [CommandRow; 4] = [ACT, PRE, REF, RD];
 
-fn merged(alloc: Global, table: &CommandTable) -> Result<Merged, AllocError> {
+fn assert_by_cycle(rt: &impl Abort, alloc: Global, table: &CommandTable) -> Result<(), AllocError> {
     let mut rows = table.rows(alloc)?;
     let read = (next_three(&mut rows), next_three(&mut rows));
-    Ok((read, table.to_vec(alloc)?))
+    let want = BY_CYCLE;
+    expect(rt, &read, &want);
+    Ok(())
 }
 
-/// Of one cycle, the command of the first list comes first.
+// Asserts all commands of a table.
+fn assert_all(
+    rt: &impl Abort,
+    alloc: Global,
+    table: &CommandTable,
+    want: &[CommandRow],
+) -> Result<(), AllocError> {
+    let all = table.to_vec(alloc)?;
+    expect(rt, &all.as_slice(), &want);
+    Ok(())
+}
+
+fn assert_merged(rt: &impl Abort, alloc: Global, table: &CommandTable) -> Result<(), AllocError> {
+    assert_by_cycle(rt, alloc, table)?;
+    assert_all(rt, alloc, table, &ALL)
+}
+
 #[test]
 fn reads_two_lists_by_cycle(rt: HostRuntime) -> Result<(), Fail> {
     let table = table_of_two(rt.alloc())?;
-    let merged = merged(rt.alloc(), &table);
-    drop(table);
-    let (read, all) = merged?;
-    let by_cycle = [act(3), pre(3), refresh(5), rd(9)];
-    let are_all = all.as_slice() == by_cycle.as_slice();
-    let wanted = (
-        [Some(act(3)), Some(pre(3)), Some(refresh(5))],
-        [Some(rd(9)), None, None],
-    );
-    expect(&rt, &(read, are_all), &(wanted, true));
-    Ok(())
+    Ok(assert_merged(&rt, rt.alloc(), &table)?)
 }
+
+// Two commands of one cycle.
+const REF_TOO: CommandRow = CommandRow { cycle: 3, ..REF };
+
+static OF_A_CYCLE: [CommandRow; 2] = [PRE, REF_TOO];
 
 fn table_of_rows(
     alloc: Global,
@@ -181,15 +186,8 @@ fn table_of_rows(
     CommandTable::of_rows(alloc, &[first, second])
 }
 
-fn rows_of_a_table(alloc: Global) -> Result<Vec<CommandRow>, AllocError> {
-    let table = table_of_rows(alloc, pre(3), refresh(3))?;
-    table.to_vec(alloc)
-}
-
 #[test]
 fn reads_a_table_of_rows(rt: HostRuntime) -> Result<(), Fail> {
-    let rows = rows_of_a_table(rt.alloc())?;
-    let are_all = rows.as_slice() == [pre(3), refresh(3)].as_slice();
-    expect(&rt, &are_all, &true);
-    Ok(())
+    let table = table_of_rows(rt.alloc(), PRE, REF_TOO)?;
+    Ok(assert_all(&rt, rt.alloc(), &table, &OF_A_CYCLE)?)
 }

@@ -112,15 +112,9 @@ fn fill(alloc: Global, links: &mut Links) -> Result<Filled, AllocError> {
     Ok((before, come, links.next_arrival()))
 }
 
-fn filled(alloc: Global) -> Result<Result<Filled, AllocError>, Fault> {
-    let (mut links, _) = links_of_small(alloc, &["cores = 64", "channels = 16"], "")?;
-    Ok(fill(alloc, &mut links))
-}
-
-#[test]
-fn many_links_of_one_arrival(rt: HostRuntime) -> Result<(), Fail> {
-    let found = filled(rt.alloc())?;
-    expect(&rt, &found, &Ok((Some(7), [true, true], Some(7))));
+fn assert_filled(rt: &impl Abort, alloc: Global, links: &mut Links) -> Result<(), AllocError> {
+    let found = fill(alloc, links)?;
+    expect(rt, &found, &(Some(7), [true, true], Some(7)));
     Ok(())
 }
 
@@ -167,30 +161,20 @@ fn three(alloc: Global) -> Result<[Message; 3], Fault> {
     Ok([reply, credit, request])
 }
 
-// How long the shortest link takes, and what comes of the three.
-fn overtaken(
+fn assert_overtaken(
+    rt: &impl Abort,
     alloc: Global,
+    links: &mut Links,
     sent: &[Message; 3],
-) -> Result<(Cycle, Result<Overtaken, AllocError>), Fault> {
-    let (mut links, shortest) = links_of_small(alloc, &[], UNEVEN)?;
-    Ok((shortest, overtake(alloc, &mut links, sent)))
-}
-
-#[test]
-fn short_links_overtake(rt: HostRuntime) -> Result<(), Fail> {
-    let sent = three(rt.alloc())?;
-    let found = overtaken(rt.alloc(), &sent)?;
+) -> Result<(), AllocError> {
+    let found = overtake(alloc, links, sent)?;
     let states = [
         (true, None),
         (false, Some(12)),
         (false, Some(13)),
         (true, None),
     ];
-    expect(
-        &rt,
-        &(sent[0].arrival, found),
-        &(19, (1, Ok((states, [true, true])))),
-    );
+    expect(rt, &(sent[0].arrival, found), &(19, (states, [true, true])));
     Ok(())
 }
 
@@ -232,14 +216,49 @@ fn assert_spans(rt: &impl Abort, alloc: Global, links: &mut Links) -> Result<(),
     Ok(())
 }
 
-fn assert_small(rt: &impl Abort, alloc: Global) -> Result<Result<(), AllocError>, Fault> {
-    let (mut links, shortest) = links_of_small(alloc, &["cores = 2"], "")?;
-    expect(rt, &shortest, &2);
-    Ok(assert_spans(rt, alloc, &mut links))
+// What is sent over links: a message on each, three messages that overtake one another, or what comes in spans.
+#[derive(Clone, Copy)]
+enum Sent {
+    All,
+    Three([Message; 3]),
+    Spans,
 }
 
+fn send(rt: &impl Abort, alloc: Global, links: &mut Links, sent: &Sent) -> Result<(), AllocError> {
+    match sent {
+        Sent::All => assert_filled(rt, alloc, links),
+        Sent::Three(sent) => assert_overtaken(rt, alloc, links, sent),
+        Sent::Spans => assert_spans(rt, alloc, links),
+    }
+}
+
+// Sends over the links of a machine, of which the shortest takes so many cycles.
+fn send_on(
+    rt: &impl Abort,
+    alloc: Global,
+    changes: &[&str],
+    more: &str,
+    sent: &Sent,
+    cycles: Cycle,
+) -> Result<(), Fault> {
+    let (mut links, shortest) = links_of_small(alloc, changes, more)?;
+    expect(rt, &shortest, &cycles);
+    Ok(send(rt, alloc, &mut links, sent)?)
+}
+
+// Messages of one arrival come by their links; short links overtake long ones; a span may have no last cycle.
 #[test]
-fn spans_have_no_last_cycle(rt: HostRuntime) -> Result<(), Fail> {
-    assert_small(&rt, rt.alloc())??;
-    Ok(())
+fn messages_come_in_order(rt: HostRuntime) -> Result<(), Fail> {
+    let alloc = rt.alloc();
+    send_on(
+        &rt,
+        alloc,
+        &["cores = 64", "channels = 16"],
+        "",
+        &Sent::All,
+        2,
+    )?;
+    send_on(&rt, alloc, &["cores = 2"], "", &Sent::Spans, 2)?;
+    let sent = Sent::Three(three(alloc)?);
+    Ok(send_on(&rt, alloc, &[], UNEVEN, &sent, 1)?)
 }

@@ -1,5 +1,5 @@
 -- One level of a command line that passes: the values that it gives, and the subcommand that it meets.
-use Rattle.std.proofs.Common.{◌≡◌, ◌&&◌, ◌||◌, ◌<◌, ℕ, Bool, true, false, not, List, [], ◌∷◌, codes, Option, Some, None, refl, sym, ap, subst, ◌∙◌, arith}
+use Rattle.std.proofs.Common.{◌≡◌, ◌⊎◌, inl, inr, ◌&&◌, ◌||◌, ◌<◌, ℕ, Bool, true, false, not, List, [], ◌∷◌, codes, Option, Some, None, refl, sym, ap, subst, ◌∙◌, arith}
 use Rattle.std.specs.List.{find, fold, list_all}
 use Rattle.std.specs.Option.{option_map_or}
 use Rattle.std.specs.Str.{bytes_eq}
@@ -164,6 +164,25 @@ found_row rules id (r ∷ rs) all fit lifts given = go (bytes_eq r.id id) refl (
         → IsGiven rules id all
     go true e later = in_row rules id r all r.values refl fit.0 (lifts r (rw e refl)) ((bytes_eq-Decides r.id id).0 e)
     go false e later = later (λ x found. lifts x (rw e found)) (rw e at given)
+
+find-fits : (rules : List Rule) (id : Text) (rs : List Row) (r : Row) → FitRows rules rs → find (λ r. bytes_eq r.id id) rs ≡ Some r → FitsRow rules r × (r.id ≡ id)
+find-fits rules id [] r fit found = cc
+find-fits rules id (x ∷ rs) r fit found = go (bytes_eq x.id id) refl (λ later. find-fits rules id rs r fit.1 later)
+  where
+    go : (b : Bool) → bytes_eq x.id id ≡ b → (find (λ r. bytes_eq r.id id) rs ≡ Some r → FitsRow rules r × (r.id ≡ id)) → FitsRow rules r × (r.id ≡ id)
+    go true e later =
+        let is : Some x ≡ Some r = rw e at found in
+        let same : x ≡ r = cc is in
+        subst (λ (r : Row). FitsRow rules r × (r.id ≡ id)) same (fit.0, (bytes_eq-Decides x.id id).0 e)
+    go false e later = later (rw e at found)
+
+-- what may be left out is not there, or has a value that passes
+pub optional : (rules : List Rule) (id : Text) (rs : List Row) → FitRows rules rs → (find (λ r. bytes_eq r.id id) rs ≡ None) ⊎ IsGiven rules id rs
+optional rules id rs fit = go (find (λ r. bytes_eq r.id id) rs) refl
+  where
+    go : (o : Option Row) → find (λ r. bytes_eq r.id id) rs ≡ o → (find (λ r. bytes_eq r.id id) rs ≡ None) ⊎ IsGiven rules id rs
+    go None e = inl e
+    go (Some r) e = let fits = find-fits rules id rs r fit e in inr (in_row rules id r rs r.values refl fits.0 e fits.1)
 
 -- what is given has a value that passes
 pub given : (rules : List Rule) (id : Text) (rs : List Row) → FitRows rules rs → is_given id rs ≡ true → IsGiven rules id rs

@@ -4,6 +4,7 @@ pub mod HeldTexts
 pub mod LevelFacts
 pub mod LineFacts
 pub mod MatchLemmas
+pub mod PageFacts
 pub mod Places
 pub mod RefusedFacts
 pub mod RowFacts

@@ -7,7 +7,7 @@ use Rattle.std.specs.Fmt.{WritesInCalls}
 use Rattle.std.specs.Fmt.InlineText.{AppendsIfIntact, IsIntact, inline_text}
 use Rattle.std.specs.List.{FoldsTo, concat}
 use Rattle.std.specs.declared.fmt.InlineText.{InlineText}
-use Rattle.program.specs.Lines.{TakesUntil, AppendsBeginning}
+use Rattle.program.specs.Lines.{TakesUntil, AppendsBeginning, IsExplained}
 
 appends_none : (o : Option (List ℕ)) → Appends o o []
 appends_none None = tt
@@ -66,3 +66,21 @@ pub written : {n : ℕ} (s t : InlineText n) (bs : List ℕ) → WritesInCalls A
 written s t bs wrote intact empty =
     let all = parts_written s t wrote.parts wrote.calls intact in
     all.1 ∙ ap (λ (l : List ℕ). l ++ concat wrote.parts) empty ∙ wrote.whole
+
+-- lines of which the stream took a beginning
+pub explained_none : (old new : Option (List ℕ)) (lines : List ℕ) → AppendsBeginning old new lines → IsExplained old new lines
+explained_none old new lines begun = record { more = []; begun = subst (AppendsBeginning old new) (sym (append-nil lines)) begun }
+
+-- lines that the stream took whole, and a beginning of what explains them
+pub explained_by : (old mid new : Option (List ℕ)) (lines more : List ℕ) → Appends old mid lines → AppendsBeginning mid new more → IsExplained old new lines
+explained_by old mid new lines more whole part = record {
+  more = more;
+  begun = record {
+    rest = part.rest;
+    taken = record {
+      taken = lines ++ part.taken.taken;
+      text_is = ap (λ (s : List ℕ). lines ++ s) part.taken.text_is ∙ sym (append_assoc lines part.taken.taken part.rest);
+      took = appends_more old mid new lines part.taken.taken whole part.taken.took;
+    };
+  };
+}

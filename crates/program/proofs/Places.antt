@@ -7,7 +7,7 @@ use Rattle.std.proofs.lemmas.Bool.{false≢true}
 use Rattle.statistics.specs.Values.{RunOutcome}
 use Rattle.program.specs.Files.{Held, SameFiles, SameBut, IsRenamed}
 use Rattle.program.specs.Tables.{path_in, commands_name, stats_name, final_name, commands_part, stats_part, final_part, part_names, SameApart, IsMoveIn, commands_of, stats_of, final_of, HoldsParts, HasNoParts, IsKeptBack, IsWritten, IsWaiting, IsMoved, IsPlaced, IsPartlyPlaced, IsKeptBeside, IsTorn, IsUnplaced, IsLeftBy}
-use Rattle.program.specs.declared.tables.Move.{Move}
+use Rattle.program.specs.declared.moves.Move.{Move}
 use Rattle.program.specs.declared.tables.Refusal.{Refusal}
 use Rattle.program.specs.declared.tables.Refusal.TheVariants.{Kept, Torn}
 

@@ -9,14 +9,14 @@ use Rattle.clap.proofs.OnLiterals.{clap_on_literals}
 use Rattle.clap.proofs.ValueTestLemmas.{accepts-Accepts}
 use Rattle.clap.proofs.WalkLemmas.{both}
 use Rattle.clap.specs.Simple.{App, Shape, argument_words, built, built_leaf, entered, help_shape, inherited, is_simple, label_of, marked_built, names_of, with_leaf_noted}
-use Rattle.clap.specs.Walk.{Text, answers_to, nothing_held, rows_after, walk, walk_from}
+use Rattle.clap.specs.Walk.{Row, Rule, Text, answers_to, nothing_held, one_of, rows_after, walk, walk_from}
 use Rattle.clap.specs.ValueTests.{accepts}
 use Rattle.clap.specs.Takes.{built_takes, entered_passes, is_given, level_passes, settle_passes, walk_passes}
 use Rattle.clap.specs.declared.builder.value_parser.ValueParser.TheVariants.{Unsigned}
-use Rattle.program.specs.CommandLine.{program_app, run_app, check_app, map_app, show_app}
-use Rattle.program.specs.Ask.{is_taken, command_of, GivesAll, GivesRun, GivesCheck, GivesMap, GivesShow, IsCountText}
-use Rattle.program.proofs.RowFacts.{AreFit}
-use Rattle.program.proofs.LevelFacts.{StopsOn, given, level-gives, walk-stop}
+use Rattle.program.specs.CommandLine.{program_app, run_app, check_app, map_app, show_app, page_app}
+use Rattle.program.specs.Ask.{is_taken, command_of, GivesAll, GivesRun, GivesCheck, GivesMap, GivesShow, GivesPage, IsCountText, IsNoneOrCount}
+use Rattle.program.proofs.RowFacts.{AreFit, FitRows, passes_for}
+use Rattle.program.proofs.LevelFacts.{StopsOn, given, level-gives, optional, walk-stop}
 
 -- ---- the subcommand that is entered
 
@@ -59,7 +59,7 @@ enters app words required has_help pass =
     let valid = both _ _ (both _ _ settles.1).1 in
     enters_at app stop (walk-stop app.top (names_of app) has_help (walk_from nothing_held) words walked.0 tt) parts.0 (wanted _ _ required (both _ _ valid.1).0)
 
--- ---- the four commands
+-- ---- the commands
 
 or_false : (b : Bool) → (b || false) ≡ true → b ≡ true
 or_false true h = h
@@ -88,6 +88,9 @@ map_leaf = built_leaf (inherited above map_app.top)
 
 abbrev show_leaf : Shape
 show_leaf = built_leaf (inherited above show_app.top)
+
+abbrev page_leaf : Shape
+page_leaf = built_leaf (inherited above page_app.top)
 
 abbrev help_leaf : Shape
 help_leaf = built_leaf help_shape
@@ -146,17 +149,44 @@ show_gives words pass =
     let dir = given rules (codes "dir") rows level.0 (both _ _ needs).0 in
     record { dir = is_there _ _ dir.first }
 
+-- a number that may be left out
+none_or_count : (rules : List Rule) (id : Text) (rows : List Row) → FitRows rules rows → ((text : Text) → passes_for rules id text ≡ true → IsCountText (Some text)) → IsNoneOrCount (one_of id rows)
+none_or_count rules id rows fit counts = elim (optional rules id rows fit) [
+  | inl none ↦ rw none tt
+  | inr there ↦ rw there.one (counts there.text there.passes)
+]
+
+page_gives : (words : List Text) → level_passes page_leaf [] nothing_held words false ≡ true → GivesPage (rows_after page_leaf.rules [] words)
+page_gives words pass =
+    let rules = page_leaf.rules in
+    let rows = rows_after rules [] words in
+    let fit : AreFit rules = ((refl, refl), ((refl, refl), ((refl, refl), ((refl, refl), ((refl, refl), tt))))) in
+    let level = level-gives page_leaf words fit (refl, (refl, (refl, (refl, (refl, tt))))) pass in
+    let needs : (is_given (codes "dir") rows && (is_given (codes "file") rows && true)) ≡ true = level.1 in
+    let dir = given rules (codes "dir") rows level.0 (both _ _ needs).0 in
+    let file = given rules (codes "file") rows level.0 (both _ _ (both _ _ needs).1).0 in
+    record {
+      dir = is_there _ _ dir.first;
+      file = is_there _ _ file.first;
+      from = none_or_count rules (codes "from") rows level.0 (λ text pass. is_count text (Some text) refl pass);
+      cycles = none_or_count rules (codes "cycles") rows level.0 (λ text pass. is_count text (Some text) refl pass);
+    }
+
 -- ---- which of them the words name
 
-among_four : (p : Shape → Bool) (x y z w last s : Shape) → p last ≡ false → find p (x ∷ y ∷ z ∷ w ∷ last ∷ []) ≡ Some s → (s ≡ x) ⊎ ((s ≡ y) ⊎ ((s ≡ z) ⊎ (s ≡ w)))
-among_four p x y z w last s not_last found = go (p x) (p y) (p z) (p w) refl refl refl refl
+abbrev IsAmongFive : Shape → Shape → Shape → Shape → Shape → Shape → Type 0
+IsAmongFive x y z w v s = (s ≡ x) ⊎ ((s ≡ y) ⊎ ((s ≡ z) ⊎ ((s ≡ w) ⊎ (s ≡ v))))
+
+among_five : (p : Shape → Bool) (x y z w v last s : Shape) → p last ≡ false → find p (x ∷ y ∷ z ∷ w ∷ v ∷ last ∷ []) ≡ Some s → IsAmongFive x y z w v s
+among_five p x y z w v last s not_last found = go (p x) (p y) (p z) (p w) (p v) refl refl refl refl refl
   where
-    go : (a b c d : Bool) → p x ≡ a → p y ≡ b → p z ≡ c → p w ≡ d → (s ≡ x) ⊎ ((s ≡ y) ⊎ ((s ≡ z) ⊎ (s ≡ w)))
-    go true b c d is_x is_y is_z is_w = let e : Some x ≡ Some s = rw is_x at found in inl (cc e)
-    go false true c d is_x is_y is_z is_w = let e : Some y ≡ Some s = rw (is_x, is_y) at found in inr (inl (cc e))
-    go false false true d is_x is_y is_z is_w = let e : Some z ≡ Some s = rw (is_x, is_y, is_z) at found in inr (inr (inl (cc e)))
-    go false false false true is_x is_y is_z is_w = let e : Some w ≡ Some s = rw (is_x, is_y, is_z, is_w) at found in inr (inr (inr (cc e)))
-    go false false false false is_x is_y is_z is_w = let e : None ≡ Some s = rw (is_x, is_y, is_z, is_w, not_last) at found in cc
+    go : (a b c d f : Bool) → p x ≡ a → p y ≡ b → p z ≡ c → p w ≡ d → p v ≡ f → IsAmongFive x y z w v s
+    go true b c d f is_x is_y is_z is_w is_v = let e : Some x ≡ Some s = rw is_x at found in inl (cc e)
+    go false true c d f is_x is_y is_z is_w is_v = let e : Some y ≡ Some s = rw (is_x, is_y) at found in inr (inl (cc e))
+    go false false true d f is_x is_y is_z is_w is_v = let e : Some z ≡ Some s = rw (is_x, is_y, is_z) at found in inr (inr (inl (cc e)))
+    go false false false true f is_x is_y is_z is_w is_v = let e : Some w ≡ Some s = rw (is_x, is_y, is_z, is_w) at found in inr (inr (inr (inl (cc e))))
+    go false false false false true is_x is_y is_z is_w is_v = let e : Some v ≡ Some s = rw (is_x, is_y, is_z, is_w, is_v) at found in inr (inr (inr (inr (cc e))))
+    go false false false false false is_x is_y is_z is_w is_v = let e : None ≡ Some s = rw (is_x, is_y, is_z, is_w, is_v, not_last) at found in cc
 
 not_help : (name : Text) → bytes_eq name (codes "help") ≡ false → answers_to name (label_of help_leaf) ≡ false
 not_help name named = go (bytes_eq (codes "help") name) refl
@@ -168,7 +198,7 @@ not_help name named = go (bytes_eq (codes "help") name) refl
         let is_help : bytes_eq name (codes "help") ≡ true = (bytes_eq-Decides name (codes "help")).1 same in
         cc
 
-shape_gives : (s : Shape) (words : List Text) → (s ≡ run_leaf) ⊎ ((s ≡ check_leaf) ⊎ ((s ≡ map_leaf) ⊎ (s ≡ show_leaf))) → level_passes s [] nothing_held words false ≡ true
+shape_gives : (s : Shape) (words : List Text) → IsAmongFive run_leaf check_leaf map_leaf show_leaf page_leaf s → level_passes s [] nothing_held words false ≡ true
     → GivesAll (Some (s.name, rows_after s.rules [] words))
 shape_gives s words which pass =
     let P : Shape → Type 0 = λ s. level_passes s [] nothing_held words false ≡ true → GivesAll (Some (s.name, rows_after s.rules [] words)) in
@@ -178,7 +208,10 @@ shape_gives s words which pass =
         | inl is_check ↦ subst P (sym is_check) (λ pass. inr (inl (refl, check_gives words pass))) pass
         | inr later ↦ elim later [
           | inl is_map ↦ subst P (sym is_map) (λ pass. inr (inr (inl (refl, map_gives words pass)))) pass
-          | inr is_show ↦ subst P (sym is_show) (λ pass. inr (inr (inr (refl, show_gives words pass)))) pass
+          | inr last ↦ elim last [
+            | inl is_show ↦ subst P (sym is_show) (λ pass. inr (inr (inr (inl (refl, show_gives words pass))))) pass
+            | inr is_page ↦ subst P (sym is_page) (λ pass. inr (inr (inr (inr (refl, page_gives words pass))))) pass
+          ]
         ]
       ]
     ]
@@ -188,5 +221,5 @@ unfolding is_taken command_of
 taken_gives_all words taken =
     let pass = (both (is_simple program_app) _ taken).1 in
     let sub = enters (built program_app) (argument_words program_app words) refl refl pass in
-    let which = among_four (λ s. answers_to sub.name (label_of s)) run_leaf check_leaf map_leaf show_leaf help_leaf sub.shape (not_help sub.name sub.named) sub.found in
+    let which = among_five (λ s. answers_to sub.name (label_of s)) run_leaf check_leaf map_leaf show_leaf page_leaf help_leaf sub.shape (not_help sub.name sub.named) sub.found in
     subst GivesAll (sym sub.is) (shape_gives sub.shape sub.words which sub.passes)

@@ -25,10 +25,12 @@ use Rattle.show.specs.Screen.{IsScreen}
 use Rattle.simulation.specs.Runs.{IsRunOf, IsJudgedLegal}
 use Rattle.program.specs.Ask.{IsAskedBy}
 use Rattle.program.specs.Files.{Held, IsUntouched}
-use Rattle.program.specs.Tables.{path_in, stats_name, parts, IsWritten, LeavesAll, IsUnplaced}
+use Rattle.program.specs.WholeFile.{part_of, IsUnwritten}
+use Rattle.program.specs.Tables.{path_in, stats_name, parts, IsKept, IsWritten, LeavesAll, IsUnplaced}
+use Rattle.program.specs.Pages.{IsPageDone}
 use Rattle.program.specs.declared.tables.Refusal.{Refusal}
 use Rattle.program.specs.declared.words.Ask.{Ask}
-use Rattle.program.specs.declared.words.Ask.TheVariants.{Run, Check, Map, Show, Help}
+use Rattle.program.specs.declared.words.Ask.TheVariants.{Run, Check, Map, Show, Page, Help, Version}
 
 -- what the paths hold, which of them were opened to be written, and what the stream of answers holds, where that is told
 pub record Seen : Type 0 where
@@ -158,7 +160,19 @@ pub record IsShowAnswer (dir : List ℕ) (status : ℕ) (old new : Seen) : Type 
   pub shown : IsShown dir old.held old.printed new.printed
   pub untouched : IsUntouched old.held new.held old.opened new.opened
 
--- help has been given
+-- a page has been made: it prints nothing, and opens just one file
+pub record IsPageAnswer (dir file : List ℕ) (status : ℕ) (old new : Seen) : Type 0 where
+  pub status_is : status ≡ 0
+  pub done : IsPageDone dir file old.held new.held
+  pub opened_is : new.opened ≡ old.opened ++ part_of file ∷ []
+  pub silent : new.printed ≡ old.printed
+
+-- a page has not been made: what stood in its place stands there, and nothing is left beside it
+pub record IsPageLeft (refusal : Refusal) (file : List ℕ) (old new : Seen) : Type 0 where
+  pub kept : IsKept refusal
+  pub unwritten : IsUnwritten file old.held new.held old.opened new.opened
+
+-- help has been given, or the version
 pub record IsHelpAnswer (text : List ℕ) (status : ℕ) (old new : Seen) : Type 0 where
   pub status_is : status ≡ 0
   pub printed : Appends old.printed new.printed text
@@ -171,12 +185,15 @@ IsAnswer (Run config cycles workers out traces) status old new =
 IsAnswer (Check config commands) status old new = IsCheckAnswer config.now commands.now status old new
 IsAnswer (Map config address) status old new = IsMapAnswer config.now address status old new
 IsAnswer (Show dir all) status old new = IsShowAnswer dir.now status old new
+IsAnswer (Page dir file from cycles) status old new = IsPageAnswer dir.now file.now status old new
 IsAnswer (Help text) status old new = IsHelpAnswer (string_bytes text) status old new
+IsAnswer (Version text) status old new = IsHelpAnswer (string_bytes text) status old new
 
--- what is left where it has not been done: nothing was touched, or a run is left undone after its outcome was there
+-- what is left where it has not been done: nothing was touched, or a run is left undone after its outcome was there, or a page
 abbrev pub IsLeft : Refusal → Ask → Seen → Seen → Type 0
 IsLeft refusal (Run config cycles workers out traces) old new =
     IsUnfinished refusal config.now cycles workers out.now (map (λ t. t.now) traces.items) old.held new.held old.opened new.opened
+IsLeft refusal (Page dir file from cycles) old new = IsPageLeft refusal file.now old new
 IsLeft refusal _ old new = LeavesAll refusal old.held new.held old.opened new.opened
 
 -- what the words ask for has been done

@@ -1,6 +1,6 @@
 -- The command line, as `clap` sees it.
---     text_rule id, texts_rule id, option_rule id, number_rule id, flag_rule id      one argument
---     run_app, check_app, map_app, show_app      one command
+--     text_rule id, texts_rule id, option_rule id, number_rule id, count_rule id, flag_rule id      one argument
+--     run_app, check_app, map_app, show_app, page_app      one command
 --     program_app      the whole
 use Rattle.std.specs.Prelude.{true, codes, Some, List, [], ◌∷◌, fold}
 use Rattle.clap.specs.Words.{App, Rule, Text, new_app, new_rule, with_rule, with_subcommand}
@@ -22,6 +22,10 @@ option_rule id = record (text_rule id) { long = Some id }
 -- an option that takes a number of 64 bits
 abbrev pub number_rule : Text → Rule
 number_rule id = record (option_rule id) { parser = Some (Unsigned 0 18446744073709551615) }
+
+-- an option that takes a number of 64 bits and may be left out
+abbrev pub count_rule : Text → Rule
+count_rule id = record (new_rule id) { long = Some id; value_names = 1; parser = Some (Unsigned 0 18446744073709551615) }
 
 -- an option that takes nothing
 abbrev pub flag_rule : Text → Rule
@@ -53,6 +57,15 @@ map_app = command_app (codes "map") (config_rule ∷ text_rule (codes "address")
 abbrev pub show_app : App
 show_app = command_app (codes "show") (text_rule (codes "dir") ∷ flag_rule (codes "all") ∷ [])
 
+-- `page DIR FILE [--from N] [--cycles N]`
+abbrev pub page_app : App
+page_app = command_app (codes "page") (
+    text_rule (codes "dir") ∷ text_rule (codes "file") ∷ count_rule (codes "from") ∷ count_rule (codes "cycles") ∷ [])
+
+-- a command that tells its version
+abbrev pub with_version : App → App
+with_version app = record app { top = record app.top { has_version = true } }
+
 -- a command that wants a subcommand
 abbrev pub with_subcommand_required : App → App
 with_subcommand_required app = record app { top = record app.top { subcommand_required = true } }
@@ -60,5 +73,5 @@ with_subcommand_required app = record app { top = record app.top { subcommand_re
 -- the program's command line
 abbrev pub program_app : App
 program_app =
-    with_subcommand (with_subcommand (with_subcommand (with_subcommand (with_subcommand_required (new_app (codes "dramsim"))) run_app.top) check_app.top) map_app.top)
-    show_app.top
+    with_subcommand (with_subcommand (with_subcommand (with_subcommand (with_subcommand (with_subcommand_required (with_version (new_app (codes "dramsim")))) run_app.top) check_app.top)
+    map_app.top) show_app.top) page_app.top

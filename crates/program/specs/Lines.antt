@@ -2,6 +2,7 @@
 --     fault_line fault      the line of a fault, without its end
 --     refusal_text refusal, refusal_lines refusal      the lines of a refusal, without the last one's end and with it
 --     TakesUntil old new text rest, AppendsBeginning old new text      how far a stream took a text
+--     IsExplained old new lines      how far it took lines, and what explains them
 --     IsTold tells words old new before after      the words are refused, and why is told
 use Rattle.std.specs.Prelude.{◌≡◌, ℕ, List, ◌++◌, codes, decimal, Option}
 use Rattle.std.specs.Io.KnownBytes.{Appends}
@@ -64,10 +65,15 @@ pub record AppendsBeginning (old new : Option (List ℕ)) (text : List ℕ) : Ty
   pub rest : List ℕ
   pub taken : TakesUntil old new text rest
 
--- The words are refused for this fault, and leave this; and the stream of errors took the lines of the refusal, or a beginning of
--- them where it refused more.
+-- a stream took lines and what explains them behind them, or a beginning of that
+pub record IsExplained (old new : Option (List ℕ)) (lines : List ℕ) : Type 0 where
+  pub more : List ℕ
+  pub begun : AppendsBeginning old new (lines ++ more)
+
+-- The words are refused for this fault, and leave this; and the stream of errors took the lines of the refusal and what explains
+-- them, or a beginning of that where it refused more.
 pub record IsTold (tells : Type 0) (words : List (List ℕ)) (old new : Seen) (before after : Option (List ℕ)) : Type 0 where
   pub refusal : Refusal
   pub why : IsFaultOf tells old.held words (fault_of refusal)
   pub left : tells → IsRefusedBy refusal words old new
-  pub lines : AppendsBeginning before after (refusal_lines refusal)
+  pub lines : IsExplained before after (refusal_lines refusal)

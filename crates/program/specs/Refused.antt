@@ -21,17 +21,20 @@ use Rattle.config_reader.specs.Document.{document_of}
 use Rattle.rule_check.specs.Verdict.{records_of, verdict}
 use Rattle.rule_check.specs.declared.verdict.Verdict.{Verdict}
 use Rattle.reports.specs.Stats.{stats_header, stats_rows}
+use Rattle.sim_base.specs.declared.command.CommandRow.{CommandRow}
 use Rattle.simulation.specs.Runs.{input_of, IsRefusal}
 use Rattle.statistics.specs.Values.{RunStats}
-use Rattle.program.specs.Ask.{is_taken, command_of, IsCallForHelp, HasBadAddress, IsAskedBy}
+use Rattle.program.specs.Ask.{is_taken, command_of, IsCallForHelp, IsCallForVersion, HasBadAddress, IsAskedBy}
 use Rattle.program.specs.Files.{Held}
-use Rattle.program.specs.Tables.{path_in, stats_name}
+use Rattle.program.specs.Tables.{path_in, stats_name, commands_name}
+use Rattle.program.specs.Pages.{AreTablesIn}
 use Rattle.program.specs.declared.words.Ask.{Ask}
-use Rattle.program.specs.declared.words.Ask.TheVariants.{Run, Check, Map, Show, Help}
+use Rattle.program.specs.declared.words.Ask.TheVariants.{Run, Check, Map, Show, Page, Help, Version}
 
--- the words call for no help, and the command line does not take them, unless they are a `map` of what is no number
+-- the words call for no help and no version, and the command line does not take them, unless they are a `map` of what is no number
 pub record HasNoAsk (words : List Text) : Type 0 where
   pub no_help : ¬ (IsCallForHelp words)
+  pub no_version : ¬ (IsCallForVersion words)
   pub no_command : is_taken words ≡ true → HasBadAddress (command_of words)
 
 -- the files that are read, in their order
@@ -40,7 +43,9 @@ named (Run config cycles workers out traces) = config.now ∷ map (λ t. t.now) 
 named (Check config commands) = config.now ∷ commands.now ∷ []
 named (Map config address) = config.now ∷ []
 named (Show dir all) = path_in dir.now stats_name ∷ []
+named (Page dir file from cycles) = path_in dir.now stats_name ∷ path_in dir.now commands_name ∷ []
 named (Help text) = []
+named (Version text) = []
 
 -- one of these paths holds no file, where the set of files tells
 abbrev pub LacksOne : Type 0 → Held → List (List ℕ) → Type 0
@@ -112,13 +117,30 @@ abbrev pub IsRightShow : List (List ℕ) → Type 0
 IsRightShow (table ∷ []) = IsStatsTable table
 IsRightShow _ = ⊥
 
+-- what is wrong with the tables of a page: a row of one of them
+abbrev pub IsPageFault : List (List ℕ) → Fault → Type 0
+IsPageFault (stats ∷ commands ∷ []) fault = IsRowRefusal fault
+IsPageFault _ fault = ⊥
+
+-- the tables are those of a run
+pub record AreRunTables (stats_table commands_table : List ℕ) : Type 0 where
+  pub stats : RunStats
+  pub commands : List CommandRow
+  pub tables : AreTablesIn stats_table commands_table stats commands
+
+abbrev pub IsRightPage : List (List ℕ) → Type 0
+IsRightPage (stats_table ∷ commands_table ∷ []) = AreRunTables stats_table commands_table
+IsRightPage _ = ⊥
+
 -- what is wrong with the texts of the files that are read
 abbrev pub IsFaultIn : Ask → List (List ℕ) → Fault → Type 0
 IsFaultIn (Run config cycles workers out traces) = IsRunFault cycles workers
 IsFaultIn (Check config commands) = IsTableFault
 IsFaultIn (Map config address) = IsMapFault
 IsFaultIn (Show dir all) = IsShowFault
+IsFaultIn (Page dir file from cycles) = IsPageFault
 IsFaultIn (Help text) = λ _ _. ⊥
+IsFaultIn (Version text) = λ _ _. ⊥
 
 -- nothing is
 abbrev pub IsRight : Ask → List (List ℕ) → Type 0
@@ -126,7 +148,9 @@ IsRight (Run config cycles workers out traces) = IsRightRun cycles workers
 IsRight (Check config commands) = IsRightTable
 IsRight (Map config address) = IsRightMap
 IsRight (Show dir all) = IsRightShow
+IsRight (Page dir file from cycles) = IsRightPage
 IsRight (Help text) = λ _. ⊤
+IsRight (Version text) = λ _. ⊤
 
 -- memory was refused, or one of the files cannot be read
 abbrev pub IsFilesFault : Type 0 → Held → List (List ℕ) → Fault → Type 0

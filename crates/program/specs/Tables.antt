@@ -18,7 +18,7 @@ use Rattle.reports.specs.Commands.{commands_text}
 use Rattle.reports.specs.Stats.{stats_text}
 use Rattle.reports.specs.Final.{final_text}
 use Rattle.program.specs.Files.{Held, IsUntouched}
-use Rattle.program.specs.declared.tables.Move.{Move}
+use Rattle.program.specs.declared.moves.Move.{Move}
 use Rattle.program.specs.declared.tables.Moves.{Moves}
 use Rattle.program.specs.declared.tables.Refusal.{Refusal}
 use Rattle.program.specs.declared.tables.Refusal.TheVariants.{Kept, Torn}

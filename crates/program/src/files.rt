@@ -3,6 +3,7 @@
 ghost use Rattle.std.specs.Prelude.{◌≡◌, ◌⊎◌, ◌++◌, ◌∷◌, [], Some, None, IfOk, IfErr, OnOk, OnErr, List, ℕ};
 ghost use Rattle.program.specs.Files.{Held, SameFiles, SameBut, IsRenamed, IsReadFault, IsWriteFault};
 
+use crate::reason::Reason;
 use sim_base::fault::Fault;
 use std::alloc::Global;
 use std::fs::{self, OpenOptions};
@@ -28,7 +29,7 @@ pub trait FileSet {
     ghost opened: { Self → List (List ℕ) } = { λ _. [] };
 
     /// The whole of a file. Refuses by `Fault::Read` where it cannot be read, and by `Fault::Memory`.
-    fn read(&mut self, alloc: Global, path: &str) -> Result<Vec<u8>, Fault>
+    fn read(&mut self, alloc: Global, path: &str) -> Result<Vec<u8>, Reason>
         ensures bytes { IfOk result (λ v. tells → held self.old path.now ≡ Some v.items) }
         ensures fault { IfErr result (IsReadFault tells (held self.old path.now)) }
         ensures same { tells → SameFiles (held self.old) (held self.new) }
@@ -36,14 +37,21 @@ pub trait FileSet {
 
     /// Opens a file to be written from its beginning; what it held is gone. Refuses by `Fault::Write` where it cannot be
     /// opened, and by `Fault::Memory`.
-    fn create(&mut self, alloc: Global, path: &str) -> Result<Self::Out, Fault>
+    fn create(&mut self, alloc: Global, path: &str) -> Result<Self::Out, Reason>
         ensures empty { IfOk result (λ out. tells → Self.Out.contents out ≡ Some []) }
         ensures fault { IfErr result (λ e. IsWriteFault e) }
         ensures noted { OnOk result (tells → opened self.new ≡ opened self.old ++ path.now ∷ []) }
         ensures others { tells → SameBut path.now (held self.old) (held self.new) };
 
+    /// Why a file is refused that is being written, with the host's cause where the set knows it.
+    fn cause(&self, _alloc: Global, _path: &str, _out: &Self::Out, fault: Fault) -> Reason
+        ensures { result ≡ fault }
+    {
+        Reason::from(fault)
+    }
+
     /// Ends the writing of a file. Refuses by `Fault::Write` where what is left cannot be written, and by `Fault::Memory`.
-    fn close(&mut self, alloc: Global, path: &str, out: Self::Out) -> Result<(), Fault>
+    fn close(&mut self, alloc: Global, path: &str, out: Self::Out) -> Result<(), Reason>
         ensures written { OnOk result (tells → held self.new path.now ≡ Self.Out.contents out) }
         ensures fault { IfErr result (λ e. IsWriteFault e) }
         ensures others { tells → SameBut path.now (held self.old) (held self.new) }
@@ -51,21 +59,21 @@ pub trait FileSet {
 
     /// Tests whether a file could be given this path. Refuses by `Fault::Write` where something stands there that no file
     /// replaces, as a folder, or that is not to be replaced, as a file that may not be written, or where that cannot be told.
-    fn test_place(&mut self, path: &str) -> Result<(), Fault>
+    fn test_place(&mut self, path: &str) -> Result<(), Reason>
         ensures fault { IfErr result (λ e. IsWriteFault e) }
         ensures same { tells → SameFiles (held self.old) (held self.new) }
         ensures unopened { tells → opened self.new ≡ opened self.old };
 
     /// Gives a file another path, in one step: what that path held is gone, or, where it refuses, nothing has changed. Refuses by
     /// `Fault::Write`, and by `Fault::Memory`.
-    fn rename(&mut self, alloc: Global, from: &str, to: &str) -> Result<(), Fault>
+    fn rename(&mut self, alloc: Global, from: &str, to: &str) -> Result<(), Reason>
         ensures renamed { OnOk result (tells → IsRenamed from.now to.now (held self.old) (held self.new)) }
         ensures refused { OnErr result (tells → SameFiles (held self.old) (held self.new)) }
         ensures fault { IfErr result (λ e. IsWriteFault e) }
         ensures unopened { tells → opened self.new ≡ opened self.old };
 
     /// Removes a file. Refuses by `Fault::Write` where it cannot, or where there is none. A set that tells always can.
-    fn remove(&mut self, path: &str) -> Result<(), Fault>
+    fn remove(&mut self, path: &str) -> Result<(), Reason>
         ensures removed { tells → held self.new path.now ≡ None }
         ensures others { tells → SameBut path.now (held self.old) (held self.new) }
         ensures unopened { tells → opened self.new ≡ opened self.old };
@@ -86,71 +94,121 @@ fn read_fault(error: &io::Error) -> Fault
     }
 }
 
-fn written(answer: io::Result<()>) -> Result<(), Fault>
+// Why a file is not written, or is not given a place, by what the host answers.
+fn written(alloc: Global, path: &str, answer: io::Result<()>) -> Result<(), Reason>
     ensures { IfErr result (λ e. e ≡ Fault.Write) }
 {
     match answer {
         Ok(()) => Ok(()),
-        Err(_) => Err(Fault::Write),
+        Err(error) => Err(Reason::of_host(alloc, Fault::Write, path, &error)),
     }
 }
 
 // Opens a file as if to write it, and leaves it as it is: one that is protected, as by its mode or its folder's, refuses that.
-fn test_writing(files: &impl Files, path: &str) -> Result<(), Fault>
+fn test_writing(alloc: Global, files: &impl Files, path: &str) -> Result<(), Reason>
     ensures { IfErr result (λ e. e ≡ Fault.Write) }
 {
     let mut options = OpenOptions::new();
     options.write(true);
     match options.open(files, path) {
         Ok(_) => Ok(()),
-        Err(_) => Err(Fault::Write),
+        Err(error) => Err(Reason::of_host(alloc, Fault::Write, path, &error)),
+    }
+}
+
+/// A file of the host that is being written, and the number of the last error that it gave.
+#[derive(Drop)]
+pub struct HostOut<W: Write + Drop> {
+    out: BufWriter<W>,
+    code: Option<i32>,
+}
+
+impl<W: Write + Drop> HostOut<W> {
+    fn note(&mut self, error: &io::Error) {
+        self.code = error.raw_os_error();
+    }
+}
+
+impl<W: Write + Drop> Write for HostOut<W> {
+    fn write(&mut self, buf: &[u8]) -> io::Result<usize> {
+        match self.out.write(buf) {
+            Ok(count) => Ok(count),
+            Err(error) => {
+                self.note(&error);
+                Err(error)
+            }
+        }
+    }
+
+    fn flush(&mut self) -> io::Result<()> {
+        match self.out.flush() {
+            Ok(()) => Ok(()),
+            Err(error) => {
+                self.note(&error);
+                Err(error)
+            }
+        }
     }
 }
 
 impl<R: Files + AllocGlobal> FileSet for HostFiles<'_, R> {
-    type Out = BufWriter<R::File>;
+    type Out = HostOut<R::File>;
 
-    fn read(&mut self, _alloc: Global, path: &str) -> Result<Vec<u8>, Fault> {
+    fn read(&mut self, alloc: Global, path: &str) -> Result<Vec<u8>, Reason> {
         match fs::read(self.rt, path) {
             Ok(bytes) => Ok(bytes),
-            Err(error) => Err(read_fault(&error)),
+            Err(error) => Err(Reason::of_host(alloc, read_fault(&error), path, &error)),
         }
     }
 
-    fn create(&mut self, alloc: Global, path: &str) -> Result<BufWriter<R::File>, Fault> {
-        let Ok(file) = fs::create(self.rt, path) else {
-            return Err(Fault::Write);
+    fn create(&mut self, alloc: Global, path: &str) -> Result<HostOut<R::File>, Reason> {
+        let file = match fs::create(self.rt, path) {
+            Ok(file) => file,
+            Err(error) => return Err(Reason::of_host(alloc, Fault::Write, path, &error)),
         };
         match BufWriter::new(alloc, file) {
-            Ok(out) => Ok(out),
-            Err(_) => Err(Fault::Memory),
+            Ok(out) => Ok(HostOut { out, code: None }),
+            Err(_) => Err(Reason::from(Fault::Memory)),
+        }
+    }
+
+    fn cause(&self, alloc: Global, path: &str, out: &HostOut<R::File>, fault: Fault) -> Reason {
+        match out.code {
+            Some(code) => Reason::of_host(alloc, fault, path, &io::Error::from_raw_os_error(code)),
+            None => Reason::from(fault),
         }
     }
 
     fn close(
         &mut self,
-        _alloc: Global,
-        _path: &str,
-        mut out: BufWriter<R::File>,
-    ) -> Result<(), Fault> {
-        written(out.flush())
+        alloc: Global,
+        path: &str,
+        mut out: HostOut<R::File>,
+    ) -> Result<(), Reason> {
+        written(alloc, path, out.flush())
     }
 
-    fn test_place(&mut self, path: &str) -> Result<(), Fault> {
+    fn test_place(&mut self, path: &str) -> Result<(), Reason> {
+        let alloc = self.rt.alloc();
         match fs::symlink_metadata(self.rt, path) {
-            Ok(found) if found.is_dir() => Err(Fault::Write),
-            Ok(found) if found.is_file() => test_writing(self.rt, path),
+            Ok(found) if found.is_dir() => Err(Reason::of_host(
+                alloc,
+                Fault::Write,
+                path,
+                &"a folder stands there",
+            )),
+            Ok(found) if found.is_file() => test_writing(alloc, self.rt, path),
             Ok(_) => Ok(()),
             Err(error) if error.kind() == ErrorKind::NotFound => Ok(()),
-            Err(_) => Err(Fault::Write),
+            Err(error) => Err(Reason::of_host(alloc, Fault::Write, path, &error)),
         }
     }
 
-    fn rename(&mut self, _alloc: Global, from: &str, to: &str) -> Result<(), Fault> {
-        written(fs::rename(self.rt, from, to))
+    fn rename(&mut self, alloc: Global, from: &str, to: &str) -> Result<(), Reason> {
+        written(alloc, to, fs::rename(self.rt, from, to))
     }
 
-    fn remove(&mut self, path: &str) -> Result<(), Fault> {
-        written(fs::remove_file(self.rt, path))
+    fn remove(&mut self, path: &str) -> Result<(), Reason> {
+        written(self.rt.alloc(), path, fs::remove_file(self.rt, path))
     }
 }

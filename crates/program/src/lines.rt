@@ -3,7 +3,7 @@
 ghost use Rattle.std.specs.Prelude.{◌≡◌, Some, OnOk, IfOk};
 ghost use Rattle.std.specs.Fmt.InlineText.{inline_text};
 ghost use Rattle.std.specs.Io.KnownBytes.{Appends};
-ghost use Rattle.program.specs.Lines.{cause_word, fault_line, refusal_text, refusal_lines, AppendsBeginning};
+ghost use Rattle.program.specs.Lines.{cause_word, fault_line, refusal_text, refusal_lines, AppendsBeginning, IsExplained};
 
 use crate::tables::Refusal;
 use sim_base::fault::{Fault, LineCause};
@@ -57,11 +57,11 @@ impl fmt::Display for Refusal {
 
     fn fmt<W: fmt::Write>(&self, f: &mut fmt::Formatter<W>) -> fmt::Result {
         match self {
-            Refusal::Kept(fault) => write!(f, "{}", FaultLine(*fault)),
-            Refusal::Torn(fault) => write!(
+            Refusal::Kept(reason) => write!(f, "{}", FaultLine(reason.fault())),
+            Refusal::Torn(reason) => write!(
                 f,
                 "{}\nthe tables are of two runs: what is missing of this one stands beside them under names that end in .part",
-                FaultLine(*fault)
+                FaultLine(reason.fault())
             ),
         }
     }
@@ -70,8 +70,8 @@ impl fmt::Display for Refusal {
 /// The room for the lines of a refusal, which are told even where memory is refused.
 const ROOM: usize = 256;
 
-fn lines_of(refusal: Refusal) -> Result<InlineText<ROOM>, fmt::Error>
-    ensures { IfOk result (λ text. inline_text text ≡ refusal_lines refusal) }
+fn lines_of(refusal: &Refusal) -> Result<InlineText<ROOM>, fmt::Error>
+    ensures { IfOk result (λ text. inline_text text ≡ refusal_lines refusal.now) }
 {
     let mut text = InlineText::new();
     writeln!(text, "{refusal}")?;
@@ -98,11 +98,19 @@ fn put<E: io::Write>(errors: &mut E, text: &[u8]) -> io::Result<()>
     Err(io::Error::from(ErrorKind::Interrupted))
 }
 
-/// Tells a refusal, as far as the stream takes its lines.
-pub(crate) fn tell<E: io::Write>(errors: &mut E, refusal: Refusal) -> io::Result<()>
-    ensures whole { OnOk result (Appends (E.contents errors.old) (E.contents errors.new) (refusal_lines refusal)) }
-    ensures part { AppendsBeginning (E.contents errors.old) (E.contents errors.new) (refusal_lines refusal) }
+// Tells a refusal in its lines, as far as the stream takes them.
+fn tell_lines<E: io::Write>(errors: &mut E, refusal: &Refusal) -> io::Result<()>
+    ensures whole { OnOk result (Appends (E.contents errors.old) (E.contents errors.new) (refusal_lines refusal.now)) }
+    ensures part { AppendsBeginning (E.contents errors.old) (E.contents errors.new) (refusal_lines refusal.now) }
 {
     let lines = lines_of(refusal)?;
     put(errors, lines.as_str().as_bytes())
+}
+
+/// Tells a refusal, as far as the stream takes it: its lines, which need no memory, and then those that explain it.
+pub(crate) fn tell<E: io::Write>(errors: &mut E, refusal: &Refusal) -> io::Result<()>
+    ensures { IsExplained (E.contents errors.old) (E.contents errors.new) (refusal_lines refusal.now) }
+{
+    tell_lines(errors, refusal)?;
+    put(errors, refusal.reason().more().as_bytes())
 }

@@ -8,27 +8,30 @@ ghost use Rattle.program.specs.Refused.{IsRunFault, IsRightRun, IsTableFault, Is
 ghost use Rattle.program.specs.Tables.{fault_of, parts, path_in, stats_name};
 ghost use Rattle.program.specs.Answered.{seen, IsOutcome, IsRunDone, IsUnfinished, IsVerdict, verdict_line, verdict_status, IsChecked, IsPlace, rank_words, place_line, IsMapped, IsStatsOf, IsShown, IsAnswer, IsLeft, IsAnswered, IsRefusedBy, IsRefused};
 
+use crate::explained::{Input, configuration_of, outcome_of, statistics_of, verdict_of};
 use crate::files::FileSet;
+use crate::host::Host;
 use crate::lines::tell;
+use crate::moves::path_of;
+use crate::pages::perform_page;
+use crate::reason::Reason;
 use crate::shared::SharedText;
-use crate::tables::{Refusal, path_of, write_tables};
+use crate::tables::{Refusal, write_tables};
 use crate::words::{Ask, read_words};
 use address_map::place_of;
-use config_reader::read_config;
-use rule_check::{Verdict, check};
-use run_tables::read_stats;
+use page::window::Window;
+use rule_check::Verdict;
 use show::show_text;
 use sim_base::fault::Fault;
 use sim_base::message::Cycle;
 use sim_base::place::Place;
-use simulation::runs::simulate;
 use statistics::outcome::Outcome;
 use statistics::stats::Stats;
 use std::alloc::{AllocError, Global};
-use std::io::Write;
+use std::io::{self, Write};
 use std::sync::Wait;
 use std::thread::Threads;
-use workers::gate::Open;
+use workers::watch::Watch;
 
 /// The status of a program that did what it was asked.
 const DONE: u8 = 0;
@@ -39,18 +42,23 @@ const BROKEN: u8 = 1;
 /// The status of a program that refused.
 pub const REFUSED: u8 = 2;
 
+// Sends a text down a stream.
+fn send<P: Write>(print: &mut P, text: &str) -> io::Result<()>
+    ensures { OnOk result (Appends (P.contents print.old) (P.contents print.new) text.now) }
+{
+    print.write_all(text.as_bytes())?;
+    print.flush()
+}
+
 // A text on a stream.
-fn print_text<P: Write>(print: &mut P, text: &str) -> Result<(), Fault>
+fn print_text<P: Write>(alloc: Global, print: &mut P, text: &str) -> Result<(), Reason>
     ensures printed { OnOk result (Appends (P.contents print.old) (P.contents print.new) text.now) }
     ensures fault { IfErr result (λ e. e ≡ Fault.Write) }
 {
-    let Ok(()) = print.write_all(text.as_bytes()) else {
-        return Err(Fault::Write);
-    };
-    let Ok(()) = print.flush() else {
-        return Err(Fault::Write);
-    };
-    Ok(())
+    match send(print, text) {
+        Ok(()) => Ok(()),
+        Err(error) => Err(Reason::of_host(alloc, Fault::Write, "standard output", &error)),
+    }
 }
 
 // An earlier place with the same path.
@@ -73,7 +81,7 @@ fn next_text<F: FileSet>(
     paths: &[&str],
     texts: &[SharedText],
     path: &str,
-) -> Result<SharedText, Fault>
+) -> Result<SharedText, Reason>
     requires read { F.tells → AreHeld (F.held files.old) (map (λ p. p.now) paths.now) texts.now }
     ensures text { IfOk result (λ t. F.tells → F.held files.old path.now ≡ Some t) }
     ensures fault { IfErr result (IsReadFault F.tells (F.held files.old path.now)) }
@@ -90,7 +98,7 @@ fn read_texts<F: FileSet>(
     alloc: Global,
     files: &mut F,
     paths: &[&str],
-) -> Result<Vec<SharedText>, Fault>
+) -> Result<Vec<SharedText>, Reason>
     ensures texts { IfOk result (λ v. F.tells → map (λ p. F.held files.old p.now) paths.now ≡ map (λ t. Some t) v.items) }
     ensures count { IfOk result (λ v. length v.items ≡ length paths.now) }
     ensures fault { IfErr result (IsFilesFault F.tells (F.held files.old) (map (λ p. p.now) paths.now)) }
@@ -118,15 +126,15 @@ fn slices_of<'a>(alloc: Global, texts: &'a [SharedText]) -> Result<Vec<&'a [u8]>
 }
 
 // The outcome of a run over the files that are named.
-fn run_files<R: Threads + Wait + Sync, F: FileSet>(
-    rt: &R,
+fn run_files<R: Threads + Wait + Sync, W: Watch, F: FileSet>(
+    host: &mut Host<'_, R, W>,
     alloc: Global,
     files: &mut F,
     config: &str,
     cycles: Cycle,
     workers: u64,
     traces: &[&str],
-) -> Result<Outcome, Fault>
+) -> Result<Outcome, Reason>
     ensures outcome { IfOk result (λ run. F.tells → IsOutcome config.now cycles workers (map (λ t. t.now) traces.now) (F.held files.old) run) }
     ensures ready { OnOk result (IsReady F.tells (F.held files.old) (config.now ∷ map (λ t. t.now) traces.now) (IsRightRun cycles workers)) }
     ensures fault { IfErr result (IsInputFault F.tells (F.held files.old) (config.now ∷ map (λ t. t.now) traces.now) (IsRunFault cycles workers)) }
@@ -136,12 +144,18 @@ fn run_files<R: Threads + Wait + Sync, F: FileSet>(
     let document = files.read(alloc, config)?;
     let texts = read_texts(alloc, files, traces)?;
     let slices = slices_of(alloc, &texts)?;
-    simulate(rt, alloc, &Open, &document, &slices, cycles, workers)
+    let input = Input {
+        config,
+        document: &document,
+        traces,
+        texts: &slices,
+    };
+    outcome_of(host, alloc, &input, cycles, workers)
 }
 
 // `run CONFIG --cycles N --workers N --out DIR TRACE...`: nothing is opened before the run is over.
-fn perform_run<R: Threads + Wait + Sync, F: FileSet>(
-    rt: &R,
+fn perform_run<R: Threads + Wait + Sync, W: Watch, F: FileSet>(
+    host: &mut Host<'_, R, W>,
     alloc: Global,
     files: &mut F,
     config: &str,
@@ -155,7 +169,7 @@ fn perform_run<R: Threads + Wait + Sync, F: FileSet>(
     ensures refused { IfErr result (λ e. F.tells → IsUnfinished e config.now cycles workers out.now (map (λ t. t.now) traces.now) (F.held files.old) (F.held files.new) (F.opened files.old) (F.opened files.new)) }
     ensures fault { IfErr result (λ e. IsAnswerFault F.tells (F.held files.old) (config.now ∷ map (λ t. t.now) traces.now) (IsRunFault cycles workers) (IsRightRun cycles workers) (fault_of e)) }
 {
-    let run = run_files(rt, alloc, files, config, cycles, workers, traces)?;
+    let run = run_files(host, alloc, files, config, cycles, workers, traces)?;
     write_tables(alloc, files, out, &run)
 }
 
@@ -165,7 +179,7 @@ fn find_place<F: FileSet>(
     files: &mut F,
     config: &str,
     address: u64,
-) -> Result<(u32, Place), Fault>
+) -> Result<(u32, Place), Reason>
     ensures place { IfOk result (λ found. F.tells → IsPlace config.now address (F.held files.old) found.0 found.1) }
     ensures ready { OnOk result (IsReady F.tells (F.held files.old) (config.now ∷ []) IsRightMap) }
     ensures fault { IfErr result (IsInputFault F.tells (F.held files.old) (config.now ∷ []) IsMapFault) }
@@ -173,7 +187,7 @@ fn find_place<F: FileSet>(
     ensures unopened { F.tells → F.opened files.new ≡ F.opened files.old }
 {
     let document = files.read(alloc, config)?;
-    let config = read_config(alloc, &document)?;
+    let config = configuration_of(alloc, config, &document)?;
     Ok((config.ranks, place_of(&config, address)))
 }
 
@@ -206,7 +220,7 @@ fn perform_map<F: FileSet, P: Write>(
     print: &mut P,
     config: &str,
     address: u64,
-) -> Result<(), Fault>
+) -> Result<(), Reason>
     ensures mapped { OnOk result (F.tells → IsMapped config.now address (F.held files.old) (P.contents print.old) (P.contents print.new)) }
     ensures fault { IfErr result (IsAnswerFault F.tells (F.held files.old) (config.now ∷ []) IsMapFault IsRightMap) }
     ensures same { F.tells → SameFiles (F.held files.old) (F.held files.new) }
@@ -214,7 +228,7 @@ fn perform_map<F: FileSet, P: Write>(
 {
     let (ranks, place) = find_place(alloc, files, config, address)?;
     let line = place_line_of(alloc, ranks, place)?;
-    print_text(print, line.as_str())
+    print_text(alloc, print, line.as_str())
 }
 
 // What a table is found to be.
@@ -223,7 +237,7 @@ fn judge<F: FileSet>(
     files: &mut F,
     config: &str,
     commands: &str,
-) -> Result<Verdict, Fault>
+) -> Result<Verdict, Reason>
     ensures found { IfOk result (λ found. F.tells → IsVerdict config.now commands.now (F.held files.old) found) }
     ensures ready { OnOk result (IsReady F.tells (F.held files.old) (config.now ∷ commands.now ∷ []) IsRightTable) }
     ensures fault { IfErr result (IsInputFault F.tells (F.held files.old) (config.now ∷ commands.now ∷ []) IsTableFault) }
@@ -232,8 +246,8 @@ fn judge<F: FileSet>(
 {
     let document = files.read(alloc, config)?;
     let table = files.read(alloc, commands)?;
-    let config = read_config(alloc, &document)?;
-    check(alloc, &config, &table)
+    let config = configuration_of(alloc, config, &document)?;
+    verdict_of(alloc, &config, commands, &table)
 }
 
 fn verdict_line_of(alloc: Global, found: Verdict) -> Result<String, Fault>
@@ -265,7 +279,7 @@ fn perform_check<F: FileSet, P: Write>(
     print: &mut P,
     config: &str,
     commands: &str,
-) -> Result<u8, Fault>
+) -> Result<u8, Reason>
     ensures checked { IfOk result (λ status. F.tells → IsChecked config.now commands.now status (F.held files.old) (P.contents print.old) (P.contents print.new)) }
     ensures status { IfOk result (λ status. status ≤ 1) }
     ensures fault { IfErr result (IsAnswerFault F.tells (F.held files.old) (config.now ∷ commands.now ∷ []) IsTableFault IsRightTable) }
@@ -274,12 +288,12 @@ fn perform_check<F: FileSet, P: Write>(
 {
     let found = judge(alloc, files, config, commands)?;
     let line = verdict_line_of(alloc, found)?;
-    print_text(print, line.as_str())?;
+    print_text(alloc, print, line.as_str())?;
     Ok(status_of(found))
 }
 
 // The statistics whose table a file holds.
-fn stats_of<F: FileSet>(alloc: Global, files: &mut F, path: &str) -> Result<Stats, Fault>
+fn stats_of<F: FileSet>(alloc: Global, files: &mut F, path: &str) -> Result<Stats, Reason>
     ensures stats { IfOk result (λ stats. F.tells → IsStatsOf path.now (F.held files.old) stats) }
     ensures ready { OnOk result (IsReady F.tells (F.held files.old) (path.now ∷ []) IsRightShow) }
     ensures fault { IfErr result (IsInputFault F.tells (F.held files.old) (path.now ∷ []) IsShowFault) }
@@ -287,11 +301,11 @@ fn stats_of<F: FileSet>(alloc: Global, files: &mut F, path: &str) -> Result<Stat
     ensures unopened { F.tells → F.opened files.new ≡ F.opened files.old }
 {
     let table = files.read(alloc, path)?;
-    read_stats(alloc, &table)
+    statistics_of(alloc, path, &table)
 }
 
 // The statistics of the run whose tables are in a folder.
-fn stats_in<F: FileSet>(alloc: Global, files: &mut F, dir: &str) -> Result<Stats, Fault>
+fn stats_in<F: FileSet>(alloc: Global, files: &mut F, dir: &str) -> Result<Stats, Reason>
     ensures stats { IfOk result (λ stats. F.tells → IsStatsOf (path_in dir.now stats_name) (F.held files.old) stats) }
     ensures ready { OnOk result (IsReady F.tells (F.held files.old) (path_in dir.now stats_name ∷ []) IsRightShow) }
     ensures fault { IfErr result (IsInputFault F.tells (F.held files.old) (path_in dir.now stats_name ∷ []) IsShowFault) }
@@ -309,7 +323,7 @@ fn perform_show<F: FileSet, P: Write>(
     print: &mut P,
     dir: &str,
     all: bool,
-) -> Result<(), Fault>
+) -> Result<(), Reason>
     ensures shown { OnOk result (F.tells → IsShown dir.now (F.held files.old) (P.contents print.old) (P.contents print.new)) }
     ensures fault { IfErr result (IsAnswerFault F.tells (F.held files.old) (path_in dir.now stats_name ∷ []) IsShowFault IsRightShow) }
     ensures same { F.tells → SameFiles (F.held files.old) (F.held files.new) }
@@ -317,12 +331,12 @@ fn perform_show<F: FileSet, P: Write>(
 {
     let stats = stats_in(alloc, files, dir)?;
     let screen = show_text(alloc, &stats, all)?;
-    print_text(print, screen.as_str())
+    print_text(alloc, print, screen.as_str())
 }
 
 // Does what is asked, and gives the status.
-fn answer<R: Threads + Wait + Sync, F: FileSet, P: Write>(
-    rt: &R,
+fn answer<R: Threads + Wait + Sync, W: Watch, F: FileSet, P: Write>(
+    host: &mut Host<'_, R, W>,
     alloc: Global,
     ask: &Ask<'_>,
     files: &mut F,
@@ -341,7 +355,7 @@ fn answer<R: Threads + Wait + Sync, F: FileSet, P: Write>(
             out,
             traces,
         } => {
-            perform_run(rt, alloc, files, config, *cycles, *workers, out, traces)?;
+            perform_run(host, alloc, files, config, *cycles, *workers, out, traces)?;
             Ok(DONE)
         }
         Ask::Check { config, commands } => {
@@ -355,16 +369,29 @@ fn answer<R: Threads + Wait + Sync, F: FileSet, P: Write>(
             perform_show(alloc, files, print, dir, *all)?;
             Ok(DONE)
         }
-        Ask::Help(text) => {
-            print_text(print, text.as_str())?;
+        Ask::Page {
+            dir,
+            file,
+            from,
+            cycles,
+        } => {
+            let window = Window {
+                from: *from,
+                cycles: *cycles,
+            };
+            perform_page(alloc, files, dir, file, window)?;
+            Ok(DONE)
+        }
+        Ask::Help(text) | Ask::Version(text) => {
+            print_text(alloc, print, text.as_str())?;
             Ok(DONE)
         }
     }
 }
 
 // Does what the words ask for, and gives the status.
-fn answer_words<R: Threads + Wait + Sync, F: FileSet, P: Write>(
-    rt: &R,
+fn answer_words<R: Threads + Wait + Sync, W: Watch, F: FileSet, P: Write>(
+    host: &mut Host<'_, R, W>,
     alloc: Global,
     words: &[&str],
     files: &mut F,
@@ -376,11 +403,11 @@ fn answer_words<R: Threads + Wait + Sync, F: FileSet, P: Write>(
     ensures fault { IfErr result (λ e. IsFaultOf F.tells (F.held files.old) (map (λ w. w.now) words.now) (fault_of e)) }
 {
     let ask = read_words(alloc, words)?;
-    answer(rt, alloc, &ask, files, print)
+    answer(host, alloc, &ask, files, print)
 }
 
 /// Does what the words ask for, of which the first is the program's name, and gives the status: 0 done, 1 a table that breaks
-/// a rule, 2 refused. A run's workers are threads of `rt`.
+/// a rule, 2 refused. A run's workers are threads of the host, whose watcher is told how far it is.
 ///
 /// A refusal is one line on `errors`, `fault N: ...`, and a second one where the tables in the folder are of two runs; where the
 /// stream refuses, it has a beginning of these lines. The fault is the first in this order: the words, the files that they name,
@@ -391,8 +418,8 @@ fn answer_words<R: Threads + Wait + Sync, F: FileSet, P: Write>(
 /// outcome into the folder. Where it is 2, either the run had no outcome, and nothing was opened; or the places of the
 /// tables hold what they held, and none is left under a name that ends in `.part`; or a file could not be renamed after another one
 /// was, and each table is the earlier one or the new one, whole: then there is the second line.
-pub fn perform<R: Threads + Wait + Sync, F: FileSet, P: Write, E: Write>(
-    rt: &R,
+pub fn perform<R: Threads + Wait + Sync, W: Watch, F: FileSet, P: Write, E: Write>(
+    host: &mut Host<'_, R, W>,
     alloc: Global,
     words: &[&str],
     files: &mut F,
@@ -405,10 +432,10 @@ pub fn perform<R: Threads + Wait + Sync, F: FileSet, P: Write, E: Write>(
     ensures told { result ≡ 2 → IsTold F.tells (map (λ w. w.now) words.now) (seen (F.held files.old) (F.opened files.old) (P.contents print.old)) (seen (F.held files.new) (F.opened files.new) (P.contents print.new)) (E.contents errors.old) (E.contents errors.new) }
     ensures silent { result ≢ 2 → E.contents errors.new ≡ E.contents errors.old }
 {
-    match answer_words(rt, alloc, words, files, print) {
+    match answer_words(host, alloc, words, files, print) {
         Ok(status) => status,
         Err(refusal) => {
-            let _ = tell(errors, refusal);
+            let _ = tell(errors, &refusal);
             REFUSED
         }
     }

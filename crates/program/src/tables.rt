@@ -1,22 +1,46 @@
 //! The tables of a run in a folder: each is written under a name of its own, and gets its place once all three are whole.
 
 ghost use Rattle.std.specs.Prelude.{◌≡◌, ◌++◌, ◌∷◌, [], Some, None, IfOk, IfErr, OnOk, OnErr, string_bytes};
-ghost use Rattle.program.specs.Files.{SameFiles, SameBut, IsRenamed, IsWriteFault};
-ghost use Rattle.program.specs.Tables.{fault_of, path_in, part_names, parts, SameApart, IsMoveIn, AreMovesIn, InFolder, commands_of, stats_of, final_of, HoldsParts, HasNoParts, IsWritten, IsPlaced, IsPartlyPlaced, IsKept, IsTornRefusal, IsLeftBy};
+ghost use Rattle.program.specs.Files.{SameFiles, SameBut, IsWriteFault};
+ghost use Rattle.program.specs.Tables.{fault_of, path_in, part_names, parts, SameApart, AreMovesIn, InFolder, commands_of, stats_of, final_of, HoldsParts, HasNoParts, IsWritten, IsPlaced, IsPartlyPlaced, IsKept, IsTornRefusal, IsLeftBy};
 
 use crate::files::FileSet;
+use crate::moves::{Move, discard_one, move_in, place_one};
+use crate::reason::Reason;
 use reports::{write_commands, write_final, write_stats};
 use sim_base::fault::Fault;
 use statistics::outcome::Outcome;
 use std::alloc::Global;
 
 /// Why the program refuses, and what it leaves of a run's tables.
-#[derive(Clone, Copy, PartialEq, Eq, Debug)]
+#[derive(Drop)]
 pub(crate) enum Refusal {
     /// What stands under the tables' names is what stood there before.
-    Kept(Fault),
+    Kept(Reason),
     /// A table could not be given its place after another one was.
-    Torn(Fault),
+    Torn(Reason),
+}
+
+impl Refusal {
+    /// Why.
+    pub(crate) fn reason(&self) -> &Reason
+        ensures { result.now ≡ fault_of self.now }
+    {
+        match self {
+            Refusal::Kept(reason) => reason,
+            Refusal::Torn(reason) => reason,
+        }
+    }
+}
+
+impl From<Reason> for Refusal {
+    ghost use Rattle.program.specs.declared.tables.Refusal.TheVariants.{Kept};
+
+    ghost from_gives = { λ fault r. r ≡ Kept fault };
+
+    fn from(reason: Reason) -> Refusal {
+        Refusal::Kept(reason)
+    }
 }
 
 impl From<Fault> for Refusal {
@@ -25,16 +49,8 @@ impl From<Fault> for Refusal {
     ghost from_gives = { λ fault r. r ≡ Kept fault };
 
     fn from(fault: Fault) -> Refusal {
-        Refusal::Kept(fault)
+        Refusal::Kept(Reason::from(fault))
     }
-}
-
-/// The path of a name in a folder.
-pub(crate) fn path_of(alloc: Global, folder: &str, name: &str) -> Result<String, Fault>
-    ensures path { IfOk result (λ s. string_bytes s ≡ path_in folder.now name.now) }
-    ensures fault { IfErr result (λ e. e ≡ Fault.Memory) }
-{
-    Ok(format!(in alloc; "{folder}/{name}")?)
 }
 
 fn stage_commands<F: FileSet>(
@@ -42,14 +58,16 @@ fn stage_commands<F: FileSet>(
     files: &mut F,
     path: &str,
     run: &Outcome,
-) -> Result<(), Fault>
+) -> Result<(), Reason>
     ensures whole { OnOk result (F.tells → F.held files.new path.now ≡ Some (commands_of run.now)) }
     ensures noted { OnOk result (F.tells → F.opened files.new ≡ F.opened files.old ++ path.now ∷ []) }
     ensures fault { IfErr result (λ e. IsWriteFault e) }
     ensures others { F.tells → SameBut path.now (F.held files.old) (F.held files.new) }
 {
     let mut table = files.create(alloc, path)?;
-    write_commands(alloc, run.ranks, &run.commands, &mut table)?;
+    if let Err(fault) = write_commands(alloc, run.ranks, &run.commands, &mut table) {
+        return Err(files.cause(alloc, path, &table, fault));
+    }
     files.close(alloc, path, table)
 }
 
@@ -58,14 +76,16 @@ fn stage_stats<F: FileSet>(
     files: &mut F,
     path: &str,
     run: &Outcome,
-) -> Result<(), Fault>
+) -> Result<(), Reason>
     ensures whole { OnOk result (F.tells → F.held files.new path.now ≡ Some (stats_of run.now)) }
     ensures noted { OnOk result (F.tells → F.opened files.new ≡ F.opened files.old ++ path.now ∷ []) }
     ensures fault { IfErr result (λ e. IsWriteFault e) }
     ensures others { F.tells → SameBut path.now (F.held files.old) (F.held files.new) }
 {
     let mut table = files.create(alloc, path)?;
-    write_stats(alloc, &run.stats, &mut table)?;
+    if let Err(fault) = write_stats(alloc, &run.stats, &mut table) {
+        return Err(files.cause(alloc, path, &table, fault));
+    }
     files.close(alloc, path, table)
 }
 
@@ -74,32 +94,17 @@ fn stage_final<F: FileSet>(
     files: &mut F,
     path: &str,
     run: &Outcome,
-) -> Result<(), Fault>
+) -> Result<(), Reason>
     ensures whole { OnOk result (F.tells → F.held files.new path.now ≡ Some (final_of run.now)) }
     ensures noted { OnOk result (F.tells → F.opened files.new ≡ F.opened files.old ++ path.now ∷ []) }
     ensures fault { IfErr result (λ e. IsWriteFault e) }
     ensures others { F.tells → SameBut path.now (F.held files.old) (F.held files.new) }
 {
     let mut table = files.create(alloc, path)?;
-    write_final(alloc, &run.last, run.ranks, &mut table)?;
+    if let Err(fault) = write_final(alloc, &run.last, run.ranks, &mut table) {
+        return Err(files.cause(alloc, path, &table, fault));
+    }
     files.close(alloc, path, table)
-}
-
-// A table's way to its place.
-#[derive(Drop)]
-struct Move {
-    from: String,
-    to: String,
-}
-
-fn move_of(alloc: Global, folder: &str, part: &str, name: &str) -> Result<Move, Fault>
-    ensures way { IfOk result (IsMoveIn folder.now part.now name.now) }
-    ensures fault { IfErr result (λ e. e ≡ Fault.Memory) }
-{
-    Ok(Move {
-        from: path_of(alloc, folder, part)?,
-        to: path_of(alloc, folder, name)?,
-    })
 }
 
 // The ways of all tables.
@@ -115,9 +120,9 @@ fn moves_of(alloc: Global, folder: &str) -> Result<Moves, Fault>
     ensures fault { IfErr result (λ e. e ≡ Fault.Memory) }
 {
     Ok(Moves {
-        commands: move_of(alloc, folder, "commands.csv.part", "commands.csv")?,
-        stats: move_of(alloc, folder, "stats.csv.part", "stats.csv")?,
-        last: move_of(alloc, folder, "final.csv.part", "final.csv")?,
+        commands: move_in(alloc, folder, "commands.csv.part", "commands.csv")?,
+        stats: move_in(alloc, folder, "stats.csv.part", "stats.csv")?,
+        last: move_in(alloc, folder, "final.csv.part", "final.csv")?,
     })
 }
 
@@ -127,7 +132,7 @@ fn stage<F: FileSet>(
     files: &mut F,
     moves: &Moves,
     run: &Outcome,
-) -> Result<(), Fault>
+) -> Result<(), Reason>
     ensures whole { OnOk result (InFolder moves.now (λ folder. F.tells → HoldsParts folder run.now (F.held files.new))) }
     ensures noted { OnOk result (InFolder moves.now (λ folder. F.tells → F.opened files.new ≡ F.opened files.old ++ parts folder)) }
     ensures fault { IfErr result (λ e. IsWriteFault e) }
@@ -139,7 +144,7 @@ fn stage<F: FileSet>(
 }
 
 // Tests whether each table could get its place.
-fn test_places<F: FileSet>(files: &mut F, moves: &Moves) -> Result<(), Fault>
+fn test_places<F: FileSet>(files: &mut F, moves: &Moves) -> Result<(), Reason>
     ensures fault { IfErr result (λ e. IsWriteFault e) }
     ensures same { F.tells → SameFiles (F.held files.old) (F.held files.new) }
     ensures unopened { F.tells → F.opened files.new ≡ F.opened files.old }
@@ -147,15 +152,6 @@ fn test_places<F: FileSet>(files: &mut F, moves: &Moves) -> Result<(), Fault>
     files.test_place(moves.commands.to.as_str())?;
     files.test_place(moves.stats.to.as_str())?;
     files.test_place(moves.last.to.as_str())
-}
-
-fn place_one<F: FileSet>(alloc: Global, files: &mut F, table: &Move) -> Result<(), Fault>
-    ensures renamed { OnOk result (F.tells → IsRenamed (string_bytes table.now.from) (string_bytes table.now.to) (F.held files.old) (F.held files.new)) }
-    ensures refused { OnErr result (F.tells → SameFiles (F.held files.old) (F.held files.new)) }
-    ensures fault { IfErr result (λ e. IsWriteFault e) }
-    ensures unopened { F.tells → F.opened files.new ≡ F.opened files.old }
-{
-    files.rename(alloc, table.from.as_str(), table.to.as_str())
 }
 
 // Gives the tables their places, one right after the other. What can be found before the first has its place refuses before that.
@@ -175,14 +171,6 @@ fn place<F: FileSet>(alloc: Global, files: &mut F, moves: &Moves) -> Result<(), 
         return Err(Refusal::Torn(fault));
     }
     Ok(())
-}
-
-// Removes what was written under a name that ends in `.part`, if it can be.
-fn discard_one<F: FileSet>(files: &mut F, table: &Move)
-    ensures gone { F.tells → F.held files.new (string_bytes table.now.from) ≡ None }
-    ensures others { F.tells → SameBut (string_bytes table.now.from) (F.held files.old) (F.held files.new) }
-{
-    let _ = files.remove(table.from.as_str());
 }
 
 // Removes all that was written under such names, in reverse order: where only the first is gone, the others are whole and wait for

@@ -3,14 +3,15 @@
 ghost use Rattle.std.specs.Prelude.{◌≡◌, ◌⊎◌, true, Some, None, Ok, IfOk, IfErr, IsOk, IsErr, map, codes};
 ghost use Rattle.clap.specs.Words.{Row, app_of, all_of, first_of, found_of, kind_of, one_of, rows_of, subcommand_rows_of};
 ghost use Rattle.sim_base.specs.TraceText.{number_of};
-ghost use Rattle.program.specs.Ask.{is_taken, IsCallForHelp, IsCount, IsCountText, IsFlag, IsNoAddress, IsCommand, IsCommandOf, IsCommandFault, IsHelp, IsHelpUnlessMemory, IsNoHelp, IsAskedBy, IsAnswerTo, IsWordsFault, GivesRun, GivesCheck, GivesMap, GivesShow, GivesAll};
+ghost use Rattle.program.specs.Ask.{is_taken, IsCallForHelp, IsCallForVersion, IsCount, IsCountText, IsCountOr, IsNoneOrCount, IsFlag, IsNoAddress, IsCommand, IsCommandOf, IsCommandFault, IsShown, IsHelpUnlessMemory, IsVersionUnlessMemory, IsNoHelp, IsAskedBy, IsAnswerTo, IsWordsFault, GivesRun, GivesCheck, GivesMap, GivesShow, GivesPage, GivesAll};
 
 use crate::command_line::program;
+use crate::reason::Reason;
 use clap::error::{Error, ErrorKind};
 use clap::{ArgMatches, Command};
 use cpu_trace::number::read_number;
 use sim_base::fault::Fault;
-use std::alloc::Global;
+use std::alloc::{AllocError, Global};
 
 /// What a command line asks for.
 #[derive(Debug, Drop)]
@@ -38,8 +39,17 @@ pub enum Ask<'a> {
         dir: &'a str,
         all: bool,
     },
+    /// `page DIR FILE [--from N] [--cycles N]`: draws the run whose tables are in a folder, and its commands in a window of cycles.
+    Page {
+        dir: &'a str,
+        file: &'a str,
+        from: u64,
+        cycles: u64,
+    },
     /// A call for help, with the text that answers it.
     Help(String),
+    /// A call for the version, with the text that answers it.
+    Version(String),
 }
 
 // The text of an argument.
@@ -61,6 +71,17 @@ fn count_of(found: &ArgMatches<'_>, id: &str) -> Result<u64, Fault>
     match found.get_one::<u64>(id) {
         Some(count) => Ok(count),
         None => Err(Fault::CommandLine),
+    }
+}
+
+// The number of an argument that may be left out.
+fn count_or(found: &ArgMatches<'_>, id: &str, absent: u64) -> Result<u64, Fault>
+    ensures given { IfOk result (IsCountOr absent (one_of id.now (rows_of (found_of found.now)))) }
+    ensures missing { IfErr result (λ e. (e ≡ Fault.CommandLine) × ¬ (IsNoneOrCount (one_of id.now (rows_of (found_of found.now))))) }
+{
+    match found.get_str(id) {
+        Some(_) => count_of(found, id),
+        None => Ok(absent),
     }
 }
 
@@ -140,6 +161,19 @@ fn show_ask<'a>(found: &ArgMatches<'a>) -> Result<Ask<'a>, Fault>
     })
 }
 
+fn page_ask<'a>(found: &ArgMatches<'a>) -> Result<Ask<'a>, Fault>
+    ensures asked { IfOk result (IsCommand (codes "page") (rows_of (found_of found.now))) }
+    ensures refused { GivesPage (rows_of (found_of found.now)) → IsOk result }
+    ensures fault { IfErr result (λ e. e ≡ Fault.CommandLine) }
+{
+    Ok(Ask::Page {
+        dir: text_of(found, "dir")?,
+        file: text_of(found, "file")?,
+        from: count_or(found, "from", 0)?,
+        cycles: count_or(found, "cycles", 2_000)?,
+    })
+}
+
 // What the matches of a command line ask for.
 fn ask_of<'a>(alloc: Global, matches: &ArgMatches<'a>) -> Result<Ask<'a>, Fault>
     ensures asked { IfOk result (IsCommandOf (subcommand_rows_of matches.now)) }
@@ -151,19 +185,50 @@ fn ask_of<'a>(alloc: Global, matches: &ArgMatches<'a>) -> Result<Ask<'a>, Fault>
         Some(("check", found)) => check_ask(found),
         Some(("map", found)) => map_ask(found),
         Some(("show", found)) => show_ask(found),
+        Some(("page", found)) => page_ask(found),
         _ => Err(Fault::CommandLine),
     }
 }
 
-// Why a command line refuses its words, or the text that answers a call for help.
-fn help_of<'a>(alloc: Global, error: Error) -> Result<Ask<'a>, Fault>
-    ensures help { IfOk result (λ ask. IsHelp ask × (kind_of error ≡ ErrorKind.DisplayHelp)) }
+// What explains an address that is no number.
+fn explain_address(alloc: Global, matches: &ArgMatches<'_>) -> Result<String, AllocError> {
+    match matches.subcommand() {
+        Some((_, found)) => match found.get_str("address") {
+            Some(text) => format!(in alloc;
+                "'{text}' is no ADDRESS: a decimal number, or a hexadecimal one after 0x, at most 18446744073709551615\n"
+            ),
+            None => Ok(String::new(alloc)),
+        },
+        None => Ok(String::new(alloc)),
+    }
+}
+
+// What the matches of a command line ask for, and why not.
+fn command_of<'a>(alloc: Global, matches: &ArgMatches<'a>) -> Result<Ask<'a>, Reason>
+    ensures asked { IfOk result (IsCommandOf (subcommand_rows_of matches.now)) }
+    ensures refused { GivesAll (subcommand_rows_of matches.now) → IfErr result (IsCommandFault (subcommand_rows_of matches.now)) }
+    ensures fault { IfErr result (λ e. IsWordsFault e) }
+{
+    match ask_of(alloc, matches) {
+        Ok(ask) => Ok(ask),
+        Err(Fault::CommandLine) => Err(Reason::explained(
+            Fault::CommandLine,
+            explain_address(alloc, matches),
+        )),
+        Err(fault) => Err(Reason::from(fault)),
+    }
+}
+
+// Why a command line refuses its words, or the text that answers a call for help or for the version.
+fn help_of<'a>(alloc: Global, error: Error) -> Result<Ask<'a>, Reason>
+    ensures shown { IfOk result (λ ask. IsShown ask (kind_of error)) }
     ensures refused { IfErr result (λ e. (e ≡ Fault.Memory) ⊎ ((e ≡ Fault.CommandLine) × IsNoHelp (kind_of error))) }
 {
     match error.kind() {
-        ErrorKind::OutOfMemory => Err(Fault::Memory),
+        ErrorKind::OutOfMemory => Err(Reason::from(Fault::Memory)),
         ErrorKind::DisplayHelp => Ok(Ask::Help(error.to_string(alloc)?)),
-        _ => Err(Fault::CommandLine),
+        ErrorKind::DisplayVersion => Ok(Ask::Version(error.to_string(alloc)?)),
+        _ => Err(Reason::explained(Fault::CommandLine, error.to_string(alloc))),
     }
 }
 
@@ -173,14 +238,15 @@ fn help_of<'a>(alloc: Global, error: Error) -> Result<Ask<'a>, Fault>
 ///
 /// `Fault::CommandLine` where the words are no command of `Ask`, or the address of a `map` is no number, and
 /// `Fault::Memory`.
-pub fn read_words<'a>(alloc: Global, words: &'a [&'a str]) -> Result<Ask<'a>, Fault>
+pub fn read_words<'a>(alloc: Global, words: &'a [&'a str]) -> Result<Ask<'a>, Reason>
     ensures asked { IfOk result (IsAskedBy (map (λ w. w.now) words.entry.now)) }
     ensures answered { is_taken (map (λ w. w.now) words.entry.now) ≡ true → IsAnswerTo (map (λ w. w.now) words.entry.now) result }
     ensures helped { IsCallForHelp (map (λ w. w.now) words.entry.now) → IsHelpUnlessMemory result }
+    ensures versioned { IsCallForVersion (map (λ w. w.now) words.entry.now) → IsVersionUnlessMemory result }
     ensures refused { IfErr result (λ e. IsWordsFault e) }
 {
     match program(alloc)?.try_get_matches_from(words) {
-        Ok(matches) => ask_of(alloc, &matches),
+        Ok(matches) => command_of(alloc, &matches),
         Err(error) => help_of(alloc, error),
     }
 }

@@ -80,10 +80,21 @@ static TABLES: [Group<'static>; 3] = [
         &[],
         "",
         &[
-            ("", (2, "", "fault 15: check row 0\n")),
+            (
+                "",
+                (
+                    2,
+                    "",
+                    "fault 15: check row 0\nt.csv: row 0 is missing\nthe header must be cycle,channel,command,group,bank,row,column,core,entry, with rank before group where a channel has several ranks\n",
+                ),
+            ),
             (
                 "cycle,channel,command,group,bank,row,column,core,entry\n2,0,act,0,0,0,,0,0\n",
-                (2, "", "fault 15: check row 1\n"),
+                (
+                    2,
+                    "",
+                    "fault 15: check row 1\nt.csv: row 1: 2,0,act,0,0,0,,0,0\n'act' is no command: ACT, RD, WR, PRE, PREA or REF may stand there\n",
+                ),
             ),
         ],
     ),

@@ -55,6 +55,24 @@ fn is_map(ask: &Ask<'_>) -> bool {
 
 const SHOW: &[&str] = &["dramsim", "show", "tables"];
 
+const PAGE: &[&str] = &["dramsim", "page", "tables", "run.html"];
+
+const PAGE_LATER: &[&str] = &[
+    "dramsim", "page", "tables", "run.html", "--cycles", "40", "--from", "7",
+];
+
+fn is_page(ask: &Ask<'_>, window: (u64, u64)) -> bool {
+    match ask {
+        Ask::Page {
+            dir,
+            file,
+            from,
+            cycles,
+        } => (*dir, *file) == ("tables", "run.html") && (*from, *cycles) == window,
+        _ => false,
+    }
+}
+
 const SHOW_ALL: &[&str] = &["dramsim", "show", "--all", "tables"];
 
 fn is_show(ask: &Ask<'_>, each: bool) -> bool {
@@ -71,6 +89,14 @@ fn is_help(ask: &Ask<'_>) -> bool {
     }
 }
 
+// The version; the line of the toolchain stands behind it.
+fn is_version(ask: &Ask<'_>) -> bool {
+    match ask {
+        Ask::Version(text) => text.as_str().starts_with("dramsim 0.1.0\n"),
+        _ => false,
+    }
+}
+
 /// What words ask for.
 #[derive(Clone, Copy)]
 enum Want {
@@ -79,7 +105,10 @@ enum Want {
     Map,
     Show,
     ShowAll,
+    Page,
+    PageLater,
     Help,
+    Version,
 }
 
 fn is_right(ask: &Ask<'_>, want: Want) -> bool {
@@ -89,18 +118,25 @@ fn is_right(ask: &Ask<'_>, want: Want) -> bool {
         Want::Map => is_map(ask),
         Want::Show => is_show(ask, false),
         Want::ShowAll => is_show(ask, true),
+        Want::Page => is_page(ask, (0, 2_000)),
+        Want::PageLater => is_page(ask, (7, 40)),
         Want::Help => is_help(ask),
+        Want::Version => is_version(ask),
     }
 }
 
-static WORDS: [(&[&str], Want); 7] = [
+static WORDS: [(&[&str], Want); 11] = [
     (RUN, Want::Run),
     (CHECK, Want::Check),
     (MAP, Want::Map),
     (SHOW, Want::Show),
     (SHOW_ALL, Want::ShowAll),
+    (PAGE, Want::Page),
+    (PAGE_LATER, Want::PageLater),
     (&["dramsim", "--help"], Want::Help),
     (&["dramsim", "help", "run"], Want::Help),
+    (&["dramsim", "--version"], Want::Version),
+    (&["dramsim", "-V"], Want::Version),
 ];
 
 #[test]
@@ -112,7 +148,7 @@ fn reads_words(rt: HostRuntime) -> Result<(), Fail> {
     Ok(())
 }
 
-static NO_WORDS: [(&str, &[&str]); 5] = [
+static NO_WORDS: [(&str, &[&str]); 6] = [
     ("no command", &["dramsim"]),
     ("no folder", &["dramsim", "show", "--all"]),
     (
@@ -129,6 +165,10 @@ static NO_WORDS: [(&str, &[&str]); 5] = [
             "tables",
         ],
     ),
+    (
+        "a word for a cycle",
+        &["dramsim", "page", "tables", "run.html", "--from", "one"],
+    ),
     ("a bad address", &["dramsim", "map", "c.toml", "+8192"]),
     (
         "a large address",
@@ -140,6 +180,7 @@ static NO_WORDS: [(&str, &[&str]); 5] = [
 fn refuses_other_words(rt: HostRuntime) {
     for (name, words) in &NO_WORDS {
         let refused = read_words(rt.alloc(), words).err();
+        let refused = refused.map(|reason| reason.fault());
         expect_at(&rt, &name, &refused, &Some(Fault::CommandLine));
     }
 }

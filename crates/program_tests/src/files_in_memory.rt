@@ -3,6 +3,7 @@
 ghost use Rattle.std.specs.Prelude.{◌≡◌, IfErr};
 
 use program::files::FileSet;
+use program::reason::Reason;
 use sim_base::fault::Fault;
 use std::alloc::{AllocError, Global};
 use std::collections::BTreeMap;
@@ -73,11 +74,13 @@ impl MemoryFiles {
         str::from_utf8(self.files.get(path)?).ok()
     }
 
-    fn test(&self, failure: Failure, path: &str) -> Result<(), Fault>
+    fn test(&self, failure: Failure, path: &str) -> Result<(), Reason>
         ensures { IfErr result (λ e. e ≡ Fault.Write) }
     {
         match self.failing {
-            Some((kind, name)) if kind == failure && name == path => Err(Fault::Write),
+            Some((kind, name)) if kind == failure && name == path => Err(Reason::from(
+                Fault::Write,
+            )),
             _ => Ok(()),
         }
     }
@@ -86,14 +89,14 @@ impl MemoryFiles {
 impl FileSet for MemoryFiles {
     type Out = MemoryOut;
 
-    fn read(&mut self, alloc: Global, path: &str) -> Result<Vec<u8>, Fault> {
+    fn read(&mut self, alloc: Global, path: &str) -> Result<Vec<u8>, Reason> {
         match self.files.get(path) {
             Some(bytes) => Ok(Vec::from_slice(alloc, bytes)?),
-            None => Err(Fault::Read),
+            None => Err(Reason::from(Fault::Read)),
         }
     }
 
-    fn create(&mut self, alloc: Global, path: &str) -> Result<MemoryOut, Fault> {
+    fn create(&mut self, alloc: Global, path: &str) -> Result<MemoryOut, Reason> {
         self.opened.push_str(path)?;
         self.opened.push_str(" ")?;
         self.test(Failure::Opening, path)?;
@@ -104,27 +107,27 @@ impl FileSet for MemoryFiles {
         })
     }
 
-    fn close(&mut self, alloc: Global, path: &str, out: MemoryOut) -> Result<(), Fault> {
+    fn close(&mut self, alloc: Global, path: &str, out: MemoryOut) -> Result<(), Reason> {
         self.test(Failure::Closing, path)?;
         Ok(self.put(alloc, path, out.bytes)?)
     }
 
-    fn test_place(&mut self, path: &str) -> Result<(), Fault> {
+    fn test_place(&mut self, path: &str) -> Result<(), Reason> {
         self.test(Failure::Placing, path)
     }
 
-    fn rename(&mut self, alloc: Global, from: &str, to: &str) -> Result<(), Fault> {
+    fn rename(&mut self, alloc: Global, from: &str, to: &str) -> Result<(), Reason> {
         self.test(Failure::Renaming, to)?;
         match self.files.remove(from) {
             Some(bytes) => Ok(self.put(alloc, to, bytes)?),
-            None => Err(Fault::Write),
+            None => Err(Reason::from(Fault::Write)),
         }
     }
 
-    fn remove(&mut self, path: &str) -> Result<(), Fault> {
+    fn remove(&mut self, path: &str) -> Result<(), Reason> {
         match self.files.remove(path) {
             Some(_) => Ok(()),
-            None => Err(Fault::Write),
+            None => Err(Reason::from(Fault::Write)),
         }
     }
 }

@@ -12,6 +12,7 @@ use std::sync::Wait;
 use std::test::Fail;
 use std::thread::Threads;
 use workers::gate::Open;
+use workers::watch::Unwatched;
 
 /// A cycle more than a run may have.
 const TOO_LONG: Cycle = 1_000_000_000_001;
@@ -33,10 +34,11 @@ fn refused<R: Threads + Wait + Sync>(
 ) -> Result<[Option<Fault>; 2], AllocError> {
     let texts = Texts::of(alloc, case.changes, "", case.traces)?;
     let run = texts.run(case.cycles);
-    let bytes = run.config.as_bytes();
+    let (bytes, cycles) = (run.config.as_bytes(), run.cycles);
     let texts = slices_of(alloc, run.texts)?;
-    let by_workers = simulate(rt, alloc, &Open, bytes, &texts, run.cycles, case.workers).err();
-    let plain = simulate_plain(rt, alloc, bytes, &texts, run.cycles, case.workers).err();
+    let watch = &mut Unwatched;
+    let by_workers = simulate(rt, alloc, &Open, watch, bytes, &texts, cycles, case.workers).err();
+    let plain = simulate_plain(rt, alloc, bytes, &texts, cycles, case.workers).err();
     Ok([by_workers, plain])
 }
 

@@ -28,6 +28,8 @@ mod merges;
 #[cfg(test)]
 mod outcomes;
 #[cfg(test)]
+mod pages;
+#[cfg(test)]
 mod phases;
 #[cfg(test)]
 mod program_runs;
@@ -47,6 +49,8 @@ mod shows;
 mod table_lines;
 #[cfg(test)]
 mod told_files;
+#[cfg(test)]
+mod watchers;
 #[cfg(test)]
 mod whole_tables;
 #[cfg(test)]

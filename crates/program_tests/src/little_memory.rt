@@ -12,6 +12,7 @@ use statistics::outcome::Outcome;
 use std::alloc::Global;
 use std::sync::Wait;
 use std::thread::Threads;
+use workers::watch::Unwatched;
 
 /// Whether these are the commands of one core that reads one line: an ACT in cycle 2 and an RD in cycle 5. Where the list of them is
 /// refused memory, that is not known.
@@ -45,7 +46,9 @@ fn is_right(alloc: Global, outcome: &Outcome) -> bool {
 /// Whether a run by so many workers gives what it is to give, or is refused for want of memory, or of a worker.
 fn is_right_or_refused<R: Threads + Wait + Sync>(rt: &R, alloc: Global, workers: u64) -> bool {
     let texts: [&[u8]; 1] = [b"0 0\n"];
-    match simulate(rt, alloc, &Watching, SMALL.as_bytes(), &texts, 16, workers) {
+    let watch = &mut Unwatched;
+    let config = SMALL.as_bytes();
+    match simulate(rt, alloc, &Watching, watch, config, &texts, 16, workers) {
         Ok(outcome) => is_right(alloc, &outcome),
         Err(fault) => fault == Fault::Memory || workers > 1 && fault == Fault::WorkerStart,
     }

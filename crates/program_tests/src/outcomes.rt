@@ -14,6 +14,7 @@ use std::process::Abort;
 use std::sync::Wait;
 use std::thread::Threads;
 use workers::gate::{Gate, Open};
+use workers::watch::{Unwatched, Watch};
 
 /// A gate that watches and does nothing: each unit that wakes in a phase has a job, also in a machine that is too small to be worth it.
 pub(crate) struct Watching;
@@ -97,6 +98,21 @@ pub(crate) fn plain_tables<R: Threads + Sync>(
     tables_of(alloc, &outcome)
 }
 
+/// The tables of a run by so many workers, which is watched.
+pub(crate) fn tables_watched<R: Threads + Wait + Sync, G: Gate + Sync, W: Watch>(
+    rt: &R,
+    alloc: Global,
+    gate: &G,
+    watch: &mut W,
+    run: &Run<'_>,
+    workers: u64,
+) -> Result<Vec<u8>, Fault> {
+    let bytes = run.config.as_bytes();
+    let texts = slices_of(alloc, run.texts)?;
+    let outcome = simulate(rt, alloc, gate, watch, bytes, &texts, run.cycles, workers)?;
+    tables_of(alloc, &outcome)
+}
+
 /// The tables of a run by so many workers.
 pub(crate) fn tables_by<R: Threads + Wait + Sync, G: Gate + Sync>(
     rt: &R,
@@ -105,10 +121,7 @@ pub(crate) fn tables_by<R: Threads + Wait + Sync, G: Gate + Sync>(
     run: &Run<'_>,
     workers: u64,
 ) -> Result<Vec<u8>, Fault> {
-    let bytes = run.config.as_bytes();
-    let texts = slices_of(alloc, run.texts)?;
-    let outcome = simulate(rt, alloc, gate, bytes, &texts, run.cycles, workers)?;
-    tables_of(alloc, &outcome)
+    tables_watched(rt, alloc, gate, &mut Unwatched, run, workers)
 }
 
 /// Whether a run by so many workers has the tables of the plain machine.

@@ -34,6 +34,7 @@ use workers::gate::{Gate, Open};
 use workers::group::{AtGate, Group, Results};
 use workers::machine::run_machine;
 use workers::runner::{Claims, Runner};
+use workers::watch::Unwatched;
 
 /// Four cores and two channels.
 static FOUR_CORES: [&str; 3] = [RANK_FIELD, "cores = 4", "channels = 2"];
@@ -170,7 +171,8 @@ fn did_under<R: Threads + Wait + Sync, G: Gate + Sync>(
     if traces.len() != usize::from(config.cores) {
         return Err(Fault::TraceCount);
     }
-    let outcome = run_machine(rt, alloc, gate, workers, config, traces, limit)?;
+    let watch = &mut Unwatched;
+    let outcome = run_machine(rt, alloc, gate, watch, workers, config, traces, limit)?;
     did(alloc, &outcome)
 }
 

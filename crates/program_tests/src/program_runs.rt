@@ -4,12 +4,14 @@ use crate::expect::expect_at;
 use crate::files_in_memory::MemoryFiles;
 use crate::worked_runs::Run;
 use fixtures::small::small_text;
+use program::host::Host;
 use program::perform::perform;
 use std::alloc::{AllocError, Global};
 use std::process::Abort;
 use std::sync::Wait;
 use std::test::Fail;
 use std::thread::Threads;
+use workers::watch::Unwatched;
 
 /// The header of a table of commands of one rank.
 pub(crate) const HEADER: &str = "cycle,channel,command,group,bank,row,column,core,entry\n";
@@ -52,7 +54,11 @@ pub(crate) fn said_to<R: Threads + Wait + Sync + AllocGlobal>(
     let words: Vec<&str> = line.split(' ').collect(alloc)?;
     let mut print = Vec::new(alloc);
     let mut errors = Vec::new(alloc);
-    let status = perform(rt, alloc, &words, files, &mut print, &mut errors);
+    let mut host = Host {
+        threads: rt,
+        watch: &mut Unwatched,
+    };
+    let status = perform(&mut host, alloc, &words, files, &mut print, &mut errors);
     Ok(Said {
         status,
         print,

@@ -37,7 +37,55 @@ fn assert_all_refused<R: Abort + Threads + Wait + Sync + AllocGlobal>(
 
 const ONE_WORKER: &str = "--cycles 64 --workers 1";
 
-static REFUSED: [Refused<'static>; 12] = [
+// What clap says of words.
+const NO_LIMIT: &str = "fault 14: command line
+error: invalid value 'ten' for '--cycles <N>': invalid digit found in string
+
+For more information, try '--help'.
+";
+
+const NO_TRACE: &str = "fault 14: command line
+error: the following required arguments were not provided:
+  <TRACE>...
+
+Usage: dramsim run --cycles <N> --workers <N> --out <DIR> <CONFIG> <TRACE>...
+
+For more information, try '--help'.
+";
+
+const NO_WORD: &str = "fault 14: command line
+error: unrecognized subcommand 'runn'
+
+  tip: a similar subcommand exists: 'run'
+
+Usage: dramsim <COMMAND>
+
+For more information, try '--help'.
+";
+
+const BAD_ADDRESS: &str = "fault 14: command line
+'8k' is no ADDRESS: a decimal number, or a hexadecimal one after 0x, at most 18446744073709551615
+";
+
+static REFUSED: [Refused<'static>; 14] = [
+    (
+        Run {
+            name: "no TOML",
+            changes: &["cores = = 1"],
+            ..ONE_READ
+        },
+        ONE_WORKER,
+        "fault 1: configuration is not TOML\nc.toml: line 1, column 9: invalid value, expected a string, number, boolean, date-time, array or inline table\ncores = = 1\n",
+    ),
+    (
+        Run {
+            name: "a word for a number",
+            changes: &["request_latency = \"soon\""],
+            ..ONE_READ
+        },
+        ONE_WORKER,
+        "fault 2: configuration key request_latency\nc.toml: request_latency = \"soon\", where an integer from 1 to 1000000 may stand\n",
+    ),
     (
         Run {
             name: "too few numbers",
@@ -45,7 +93,7 @@ static REFUSED: [Refused<'static>; 12] = [
             ..ONE_READ
         },
         ONE_WORKER,
-        "fault 5: trace 0 line 1 too-few\n",
+        "fault 5: trace 0 line 1 too-few\nt0:1: 3\nit has one number, where 'COUNT READ' or 'COUNT READ WRITE' may stand\n",
     ),
     (
         Run {
@@ -54,7 +102,7 @@ static REFUSED: [Refused<'static>; 12] = [
             ..ONE_READ
         },
         ONE_WORKER,
-        "fault 5: trace 0 line 1 too-many\n",
+        "fault 5: trace 0 line 1 too-many\nt0:1: 1 2 3 4\nit has 4 numbers, where 'COUNT READ' or 'COUNT READ WRITE' may stand\n",
     ),
     (
         Run {
@@ -63,7 +111,7 @@ static REFUSED: [Refused<'static>; 12] = [
             ..ONE_READ
         },
         ONE_WORKER,
-        "fault 5: trace 0 line 1 not-a-number\n",
+        "fault 5: trace 0 line 1 not-a-number\nt0:1: 1 x\n'x' is no number: decimal digits may stand there, or 0x and hexadecimal ones\n",
     ),
     (
         Run {
@@ -72,7 +120,7 @@ static REFUSED: [Refused<'static>; 12] = [
             ..ONE_READ
         },
         ONE_WORKER,
-        "fault 5: trace 0 line 1 too-large\n",
+        "fault 5: trace 0 line 1 too-large\nt0:1: 0 18446744073709551616\n18446744073709551616 is above 2^64 - 1 = 18446744073709551615, the greatest number that may stand there\n",
     ),
     (
         Run {
@@ -81,7 +129,7 @@ static REFUSED: [Refused<'static>; 12] = [
             ..ONE_READ
         },
         ONE_WORKER,
-        "fault 7: trace count\n",
+        "fault 7: trace count\n1 trace is named, and the configuration has 2 cores: name one for each core, the same file more than once if need be\n",
     ),
     (
         Run {
@@ -90,7 +138,7 @@ static REFUSED: [Refused<'static>; 12] = [
             ..ONE_READ
         },
         ONE_WORKER,
-        "fault 3: configuration range request_latency\n",
+        "fault 3: configuration range request_latency\nc.toml: request_latency = 0, where 1 to 1000000 may stand\n",
     ),
     (
         Run {
@@ -99,7 +147,7 @@ static REFUSED: [Refused<'static>; 12] = [
             ..ONE_READ
         },
         ONE_WORKER,
-        "fault 4: configuration relation 6\n",
+        "fault 4: configuration relation 6\nc.toml: nREFI = 0 or nREFI >= max(nRAS, nRTP, nCWL + 4 + nWR) + nRP + (ranks - 1)(nRP + 1) + nRFC + 1 does not hold: 34 is less than max(8, 2, 3 + 4 + 4) + 3 + (1 - 1)(3 + 1) + 20 + 1, which is 35\n",
     ),
     (
         Run {
@@ -107,7 +155,7 @@ static REFUSED: [Refused<'static>; 12] = [
             ..ONE_READ
         },
         "--cycles 64 --workers 0",
-        "fault 8: workers\n",
+        "fault 8: workers\n--workers 0, where 1 to 64 may stand\n",
     ),
     (
         Run {
@@ -115,7 +163,7 @@ static REFUSED: [Refused<'static>; 12] = [
             ..ONE_READ
         },
         "--cycles 64 --workers 65",
-        "fault 8: workers\n",
+        "fault 8: workers\n--workers 65, where 1 to 64 may stand\n",
     ),
     (
         Run {
@@ -123,7 +171,7 @@ static REFUSED: [Refused<'static>; 12] = [
             ..ONE_READ
         },
         "--cycles 1000000000001 --workers 1",
-        "fault 9: cycles\n",
+        "fault 9: cycles\n--cycles 1000000000001, where 0 to 1000000000000 may stand\n",
     ),
     (
         Run {
@@ -131,7 +179,7 @@ static REFUSED: [Refused<'static>; 12] = [
             ..ONE_READ
         },
         "--cycles ten --workers 1",
-        "fault 14: command line\n",
+        NO_LIMIT,
     ),
     (
         Run {
@@ -140,7 +188,7 @@ static REFUSED: [Refused<'static>; 12] = [
             ..ONE_READ
         },
         ONE_WORKER,
-        "fault 14: command line\n",
+        NO_TRACE,
     ),
 ];
 
@@ -157,7 +205,7 @@ fn said_of<R: Threads + Wait + Sync + AllocGlobal>(rt: &R, line: &str) -> Result
 }
 
 // The places of addresses, and files that are not there.
-static LINES: [(&str, (u8, &str, &str)); 5] = [
+static LINES: [(&str, (u8, &str, &str)); 7] = [
     (
         "dramsim map c.toml 18446744073709551615",
         (0, "channel 0 group 1 bank 3 row 65535 column 127\n", ""),
@@ -166,7 +214,16 @@ static LINES: [(&str, (u8, &str, &str)); 5] = [
         "dramsim map c.toml 8192",
         (0, "channel 0 group 1 bank 0 row 0 column 0\n", ""),
     ),
-    ("dramsim map c.toml 8k", (2, "", "fault 14: command line\n")),
+    ("dramsim map c.toml 8k", (2, "", BAD_ADDRESS)),
+    ("dramsim runn", (2, "", NO_WORD)),
+    (
+        "dramsim --version",
+        (
+            0,
+            "dramsim 0.1.0\nrattle-kit-13f logic dac8208d650f15bf\n",
+            "",
+        ),
+    ),
     ("dramsim map gone.toml 0", (2, "", "fault 13: read\n")),
     (
         "dramsim check gone.toml gone.csv",

@@ -4,7 +4,7 @@ use crate::files_in_memory::MemoryFiles;
 use crate::program_runs::said_to;
 use std::test::Fail;
 
-const TABLE: &str = "scope,id,name,value
+pub(crate) const TABLE: &str = "scope,id,name,value
 run,0,cycles,16
 core,0,issued,1
 core,0,retired,1
@@ -43,6 +43,23 @@ core  retired  per cycle  reads  latency (cycles)  end %  width %  window %  mem
    0        1      0.063      1              15.0  100.0      0.0       0.0       0.0       0.0
 ";
 
+const NO_FOLDER: &str = "fault 14: command line
+error: the following required arguments were not provided:
+  <DIR>
+
+Usage: dramsim show <DIR>
+
+For more information, try '--help'.
+";
+
+const TWO_FOLDERS: &str = "fault 14: command line
+error: unexpected argument 'cut' found
+
+Usage: dramsim show [OPTIONS] <DIR>
+
+For more information, try '--help'.
+";
+
 #[test]
 fn shows_a_run(rt: HostRuntime) -> Result<(), Fail> {
     let alloc = rt.alloc();
@@ -54,9 +71,16 @@ fn shows_a_run(rt: HostRuntime) -> Result<(), Fail> {
         ("dramsim show out --all", (0, SCREEN, "")),
         ("dramsim show --all out", (0, SCREEN, "")),
         ("dramsim show none", (2, "", "fault 13: read\n")),
-        ("dramsim show cut", (2, "", "fault 15: check row 1\n")),
-        ("dramsim show", (2, "", "fault 14: command line\n")),
-        ("dramsim show out cut", (2, "", "fault 14: command line\n")),
+        (
+            "dramsim show cut",
+            (
+                2,
+                "",
+                "fault 15: check row 1\ncut/stats.csv: row 1 is missing\n",
+            ),
+        ),
+        ("dramsim show", (2, "", NO_FOLDER)),
+        ("dramsim show out cut", (2, "", TWO_FOLDERS)),
     ] {
         let said = said_to(&rt, &mut files, words)?;
         said.assert_is(&rt, words, want);

@@ -6,13 +6,16 @@ ghost use Rattle.program.specs.Answered.{seen, IsAnswered, IsRefused};
 
 use fixtures::small::SMALL;
 use program::files::FileSet;
+use program::host::Host;
 use program::perform::perform;
+use program::reason::Reason;
 use sim_base::fault::Fault;
 use std::alloc::{AllocError, Global};
 use std::collections::BTreeMap;
 use std::sync::Wait;
 use std::test::Fail;
 use std::thread::Threads;
+use workers::watch::Unwatched;
 
 /// Files in memory, of which what is written is there once it is closed.
 #[derive(Drop)]
@@ -30,44 +33,44 @@ impl FileSet for ToldFiles {
 
     ghost opened = { λ set. map string_bytes set.opened.items };
 
-    fn read(&mut self, alloc: Global, path: &str) -> Result<Vec<u8>, Fault> {
+    fn read(&mut self, alloc: Global, path: &str) -> Result<Vec<u8>, Reason> {
         match self.files.get(path) {
             Some(bytes) => match Vec::from_slice(alloc, bytes) {
                 Ok(bytes) => Ok(bytes),
-                Err(_) => Err(Fault::Memory),
+                Err(_) => Err(Reason::from(Fault::Memory)),
             },
-            None => Err(Fault::Read),
+            None => Err(Reason::from(Fault::Read)),
         }
     }
 
-    fn create(&mut self, alloc: Global, path: &str) -> Result<Vec<u8>, Fault> {
+    fn create(&mut self, alloc: Global, path: &str) -> Result<Vec<u8>, Reason> {
         let name = String::from_str(alloc, path)?;
         match self.opened.push(name) {
             Ok(()) => Ok(Vec::new(alloc)),
-            Err(_) => Err(Fault::Memory),
+            Err(_) => Err(Reason::from(Fault::Memory)),
         }
     }
 
-    fn close(&mut self, alloc: Global, path: &str, out: Vec<u8>) -> Result<(), Fault> {
+    fn close(&mut self, alloc: Global, path: &str, out: Vec<u8>) -> Result<(), Reason> {
         let key = String::from_str(alloc, path)?;
         match self.files.insert(key, out) {
             Ok(_) => Ok(()),
-            Err(_) => Err(Fault::Memory),
+            Err(_) => Err(Reason::from(Fault::Memory)),
         }
     }
 
-    fn test_place(&mut self, _path: &str) -> Result<(), Fault> {
+    fn test_place(&mut self, _path: &str) -> Result<(), Reason> {
         Ok(())
     }
 
-    fn rename(&mut self, alloc: Global, from: &str, to: &str) -> Result<(), Fault> {
+    fn rename(&mut self, alloc: Global, from: &str, to: &str) -> Result<(), Reason> {
         let key = String::from_str(alloc, to)?;
         let Some(bytes) = self.files.get(from) else {
-            return Err(Fault::Write);
+            return Err(Reason::from(Fault::Write));
         };
         let copy = Vec::from_slice(alloc, bytes)?;
         let Ok(_) = self.files.insert(key, copy) else {
-            return Err(Fault::Memory);
+            return Err(Reason::from(Fault::Memory));
         };
         if from != to {
             let _ = self.files.remove(from);
@@ -75,10 +78,10 @@ impl FileSet for ToldFiles {
         Ok(())
     }
 
-    fn remove(&mut self, path: &str) -> Result<(), Fault> {
+    fn remove(&mut self, path: &str) -> Result<(), Reason> {
         match self.files.remove(path) {
             Some(_) => Ok(()),
-            None => Err(Fault::Write),
+            None => Err(Reason::from(Fault::Write)),
         }
     }
 }
@@ -95,7 +98,11 @@ fn perform_told<R: Threads + Wait + Sync>(
     ensures answered { result ≢ 2 → IsAnswered (map (λ w. w.now) words.now) result (seen (⟦<ToldFiles as FileSet>⟧.held files.old) (⟦<ToldFiles as FileSet>⟧.opened files.old) (Some print.old.items)) (seen (⟦<ToldFiles as FileSet>⟧.held files.new) (⟦<ToldFiles as FileSet>⟧.opened files.new) (Some print.new.items)) }
     ensures refused { result ≡ 2 → IsRefused (map (λ w. w.now) words.now) (seen (⟦<ToldFiles as FileSet>⟧.held files.old) (⟦<ToldFiles as FileSet>⟧.opened files.old) (Some print.old.items)) (seen (⟦<ToldFiles as FileSet>⟧.held files.new) (⟦<ToldFiles as FileSet>⟧.opened files.new) (Some print.new.items)) }
 {
-    perform(rt, alloc, words, files, print, errors)
+    let mut host = Host {
+        threads: rt,
+        watch: &mut Unwatched,
+    };
+    perform(&mut host, alloc, words, files, print, errors)
 }
 
 fn files_of(alloc: Global, texts: &[(&str, &str)]) -> Result<ToldFiles, AllocError> {

@@ -127,6 +127,25 @@ fn write_command<W: Write>(
     table.write_row(start, writer)
 }
 
+// The header, and then each command.
+fn write_rows<W: Write>(
+    alloc: Global,
+    table: &mut Table,
+    ranks: u32,
+    commands: &CommandTable,
+    writer: &mut W,
+) -> Result<(), Fault>
+    ensures written { OnOk result (Appends (held W.contents writer.old table.old) (held W.contents writer.new table.new) (commands_text ranks commands.now)) }
+    ensures refused { IfErr result (λ e. IsReportFault e) }
+{
+    write_header(table, ranks, writer)?;
+    let mut rows = commands.rows(alloc)?;
+    while let Some(row) = rows.next() {
+        write_command(table, ranks, &row, writer)?;
+    }
+    Ok(())
+}
+
 /// Writes the table of commands: a header, and then a row for each command, in their order.
 ///
 /// Where `ranks` is above 1 the table has a column for the rank. The memory that the call takes is that of a batch
@@ -146,10 +165,6 @@ pub fn write_commands<W: Write>(
     ensures refused { IfErr result (λ e. IsReportFault e) }
 {
     let mut table = Table::new(alloc);
-    write_header(&mut table, ranks, writer)?;
-    let mut rows = commands.rows(alloc)?;
-    while let Some(row) = rows.next() {
-        write_command(&mut table, ranks, &row, writer)?;
-    }
+    write_rows(alloc, &mut table, ranks, commands, writer)?;
     table.finish(writer)
 }

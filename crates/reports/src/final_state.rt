@@ -401,6 +401,24 @@ fn write_in_flight<W: Write>(
     Ok(())
 }
 
+// The header, and then each core, each channel and each message in flight.
+fn write_rows<W: Write>(
+    table: &mut Table,
+    state: &FinalState,
+    ranks: u32,
+    writer: &mut W,
+) -> Result<(), Fault>
+    ensures written { OnOk result (Appends (held W.contents writer.old table.old) (held W.contents writer.new table.new) (final_text ranks state.now)) }
+    ensures refused { IfErr result (λ e. IsReportFault e) }
+{
+    write_header(table, ranks, writer)?;
+    write_progress_of_all(table, ranks, &state.cores, writer)?;
+    write_credits_of_all(table, ranks, &state.cores, writer)?;
+    write_channels(table, ranks, &state.channels, writer)?;
+    let channels = state.channels.len() as u64;
+    write_in_flight(table, ranks, channels, &state.in_flight, writer)
+}
+
 /// Writes the table of the state in which a run ends: a header; the entries that each core issued and retired; the credits
 /// that each core holds for each channel; for each channel the refreshes that are due by rank, the open rows and the queue;
 /// and the messages in flight. Fields that a row does not have are empty.
@@ -422,11 +440,6 @@ pub fn write_final<W: Write>(
     ensures refused { IfErr result (λ e. IsReportFault e) }
 {
     let mut table = Table::new(alloc);
-    write_header(&mut table, ranks, writer)?;
-    write_progress_of_all(&mut table, ranks, &state.cores, writer)?;
-    write_credits_of_all(&mut table, ranks, &state.cores, writer)?;
-    write_channels(&mut table, ranks, &state.channels, writer)?;
-    let channels = state.channels.len() as u64;
-    write_in_flight(&mut table, ranks, channels, &state.in_flight, writer)?;
+    write_rows(&mut table, state, ranks, writer)?;
     table.finish(writer)
 }

@@ -166,6 +166,19 @@ fn write_channels<W: Write>(
     Ok(())
 }
 
+// The header, how many cycles there were, and then each core and each channel.
+fn write_rows<W: Write>(table: &mut Table, stats: &Stats, writer: &mut W) -> Result<(), Fault>
+    ensures written { OnOk result (Appends (held W.contents writer.old table.old) (held W.contents writer.new table.new) (stats_text stats.now)) }
+    ensures refused { IfErr result (λ e. IsReportFault e) }
+{
+    let start = put_last_word(&mut table.line, b"scope,id,name,value");
+    table.write_row(start, writer)?;
+    let cycles = Some(u128::from(stats.cycles));
+    write_count(table, b"run", 0, b"cycles", cycles, writer)?;
+    write_cores(table, &stats.cores, writer)?;
+    write_channels(table, &stats.channels, writer)
+}
+
 /// Writes the table of statistics: a header, how many cycles there were, and then a row for each count of each core and of
 /// each channel, by number. A channel that may drain its writes has a row `draining` after all others.
 ///
@@ -181,11 +194,6 @@ pub fn write_stats<W: Write>(alloc: Global, stats: &Stats, writer: &mut W) -> Re
     ensures refused { IfErr result (λ e. IsReportFault e) }
 {
     let mut table = Table::new(alloc);
-    let start = put_last_word(&mut table.line, b"scope,id,name,value");
-    table.write_row(start, writer)?;
-    let cycles = Some(u128::from(stats.cycles));
-    write_count(&mut table, b"run", 0, b"cycles", cycles, writer)?;
-    write_cores(&mut table, &stats.cores, writer)?;
-    write_channels(&mut table, &stats.channels, writer)?;
+    write_rows(&mut table, stats, writer)?;
     table.finish(writer)
 }

@@ -100,16 +100,6 @@ kept-more c after s history i n h =
           ∙ rank-more s history i k;
     }
 
--- NO ROWS
-
-bank-none : (b : BankId) → bank_past [] b ≡ record { latest = nothing; row = None }
-unfolding latest_where open_row
-bank-none b = refl
-
-group-none : (rank group : ℕ) → group_past [] rank group ≡ record { within = nothing; across = nothing }
-unfolding latest_where
-group-none rank group = refl
-
 -- WHAT IS READ
 
 bank_numbered-number_of : (bank : BankId) → bank.group < 4 → bank.bank < 4 → bank_numbered (number_of bank) ≡ bank
@@ -263,7 +253,7 @@ latest_where-never : (history : List CommandRow) → latest_where (λ e. false) 
 unfolding latest_where
 latest_where-never history = fold-never history nothing
 
-latest_of-nothing : (which : Kind) → latest_of nothing which ≡ None
+pub latest_of-nothing : (which : Kind) → latest_of nothing which ≡ None
 latest_of-nothing kind.Act = refl
 latest_of-nothing kind.Rd = refl
 latest_of-nothing kind.Wr = refl

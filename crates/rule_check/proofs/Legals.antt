@@ -1,5 +1,5 @@
 -- A table is legal just where it has the header, no malformed record, and each row keeps every rule.
-use Rattle.std.proofs.Common.{◌≡◌, ℕ, zero, suc, ◌+◌, ◌<◌, ◌≤◌, ◌↔◌, ◌++◌, ◌∙◌, Bool, true, false, cond, List, [], ◌∷◌, length, get_or, take, map, Option, Some, None, Result, Ok, Err, refl, sym, ap, arith, inl, inr, append_assoc, append-nil}
+use Rattle.std.proofs.Common.{◌≡◌, ℕ, zero, suc, ◌+◌, ◌<◌, ◌≤◌, ◌↔◌, ◌++◌, ◌∙◌, Bool, true, false, cond, List, [], ◌∷◌, length, get_or, take, map, Option, Some, None, Result, Ok, Err, IfOk, refl, sym, ap, arith, inl, inr, append_assoc, append-nil}
 use Rattle.std.specs.Prelude.{find}
 use Rattle.std.specs.List.{range_with_len}
 use Rattle.std.proofs.lemmas.Bool.{cases_eq}
@@ -116,6 +116,12 @@ table-legal s table h =
     ∙ kept-legal s [] 1 h.others h.rows h.well_formed h.keeps_rules
 
 -- the verdict is that a table is legal just where it is
-pub legal_just_where : (s : Config) (table : List (List (List ℕ))) (v : Verdict) → verdict s table ≡ Ok v → (v ≡ Legal) ↔ IsLegalTable s table
+legal_just_where : (s : Config) (table : List (List (List ℕ))) (v : Verdict) → verdict s table ≡ Ok v → (v ≡ Legal) ↔ IsLegalTable s table
 legal_just_where s table v e =
     (λ h. legal-table s table (e ∙ ap (λ (w : Verdict). Ok w) h), λ h. let same : Ok v ≡ Ok Legal = sym e ∙ table-legal s table h in cc same)
+
+-- the same of an answer that is the verdict
+pub legal_if_ok : (s : Config) (table : List (List (List ℕ))) (answer : Result Verdict Fault) → IfOk answer (λ v. verdict s table ≡ Ok v)
+    → IfOk answer (λ v. (v ≡ Legal) ↔ IsLegalTable s table)
+legal_if_ok s table (Ok v) e = legal_just_where s table v e
+legal_if_ok s table (Err f) e = tt

@@ -1,12 +1,15 @@
--- The latest commands around a bank: those that a rule may bind to one that names it.
+-- The latest commands around a command: those that a rule may bind to it.
 --     latest_at around scope      the latest that a rule of this scope binds
---     IsAround around channel bank      an `Around` has what is kept of a channel for a bank
-use Rattle.std.specs.Prelude.{◌≡◌, Some}
+--     is_ahead_by around which now r      a command of a kind comes too soon in a cycle, by a rule
+--     IsAround around channel rank bank      an `Around` has what is kept of a channel for a command in a rank, which names this bank, if it names one
+use Rattle.std.specs.Prelude.{ℕ, ◌≡◌, ◌&&◌, Bool, Option}
 use Rattle.sim_base.specs.declared.place.BankId.{BankId}
 use Rattle.sim_base.specs.declared.command.Kind.{Kind}
+use Rattle.sim_base.specs.declared.rule.Rule.{Rule}
 use Rattle.sim_base.specs.declared.rule.Scope.{Scope}
 use Rattle.sim_base.specs.declared.rule.Scope.TheVariants.{InBank, InGroup, AcrossGroups, InRank, AcrossRanks}
-use Rattle.rule_check.specs.Kept.{latest_of, kept}
+use Rattle.sim_base.specs.Rules.{is_kind}
+use Rattle.rule_check.specs.Kept.{latest_of, is_ahead, kept}
 use Rattle.rule_check.specs.declared.latest.Latest.{Latest}
 use Rattle.rule_check.specs.declared.around.Around.{Around}
 use Rattle.rule_check.specs.declared.state.Channel.{Channel}
@@ -19,6 +22,10 @@ latest_at around AcrossGroups = around.other_groups.now
 latest_at around InRank = around.rank.now
 latest_at around AcrossRanks = around.other_ranks.now
 
--- an `Around` has what is kept of a channel for a bank
-pub record IsAround (around : Around) (c : Channel) (bank : BankId) : Type 0 where
-  pub each : (scope : Scope) (which : Kind) → latest_of (latest_at around scope) which ≡ kept c scope which bank.rank (Some bank)
+-- a command of a kind comes too soon in a cycle, by a rule
+abbrev pub is_ahead_by : Around → Kind → ℕ → Rule → Bool
+is_ahead_by around which now r = is_kind r.later which && is_ahead now r.cycles (latest_of (latest_at around r.scope) r.earlier)
+
+-- an `Around` has what is kept of a channel for such a command
+pub record IsAround (around : Around) (c : Channel) (rank : ℕ) (bank : Option BankId) : Type 0 where
+  pub each : (scope : Scope) (which : Kind) → latest_of (latest_at around scope) which ≡ kept c scope which rank bank

@@ -1,6 +1,5 @@
 -- What is kept of the rows of a channel, in place of the rows themselves.
---     relation_to earlier rank bank      how the banks of an earlier command lie to those of one in a rank, which names this bank, if it names one
---     lies scope rank bank earlier      a rule of this scope binds an earlier command to such a one, if it binds their kinds
+--     lies scope rank bank earlier      a rule of this scope binds an earlier command to one in a rank, which names this bank, if it names one, and if it binds their kinds
 --     latest_where p history      the latest cycle of each kind of command, among those of which p holds
 --     bank_past, group_past, rank_past      what the rows of a channel make of a bank, of a group and of a rank
 --     bank_after, group_after, rank_after      what one row more makes of them
@@ -17,15 +16,14 @@ use Rattle.sim_base.specs.declared.rule.Scope.{Scope}
 use Rattle.sim_base.specs.declared.rule.Scope.TheVariants.{InBank, InGroup, AcrossGroups, InRank, AcrossRanks}
 use Rattle.sim_base.specs.declared.command.Kind.{Kind}
 use Rattle.sim_base.specs.declared.command.Kind.TheVariants as kind
-use Rattle.sim_base.specs.declared.command.Relation.{Relation}
-use Rattle.sim_base.specs.declared.command.Relation.TheVariants.{OtherRank}
 use Rattle.sim_base.specs.declared.command.Command.{Command}
 use Rattle.sim_base.specs.declared.command.Command.TheVariants.{Act, Rd, Wr, Pre, Prea, Ref}
 use Rattle.sim_base.specs.declared.command.CommandRow.{CommandRow}
 use Rattle.sim_base.specs.Config.{refresh_slack}
 use Rattle.sim_base.specs.History.{below}
-use Rattle.sim_base.specs.Rules.{is_kind, kind_of, rank_of, bank_of, relation_in_rank, covers, row_after, open_row, is_row}
+use Rattle.sim_base.specs.Rules.{is_kind, kind_of, rank_of, bank_of, covers, row_after, open_row, is_row}
 use Rattle.sim_base.specs.Scheduling.{refreshes}
+use Rattle.timing.specs.Relation.{relation_to}
 use Rattle.rule_check.specs.Numbers.{number_limit}
 use Rattle.rule_check.specs.declared.latest.Latest.{Latest}
 use Rattle.rule_check.specs.declared.window.Window.{Window}
@@ -34,11 +32,7 @@ use Rattle.rule_check.specs.declared.state.Group.{Group}
 use Rattle.rule_check.specs.declared.state.Rank.{Rank}
 use Rattle.rule_check.specs.declared.state.Channel.{Channel}
 
--- how the banks of a command lie to those of a later one in a rank, which names this bank, if it names one
-abbrev pub relation_to : Command → ℕ → Option BankId → Relation
-relation_to earlier rank bank = if rank_of earlier == rank then relation_in_rank (bank_of earlier) bank else OtherRank
-
--- a rule of this scope binds it to such a one, if it binds their kinds
+-- a rule of this scope binds a command to a later one in a rank, which names this bank, if it names one, and if the rule binds their kinds
 abbrev pub lies : Scope → ℕ → Option BankId → Command → Bool
 lies scope rank bank earlier = covers scope (relation_to earlier rank bank)
 

@@ -1,20 +1,19 @@
-//! What is kept of the commands around a bank: those that a rule may bind to one that names it.
+//! What is kept of the commands around a command: those that a rule may bind to it.
 
-ghost use Rattle.std.specs.Prelude.{◌≡◌, ◌&&◌, IfSome};
-ghost use Rattle.std.specs.List.{list_any};
-ghost use Rattle.sim_base.specs.Rules.{is_kind};
-ghost use Rattle.rule_check.specs.Kept.{latest_of, is_ahead};
-ghost use Rattle.rule_check.specs.Around.{latest_at, IsAround};
+ghost use Rattle.std.specs.Prelude.{◌≡◌, slice_get, unwrap_or};
+ghost use Rattle.sim_base.specs.Rules.{is_kind, rank_of, bank_of};
+ghost use Rattle.rule_check.specs.Kept.{number_of, group_number};
+ghost use Rattle.rule_check.specs.Around.{latest_at, is_ahead_by, IsAround};
 
 use crate::channel::{group_number, number_of};
 use crate::latest::{Latest, is_ahead, latest_of};
 use crate::rules::is_same_kind;
-use crate::state::Channel;
-use sim_base::command::Kind;
+use crate::state::{Bank, Channel, Group, NEW_BANK, NEW_GROUP, NEW_RANK, Rank};
+use sim_base::command::{Command, Kind};
 use sim_base::place::BankId;
 use sim_base::rule::{Rule, Scope};
 
-/// The latest commands that a rule of each scope binds to one that names a bank.
+/// The latest commands that a rule of each scope binds to a later one.
 #[derive(Clone, Copy)]
 pub(crate) struct Around<'c> {
     bank: &'c Latest,
@@ -24,44 +23,73 @@ pub(crate) struct Around<'c> {
     other_ranks: &'c Latest,
 }
 
-/// The latest commands around a bank, if the channel has it.
-pub(crate) fn around_bank<'c>(channel: &'c Channel, bank: BankId) -> Option<Around<'c>>
-    ensures { IfSome result (λ around. IsAround around channel.now bank) }
+/// What is kept of a bank; that of a new one, where there is none.
+pub(crate) fn bank_at(banks: &[Bank], bank: BankId) -> &Bank
+    ensures { result.now ≡ unwrap_or (slice_get banks.now (number_of bank)) NEW_BANK }
 {
-    let own = channel.banks.get(number_of(bank))?;
-    let group = channel.groups.get(group_number(bank))?;
-    let rank = channel.ranks.get(bank.rank as usize)?;
-    Some(Around {
-        bank: &own.latest,
-        group: &group.within,
-        other_groups: &group.across,
-        rank: &rank.within,
-        other_ranks: &rank.across,
-    })
+    banks.get(number_of(bank)).unwrap_or(&NEW_BANK)
 }
 
-fn latest_at(around: Around<'_>, scope: Scope, kind: Kind) -> Option<u64>
-    ensures { result ≡ latest_of (latest_at around.entry scope) kind }
+fn group_at(groups: &[Group], bank: BankId) -> &Group
+    ensures { result.now ≡ unwrap_or (slice_get groups.now (group_number bank)) NEW_GROUP }
 {
-    match scope {
-        Scope::InBank => latest_of(around.bank, kind),
-        Scope::InGroup => latest_of(around.group, kind),
-        Scope::AcrossGroups => latest_of(around.other_groups, kind),
-        Scope::InRank => latest_of(around.rank, kind),
-        Scope::AcrossRanks => latest_of(around.other_ranks, kind),
+    groups.get(group_number(bank)).unwrap_or(&NEW_GROUP)
+}
+
+/// What is kept of a rank; that of a new one, where there is none.
+pub(crate) fn rank_at(ranks: &[Rank], rank: u32) -> &Rank
+    ensures { result.now ≡ unwrap_or (slice_get ranks.now rank) NEW_RANK }
+{
+    ranks.get(rank as usize).unwrap_or(&NEW_RANK)
+}
+
+/// The latest commands around a command.
+pub(crate) fn around_command(channel: &Channel, command: Command) -> Around<'_>
+    ensures { IsAround result channel.now (rank_of command) (bank_of command) }
+{
+    let rank = rank_at(&channel.ranks, command.rank());
+    match command.bank() {
+        Some(bank) => {
+            let group = group_at(&channel.groups, bank);
+            Around {
+                bank: &bank_at(&channel.banks, bank).latest,
+                group: &group.within,
+                other_groups: &group.across,
+                rank: &rank.within,
+                other_ranks: &rank.across,
+            }
+        }
+        None => Around {
+            bank: &rank.within,
+            group: &rank.within,
+            other_groups: &NEW_GROUP.across,
+            rank: &rank.within,
+            other_ranks: &rank.across,
+        },
     }
 }
 
-/// Whether a command of a kind comes too soon in a cycle, by one of these rules.
-pub(crate) fn is_any_ahead(around: Around<'_>, table: &[Rule], kind: Kind, now: u64) -> bool
-    ensures { result ≡ list_any (λ r. is_kind r.later kind && is_ahead now r.cycles (latest_of (latest_at around.entry r.scope) r.earlier)) table.now }
+fn latest_at(around: Around<'_>, scope: Scope) -> &Latest
+    ensures { result.now ≡ latest_at around.entry scope }
 {
-    table.iter().any(|rule| {
-        is_same_kind(rule.later, kind)
-            && is_ahead(
-                now,
-                rule.cycles,
-                latest_at(around, rule.scope, rule.earlier),
-            )
-    })
+    match scope {
+        Scope::InBank => around.bank,
+        Scope::InGroup => around.group,
+        Scope::AcrossGroups => around.other_groups,
+        Scope::InRank => around.rank,
+        Scope::AcrossRanks => around.other_ranks,
+    }
+}
+
+/// Whether a command of a kind comes too soon in a cycle, by a rule.
+#[inline(always)]
+pub(crate) fn is_ahead_by(around: Around<'_>, rule: &Rule, kind: Kind, now: u64) -> bool
+    ensures { result ≡ is_ahead_by around.entry kind now rule.now }
+{
+    is_same_kind(rule.later, kind)
+        && is_ahead(
+            now,
+            rule.cycles,
+            latest_of(latest_at(around, rule.scope), rule.earlier),
+        )
 }

@@ -4,137 +4,37 @@ ghost use Rattle.std.specs.Prelude.{◌≡◌, ◌+◌, ◌<◌, ◌&&◌, ◌==
 ghost use Rattle.std.specs.List.{list_any};
 ghost use Rattle.sim_base.specs.History.{below};
 ghost use Rattle.sim_base.specs.Rules.{is_kind, kind_of, rank_of, bank_of, is_row};
-ghost use Rattle.rule_check.specs.Kept.{number_of, group_number, latest_of, is_ahead, kept_in_bank, kept_in_group, kept_across_groups, kept_in_rank, kept_across_ranks, kept};
-ghost use Rattle.rule_check.specs.Kept.{is_too_soon, kept_breaks_distance, kept_window, kept_breaks_window, kept_overdue, kept_breaks_refresh};
+ghost use Rattle.rule_check.specs.Kept.{kept_breaks_distance, kept_window, kept_breaks_window, kept_overdue, kept_breaks_refresh};
 ghost use Rattle.rule_check.specs.Kept.{kept_row, has_kept_open_in_group, has_kept_open, kept_finds_banks, kept_breaks, comes_too_soon, keeps_each};
 
-use crate::around::{around_bank, is_any_ahead};
-use crate::channel::{group_number, number_of};
-use crate::latest::{is_ahead, latest_of};
+use crate::around::{around_command, bank_at, is_ahead_by, rank_at};
 use crate::rules::{is_row, is_same_kind};
-use crate::state::{Bank, Channel, Group, Rank};
+use crate::state::{Bank, Channel, Rank};
 use sim_base::command::{Command, CommandRow, Kind};
 use sim_base::config::Config;
 use sim_base::place::BankId;
-use sim_base::rule::{Rule, Scope};
+use sim_base::rule::Rule;
 
-fn kept_in_bank(banks: &[Bank], bank: BankId, kind: Kind) -> Option<u64>
-    ensures { result ≡ kept_in_bank banks.now bank kind }
-{
-    match banks.get(number_of(bank)) {
-        Some(state) => latest_of(&state.latest, kind),
-        None => None,
-    }
-}
-
-fn kept_in_group(groups: &[Group], bank: BankId, kind: Kind) -> Option<u64>
-    ensures { result ≡ kept_in_group groups.now bank kind }
-{
-    match groups.get(group_number(bank)) {
-        Some(state) => latest_of(&state.within, kind),
-        None => None,
-    }
-}
-
-fn kept_across_groups(groups: &[Group], bank: BankId, kind: Kind) -> Option<u64>
-    ensures { result ≡ kept_across_groups groups.now bank kind }
-{
-    match groups.get(group_number(bank)) {
-        Some(state) => latest_of(&state.across, kind),
-        None => None,
-    }
-}
-
-fn kept_in_rank(ranks: &[Rank], rank: u32, kind: Kind) -> Option<u64>
-    ensures { result ≡ kept_in_rank ranks.now rank kind }
-{
-    match ranks.get(rank as usize) {
-        Some(state) => latest_of(&state.within, kind),
-        None => None,
-    }
-}
-
-fn kept_across_ranks(ranks: &[Rank], rank: u32, kind: Kind) -> Option<u64>
-    ensures { result ≡ kept_across_ranks ranks.now rank kind }
-{
-    match ranks.get(rank as usize) {
-        Some(state) => latest_of(&state.across, kind),
-        None => None,
-    }
-}
-
-/// The latest command of a kind that a rule of this scope binds to one in a rank, which names this bank, if it names one.
-#[tactic(auto, unfolding(crate::specs::Kept::kept))]
-fn kept(channel: &Channel, scope: Scope, kind: Kind, rank: u32, bank: Option<BankId>) -> Option<u64>
-    ensures { result ≡ kept channel.now scope kind rank bank }
-{
-    match scope {
-        Scope::InRank => kept_in_rank(&channel.ranks, rank, kind),
-        Scope::AcrossRanks => kept_across_ranks(&channel.ranks, rank, kind),
-        Scope::InBank => match bank {
-            Some(bank) => kept_in_bank(&channel.banks, bank, kind),
-            None => kept_in_rank(&channel.ranks, rank, kind),
-        },
-        Scope::InGroup => match bank {
-            Some(bank) => kept_in_group(&channel.groups, bank, kind),
-            None => kept_in_rank(&channel.ranks, rank, kind),
-        },
-        Scope::AcrossGroups => match bank {
-            Some(bank) => kept_across_groups(&channel.groups, bank, kind),
-            None => None,
-        },
-    }
-}
-
-#[tactic(auto, unfolding(crate::specs::Kept::is_too_soon))]
-fn is_too_soon(channel: &Channel, rule: &Rule, row: CommandRow) -> bool
-    ensures { result ≡ is_too_soon channel.now rule.now row }
-{
-    let command = row.command;
-    is_same_kind(rule.later, command.kind())
-        && is_ahead(
-            row.cycle,
-            rule.cycles,
-            kept(
-                channel,
-                rule.scope,
-                rule.earlier,
-                command.rank(),
-                command.bank(),
-            ),
-        )
-}
-
-#[tactic(auto, unfolding(crate::specs::Kept::kept_breaks_distance))]
+#[tactic(auto, unfolding(crate::specs::Kept::is_too_soon, crate::specs::Kept::kept_breaks_distance))]
 fn breaks_distance(table: &[Rule], channel: &Channel, row: CommandRow, number: u32) -> bool
     ensures { result ≡ kept_breaks_distance table.now channel.now row number }
 {
-    table.iter().any(|rule| rule.number == number && is_too_soon(channel, rule, row))
-}
-
-fn kept_window(ranks: &[Rank], rank: u32) -> u64
-    ensures { result ≡ kept_window ranks.now rank }
-{
-    match ranks.get(rank as usize) {
-        Some(state) => state.window.fourth,
-        None => 0,
-    }
+    let kind = row.command.kind();
+    let around = around_command(channel, row.command);
+    table.iter().any(|rule| rule.number == number && is_ahead_by(around, rule, kind, row.cycle))
 }
 
 fn breaks_window(channel: &Channel, row: CommandRow) -> bool
     ensures { result ≡ kept_breaks_window channel.now row }
 {
     is_same_kind(row.command.kind(), Kind::Act)
-        && row.cycle < kept_window(&channel.ranks, row.command.rank())
+        && row.cycle < rank_at(&channel.ranks, row.command.rank()).window.fourth
 }
 
 fn is_overdue(ranks: &[Rank], now: u64, rank: u32) -> bool
     ensures { result ≡ kept_overdue ranks.now now rank }
 {
-    match ranks.get(rank as usize) {
-        Some(state) => state.deadline < now,
-        None => false,
-    }
+    rank_at(ranks, rank).deadline < now
 }
 
 fn has_overdue(ranks: &[Rank], count: u32, now: u64) -> bool
@@ -152,10 +52,7 @@ fn breaks_refresh(config: &Config, channel: &Channel, row: CommandRow) -> bool
 fn kept_row(banks: &[Bank], bank: BankId) -> Option<u32>
     ensures { result ≡ kept_row banks.now bank }
 {
-    match banks.get(number_of(bank)) {
-        Some(state) => state.row,
-        None => None,
-    }
+    bank_at(banks, bank).row
 }
 
 fn is_open(banks: &[Bank], bank: BankId) -> bool
@@ -190,19 +87,16 @@ fn finds_banks(config: &Config, banks: &[Bank], command: Command) -> bool
     }
 }
 
-// Whether a row comes too soon by some rule. Most commands name a bank, and what is kept around that is found once.
+// Whether a row comes too soon by some rule.
 #[tactic(auto, unfolding(crate::specs::Kept::is_too_soon))]
 fn comes_too_soon(table: &[Rule], channel: &Channel, row: CommandRow) -> bool
     ensures { result ≡ comes_too_soon table.now channel.now row }
 {
-    let around = match row.command.bank() {
-        Some(bank) => around_bank(channel, bank),
-        None => None,
-    };
-    match around {
-        Some(around) => is_any_ahead(around, table, row.command.kind(), row.cycle),
-        None => table.iter().any(|rule| is_too_soon(channel, rule, row)),
-    }
+    let kind = row.command.kind();
+    let around = around_command(channel, row.command);
+    table
+        .iter()
+        .any(|rule| is_ahead_by(around, rule, kind, row.cycle))
 }
 
 /// Whether a row keeps every rule of its channel: one pass over the rules, which tells no number of one.

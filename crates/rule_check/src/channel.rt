@@ -11,21 +11,24 @@ ghost use Rattle.rule_check.specs.Numbers.{number_limit};
 ghost use Rattle.rule_check.specs.Fields.{CommandFits, RowFits};
 ghost use Rattle.rule_check.specs.Kept.{activates, deadline_after, first_deadline, bank_after, group_after, rank_after, number_of, bank_numbered, group_number, IsKept};
 
-use crate::latest::{self, nothing};
-use crate::rules::{is_same_kind, lies, relation_to, row_after};
-use crate::state::{Bank, Channel, Group, Rank};
-use crate::window::{no_window, window_after};
+use crate::latest;
+use crate::rules::{is_same_kind, row_after};
+use crate::state::{Bank, Channel, Group, NEW_BANK, NEW_GROUP, NEW_RANK, Rank};
+use crate::window::window_after;
 use sim_base::command::{Command, CommandRow, Kind, Relation};
 use sim_base::config::Config;
 use sim_base::place::BankId;
-use sim_base::rule::Scope;
 use sim_base::timing::Timing;
 use std::alloc::{AllocError, Global};
+use timing::rules::relation_to;
 
 fn note_in_bank(state: &mut Bank, bank: BankId, command: Command, cycle: u64)
     ensures { state.new ≡ bank_after bank cycle command state.old }
 {
-    if lies(Scope::InBank, bank.rank, Some(bank), command) {
+    if matches!(
+        relation_to(command, bank.rank, Some(bank)),
+        Relation::SameBank
+    ) {
         latest::note(&mut state.latest, command.kind(), cycle);
     }
     state.row = row_after(bank, state.row, command);
@@ -183,23 +186,13 @@ pub(crate) fn start(alloc: Global, config: &Config) -> Result<Channel, AllocErro
     ensures { IfOk result (λ channel. IsKept channel config.now []) }
 {
     let ranks = config.ranks as usize;
-    let bank = Bank {
-        latest: nothing(),
-        row: None,
-    };
-    let group = Group {
-        within: nothing(),
-        across: nothing(),
-    };
     let rank = Rank {
-        within: nothing(),
-        across: nothing(),
-        window: no_window(),
         deadline: first_deadline(config),
+        ..NEW_RANK
     };
     Ok(Channel {
-        banks: vec![in alloc; bank; 16 * ranks]?,
-        groups: vec![in alloc; group; 4 * ranks]?,
+        banks: vec![in alloc; NEW_BANK; 16 * ranks]?,
+        groups: vec![in alloc; NEW_GROUP; 4 * ranks]?,
         ranks: vec![in alloc; rank; ranks]?,
     })
 }

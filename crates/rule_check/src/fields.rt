@@ -1,11 +1,9 @@
 //! What the records of a table mean.
 
-ghost use Rattle.std.specs.Prelude.{◌≡◌, ◌+◌, ◌^◌, ◌<◌, ◌==◌, IfSome};
+ghost use Rattle.std.specs.Prelude.{◌≡◌, ◌+◌, ◌^◌, ◌<◌, ◌==◌, IfSome, if◌then◌else◌};
 ghost use Rattle.std.specs.Str.{bytes_eq};
-ghost use Rattle.rule_check.specs.Numbers.{number_below};
 ghost use Rattle.csv.specs.Records.{fields_of};
-ghost use Rattle.rule_check.specs.Fields.{names_ranks, column_count, text_at, operand, is_header, rank_is_named, is_empty, rank_in, bank_in, source_in, act_in, rd_in, wr_in, pre_in, has_no_operands, prea_in, ref_in, command_in, row_from, row_in};
-ghost use Rattle.rule_check.specs.Fields.{group_text, bank_text, row_text, column_text, core_text, entry_text};
+ghost use Rattle.rule_check.specs.Fields.{names_ranks, column_count, text_at, operand, is_header, rank_is_named, is_empty, rank_in, bank_in, source_in, act_in, rd_in, wr_in, pre_in, has_no_operands, prea_in, ref_in, command_in, row_in};
 ghost use Rattle.rule_check.specs.Fields.{BankFits, CommandFits, RowFits};
 
 use crate::numbers::{NUMBER_LIMIT, number_below, small_number};
@@ -25,6 +23,19 @@ fn text_at(fields: &ByteRecord, k: usize) -> &[u8]
     }
 }
 
+// The fields of a command after its rank, in their order.
+const GROUP: usize = 0;
+
+const BANK: usize = 1;
+
+const ROW: usize = 2;
+
+const COLUMN: usize = 3;
+
+const CORE: usize = 4;
+
+const ENTRY: usize = 5;
+
 // The text of a field after cycle, channel, command and, where there is one, rank.
 #[tactic(auto, unfolding(crate::specs::Fields::operand))]
 fn operand(ranks: u32, fields: &ByteRecord, k: usize) -> &[u8]
@@ -36,42 +47,6 @@ fn operand(ranks: u32, fields: &ByteRecord, k: usize) -> &[u8]
     } else {
         text_at(fields, k + 3)
     }
-}
-
-fn group_text(ranks: u32, fields: &ByteRecord) -> &[u8]
-    ensures { result.now ≡ group_text ranks (fields_of fields.now) }
-{
-    operand(ranks, fields, 0)
-}
-
-fn bank_text(ranks: u32, fields: &ByteRecord) -> &[u8]
-    ensures { result.now ≡ bank_text ranks (fields_of fields.now) }
-{
-    operand(ranks, fields, 1)
-}
-
-fn row_text(ranks: u32, fields: &ByteRecord) -> &[u8]
-    ensures { result.now ≡ row_text ranks (fields_of fields.now) }
-{
-    operand(ranks, fields, 2)
-}
-
-fn column_text(ranks: u32, fields: &ByteRecord) -> &[u8]
-    ensures { result.now ≡ column_text ranks (fields_of fields.now) }
-{
-    operand(ranks, fields, 3)
-}
-
-fn core_text(ranks: u32, fields: &ByteRecord) -> &[u8]
-    ensures { result.now ≡ core_text ranks (fields_of fields.now) }
-{
-    operand(ranks, fields, 4)
-}
-
-fn entry_text(ranks: u32, fields: &ByteRecord) -> &[u8]
-    ensures { result.now ≡ entry_text ranks (fields_of fields.now) }
-{
-    operand(ranks, fields, 5)
 }
 
 fn is_word(text: &[u8], word: &[u8]) -> bool
@@ -106,12 +81,12 @@ pub(crate) fn is_header(ranks: u32, fields: &ByteRecord) -> bool
         && is_word(text_at(fields, 1), b"channel")
         && is_word(text_at(fields, 2), b"command")
         && is_rank_named(ranks, fields)
-        && is_word(group_text(ranks, fields), b"group")
-        && is_word(bank_text(ranks, fields), b"bank")
-        && is_word(row_text(ranks, fields), b"row")
-        && is_word(column_text(ranks, fields), b"column")
-        && is_word(core_text(ranks, fields), b"core")
-        && is_word(entry_text(ranks, fields), b"entry")
+        && is_word(operand(ranks, fields, GROUP), b"group")
+        && is_word(operand(ranks, fields, BANK), b"bank")
+        && is_word(operand(ranks, fields, ROW), b"row")
+        && is_word(operand(ranks, fields, COLUMN), b"column")
+        && is_word(operand(ranks, fields, CORE), b"core")
+        && is_word(operand(ranks, fields, ENTRY), b"entry")
 }
 
 #[tactic(auto, unfolding(crate::specs::Fields::rank_in))]
@@ -132,26 +107,18 @@ fn bank_in(config: &Config, fields: &ByteRecord) -> Option<BankId>
     ensures fits { IfSome result (BankFits config.now) }
 {
     let rank = rank_in(config, fields)?;
-    let group = small_number(config.groups, group_text(config.ranks, fields))?;
-    let bank = small_number(4, bank_text(config.ranks, fields))?;
+    let group = small_number(config.groups, operand(config.ranks, fields, GROUP))?;
+    let bank = small_number(4, operand(config.ranks, fields, BANK))?;
     Some(BankId { rank, group, bank })
-}
-
-fn core_in(config: &Config, fields: &ByteRecord) -> Option<u16>
-    ensures { result ≡ number_below config.now.cores (core_text config.now.ranks (fields_of fields.now)) }
-{
-    match number_below(u64::from(config.cores), core_text(config.ranks, fields)) {
-        Some(core) => Some(core as u16),
-        None => None,
-    }
 }
 
 #[tactic(auto, unfolding(crate::specs::Fields::source_in))]
 fn source_in(config: &Config, fields: &ByteRecord) -> Option<Source>
     ensures { result ≡ source_in config.now (fields_of fields.now) }
 {
-    let core = core_in(config, fields)?;
-    let entry = number_below(NUMBER_LIMIT, entry_text(config.ranks, fields))?;
+    let core = number_below(u64::from(config.cores), operand(config.ranks, fields, CORE))?;
+    let entry = number_below(NUMBER_LIMIT, operand(config.ranks, fields, ENTRY))?;
+    let core = core as u16;
     Some(Source { core, entry })
 }
 
@@ -161,47 +128,40 @@ fn act_in(config: &Config, fields: &ByteRecord) -> Option<Command>
     ensures fits { IfSome result (CommandFits config.now) }
 {
     let bank = bank_in(config, fields)?;
-    let row = small_number(config.rows, row_text(config.ranks, fields))?;
+    let row = small_number(config.rows, operand(config.ranks, fields, ROW))?;
     let source = source_in(config, fields)?;
-    if column_text(config.ranks, fields).is_empty() {
+    if operand(config.ranks, fields, COLUMN).is_empty() {
         Some(Command::Act { bank, row, source })
     } else {
         None
     }
 }
 
-#[tactic(auto, unfolding(crate::specs::Fields::rd_in))]
-fn rd_in(config: &Config, fields: &ByteRecord) -> Option<Command>
-    ensures value { result ≡ rd_in config.now (fields_of fields.now) }
+// The WR or the RD that a record writes.
+#[tactic(auto, unfolding(crate::specs::Fields::rd_in, crate::specs::Fields::wr_in))]
+fn access_in(config: &Config, fields: &ByteRecord, writes: bool) -> Option<Command>
+    ensures value { result ≡ (if writes then wr_in config.now (fields_of fields.now) else rd_in config.now (fields_of fields.now)) }
     ensures fits { IfSome result (CommandFits config.now) }
 {
     let bank = bank_in(config, fields)?;
-    let row = small_number(config.rows, row_text(config.ranks, fields))?;
-    let column = small_number(config.columns, column_text(config.ranks, fields))?;
+    let row = small_number(config.rows, operand(config.ranks, fields, ROW))?;
+    let column = small_number(config.columns, operand(config.ranks, fields, COLUMN))?;
     let source = source_in(config, fields)?;
-    Some(Command::Rd {
-        bank,
-        row,
-        column,
-        source,
-    })
-}
-
-#[tactic(auto, unfolding(crate::specs::Fields::wr_in))]
-fn wr_in(config: &Config, fields: &ByteRecord) -> Option<Command>
-    ensures value { result ≡ wr_in config.now (fields_of fields.now) }
-    ensures fits { IfSome result (CommandFits config.now) }
-{
-    let bank = bank_in(config, fields)?;
-    let row = small_number(config.rows, row_text(config.ranks, fields))?;
-    let column = small_number(config.columns, column_text(config.ranks, fields))?;
-    let source = source_in(config, fields)?;
-    Some(Command::Wr {
-        bank,
-        row,
-        column,
-        source,
-    })
+    if writes {
+        Some(Command::Wr {
+            bank,
+            row,
+            column,
+            source,
+        })
+    } else {
+        Some(Command::Rd {
+            bank,
+            row,
+            column,
+            source,
+        })
+    }
 }
 
 #[tactic(auto, unfolding(crate::specs::Fields::pre_in))]
@@ -211,7 +171,9 @@ fn pre_in(config: &Config, fields: &ByteRecord) -> Option<Command>
 {
     let bank = bank_in(config, fields)?;
     let source = source_in(config, fields)?;
-    if row_text(config.ranks, fields).is_empty() && column_text(config.ranks, fields).is_empty() {
+    if operand(config.ranks, fields, ROW).is_empty()
+        && operand(config.ranks, fields, COLUMN).is_empty()
+    {
         Some(Command::Pre { bank, source })
     } else {
         None
@@ -222,37 +184,27 @@ fn pre_in(config: &Config, fields: &ByteRecord) -> Option<Command>
 fn has_no_operands(ranks: u32, fields: &ByteRecord) -> bool
     ensures { result ≡ has_no_operands ranks (fields_of fields.now) }
 {
-    group_text(ranks, fields).is_empty()
-        && bank_text(ranks, fields).is_empty()
-        && row_text(ranks, fields).is_empty()
-        && column_text(ranks, fields).is_empty()
-        && core_text(ranks, fields).is_empty()
-        && entry_text(ranks, fields).is_empty()
+    operand(ranks, fields, GROUP).is_empty()
+        && operand(ranks, fields, BANK).is_empty()
+        && operand(ranks, fields, ROW).is_empty()
+        && operand(ranks, fields, COLUMN).is_empty()
+        && operand(ranks, fields, CORE).is_empty()
+        && operand(ranks, fields, ENTRY).is_empty()
 }
 
-#[tactic(auto, unfolding(crate::specs::Fields::prea_in))]
-fn prea_in(config: &Config, fields: &ByteRecord) -> Option<Command>
-    ensures value { result ≡ prea_in config.now (fields_of fields.now) }
+// The REF or the PREA that a record writes.
+#[tactic(auto, unfolding(crate::specs::Fields::prea_in, crate::specs::Fields::ref_in))]
+fn whole_rank_in(config: &Config, fields: &ByteRecord, refreshes: bool) -> Option<Command>
+    ensures value { result ≡ (if refreshes then ref_in config.now (fields_of fields.now) else prea_in config.now (fields_of fields.now)) }
     ensures fits { IfSome result (CommandFits config.now) }
 {
     let rank = rank_in(config, fields)?;
-    if has_no_operands(config.ranks, fields) {
-        Some(Command::Prea { rank })
-    } else {
+    if !has_no_operands(config.ranks, fields) {
         None
-    }
-}
-
-#[tactic(auto, unfolding(crate::specs::Fields::ref_in))]
-fn ref_in(config: &Config, fields: &ByteRecord) -> Option<Command>
-    ensures value { result ≡ ref_in config.now (fields_of fields.now) }
-    ensures fits { IfSome result (CommandFits config.now) }
-{
-    let rank = rank_in(config, fields)?;
-    if has_no_operands(config.ranks, fields) {
+    } else if refreshes {
         Some(Command::Ref { rank })
     } else {
-        None
+        Some(Command::Prea { rank })
     }
 }
 
@@ -266,26 +218,29 @@ fn command_in(config: &Config, fields: &ByteRecord) -> Option<Command>
     if is_word(word, b"ACT") {
         act_in(config, fields)
     } else if is_word(word, b"RD") {
-        rd_in(config, fields)
+        access_in(config, fields, false)
     } else if is_word(word, b"WR") {
-        wr_in(config, fields)
+        access_in(config, fields, true)
     } else if is_word(word, b"PRE") {
         pre_in(config, fields)
     } else if is_word(word, b"PREA") {
-        prea_in(config, fields)
+        whole_rank_in(config, fields, false)
     } else if is_word(word, b"REF") {
-        ref_in(config, fields)
+        whole_rank_in(config, fields, true)
     } else {
         None
     }
 }
 
-// The row that a record of the right number of fields writes.
-#[tactic(auto, unfolding(crate::specs::Fields::row_from))]
-fn row_from(config: &Config, fields: &ByteRecord) -> Option<CommandRow>
-    ensures value { result ≡ row_from config.now (fields_of fields.now) }
+/// The row that a record writes, if it is well-formed.
+#[tactic(auto, unfolding(crate::specs::Fields::row_from, crate::specs::Fields::row_in))]
+pub(crate) fn row_in(config: &Config, fields: &ByteRecord) -> Option<CommandRow>
+    ensures value { result ≡ row_in config.now (fields_of fields.now) }
     ensures fits { IfSome result (RowFits config.now) }
 {
+    if fields.len() != column_count(config.ranks) {
+        return None;
+    }
     let cycle = number_below(NUMBER_LIMIT, text_at(fields, 0))?;
     let channel = small_number(u32::from(config.channels), text_at(fields, 1))?;
     let command = command_in(config, fields)?;
@@ -294,17 +249,4 @@ fn row_from(config: &Config, fields: &ByteRecord) -> Option<CommandRow>
         channel,
         command,
     })
-}
-
-/// The row that a record writes, if it is well-formed.
-#[tactic(auto, unfolding(crate::specs::Fields::row_in))]
-pub(crate) fn row_in(config: &Config, fields: &ByteRecord) -> Option<CommandRow>
-    ensures value { result ≡ row_in config.now (fields_of fields.now) }
-    ensures fits { IfSome result (RowFits config.now) }
-{
-    if fields.len() == column_count(config.ranks) {
-        row_from(config, fields)
-    } else {
-        None
-    }
 }

@@ -1,7 +1,7 @@
 //! The latest command of each kind.
 
 ghost use Rattle.std.specs.Prelude.{◌≡◌, ◌+◌, nat_lt};
-ghost use Rattle.rule_check.specs.Kept.{later_cycle, latest_of, noted, nothing, is_ahead};
+ghost use Rattle.rule_check.specs.Kept.{later_cycle, latest_of, noted, is_ahead};
 
 use sim_base::command::Kind;
 
@@ -16,26 +16,22 @@ pub(crate) struct Latest {
     pub(crate) refresh: Option<u64>,
 }
 
+/// No command so far.
+pub(crate) const NOTHING: Latest = Latest {
+    act: None,
+    rd: None,
+    wr: None,
+    pre: None,
+    prea: None,
+    refresh: None,
+};
+
 fn later_cycle(latest: Option<u64>, cycle: u64) -> Option<u64>
     ensures { result ≡ later_cycle latest cycle }
 {
     match latest {
         None => Some(cycle),
         Some(other) => Some(other.max(cycle)),
-    }
-}
-
-/// No command so far.
-pub(crate) fn nothing() -> Latest
-    ensures { result ≡ nothing }
-{
-    Latest {
-        act: None,
-        rd: None,
-        wr: None,
-        pre: None,
-        prea: None,
-        refresh: None,
     }
 }
 

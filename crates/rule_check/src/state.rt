@@ -2,8 +2,8 @@
 
 ghost use Rattle.std.specs.Prelude.{◌≡◌, ◌*◌, ◌≤◌, length};
 
-use crate::latest::Latest;
-use crate::window::Window;
+use crate::latest::{Latest, NOTHING};
+use crate::window::{NO_ACTS, Window};
 use sim_base::command::CommandRow;
 
 /// A bank: the latest command of each kind that spoke of it, and its open row.
@@ -13,12 +13,24 @@ pub(crate) struct Bank {
     pub(crate) row: Option<u32>,
 }
 
+/// A bank of which no command spoke.
+pub(crate) static NEW_BANK: Bank = Bank {
+    latest: NOTHING,
+    row: None,
+};
+
 /// A group: the latest command of each kind in it, and in the other groups of its rank.
 #[derive(Clone, Copy)]
 pub(crate) struct Group {
     pub(crate) within: Latest,
     pub(crate) across: Latest,
 }
+
+/// A group that had no command.
+pub(crate) static NEW_GROUP: Group = Group {
+    within: NOTHING,
+    across: NOTHING,
+};
 
 /// A rank: the latest command of each kind in it and in the other ranks, its last ACTs, and the cycle after which its next refresh
 /// is overdue.
@@ -29,6 +41,14 @@ pub(crate) struct Rank {
     pub(crate) window: Window,
     pub(crate) deadline: u64,
 }
+
+/// A rank that had no command, and no refresh of which is due.
+pub(crate) static NEW_RANK: Rank = Rank {
+    within: NOTHING,
+    across: NOTHING,
+    window: NO_ACTS,
+    deadline: u64::MAX,
+};
 
 /// What is kept of the rows of a channel.
 #[derive(Drop)]

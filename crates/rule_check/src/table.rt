@@ -12,7 +12,6 @@ ghost use Rattle.rule_check.specs.Verdict.{records_of, verdict, verdict_after, I
 use crate::fields::{is_header, row_in};
 use crate::past::{lowest_broken, note, start};
 use crate::reading::{open, read_next};
-use crate::rules::rules;
 use crate::state::Past;
 use crate::verdict::Verdict;
 use csv::{ByteRecord, Reader};
@@ -20,6 +19,7 @@ use sim_base::config::Config;
 use sim_base::fault::Fault;
 use sim_base::rule::Rule;
 use std::alloc::Global;
+use timing::rules::rules;
 
 // What a row decides, if it decides; else it is kept.
 fn judge(
@@ -121,7 +121,6 @@ fn check_records(alloc: Global, config: &Config, table: &[u8]) -> Result<Verdict
 /// A broken rule is no error, but the verdict that names the row and the lowest rule that it breaks. Else only memory is
 /// refused. The time is in proportion to the length of the table, and the memory is that of one row and of what the rules need of
 /// the rows before it.
-#[tactic(auto, using(crate::proofs::Legals::legal_just_where))]
 pub fn check(alloc: Global, config: &Config, table: &[u8]) -> Result<Verdict, Fault>
     ensures ok { IfOk result (λ v. verdict config.now (records_of table.now) ≡ Ok v) }
     ensures refused { IfErr result (λ e. e ≢ Fault.Memory → verdict config.now (records_of table.now) ≡ Err e) }

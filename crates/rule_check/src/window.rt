@@ -1,7 +1,7 @@
 //! The last four ACTs of a rank.
 
 ghost use Rattle.std.specs.Prelude.{◌≡◌, max, min};
-ghost use Rattle.rule_check.specs.Kept.{no_window, window_after};
+ghost use Rattle.rule_check.specs.Kept.{window_after};
 
 /// The four latest of the cycles from which on an ACT no longer counts, the latest first; 0 where there were not so many.
 #[derive(Clone, Copy)]
@@ -13,16 +13,12 @@ pub(crate) struct Window {
 }
 
 /// No ACT so far.
-pub(crate) fn no_window() -> Window
-    ensures { result ≡ no_window }
-{
-    Window {
-        first: 0,
-        second: 0,
-        third: 0,
-        fourth: 0,
-    }
-}
+pub(crate) const NO_ACTS: Window = Window {
+    first: 0,
+    second: 0,
+    third: 0,
+    fourth: 0,
+};
 
 /// One ACT more, which counts up to this cycle.
 pub(crate) fn window_after(end: u64, w: Window) -> Window

@@ -15,13 +15,12 @@ pub extends_more : (old mid new : List ℕ) → Extends old mid → Extends mid 
 extends_more old mid new h k = extends_by old mid new k.0 h k.1
 
 -- a screen, from its parts
-pub screen_of : (stats : RunStats) (cycles channels cores : ℕ) (head above title below screen : List ℕ) → cycles ≡ stats.cycles → channels ≡ length stats.channels → cores ≡ length stats.cores
-    → head ≡ channels_head cycles channels → Extends head above → title ≡ cores_head cores → below ≡ above ++ title → Extends below screen → IsScreen stats screen
-screen_of stats cycles channels cores head above title below screen cycles_is channels_is cores_is head_is upper title_is joined lower = record {
+pub screen_of : (stats : RunStats) (above below screen : List ℕ) → Extends (channels_head stats.cycles (length stats.channels)) above → Extends (cores_head (length stats.cores)) below
+    → screen ≡ above ++ below → IsScreen stats screen
+screen_of stats above below screen upper lower joined = record {
   channel_lines = upper.0;
   core_lines = lower.0;
   text_is =
-      lower.1
-      ∙ ap (λ t. t ++ lower.0)
-      (joined ∙ ap₂ (λ s t. s ++ t) (upper.1 ∙ ap (λ t. t ++ upper.0) (head_is ∙ ap₂ channels_head cycles_is channels_is)) (title_is ∙ ap cores_head cores_is));
+      joined ∙ ap₂ (λ s t. s ++ t) upper.1 lower.1
+      ∙ sym (append_assoc (channels_head stats.cycles (length stats.channels) ++ upper.0) (cores_head (length stats.cores)) lower.0);
 }

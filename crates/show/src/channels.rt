@@ -38,46 +38,85 @@ fn draining(cycles: u64, channel: &ChannelStats) -> Number {
     }
 }
 
+/// What a column tells of a channel.
+#[derive(Clone, Copy)]
+enum Measure {
+    Reads,
+    Writes,
+    Hits,
+    Bus,
+    MeanQueue,
+    GreatestQueue,
+    Idle,
+    Refresh,
+    Drain,
+}
+
+/// What is told of each channel, in this order.
+static MEASURES: [Measure; 9] = [
+    Measure::Reads,
+    Measure::Writes,
+    Measure::Hits,
+    Measure::Bus,
+    Measure::MeanQueue,
+    Measure::GreatestQueue,
+    Measure::Idle,
+    Measure::Refresh,
+    Measure::Drain,
+];
+
+impl Measure {
+    fn heading(self) -> &'static str {
+        match self {
+            Measure::Reads => "rd",
+            Measure::Writes => "wr",
+            Measure::Hits => "hits %",
+            Measure::Bus => "bus %",
+            Measure::MeanQueue => "queue mean",
+            Measure::GreatestQueue => "queue max",
+            Measure::Idle => "idle %",
+            Measure::Refresh => "refresh %",
+            Measure::Drain => "drain %",
+        }
+    }
+
+    // The number of a channel in a run of so many cycles.
+    fn of(self, cycles: u64, channel: &ChannelStats) -> Number {
+        match self {
+            Measure::Reads => Number::count(channel.rd),
+            Measure::Writes => Number::count(channel.wr),
+            Measure::Hits => hits(channel),
+            Measure::Bus => bus(cycles, channel),
+            Measure::MeanQueue => Number::mean(channel.queued, cycles),
+            Measure::GreatestQueue => Number::count(channel.queued_max),
+            Measure::Idle => share(cycles, channel.idle),
+            Measure::Refresh => share(cycles, channel.refreshing),
+            Measure::Drain => draining(cycles, channel),
+        }
+    }
+}
+
+// The column of a measure.
+fn column_of(
+    alloc: Global,
+    cycles: u64,
+    channels: &[ChannelStats],
+    measure: Measure,
+) -> Result<Column, AllocError> {
+    Column::of(alloc, measure.heading(), channels, move |channel| {
+        measure.of(cycles, channel)
+    })
+}
+
 /// What is told of each channel.
 pub(crate) fn channel_columns(
     alloc: Global,
     cycles: u64,
     channels: &[ChannelStats],
 ) -> Result<Vec<Column>, AllocError> {
-    Ok(vec![in alloc;
-        Column::of(alloc, "rd", channels, |channel| Number::count(channel.rd))?,
-        Column::of(alloc, "wr", channels, |channel| Number::count(channel.wr))?,
-        Column::of(alloc, "hits %", channels, |channel| hits(channel))?,
-        Column::of(alloc, "bus %", channels, |channel| bus(cycles, channel))?,
-        Column::of(
-            alloc,
-            "queue mean",
-            channels,
-            |channel| Number::mean(channel.queued, cycles)
-        )?,
-        Column::of(
-            alloc,
-            "queue max",
-            channels,
-            |channel| Number::count(channel.queued_max)
-        )?,
-        Column::of(
-            alloc,
-            "idle %",
-            channels,
-            |channel| share(cycles, channel.idle)
-        )?,
-        Column::of(
-            alloc,
-            "refresh %",
-            channels,
-            |channel| share(cycles, channel.refreshing)
-        )?,
-        Column::of(
-            alloc,
-            "drain %",
-            channels,
-            |channel| draining(cycles, channel)
-        )?,
-    ]?)
+    let mut columns = Vec::new(alloc);
+    for measure in MEASURES.iter().copied() {
+        columns.push(column_of(alloc, cycles, channels, measure)?)?;
+    }
+    Ok(columns)
 }

@@ -78,15 +78,32 @@ impl Scale {
         self.digits(halves) < self.limit
     }
 
+    /// The power of ten that its decimals are digits below.
+    fn whole(self) -> u128
+        ensures { 0 < result }
+    {
+        match self.decimals {
+            0 => 1,
+            1 => 10,
+            2 => 100,
+            _ => 1_000,
+        }
+    }
+
+    fn write_decimals<W: fmt::Write>(self, part: u128, f: &mut fmt::Formatter<W>) -> fmt::Result {
+        match self.decimals {
+            0 => Ok(()),
+            1 => write!(f, ".{part}"),
+            2 => write!(f, ".{part:02}"),
+            _ => write!(f, ".{part:03}"),
+        }
+    }
+
     fn write<W: fmt::Write>(self, halves: u128, f: &mut fmt::Formatter<W>) -> fmt::Result {
         let digits = self.digits(halves);
-        let unit = self.unit;
-        match self.decimals {
-            0 => write!(f, "{digits}{unit}"),
-            1 => write!(f, "{}.{}{unit}", digits / 10, digits % 10),
-            2 => write!(f, "{}.{:02}{unit}", digits / 100, digits % 100),
-            _ => write!(f, "{}.{:03}{unit}", digits / 1_000, digits % 1_000),
-        }
+        write!(f, "{}", digits / self.whole())?;
+        self.write_decimals(digits % self.whole(), f)?;
+        f.write_str(self.unit)
     }
 }
 

@@ -1,7 +1,7 @@
 //! The screen: the cycles, a table of channels and a table of cores.
 
-ghost use Rattle.std.specs.Prelude.{IfOk, string_bytes};
-ghost use Rattle.show.specs.Screen.{IsScreen};
+ghost use Rattle.std.specs.Prelude.{IfOk, OnOk, length, string_bytes};
+ghost use Rattle.show.specs.Screen.{Extends, IsScreen, channels_head, cores_head};
 
 use crate::channels::channel_columns;
 use crate::column::Column;
@@ -13,28 +13,45 @@ use std::alloc::{AllocError, Global};
 /// A table with more lines than this one is told in three, unless all are asked for.
 const MOST_LINES: usize = 16;
 
-// The table of so many units.
-fn table_of(
+// Puts the table of so many units behind a text.
+fn put_table(
     alloc: Global,
     heading: &str,
     count: usize,
     columns: &[Column],
     all: bool,
-) -> Result<Table, AllocError> {
+    text: &mut String,
+) -> Result<(), AllocError>
+    ensures { OnOk result (Extends (string_bytes text.old) (string_bytes text.new)) }
+{
     let summarized = count > MOST_LINES && !all;
-    let mut table = if summarized {
-        Table::of_summaries(alloc, heading)?
-    } else {
-        Table::of_units(alloc, heading, count)?
-    };
-    for column in columns {
-        if summarized {
-            table.push(alloc, &column.summary(alloc)?)?;
-        } else {
-            table.push(alloc, column)?;
-        }
-    }
-    Ok(table)
+    Table::of(alloc, heading, count, columns, summarized)?.write(text)
+}
+
+// The channels of a run, below the cycles.
+fn text_of_channels(alloc: Global, stats: &Stats, all: bool) -> Result<String, AllocError>
+    ensures { IfOk result (λ text. Extends (channels_head stats.now.cycles (length stats.now.channels)) (string_bytes text)) }
+{
+    let (cycles, channels) = (stats.cycles, stats.channels.len());
+    let columns = channel_columns(alloc, cycles, &stats.channels)?;
+    let mut text = format!(in alloc;
+        "cycles {cycles}\n\nChannels ({channels}): row hits in % of rd and wr, all else in % of the cycles\n"
+    )?;
+    put_table(alloc, "channel", channels, &columns, all, &mut text)?;
+    Ok(text)
+}
+
+// The cores of a run.
+fn text_of_cores(alloc: Global, stats: &Stats, all: bool) -> Result<String, AllocError>
+    ensures { IfOk result (λ text. Extends (cores_head (length stats.now.cores)) (string_bytes text)) }
+{
+    let cores = stats.cores.len();
+    let columns = core_columns(alloc, stats.cycles, &stats.cores)?;
+    let mut text = format!(in alloc;
+        "\nCores ({cores}): entries retired, reads, and why no more was issued, in % of the cycles\n"
+    )?;
+    put_table(alloc, "core", cores, &columns, all, &mut text)?;
+    Ok(text)
 }
 
 /// What a run did, on one screen of lines of at most 100 characters: its cycles, a table of its channels and one of its cores.
@@ -52,17 +69,8 @@ fn table_of(
 pub fn show_text(alloc: Global, stats: &Stats, all: bool) -> Result<String, AllocError>
     ensures { IfOk result (λ text. IsScreen stats.now (string_bytes text)) }
 {
-    let (cycles, channels, cores) = (stats.cycles, stats.channels.len(), stats.cores.len());
-    let mut text = format!(in alloc;
-        "cycles {cycles}\n\nChannels ({channels}): row hits in % of rd and wr, all else in % of the cycles\n"
-    )?;
-    let columns = channel_columns(alloc, cycles, &stats.channels)?;
-    table_of(alloc, "channel", channels, &columns, all)?.write(&mut text)?;
-    let title = format!(in alloc;
-        "\nCores ({cores}): entries retired, reads, and why no more was issued, in % of the cycles\n"
-    )?;
-    text.push_str(title.as_str())?;
-    let columns = core_columns(alloc, cycles, &stats.cores)?;
-    table_of(alloc, "core", cores, &columns, all)?.write(&mut text)?;
+    let mut text = text_of_channels(alloc, stats, all)?;
+    let cores = text_of_cores(alloc, stats, all)?;
+    text.push_str(cores.as_str())?;
     Ok(text)
 }

@@ -38,6 +38,11 @@ impl Cells {
         Ok(cells)
     }
 
+    fn of_summary(alloc: Global, column: &Column) -> Result<Cells, AllocError> {
+        let summary = column.summary(alloc)?;
+        Cells::of_column(alloc, &summary)
+    }
+
     // A cell, after as many blanks as make it as wide as the others.
     fn write_cell(&self, line: usize, out: &mut String) -> Result<(), AllocError>
         ensures { OnOk result (Extends (string_bytes out.old) (string_bytes out.new)) }
@@ -59,39 +64,54 @@ pub(crate) struct Table {
     columns: Vec<Cells>,
 }
 
+// The labels of so many units, by number, under a heading.
+fn numbers_of(alloc: Global, heading: &str, count: usize) -> Result<Cells, AllocError> {
+    let mut labels = Cells::under(alloc, heading)?;
+    for unit in 0..count {
+        labels.push(format!(in alloc; "{unit}")?)?;
+    }
+    Ok(labels)
+}
+
+// The labels of the least, the median and the greatest number, under a heading.
+fn summary_labels(alloc: Global, heading: &str) -> Result<Cells, AllocError> {
+    let mut labels = Cells::under(alloc, heading)?;
+    for label in ["least", "median", "greatest"] {
+        labels.push(String::from_str(alloc, label)?)?;
+    }
+    Ok(labels)
+}
+
+// The cells of columns, or of their summaries.
+fn cells_of(alloc: Global, columns: &[Column], summarized: bool) -> Result<Vec<Cells>, AllocError> {
+    let mut all = Vec::new(alloc);
+    for column in columns {
+        let cells = if summarized {
+            Cells::of_summary(alloc, column)?
+        } else {
+            Cells::of_column(alloc, column)?
+        };
+        all.push(cells)?;
+    }
+    Ok(all)
+}
+
 impl Table {
-    /// A table of so many units, by number.
-    pub(crate) fn of_units(
+    /// The table of columns of so many units, or of their summaries.
+    pub(crate) fn of(
         alloc: Global,
         heading: &str,
         count: usize,
+        columns: &[Column],
+        summarized: bool,
     ) -> Result<Table, AllocError> {
-        let mut labels = Cells::under(alloc, heading)?;
-        for unit in 0..count {
-            labels.push(format!(in alloc; "{unit}")?)?;
-        }
-        Ok(Table {
-            labels,
-            columns: Vec::new(alloc),
-        })
-    }
-
-    /// A table of the least, the median and the greatest number of each column.
-    pub(crate) fn of_summaries(alloc: Global, heading: &str) -> Result<Table, AllocError> {
-        let mut labels = Cells::under(alloc, heading)?;
-        for label in ["least", "median", "greatest"] {
-            labels.push(String::from_str(alloc, label)?)?;
-        }
-        Ok(Table {
-            labels,
-            columns: Vec::new(alloc),
-        })
-    }
-
-    /// Puts a column behind the others.
-    pub(crate) fn push(&mut self, alloc: Global, column: &Column) -> Result<(), AllocError> {
-        self.columns.push(Cells::of_column(alloc, column)?)?;
-        Ok(())
+        let columns = cells_of(alloc, columns, summarized)?;
+        let labels = if summarized {
+            summary_labels(alloc, heading)?
+        } else {
+            numbers_of(alloc, heading, count)?
+        };
+        Ok(Table { labels, columns })
     }
 
     fn write_line(&self, line: usize, out: &mut String) -> Result<(), AllocError>

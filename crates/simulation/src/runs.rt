@@ -19,6 +19,7 @@ use std::sync::Wait;
 use std::thread::Threads;
 use workers::gate::Gate;
 use workers::machine::run_machine;
+use workers::watch::Watch;
 
 /// The greatest limit of a run, in cycles.
 pub const MOST_CYCLES: Cycle = 1_000_000_000_000;
@@ -156,17 +157,18 @@ fn read_input<R: Threads + Sync>(
 
 /// Runs the machine that a configuration and one trace a core describe, for at most `cycles` cycles, and gives its commands, its
 /// statistics and the state in which it ends. Each phase is run by so many workers at most, 1 to 64, each in a thread of its
-/// own; with one worker, in the thread of the caller. A worker passes the gate at the beginning and at the end of each job. What
-/// comes out depends on neither the workers nor the gate.
+/// own; with one worker, in the thread of the caller. A worker passes the gate at the beginning and at the end of each job. The watcher
+/// is told how far the run is, and when it has ended. What comes out depends on none of the workers, the gate and the watcher.
 ///
 /// The input is tested in this order: the configuration, the number of traces, the number of workers (1 to 64), the limit (at
 /// most 10^12 cycles), and the traces by core. The first fault is answered. `Fault::Memory` may come at any time, and the run
 /// itself is refused by nothing but this and, with two workers or more, `Fault::WorkerStart`. The table of its commands is
 /// legal, as `check` reads it under the same configuration.
-pub fn simulate<R: Threads + Wait + Sync, G: Gate + Sync>(
+pub fn simulate<R: Threads + Wait + Sync, G: Gate + Sync, W: Watch>(
     rt: &R,
     alloc: Global,
     gate: &G,
+    watch: &mut W,
     config: &[u8],
     texts: &[&[u8]],
     cycles: Cycle,
@@ -180,7 +182,8 @@ pub fn simulate<R: Threads + Wait + Sync, G: Gate + Sync>(
         Ok(input) => input,
         Err(fault) => return Err(fault),
     };
-    run_machine(rt, alloc, gate, workers as usize, &config, traces, cycles)
+    let workers = workers as usize;
+    run_machine(rt, alloc, gate, watch, workers, &config, traces, cycles)
 }
 
 /// The same run by the one-clock machine, one cycle after the other, with no workers: their number is only tested, and threads

@@ -3,10 +3,11 @@
 ghost use Rattle.std.specs.Prelude.{◌≡◌, ◌≤◌, ◌^◌, [], IfOk};
 ghost use Rattle.channel_step.specs.Fit.{IsFit};
 ghost use Rattle.channel_step.specs.Past.{CarriesRequest};
-ghost use Rattle.channel_step.specs.Channels.{HasRank, HasBank};
+ghost use Rattle.channel_step.specs.Channels.{StandsFor, HasRank, HasBank};
 
-use crate::expect::{expect, expect_at};
+use crate::expect::expect_at;
 use crate::none::NO_CHANNEL;
+use crate::one_read::{ACT, BANK, CREDIT, RD, REPLY};
 use channel_step::channel::Channel;
 use command_table::list::CommandList;
 use fixtures::small::{RANK_FIELD, small};
@@ -14,17 +15,81 @@ use sim_base::command::{Command, CommandRow};
 use sim_base::config::Config;
 use sim_base::fault::Fault;
 use sim_base::message::{Cycle, Load, Message, Request};
-use sim_base::place::{BankId, Place};
+use sim_base::place::Place;
 use statistics::channels::ChannelStats;
 use std::alloc::{AllocError, Global};
 use std::process::Abort;
 use std::test::Fail;
 
-const BANK: BankId = BankId {
-    rank: 0,
-    group: 0,
-    bank: 0,
-};
+/// The interval of refreshes, whether a read comes, and a number of cycles; the commands and the messages, what is counted, the row
+/// that is open.
+struct Case<'x> {
+    n_refi: &'x str,
+    reads: bool,
+    until: Cycle,
+    commands: &'x [CommandRow],
+    messages: &'x [Message],
+    stats: ChannelStats,
+    open_row: Option<u32>,
+}
+
+/// No refresh for a million million cycles, and one every 100 cycles: REF 100, REF 200; and one read, which is in the queue from
+/// cycle 2 on: ACT 2, RD 5.
+static CASES: [Case<'static>; 3] = [
+    Case {
+        n_refi: "nREFI = 0",
+        reads: false,
+        until: 1_000_000_000_000,
+        commands: &[],
+        messages: &[],
+        stats: ChannelStats {
+            idle: 1_000_000_000_000,
+            ..NO_CHANNEL
+        },
+        open_row: None,
+    },
+    Case {
+        n_refi: "nREFI = 100",
+        reads: false,
+        until: 250,
+        commands: &[
+            CommandRow {
+                cycle: 100,
+                channel: 0,
+                command: Command::Ref { rank: 0 },
+            },
+            CommandRow {
+                cycle: 200,
+                channel: 0,
+                command: Command::Ref { rank: 0 },
+            },
+        ],
+        messages: &[],
+        stats: ChannelStats {
+            refs: 2,
+            refreshing: 2,
+            idle: 250,
+            ..NO_CHANNEL
+        },
+        open_row: None,
+    },
+    Case {
+        n_refi: "nREFI = 0",
+        reads: true,
+        until: 16,
+        commands: &[ACT, RD],
+        messages: &[REPLY, CREDIT],
+        stats: ChannelStats {
+            act: 1,
+            rd: 1,
+            queued: 4,
+            queued_max: 1,
+            idle: 12,
+            ..NO_CHANNEL
+        },
+        open_row: Some(0),
+    },
+];
 
 /// The small machine, with an interval of refreshes.
 fn config(alloc: Global, n_refi: &str) -> Result<Config, Fault>
@@ -35,49 +100,6 @@ fn config(alloc: Global, n_refi: &str) -> Result<Config, Fault>
         return Err(Fault::TraceCount);
     }
     Ok(config)
-}
-
-/// A channel after a span, with what it issued and sent in it.
-#[derive(Drop)]
-struct ChannelDone {
-    channel: Channel,
-    commands: Vec<CommandRow>,
-    messages: Vec<Message>,
-}
-
-/// Runs a channel from its start over a span in which these messages arrive.
-fn run_alone(
-    alloc: Global,
-    config: &Config,
-    inbox: &[Message],
-    until: Cycle,
-) -> Result<ChannelDone, AllocError>
-    requires fit { IsFit config.now 0 [] [] inbox.now 0 until }
-    requires until { until ≤ 2 ^ 62 }
-    requires ranks { config.now.ranks ≡ 1 }
-    ensures rank { IfOk result (λ done. HasRank done.channel 0) }
-    ensures bank { IfOk result (λ done. HasBank done.channel BANK) }
-{
-    let mut channel = Channel::start(alloc, config, 0)?;
-    let mut issued = CommandList::new(alloc);
-    let mut messages = Vec::new(alloc);
-    channel.run(inbox, 0, until, &mut issued, &mut messages)?;
-    let commands = issued.to_vec(alloc)?;
-    Ok(ChannelDone {
-        channel,
-        commands,
-        messages,
-    })
-}
-
-/// Runs a channel to which nothing comes, with an interval of refreshes.
-fn idle(alloc: Global, n_refi: &str, until: Cycle) -> Result<ChannelDone, Fault>
-    requires until { until ≤ 2 ^ 62 }
-    ensures rank { IfOk result (λ done. HasRank done.channel 0) }
-    ensures bank { IfOk result (λ done. HasBank done.channel BANK) }
-{
-    let config = config(alloc, n_refi)?;
-    Ok(run_alone(alloc, &config, &[], until)?)
 }
 
 /// A read of the first line, which arrives in cycle 2.
@@ -108,145 +130,103 @@ fn first_read(config: &Config) -> Message
     }
 }
 
-/// Runs a channel to which one read comes.
-fn served(alloc: Global) -> Result<ChannelDone, Fault>
-    ensures rank { IfOk result (λ done. HasRank done.channel 0) }
-    ensures bank { IfOk result (λ done. HasBank done.channel BANK) }
-{
-    let config = config(alloc, "nREFI = 0")?;
-    let inbox = [first_read(&config)];
-    Ok(run_alone(alloc, &config, &inbox, 16)?)
-}
-
-/// What a channel counted; where it stands, the refreshes that are due, the row that is open, and how many requests wait.
-type Stands = (ChannelStats, Cycle, u64, Option<u32>, usize);
-
-fn stands(channel: &Channel) -> Stands
+/// Asserts what a channel did, no refresh of which is due, and that no request waits.
+fn assert_did(
+    rt: &impl Abort,
+    channel: &Channel,
+    commands: &[CommandRow],
+    messages: &[Message],
+    case: &Case<'_>,
+)
     requires rank { HasRank channel.now 0 }
     requires bank { HasBank channel.now BANK }
 {
-    (
-        channel.stats(),
-        channel.now(),
-        channel.due(0),
-        channel.open_row(BANK),
-        channel.requests().len(),
-    )
-}
-
-/// The interval of refreshes and a number of cycles; the commands, and what is counted.
-type Idle<'x> = (&'x str, Cycle, &'x [CommandRow], ChannelStats);
-
-/// No refresh for a million million cycles, and one every 100 cycles: REF 100, REF 200.
-static IDLE: [Idle<'static>; 2] = [
-    (
-        "nREFI = 0",
-        1_000_000_000_000,
-        &[],
-        ChannelStats {
-            idle: 1_000_000_000_000,
-            ..NO_CHANNEL
-        },
-    ),
-    (
-        "nREFI = 100",
-        250,
-        &[
-            CommandRow {
-                cycle: 100,
-                channel: 0,
-                command: Command::Ref { rank: 0 },
-            },
-            CommandRow {
-                cycle: 200,
-                channel: 0,
-                command: Command::Ref { rank: 0 },
-            },
-        ],
-        ChannelStats {
-            refs: 2,
-            refreshing: 2,
-            idle: 250,
-            ..NO_CHANNEL
-        },
-    ),
-];
-
-fn assert_idle(rt: &impl Abort, done: &ChannelDone, case: &Idle<'_>)
-    requires rank { HasRank done.now.channel 0 }
-    requires bank { HasBank done.now.channel BANK }
-{
-    let (n_refi, until, commands, stats) = *case;
+    let now = (channel.now(), channel.due(0), channel.requests().len());
     expect_at(
         rt,
-        &n_refi,
+        &case.n_refi,
         &(
-            done.commands.as_slice(),
-            done.messages.len(),
-            stands(&done.channel),
+            commands,
+            messages,
+            channel.stats(),
+            (channel.open_row(BANK), now),
         ),
-        &(commands, 0, (stats, until, 0, None, 0)),
+        &(
+            case.commands,
+            case.messages,
+            case.stats,
+            (case.open_row, (case.until, 0, 0)),
+        ),
     );
 }
 
-#[test]
-fn idle_channels(rt: HostRuntime) -> Result<(), Fail> {
-    for case in &IDLE {
-        let until = case.1.min(1_000_000_000_000);
-        let done = idle(rt.alloc(), case.0, until)?;
-        assert_idle(&rt, &done, case);
-    }
+/// Runs a channel from its start over a span in which these messages arrive.
+fn run_on(
+    rt: &impl Abort,
+    alloc: Global,
+    config: &Config,
+    channel: &mut Channel,
+    inbox: &[Message],
+    until: Cycle,
+    case: &Case<'_>,
+) -> Result<(), AllocError>
+    requires start { StandsFor channel.old config.now 0 [] [] }
+    requires fit { IsFit config.now 0 [] [] inbox.now 0 until }
+    requires until { until ≤ 2 ^ 62 }
+    requires ranks { config.now.ranks ≡ 1 }
+{
+    let mut issued = CommandList::new(alloc);
+    let mut messages = Vec::new(alloc);
+    channel.run(inbox, 0, until, &mut issued, &mut messages)?;
+    let commands = issued.to_vec(alloc)?;
+    assert_did(rt, channel, &commands, &messages, case);
     Ok(())
 }
 
-/// A number of things, and the cycles of the first and of the last.
-type Ends = (usize, Option<Cycle>, Option<Cycle>);
-
-/// In which cycles commands were issued, and messages arrive.
-fn cycles_of(done: &ChannelDone) -> (Ends, Ends) {
-    let commands = done.commands.as_slice();
-    let messages = done.messages.as_slice();
-    (
-        (
-            commands.len(),
-            commands.first().map(|row| row.cycle),
-            commands.last().map(|row| row.cycle),
-        ),
-        (
-            messages.len(),
-            messages.first().map(|m| m.arrival),
-            messages.last().map(|m| m.arrival),
-        ),
-    )
-}
-
-static ONE_READ: ChannelStats = ChannelStats {
-    act: 1,
-    rd: 1,
-    queued: 4,
-    queued_max: 1,
-    idle: 12,
-    ..NO_CHANNEL
-};
-
-fn assert_served(rt: &impl Abort, done: &ChannelDone)
-    requires rank { HasRank done.now.channel 0 }
-    requires bank { HasBank done.now.channel BANK }
+/// Runs a channel of a machine over a span in which these messages arrive.
+fn run_alone(
+    rt: &impl Abort,
+    alloc: Global,
+    config: &Config,
+    inbox: &[Message],
+    until: Cycle,
+    case: &Case<'_>,
+) -> Result<(), AllocError>
+    requires fit { IsFit config.now 0 [] [] inbox.now 0 until }
+    requires until { until ≤ 2 ^ 62 }
+    requires ranks { config.now.ranks ≡ 1 }
 {
-    expect(
-        rt,
-        &(stands(&done.channel), cycles_of(done)),
-        &(
-            (ONE_READ, 16, 0, Some(0), 0),
-            ((2, Some(2), Some(5)), (2, Some(15), Some(7))),
-        ),
-    );
+    let mut channel = Channel::start(alloc, config, 0)?;
+    run_on(rt, alloc, config, &mut channel, inbox, until, case)
 }
 
-/// One read, which is in the queue from cycle 2 on: ACT 2, RD 5. Its credit is back in cycle 7, and its data in cycle 15.
+/// Runs a channel of a machine, with the read or with none.
+fn run_either(
+    rt: &impl Abort,
+    alloc: Global,
+    config: &Config,
+    case: &Case<'_>,
+) -> Result<(), AllocError>
+    requires ranks { config.now.ranks ≡ 1 }
+{
+    if case.reads {
+        let inbox = [first_read(config)];
+        run_alone(rt, alloc, config, &inbox, 16, case)
+    } else {
+        let until = case.until.min(1_000_000_000_000);
+        run_alone(rt, alloc, config, &[], until, case)
+    }
+}
+
+fn run_case(rt: &impl Abort, alloc: Global, case: &Case<'_>) -> Result<(), Fault> {
+    let config = config(alloc, case.n_refi)?;
+    Ok(run_either(rt, alloc, &config, case)?)
+}
+
 #[test]
-fn one_read_is_served(rt: HostRuntime) -> Result<(), Fail> {
-    let done = served(rt.alloc())?;
-    assert_served(&rt, &done);
+fn channels_alone(rt: HostRuntime) -> Result<(), Fail> {
+    for case in &CASES {
+        run_case(&rt, rt.alloc(), case)?;
+    }
     Ok(())
 }

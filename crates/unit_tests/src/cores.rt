@@ -13,9 +13,11 @@ use sim_base::message::{Cycle, Message};
 use sim_base::trace::Entry;
 use statistics::cores::CoreStats;
 use std::alloc::{AllocError, Global};
+use std::process::Abort;
 use std::test::Fail;
 
 /// What a core did and sent from cycle 0 on, with no message to it.
+#[derive(Drop)]
 struct Alone {
     core: Core,
     sent: Vec<Message>,
@@ -37,30 +39,45 @@ fn run_alone(
     Ok(Alone { core, sent })
 }
 
-/// Other lines of the small machine, the entries of its core's trace and a cycle; what the core counted before it, and how many
-/// messages it sent.
+/// Other lines of the small machine, the entries of its core's trace and a cycle; what the core counted before it, how many
+/// messages it sent, and which of its first two entries wait for a reply.
 struct Case<'x> {
     changes: &'x [&'x str],
     entries: &'x [Entry],
     until: Cycle,
     did: CoreStats,
     sent: usize,
+    awaited: [bool; 2],
 }
 
-/// What a core counted, how many messages it sent, and which of its first two entries wait for a reply.
-type Did = (CoreStats, usize, [bool; 2]);
+/// Asserts what a core did.
+fn assert_alone(rt: &impl Abort, alone: &Alone, case: &Case<'_>) {
+    let awaited = [alone.core.is_awaited(0), alone.core.is_awaited(1)];
+    expect(
+        rt,
+        &(alone.core.stats(), alone.sent.len(), awaited),
+        &(case.did, case.sent, case.awaited),
+    );
+}
 
-fn did_alone(alloc: Global, case: &Case<'_>) -> Result<Did, Fault> {
-    if case.entries.len() > 8 || case.until > 64 {
-        return Err(Fault::Cycles);
-    }
+fn run_on(
+    rt: &impl Abort,
+    alloc: Global,
+    config: &Config,
+    case: &Case<'_>,
+) -> Result<(), AllocError> {
+    let entries = &case.entries[..case.entries.len().min(8)];
+    let alone = run_alone(alloc, config, entries, case.until.min(64))?;
+    assert_alone(rt, &alone, case);
+    Ok(())
+}
+
+fn run_case(rt: &impl Abort, alloc: Global, case: &Case<'_>) -> Result<(), Fault> {
     let config = small(alloc, case.changes, "")?;
-    let Alone { core, sent } = run_alone(alloc, &config, case.entries, case.until)?;
-    let awaited = [core.is_awaited(0), core.is_awaited(1)];
-    Ok((core.stats(), sent.len(), awaited))
+    Ok(run_on(rt, alloc, &config, case)?)
 }
 
-static CASES: [Case<'static>; 4] = [
+static CASES: [Case<'static>; 5] = [
     // The second read waits for the only credit.
     Case {
         changes: &["read_credits = 1"],
@@ -74,6 +91,7 @@ static CASES: [Case<'static>; 4] = [
             ..NO_CORE
         },
         sent: 1,
+        awaited: [true, false],
     },
     // Plain entries go by the width.
     Case {
@@ -89,6 +107,7 @@ static CASES: [Case<'static>; 4] = [
             ..NO_CORE
         },
         sent: 1,
+        awaited: [false, false],
     },
     // A window of one entry is full.
     Case {
@@ -102,6 +121,7 @@ static CASES: [Case<'static>; 4] = [
             ..NO_CORE
         },
         sent: 1,
+        awaited: [true, false],
     },
     // Plain entries alone finish.
     Case {
@@ -117,45 +137,38 @@ static CASES: [Case<'static>; 4] = [
             ..NO_CORE
         },
         sent: 0,
+        awaited: [false, false],
+    },
+    // Plain entries fill the window behind a Read.
+    Case {
+        changes: &["window = 4"],
+        entries: &[
+            Entry::Read(0),
+            Entry::Plain,
+            Entry::Plain,
+            Entry::Plain,
+            Entry::Plain,
+            Entry::Plain,
+            Entry::Plain,
+            Entry::Plain,
+        ],
+        until: 15,
+        did: CoreStats {
+            issued: 4,
+            reads: 1,
+            stop_width: 2,
+            stop_window: 13,
+            ..NO_CORE
+        },
+        sent: 1,
+        awaited: [true, false],
     },
 ];
 
 #[test]
 fn counts_of_cores_alone(rt: HostRuntime) -> Result<(), Fail> {
     for case in &CASES {
-        let (did, sent, _) = did_alone(rt.alloc(), case)?;
-        expect(&rt, &(did, sent), &(case.did, case.sent));
+        run_case(&rt, rt.alloc(), case)?;
     }
-    Ok(())
-}
-
-static BEHIND_A_READ: Case<'static> = Case {
-    changes: &["window = 4"],
-    entries: &[
-        Entry::Read(0),
-        Entry::Plain,
-        Entry::Plain,
-        Entry::Plain,
-        Entry::Plain,
-        Entry::Plain,
-        Entry::Plain,
-        Entry::Plain,
-    ],
-    until: 15,
-    did: CoreStats {
-        issued: 4,
-        reads: 1,
-        stop_width: 2,
-        stop_window: 13,
-        ..NO_CORE
-    },
-    sent: 1,
-};
-
-#[test]
-fn plain_entries_fill_the_window_behind_a_read(rt: HostRuntime) -> Result<(), Fail> {
-    let found = did_alone(rt.alloc(), &BEHIND_A_READ)?;
-    let case = &BEHIND_A_READ;
-    expect(&rt, &found, &(case.did, case.sent, [true, false]));
     Ok(())
 }

@@ -2,15 +2,17 @@
 
 use crate::expect::{expect, expect_at};
 use crate::none::NO_CHANNEL;
+use crate::one_read::{ACT, BANK, CREDIT, RD, REPLY};
 use channel_feed::done::ChannelDone;
 use channel_feed::fault::FeedFault;
 use channel_feed::fed::FedChannel;
 use fixtures::small::small;
-use sim_base::command::{Command, CommandRow, Kind, Source};
+use sim_base::command::{Command, CommandRow, Source};
 use sim_base::message::{Cycle, LinkId, Load, Message, Request};
-use sim_base::place::{BankId, Place};
+use sim_base::place::Place;
 use statistics::channels::ChannelStats;
 use std::alloc::{AllocError, Global};
+use std::process::Abort;
 use std::test::Fail;
 
 /// The Read of entry 0 at address 0, as core 0 sends it, so that it arrives in cycle 2.
@@ -71,11 +73,7 @@ fn message_of(mail: Mail) -> Message {
 }
 
 fn messages_of(alloc: Global, mail: &[Mail]) -> Result<Vec<Message>, AllocError> {
-    let mut messages = Vec::new(alloc);
-    for one in mail {
-        messages.push(message_of(*one))?;
-    }
-    Ok(messages)
+    mail.iter().map(|one| message_of(*one)).collect(alloc)
 }
 
 /// What a channel is told: to run up to a cycle, with these messages, or to go over the cycles before one.
@@ -97,12 +95,16 @@ impl Running {
     /// The small machine's channel, before its first cycle.
     fn start(alloc: Global) -> Result<Self, Fail> {
         let config = small(alloc, &[], "")?;
-        let fed = FedChannel::start(alloc, &config, 0)?;
+        let fed = FedChannel::start(alloc, &config, 0).ok();
         Ok(Running {
-            fed: Some(fed),
+            fed,
             commands: Vec::new(alloc),
             messages: Vec::new(alloc),
         })
+    }
+
+    fn fed(&self) -> Result<&FedChannel, FeedFault> {
+        self.fed.as_ref().ok_or(FeedFault::Memory)
     }
 
     fn run(&mut self, alloc: Global, inbox: &[Message], until: Cycle) -> Result<(), FeedFault> {
@@ -146,86 +148,30 @@ impl Running {
     }
 }
 
-/// What a channel did: its commands and its messages, what it counted, and where it stands.
-type Did = (Vec<CommandRow>, Vec<Message>, ChannelStats, Cycle);
+/// A further step, and what is wrong with it, or nothing.
+type Further<'x> = (Step<'x>, Option<&'x str>);
 
-/// What a channel did that was run in one span.
-fn did_at_once(done: ChannelDone) -> Did {
-    let (stats, now) = (done.channel.stats(), done.channel.now());
-    (done.commands, done.messages, stats, now)
-}
-
-/// What a channel did step by step, and anew in one span.
-fn did_by(alloc: Global, running: &Running) -> Result<(Did, Did), Fail> {
-    let fed = running.fed.as_ref().ok_or("no channel")?;
-    let replay = did_at_once(fed.replay(alloc)?);
-    let commands = running.commands.to_vec(alloc)?;
-    let messages = running.messages.to_vec(alloc)?;
-    Ok(((commands, messages, fed.stats(), fed.now()), replay))
-}
-
-fn do_all(alloc: Global, running: &mut Running, steps: &[Step<'_>]) -> Result<(Did, Did), Fail> {
-    running.take_all(alloc, steps)?;
-    did_by(alloc, running)
-}
-
-/// What the small machine's channel does in these steps, and anew in one span.
-fn did(alloc: Global, steps: &[Step<'_>]) -> Result<(Did, Did), Fail> {
-    let mut running = Running::start(alloc)?;
-    do_all(alloc, &mut running, steps)
-}
-
-const BANK: BankId = BankId {
-    rank: 0,
-    group: 0,
-    bank: 0,
-};
-
-const ACT: CommandRow = CommandRow {
-    cycle: 2,
-    channel: 0,
-    command: Command::Act {
-        bank: BANK,
-        row: 0,
-        source: Source { core: 0, entry: 0 },
-    },
-};
-
-const RD: CommandRow = CommandRow {
-    cycle: 5,
-    channel: 0,
-    command: Command::Rd {
-        bank: BANK,
-        row: 0,
-        column: 0,
-        source: Source { core: 0, entry: 0 },
-    },
-};
-
-/// The reply to the first Read, which leaves when the burst is over.
-const REPLY: Message = Message {
-    link: 1,
-    arrival: 15,
-    load: Load::Reply(0),
-};
-
-const CREDIT: Message = Message {
-    link: 2,
-    arrival: 7,
-    load: Load::Credit {
-        write: false,
-        entry: 0,
-    },
-};
-
-/// Steps; and the commands, the messages, the counts and the last cycle.
+/// Steps; where the channel stands after them, when it acts then next, what it did and what it counted; and further steps, one at a time.
 struct Case<'x> {
     steps: &'x [Step<'x>],
+    now: Cycle,
+    next: Option<Cycle>,
     commands: &'x [CommandRow],
     messages: &'x [Message],
     stats: ChannelStats,
-    now: Cycle,
+    further: &'x [Further<'x>],
 }
+
+/// No step.
+const NOTHING: Case<'static> = Case {
+    steps: &[],
+    now: 0,
+    next: None,
+    commands: &[],
+    messages: &[],
+    stats: NO_CHANNEL,
+    further: &[],
+};
 
 const FIRST: Mail = Mail::Read(0, 0, 2);
 
@@ -233,6 +179,7 @@ const FIRST: Mail = Mail::Read(0, 0, 2);
 /// its service.
 const ONE_READ: Case<'static> = Case {
     steps: &[Step::Run(&[FIRST], 64)],
+    now: 64,
     commands: &[ACT, RD],
     messages: &[REPLY, CREDIT],
     stats: ChannelStats {
@@ -243,137 +190,106 @@ const ONE_READ: Case<'static> = Case {
         idle: 60,
         ..NO_CHANNEL
     },
-    now: 64,
+    ..NOTHING
 };
 
-static CASES: [Case<'static>; 4] = [
-    ONE_READ,
-    Case {
-        steps: &[
-            Step::Run(&[FIRST], 3),
-            Step::Run(&[], 6),
-            Step::Run(&[], 64),
-        ],
-        ..ONE_READ
+/// The same up to cycle 3.
+const OPENED: Case<'static> = Case {
+    steps: &[Step::Run(&[FIRST], 3)],
+    now: 3,
+    next: Some(5),
+    commands: &[ACT],
+    messages: &[],
+    stats: ChannelStats {
+        act: 1,
+        queued: 1,
+        queued_max: 1,
+        idle: 2,
+        ..NO_CHANNEL
     },
-    // In cycle 5 the Read is served, and after it there is nothing to do.
-    Case {
-        steps: &[
-            Step::Run(&[FIRST], 3),
-            Step::Skip(5),
-            Step::Run(&[], 6),
-            Step::Skip(64),
-        ],
-        ..ONE_READ
+    ..NOTHING
+};
+
+/// The same up to cycle 6.
+const SERVED: Case<'static> = Case {
+    steps: &[Step::Run(&[FIRST], 6)],
+    now: 6,
+    stats: ChannelStats {
+        act: 1,
+        rd: 1,
+        queued: 4,
+        queued_max: 1,
+        idle: 2,
+        ..NO_CHANNEL
     },
-    // No cycle.
-    Case {
-        steps: &[],
-        commands: &[],
-        messages: &[],
-        stats: NO_CHANNEL,
-        now: 0,
-    },
-];
+    ..ONE_READ
+};
 
-#[test]
-fn channels_do_what_is_worked_out(rt: HostRuntime) -> Result<(), Fail> {
-    for (number, case) in CASES.iter().enumerate() {
-        let (spans, replay) = did(rt.alloc(), case.steps)?;
-        expect_at(
-            &rt,
-            &("case", number),
-            &(spans.0.as_slice(), spans.1.as_slice(), spans.2, spans.3),
-            &(case.commands, case.messages, case.stats, case.now),
-        );
-        expect_at(&rt, &("in one span", number), &replay, &spans);
-    }
-    Ok(())
-}
+/// The same, with a step over the cycle in which nothing is done.
+const SKIPPED: Case<'static> = Case {
+    steps: &[Step::Run(&[FIRST], 3), Step::Skip(5), Step::Run(&[], 6)],
+    ..SERVED
+};
 
-/// One Read comes in the first span and one in the third, where it hits the row that the first one opened, and then cycles are
-/// skipped.
-static HIT_LATER: [Step<'static>; 4] = [
-    Step::Run(&[FIRST], 3),
-    Step::Run(&[], 6),
-    Step::Run(&[Mail::Read(1, 0, 8)], 40),
-    Step::Skip(64),
-];
-
-#[test]
-fn a_replay_does_what_the_spans_did(rt: HostRuntime) -> Result<(), Fail> {
-    let (spans, replay) = did(rt.alloc(), &HIT_LATER)?;
-    expect(&rt, &(spans.0.len(), spans.3), &(3, 64));
-    expect(&rt, &replay, &spans);
-    Ok(())
-}
-
-const TWO_READS: &[Mail] = &[FIRST, Mail::Read(1, 1, 3)];
-
-/// Reads of two lines of a row, whole and cut into spans.
-static WHOLE_AND_CUT: [&[Step<'static>]; 2] = [
-    &[Step::Run(TWO_READS, 16)],
-    &[
-        Step::Run(TWO_READS, 5),
+/// In cycle 5 the Read is served, and after it there is nothing to do.
+const ONE_READ_SKIPPED: Case<'static> = Case {
+    steps: &[
+        Step::Run(&[FIRST], 3),
+        Step::Skip(5),
         Step::Run(&[], 6),
-        Step::Run(&[], 16),
+        Step::Skip(64),
     ],
-];
+    ..ONE_READ
+};
 
-/// The cycles of commands.
-fn cycles_of(alloc: Global, commands: &[CommandRow]) -> Result<Vec<(Kind, Cycle)>, AllocError> {
-    commands
-        .iter()
-        .map(|row| (row.command.kind(), row.cycle))
-        .collect(alloc)
-}
+/// What comes of the Read of entry 1 that is served in cycle 10.
+const NEXT_REPLY: Message = Message {
+    link: 1,
+    arrival: 20,
+    load: Load::Reply(1),
+};
 
-/// On which links messages arrive, and when.
-fn arrivals_of(alloc: Global, messages: &[Message]) -> Result<Vec<(LinkId, Cycle)>, AllocError> {
-    messages
-        .iter()
-        .map(|message| (message.link, message.arrival))
-        .collect(alloc)
-}
+const NEXT_CREDIT: Message = Message {
+    link: 2,
+    arrival: 12,
+    load: Load::Credit {
+        write: false,
+        entry: 1,
+    },
+};
 
-static KINDS: [(Kind, Cycle); 3] = [(Kind::Act, 2), (Kind::Rd, 5), (Kind::Rd, 10)];
+const BOTH: &[Mail] = &[FIRST, Mail::Read(1, 1, 3)];
 
-static ARRIVALS: [(LinkId, Cycle); 4] = [(1, 15), (2, 7), (1, 20), (2, 12)];
-
-#[test]
-fn two_reads_whole_and_cut(rt: HostRuntime) -> Result<(), Fail> {
-    for steps in &WHOLE_AND_CUT {
-        let (spans, replay) = did(rt.alloc(), steps)?;
-        let kinds = cycles_of(rt.alloc(), &spans.0)?;
-        let arrivals = arrivals_of(rt.alloc(), &spans.1)?;
-        expect(
-            &rt,
-            &(kinds.as_slice(), arrivals.as_slice()),
-            &(KINDS.as_slice(), ARRIVALS.as_slice()),
-        );
-        expect(&rt, &replay, &spans);
-    }
-    Ok(())
-}
-
-/// When a channel acts next after some steps, and why one more is refused.
-type Answer = (Option<Cycle>, Option<FeedFault>);
-
-fn answer_of(
-    alloc: Global,
-    running: &mut Running,
-    steps: &[Step<'_>],
-    last: Step<'_>,
-) -> Result<Answer, Fail> {
-    running.take_all(alloc, steps)?;
-    let next = running.next_act();
-    Ok((next, running.take(alloc, last).err()))
-}
-
-fn answer(alloc: Global, steps: &[Step<'_>], last: Step<'_>) -> Result<Answer, Fail> {
-    let mut running = Running::start(alloc)?;
-    answer_of(alloc, &mut running, steps, last)
-}
+/// Reads of two lines of a row. The second hits the row nCCD_L = 5 cycles after the first; it waits in cycles 3 to 10.
+const TWO_READS: Case<'static> = Case {
+    steps: &[Step::Run(BOTH, 16)],
+    now: 16,
+    commands: &[
+        ACT,
+        RD,
+        CommandRow {
+            cycle: 10,
+            channel: 0,
+            command: Command::Rd {
+                bank: BANK,
+                row: 0,
+                column: 1,
+                source: Source { core: 0, entry: 1 },
+            },
+        },
+    ],
+    messages: &[REPLY, CREDIT, NEXT_REPLY, NEXT_CREDIT],
+    stats: ChannelStats {
+        act: 1,
+        rd: 2,
+        hits: 1,
+        queued: 12,
+        queued_max: 2,
+        idle: 7,
+        ..NO_CHANNEL
+    },
+    ..NOTHING
+};
 
 /// The machine's one core has four credits of each kind, so that the channel has room for eight.
 const NINE: &[Mail] = &[
@@ -399,139 +315,265 @@ const EIGHT: &[Mail] = &[
     Mail::Read(7, 0, 9),
 ];
 
-/// Steps that are taken, when the channel acts next, and a step that is refused or, where nothing is wrong, taken.
-type Refusal<'x> = (&'x [Step<'x>], Option<Cycle>, Step<'x>, Option<&'x str>);
-
-const UP_TO_3: &[Step<'static>] = &[Step::Run(&[FIRST], 3)];
-
-const UP_TO_6: &[Step<'static>] = &[Step::Run(&[FIRST], 6)];
-
-const SERVED: &[Step<'static>] = &[Step::Run(&[FIRST], 3), Step::Skip(5), Step::Run(&[], 6)];
-
-static REFUSALS: [Refusal<'static>; 18] = [
-    (
-        &[],
-        None,
-        Step::Run(&[Mail::Odd(Request { core: 1, ..READ }, 0, 2)], 64),
-        Some("another core"),
-    ),
-    (
-        &[],
-        None,
-        Step::Run(
-            &[Mail::Odd(
-                Request {
-                    place: Place {
-                        row: 1,
-                        ..FIRST_LINE
-                    },
-                    ..READ
-                },
-                0,
-                2,
-            )],
-            64,
-        ),
-        Some("another row"),
-    ),
-    (
-        &[],
-        None,
-        Step::Run(
-            &[Mail::Odd(
-                Request {
-                    place: Place {
-                        channel: 1,
-                        ..FIRST_LINE
-                    },
-                    ..READ
-                },
-                0,
-                2,
-            )],
-            64,
-        ),
-        Some("another channel"),
-    ),
-    (
-        &[],
-        None,
-        Step::Run(&[Mail::Odd(READ, 1, 2)], 64),
-        Some("another link"),
-    ),
-    (
-        &[],
-        None,
-        Step::Run(&[Mail::Odd(READ, 0, 3)], 64),
-        Some("another arrival"),
-    ),
-    (&[], None, Step::Run(&[Mail::Reply], 64), Some("a reply")),
-    (
-        &[],
-        None,
-        Step::Run(&[Mail::Read(0, 0, 64)], 64),
-        Some("after the span"),
-    ),
-    (
-        &[],
-        None,
-        Step::Run(&[Mail::Read(0, 0, 3), Mail::Read(1, 0, 2)], 64),
-        Some("out of order"),
-    ),
-    (
-        &[],
-        None,
-        Step::Run(&[FIRST, Mail::Read(1, 0, 2)], 64),
-        Some("two in a cycle of a link"),
-    ),
-    (
-        &[],
-        None,
-        Step::Run(&[FIRST, Mail::Read(0, 0, 3)], 64),
-        Some("an entry twice"),
-    ),
-    (&[], None, Step::Run(NINE, 64), Some("more than credits")),
-    (&[], None, Step::Run(EIGHT, 64), None),
-    (
-        UP_TO_6,
-        None,
-        Step::Run(&[Mail::Read(0, 0, 10)], 64),
-        Some("the entry came already"),
-    ),
-    (
-        UP_TO_6,
-        None,
-        Step::Run(&[Mail::Read(1, 0, 5)], 64),
-        Some("it arrives before now"),
-    ),
-    (
-        UP_TO_6,
-        None,
-        Step::Run(&[], 5),
-        Some("the span ends before now"),
-    ),
-    // In cycle 5 the Read is served.
-    (UP_TO_3, Some(5), Step::Skip(6), Some("a command")),
-    (SERVED, None, Step::Skip(64), None),
-    (
-        &[
+static CASES: [Case<'static>; 10] = [
+    ONE_READ,
+    Case {
+        steps: &[
             Step::Run(&[FIRST], 3),
-            Step::Skip(5),
             Step::Run(&[], 6),
+            Step::Run(&[], 64),
+        ],
+        ..ONE_READ
+    },
+    Case {
+        further: &[(Step::Skip(63), Some("it stands at cycle 64 already"))],
+        ..ONE_READ_SKIPPED
+    },
+    Case {
+        further: &[
+            (
+                Step::Run(&[Mail::Odd(Request { core: 1, ..READ }, 0, 2)], 64),
+                Some("another core"),
+            ),
+            (
+                Step::Run(
+                    &[Mail::Odd(
+                        Request {
+                            place: Place {
+                                row: 1,
+                                ..FIRST_LINE
+                            },
+                            ..READ
+                        },
+                        0,
+                        2,
+                    )],
+                    64,
+                ),
+                Some("another row"),
+            ),
+            (
+                Step::Run(
+                    &[Mail::Odd(
+                        Request {
+                            place: Place {
+                                channel: 1,
+                                ..FIRST_LINE
+                            },
+                            ..READ
+                        },
+                        0,
+                        2,
+                    )],
+                    64,
+                ),
+                Some("another channel"),
+            ),
+            (
+                Step::Run(&[Mail::Odd(READ, 1, 2)], 64),
+                Some("another link"),
+            ),
+            (
+                Step::Run(&[Mail::Odd(READ, 0, 3)], 64),
+                Some("another arrival"),
+            ),
+            (Step::Run(&[Mail::Reply], 64), Some("a reply")),
+            (
+                Step::Run(&[Mail::Read(0, 0, 64)], 64),
+                Some("after the span"),
+            ),
+            (
+                Step::Run(&[Mail::Read(0, 0, 3), Mail::Read(1, 0, 2)], 64),
+                Some("out of order"),
+            ),
+            (
+                Step::Run(&[FIRST, Mail::Read(1, 0, 2)], 64),
+                Some("two in a cycle of a link"),
+            ),
+            (
+                Step::Run(&[FIRST, Mail::Read(0, 0, 3)], 64),
+                Some("an entry twice"),
+            ),
+            (Step::Run(NINE, 64), Some("more than credits")),
+            (Step::Run(EIGHT, 64), None),
+        ],
+        ..NOTHING
+    },
+    TWO_READS,
+    Case {
+        steps: &[Step::Run(BOTH, 5), Step::Run(&[], 6), Step::Run(&[], 16)],
+        ..TWO_READS
+    },
+    // One Read comes in the first span and one in the third, where it hits the row that the first one opened and waits in cycles 8,
+    // 9 and 10, and then cycles are skipped.
+    Case {
+        steps: &[
+            Step::Run(&[FIRST], 3),
+            Step::Run(&[], 6),
+            Step::Run(&[Mail::Read(1, 0, 8)], 40),
             Step::Skip(64),
         ],
-        None,
-        Step::Skip(63),
-        Some("it stands at cycle 64 already"),
-    ),
+        now: 64,
+        commands: &[
+            ACT,
+            RD,
+            CommandRow {
+                cycle: 10,
+                channel: 0,
+                command: Command::Rd {
+                    bank: BANK,
+                    row: 0,
+                    column: 0,
+                    source: Source { core: 0, entry: 1 },
+                },
+            },
+        ],
+        stats: ChannelStats {
+            act: 1,
+            rd: 2,
+            hits: 1,
+            queued: 7,
+            queued_max: 1,
+            idle: 57,
+            ..NO_CHANNEL
+        },
+        ..TWO_READS
+    },
+    Case {
+        further: &[
+            (
+                Step::Run(&[Mail::Read(0, 0, 10)], 64),
+                Some("the entry came already"),
+            ),
+            (
+                Step::Run(&[Mail::Read(1, 0, 5)], 64),
+                Some("it arrives before now"),
+            ),
+            (Step::Run(&[], 5), Some("the span ends before now")),
+        ],
+        ..SERVED
+    },
+    Case {
+        further: &[
+            // In cycle 5 the Read is served.
+            (Step::Skip(6), Some("a command")),
+        ],
+        ..OPENED
+    },
+    Case {
+        further: &[(Step::Skip(64), None)],
+        ..SKIPPED
+    },
 ];
 
-#[test]
-fn steps_are_taken_or_refused(rt: HostRuntime) -> Result<(), Fail> {
-    for (steps, next, last, why) in &REFUSALS {
-        let found = answer(rt.alloc(), steps, *last)?;
-        let refused = why.map(|_| FeedFault::Unfit);
-        expect_at(&rt, &why, &found, &(*next, refused));
+/// Asserts that a channel anew did in one span what this one did.
+fn assert_replay(rt: &impl Abort, running: &Running, fed: &FedChannel, done: &ChannelDone) {
+    let channel = &done.channel;
+    expect(
+        rt,
+        &(
+            done.commands.as_slice(),
+            done.messages.as_slice(),
+            channel.stats(),
+            channel.now(),
+        ),
+        &(
+            running.commands.as_slice(),
+            running.messages.as_slice(),
+            fed.stats(),
+            fed.now(),
+        ),
+    );
+}
+
+fn replays(rt: &impl Abort, alloc: Global, running: &Running) -> Result<(), Fail> {
+    let fed = running.fed()?;
+    let done = fed.replay(alloc)?;
+    assert_replay(rt, running, fed, &done);
+    Ok(())
+}
+
+/// Asserts what a channel did, and when it acts next.
+fn assert_did(
+    rt: &impl Abort,
+    number: usize,
+    running: &mut Running,
+    case: &Case<'_>,
+) -> Result<(), FeedFault> {
+    let next = running.next_act();
+    let fed = running.fed()?;
+    expect_at(
+        rt,
+        &number,
+        &(
+            running.commands.as_slice(),
+            running.messages.as_slice(),
+            fed.stats(),
+            (fed.now(), next),
+        ),
+        &(
+            case.commands,
+            case.messages,
+            case.stats,
+            (case.now, case.next),
+        ),
+    );
+    Ok(())
+}
+
+/// Asserts whether a channel takes a step.
+fn assert_further(rt: &impl Abort, alloc: Global, running: &mut Running, further: &Further<'_>) {
+    let (step, wrong) = *further;
+    let refused = running.take(alloc, step).err();
+    expect_at(rt, &wrong, &refused, &wrong.map(|_| FeedFault::Unfit));
+}
+
+/// Takes a channel through a case.
+fn take_case(
+    rt: &impl Abort,
+    alloc: Global,
+    running: &mut Running,
+    number: usize,
+    case: &Case<'_>,
+    further: Option<&Further<'_>>,
+) -> Result<(), Fail> {
+    running.take_all(alloc, case.steps)?;
+    assert_did(rt, number, running, case)?;
+    replays(rt, alloc, running)?;
+    if let Some(further) = further {
+        assert_further(rt, alloc, running, further);
     }
     Ok(())
+}
+
+fn run_case(
+    rt: &impl Abort,
+    alloc: Global,
+    number: usize,
+    case: &Case<'_>,
+    further: Option<&Further<'_>>,
+) -> Result<(), Fail> {
+    let mut running = Running::start(alloc)?;
+    take_case(rt, alloc, &mut running, number, case, further)
+}
+
+/// Takes a channel through a case, and for each further step one anew.
+fn run_each(rt: &impl Abort, alloc: Global, number: usize, case: &Case<'_>) -> Result<(), Fail> {
+    run_case(rt, alloc, number, case, None)?;
+    for further in case.further {
+        run_case(rt, alloc, number, case, Some(further))?;
+    }
+    Ok(())
+}
+
+fn run_cases(rt: &impl Abort, alloc: Global, cases: &[Case<'_>]) -> Result<(), Fail> {
+    for (number, case) in cases.iter().enumerate() {
+        run_each(rt, alloc, number, case)?;
+    }
+    Ok(())
+}
+
+#[test]
+fn fed_channels_do_what_is_worked_out(rt: HostRuntime) -> Result<(), Fail> {
+    run_cases(&rt, rt.alloc(), &CASES)
 }

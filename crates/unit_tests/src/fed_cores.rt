@@ -6,31 +6,14 @@ use core_feed::done::CoreDone;
 use core_feed::fed::{FedCore, FeedFault};
 use cpu_trace::trace::Trace;
 use fixtures::small::small;
+use sim_base::config::Config;
 use sim_base::message::{Cycle, LinkId, Load, Message, Request};
 use sim_base::place::Place;
 use sim_base::trace::Entry;
 use statistics::cores::CoreStats;
 use std::alloc::{AllocError, Global};
+use std::process::Abort;
 use std::test::Fail;
-
-fn reply(entry: u64, arrival: Cycle) -> Message {
-    Message {
-        link: 1,
-        arrival,
-        load: Load::Reply(entry),
-    }
-}
-
-fn credit(entry: u64, arrival: Cycle) -> Message {
-    Message {
-        link: 2,
-        arrival,
-        load: Load::Credit {
-            write: false,
-            entry,
-        },
-    }
-}
 
 /// A message to core 0: a credit or a reply, with its entry and its arrival; a credit that may not come in cycle 7, with its link
 /// and whether it is a write's; or a request.
@@ -43,89 +26,71 @@ enum Mail {
 }
 
 /// A request, which does not come to a core.
-static REQUEST: Message = Message {
-    link: 0,
+static REQUEST: Request = Request {
+    core: 0,
+    entry: 1,
+    write: false,
+    address: 0,
+    place: Place {
+        channel: 0,
+        rank: 0,
+        group: 0,
+        bank: 0,
+        row: 0,
+        column: 0,
+    },
     arrival: 7,
-    load: Load::Request(Request {
-        core: 0,
-        entry: 1,
-        write: false,
-        address: 0,
-        place: Place {
-            channel: 0,
-            rank: 0,
-            group: 0,
-            bank: 0,
-            row: 0,
-            column: 0,
-        },
-        arrival: 7,
-        link: 0,
-    }),
+    link: 0,
 };
 
 fn message_of(mail: Mail) -> Message {
-    match mail {
-        Mail::Credit(entry, arrival) => credit(entry, arrival),
-        Mail::Reply(entry, arrival) => reply(entry, arrival),
-        Mail::CreditOn(link, write) => Message {
-            link,
-            arrival: 7,
-            load: Load::Credit { write, entry: 1 },
-        },
-        Mail::Request => REQUEST,
+    let credit = |write, entry| Load::Credit { write, entry };
+    let (link, arrival, load) = match mail {
+        Mail::Credit(entry, arrival) => (2, arrival, credit(false, entry)),
+        Mail::Reply(entry, arrival) => (1, arrival, Load::Reply(entry)),
+        Mail::CreditOn(link, write) => (link, 7, credit(write, 1)),
+        Mail::Request => (0, 7, Load::Request(REQUEST)),
+    };
+    Message {
+        link,
+        arrival,
+        load,
     }
 }
 
 fn mail_of(alloc: Global, mail: &[Mail]) -> Result<Vec<Message>, AllocError> {
-    let mut messages = Vec::new(alloc);
-    for one in mail {
-        messages.push(message_of(*one))?;
-    }
-    Ok(messages)
+    mail.iter().map(|one| message_of(*one)).collect(alloc)
 }
 
-/// The messages that arrive from a cycle on and before another.
-fn between(
-    alloc: Global,
-    mail: &[Message],
-    from: Cycle,
-    until: Cycle,
-) -> Result<Vec<Message>, AllocError> {
-    mail.iter()
-        .copied()
-        .filter(|m| from <= m.arrival && m.arrival < until)
-        .collect(alloc)
-}
-
-fn trace_of(alloc: Global, entries: &[Entry]) -> Result<Trace, Fail> {
-    if entries.len() > 8 {
-        return Err(Fail::from("too long"));
-    }
-    Ok(Trace::from_entries(alloc, entries)?)
-}
-
-/// What a core is told: to run up to a cycle, with these messages, or to go over the cycles before one.
+/// What a core is told: to run up to a cycle, with these messages; to run up to one cycle by cycle, with none; or to go over the
+/// cycles before one.
 #[derive(Clone, Copy)]
 enum Step<'x> {
     Run(&'x [Mail], Cycle),
+    Each(Cycle),
     Skip(Cycle),
 }
 
-/// A core that is fed span by span, and what it sent; no core, where a span was refused.
+/// A core that is fed span by span, and what it sent; no core, where a step was refused.
 #[derive(Drop)]
 struct Feeding {
     core: Option<FedCore>,
     sent: Vec<Message>,
 }
 
+/// A core with a trace of at most eight entries.
+fn start_core(alloc: Global, config: &Config, entries: &[Entry]) -> Result<FedCore, AllocError> {
+    let trace = Trace::from_entries(alloc, &entries[..entries.len().min(8)])?;
+    FedCore::start(alloc, config, 0, trace)
+}
+
 impl Feeding {
     /// The core of the small machine, with other lines for some keys.
     fn start(alloc: Global, changes: &[&str], entries: &[Entry]) -> Result<Self, Fail> {
         let config = small(alloc, changes, "")?;
-        let core = FedCore::start(alloc, &config, 0, trace_of(alloc, entries)?)?;
+        let core = start_core(alloc, &config, entries).ok();
         Ok(Feeding {
-            core: Some(core),
+            core,
             sent: Vec::new(alloc),
         })
     }
@@ -142,6 +107,13 @@ impl Feeding {
         sent.map_err(|_| FeedFault::Memory)
     }
 
+    fn run_each(&mut self, alloc: Global, until: Cycle) -> Result<(), FeedFault> {
+        for cycle in self.core()?.now()..until {
+            self.run(alloc, &[], cycle.saturating_add(1))?;
+        }
+        Ok(())
+    }
+
     fn skip(&mut self, until: Cycle) -> Result<(), FeedFault> {
         let core = self.core.take().ok_or(FeedFault::Memory)?;
         self.core.insert(core.skip(until)?);
@@ -154,63 +126,53 @@ impl Feeding {
                 let inbox = mail_of(alloc, mail).map_err(|_| FeedFault::Memory)?;
                 self.run(alloc, &inbox, until)
             }
+            Step::Each(until) => self.run_each(alloc, until),
             Step::Skip(until) => self.skip(until),
         }
     }
 
-    /// Runs spans with these ends, with the messages that arrive in each.
-    fn run_spans(&mut self, alloc: Global, mail: &[Message], cuts: &[Cycle]) -> Result<(), Fail> {
-        for cut in cuts {
-            let inbox = between(alloc, mail, self.core()?.now(), *cut)?;
-            self.run(alloc, &inbox, *cut)?;
+    fn take_all(&mut self, alloc: Global, steps: &[Step<'_>]) -> Result<(), FeedFault> {
+        for step in steps {
+            self.take(alloc, *step)?;
         }
         Ok(())
     }
 }
 
-/// What a core counted, where it stands, and what it sent.
-type Did = (CoreStats, Cycle, Vec<Message>);
+/// A further step, and what is wrong with it, or nothing.
+type Further<'x> = (Step<'x>, Option<&'x str>);
 
-/// What a core did that was run in one span.
-fn did_at_once(done: CoreDone) -> Did {
-    (done.core.stats(), done.core.now(), done.messages)
-}
-
-/// What a core did in spans with these ends, and anew in one span.
-fn did_by(
-    alloc: Global,
-    feeding: &mut Feeding,
-    mail: &[Message],
-    cuts: &[Cycle],
-) -> Result<(Did, Did), Fail> {
-    feeding.run_spans(alloc, mail, cuts)?;
-    let core = feeding.core()?;
-    let replay = did_at_once(core.replay(alloc)?);
-    let sent = feeding.sent.to_vec(alloc)?;
-    Ok(((core.stats(), core.now(), sent), replay))
-}
-
-/// Other lines of the small machine, the entries of its core's trace, the messages to it and the ends of spans; and what the core
-/// counts.
+/// Other lines of the small machine, the entries of its core's trace, and steps; when the core acts then next, what it counted, and
+/// on which links what it sent arrives, and when; and further steps, one at a time.
 struct Case<'x> {
     changes: &'x [&'x str],
     entries: &'x [Entry],
-    mail: &'x [Mail],
-    cuts: &'x [Cycle],
+    steps: &'x [Step<'x>],
+    now: Cycle,
+    next: Option<Cycle>,
     did: CoreStats,
+    sent: &'x [(LinkId, Cycle)],
+    further: &'x [Further<'x>],
 }
 
 /// Two reads with all credits, which do not depend on the cuts.
 const TWO_READS: Case<'static> = Case {
     changes: &[],
     entries: &[Entry::Read(0), Entry::Read(64)],
-    mail: &[
-        Mail::Credit(0, 7),
-        Mail::Credit(1, 12),
-        Mail::Reply(0, 15),
-        Mail::Reply(1, 20),
+    steps: &[
+        Step::Run(&[], 7),
+        Step::Run(
+            &[
+                Mail::Credit(0, 7),
+                Mail::Credit(1, 12),
+                Mail::Reply(0, 15),
+                Mail::Reply(1, 20),
+            ],
+            32,
+        ),
     ],
-    cuts: &[7, 32],
+    now: 32,
+    next: None,
     did: CoreStats {
         issued: 2,
         retired: 2,
@@ -222,45 +184,152 @@ const TWO_READS: Case<'static> = Case {
         finish: Some(20),
         ..NO_CORE
     },
+    sent: &[(0, 2), (0, 3)],
+    further: &[],
 };
 
-static CASES: [Case<'static>; 6] = [
+/// One credit holds back the second read, which goes in cycle 7.
+const ONE_CREDIT: Case<'static> = Case {
+    changes: &["read_credits = 1"],
+    steps: &[
+        Step::Run(&[], 7),
+        Step::Run(&[Mail::Credit(0, 7)], 8),
+        Step::Run(
+            &[Mail::Credit(1, 12), Mail::Reply(0, 15), Mail::Reply(1, 20)],
+            32,
+        ),
+    ],
+    did: CoreStats {
+        issued: 2,
+        retired: 2,
+        reads: 2,
+        replies: 2,
+        read_latency: 28,
+        stop_end: 25,
+        stop_memory: 1,
+        stop_credit: 6,
+        finish: Some(20),
+        ..NO_CORE
+    },
+    sent: &[(0, 2), (0, 9)],
+    ..TWO_READS
+};
+
+/// One read, before its cycle.
+const ONE_READ: Case<'static> = Case {
+    entries: &[Entry::Read(0)],
+    steps: &[],
+    now: 0,
+    next: Some(0),
+    did: NO_CORE,
+    sent: &[],
+    ..TWO_READS
+};
+
+/// A Plain entry and a Read in cycle 0, in which the width ends, and a Read in cycle 1, in which the Plain entry retires; and then
+/// two Reads more, at cycle 2.
+const TO_TWO: Case<'static> = Case {
+    entries: &[
+        Entry::Plain,
+        Entry::Read(0),
+        Entry::Read(64),
+        Entry::Read(128),
+        Entry::Read(192),
+    ],
+    steps: &[Step::Run(&[], 2)],
+    now: 2,
+    next: Some(2),
+    did: CoreStats {
+        issued: 3,
+        retired: 1,
+        reads: 2,
+        stop_width: 1,
+        stop_memory: 1,
+        ..NO_CORE
+    },
+    sent: &[(0, 2), (0, 3)],
+    ..TWO_READS
+};
+
+static CASES: [Case<'static>; 13] = [
     TWO_READS,
     Case {
-        cuts: &[2, 12, 15, 16, 21, 32],
-        ..TWO_READS
-    },
-    Case {
-        cuts: &[
-            0, 1, 2, 3, 4, 5, 6, 7, 8, 9, 10, 11, 12, 13, 14, 15, 16, 17, 18, 19, 20, 21, 22, 23,
-            24, 25, 26, 27, 28, 29, 30, 31, 32,
+        steps: &[
+            Step::Run(&[], 2),
+            Step::Run(&[Mail::Credit(0, 7)], 12),
+            Step::Run(&[Mail::Credit(1, 12)], 15),
+            Step::Run(&[Mail::Reply(0, 15)], 16),
+            Step::Run(&[Mail::Reply(1, 20)], 21),
+            Step::Run(&[], 32),
         ],
         ..TWO_READS
     },
-    // One credit holds back the second read.
     Case {
-        changes: &["read_credits = 1"],
-        cuts: &[7, 8, 32],
+        steps: &[
+            Step::Run(&[], 0),
+            Step::Each(7),
+            Step::Run(&[Mail::Credit(0, 7)], 8),
+            Step::Each(12),
+            Step::Run(&[Mail::Credit(1, 12)], 13),
+            Step::Each(15),
+            Step::Run(&[Mail::Reply(0, 15)], 16),
+            Step::Each(20),
+            Step::Run(&[Mail::Reply(1, 20)], 21),
+            Step::Each(32),
+        ],
+        ..TWO_READS
+    },
+    ONE_CREDIT,
+    // The same up to cycle 16.
+    Case {
+        steps: &[
+            Step::Run(&[], 7),
+            Step::Run(&[Mail::Credit(0, 7), Mail::Reply(0, 15)], 16),
+        ],
+        now: 16,
         did: CoreStats {
             issued: 2,
-            retired: 2,
+            retired: 1,
+            reads: 2,
+            replies: 1,
+            read_latency: 15,
+            stop_end: 9,
+            stop_memory: 1,
+            stop_credit: 6,
+            ..NO_CORE
+        },
+        ..ONE_CREDIT
+    },
+    // A Plain entry between the two goes with the first.
+    Case {
+        entries: &[Entry::Read(0), Entry::Plain, Entry::Read(64)],
+        steps: &[
+            Step::Run(&[], 7),
+            Step::Run(&[Mail::Credit(0, 7)], 8),
+            Step::Run(&[Mail::Credit(2, 12), Mail::Reply(0, 15)], 18),
+            Step::Run(&[Mail::Reply(2, 20)], 32),
+        ],
+        did: CoreStats {
+            issued: 3,
+            retired: 3,
             reads: 2,
             replies: 2,
             read_latency: 28,
             stop_end: 25,
-            stop_memory: 1,
+            stop_width: 1,
             stop_credit: 6,
             finish: Some(20),
             ..NO_CORE
         },
-        ..TWO_READS
+        ..ONE_CREDIT
     },
     // Plain entries go by the width.
     Case {
-        changes: &[],
         entries: &[Entry::Plain, Entry::Plain, Entry::Plain, Entry::Read(0)],
-        mail: &[Mail::Credit(3, 8), Mail::Reply(3, 16)],
-        cuts: &[2, 32],
+        steps: &[
+            Step::Run(&[], 2),
+            Step::Run(&[Mail::Credit(3, 8), Mail::Reply(3, 16)], 32),
+        ],
         did: CoreStats {
             issued: 4,
             retired: 4,
@@ -272,18 +341,17 @@ static CASES: [Case<'static>; 6] = [
             finish: Some(16),
             ..NO_CORE
         },
+        sent: &[(0, 3)],
+        ..TWO_READS
     },
     // A window of one entry is full.
     Case {
         changes: &["window = 1"],
-        entries: &[Entry::Read(0), Entry::Read(64)],
-        mail: &[
-            Mail::Credit(0, 7),
-            Mail::Reply(0, 15),
-            Mail::Credit(1, 19),
-            Mail::Reply(1, 27),
+        steps: &[
+            Step::Run(&[], 7),
+            Step::Run(&[Mail::Credit(0, 7), Mail::Reply(0, 15)], 16),
+            Step::Run(&[Mail::Credit(1, 19), Mail::Reply(1, 27)], 32),
         ],
-        cuts: &[7, 16, 32],
         did: CoreStats {
             issued: 2,
             retired: 2,
@@ -295,48 +363,138 @@ static CASES: [Case<'static>; 6] = [
             finish: Some(27),
             ..NO_CORE
         },
+        sent: &[(0, 2), (0, 17)],
+        ..TWO_READS
+    },
+    // A core at rest skips.
+    ONE_READ,
+    Case {
+        steps: &[Step::Run(&[], 1)],
+        now: 1,
+        next: None,
+        did: CoreStats {
+            issued: 1,
+            reads: 1,
+            stop_end: 1,
+            ..NO_CORE
+        },
+        sent: &[(0, 2)],
+        ..ONE_READ
+    },
+    Case {
+        steps: &[Step::Run(&[], 1), Step::Skip(15)],
+        now: 15,
+        next: None,
+        did: CoreStats {
+            issued: 1,
+            reads: 1,
+            stop_end: 15,
+            ..NO_CORE
+        },
+        sent: &[(0, 2)],
+        ..ONE_READ
+    },
+    Case {
+        steps: &[
+            Step::Run(&[], 1),
+            Step::Skip(15),
+            Step::Run(&[Mail::Credit(0, 15), Mail::Reply(0, 15)], 16),
+        ],
+        now: 16,
+        next: None,
+        did: CoreStats {
+            issued: 1,
+            retired: 1,
+            reads: 1,
+            replies: 1,
+            read_latency: 15,
+            stop_end: 16,
+            finish: Some(15),
+            ..NO_CORE
+        },
+        sent: &[(0, 2)],
+        ..ONE_READ
+    },
+    Case {
+        further: &[
+            (
+                Step::Run(
+                    &[
+                        Mail::Credit(1, 7),
+                        Mail::Credit(2, 7),
+                        Mail::Reply(1, 14),
+                        Mail::Reply(2, 14),
+                    ],
+                    32,
+                ),
+                None,
+            ),
+            (Step::Run(&[], 2), None),
+            (
+                Step::Run(&[Mail::Reply(1, 14), Mail::Reply(1, 15)], 32),
+                Some("a reply twice"),
+            ),
+            (
+                Step::Run(&[Mail::Reply(0, 14)], 32),
+                Some("a reply of a Plain entry"),
+            ),
+            (
+                Step::Run(&[Mail::Reply(3, 2)], 32),
+                Some("a reply of an entry not issued yet"),
+            ),
+            (
+                Step::Run(&[Mail::Reply(9, 14)], 32),
+                Some("a reply of no entry"),
+            ),
+            (
+                Step::Run(
+                    &[Mail::Credit(1, 2), Mail::Credit(2, 2), Mail::Credit(3, 2)],
+                    32,
+                ),
+                Some("one credit too many"),
+            ),
+            (
+                Step::Run(&[Mail::CreditOn(2, true)], 32),
+                Some("a credit of a kind of which none is spent"),
+            ),
+            (
+                Step::Run(&[Mail::CreditOn(5, false)], 32),
+                Some("a credit on another core's link"),
+            ),
+            (
+                Step::Run(&[Mail::CreditOn(1, false)], 32),
+                Some("a credit on the link of replies"),
+            ),
+            (
+                Step::Run(&[Mail::Reply(2, 15), Mail::Reply(1, 14)], 32),
+                Some("out of order"),
+            ),
+            (Step::Run(&[Mail::Reply(1, 1)], 32), Some("before the span")),
+            (Step::Run(&[Mail::Reply(1, 32)], 32), Some("after the span")),
+            (Step::Run(&[], 1), Some("a span that ends before it begins")),
+            (Step::Run(&[], 1 << 62), Some("a span that ends too late")),
+            (Step::Run(&[Mail::Request], 32), Some("a request")),
+            (Step::Skip(3), Some("a cycle in which it acts")),
+        ],
+        ..TO_TWO
     },
 ];
 
-fn did(alloc: Global, case: &Case<'_>) -> Result<(Did, Did), Fail> {
-    let mail = mail_of(alloc, case.mail)?;
-    let mut feeding = Feeding::start(alloc, case.changes, case.entries)?;
-    did_by(alloc, &mut feeding, &mail, case.cuts)
-}
-
-#[test]
-fn counts_of_fed_cores(rt: HostRuntime) -> Result<(), Fail> {
-    for case in &CASES {
-        let (spans, replay) = did(rt.alloc(), case)?;
-        expect_at(&rt, &("in spans up to", case.cuts), &spans.0, &case.did);
-        expect_at(&rt, &("in one span", case.cuts), &replay, &spans);
-    }
-    Ok(())
-}
-
-/// A core with one credit, in four spans in which it sends two reads.
-static FOUR_SPANS: Case<'static> = Case {
-    changes: &["read_credits = 1"],
-    entries: &[Entry::Read(0), Entry::Plain, Entry::Read(64)],
-    mail: &[
-        Mail::Credit(0, 7),
-        Mail::Credit(2, 12),
-        Mail::Reply(0, 15),
-        Mail::Reply(2, 20),
-    ],
-    cuts: &[7, 8, 18, 32],
-    did: NO_CORE,
-};
-
-#[test]
-fn a_replay_does_the_same_in_one_span(rt: HostRuntime) -> Result<(), Fail> {
-    let (spans, replay) = did(rt.alloc(), &FOUR_SPANS)?;
+/// What a core counted, where it stands, and what it sent, span by span and by a core anew in one span.
+fn assert_replay(rt: &impl Abort, feeding: &Feeding, core: &FedCore, done: &CoreDone) {
+    let replay = &done.core;
     expect(
-        &rt,
-        &(spans.0.finish, spans.1, spans.2.len()),
-        &(Some(20), 32, 2),
+        rt,
+        &(replay.stats(), replay.now(), done.messages.as_slice()),
+        &(core.stats(), core.now(), feeding.sent.as_slice()),
     );
-    expect(&rt, &replay, &spans);
+}
+
+/// Asserts that a core anew does in one span what this one did.
+fn replays(rt: &impl Abort, alloc: Global, feeding: &Feeding) -> Result<(), Fail> {
+    let core = feeding.core()?;
+    let done = core.replay(alloc)?;
+    assert_replay(rt, feeding, core, &done);
     Ok(())
 }
 
@@ -348,161 +506,77 @@ fn arrivals_of(alloc: Global, messages: &[Message]) -> Result<Vec<(LinkId, Cycle
         .collect(alloc)
 }
 
-/// A core with one credit, which comes back in cycle 7.
-static ONE_CREDIT: Case<'static> = Case {
-    changes: &["read_credits = 1"],
-    entries: &[Entry::Read(0), Entry::Read(64)],
-    mail: &[Mail::Credit(0, 7), Mail::Reply(0, 15)],
-    cuts: &[7, 16],
-    did: CoreStats {
-        issued: 2,
-        retired: 1,
-        reads: 2,
-        replies: 1,
-        read_latency: 15,
-        stop_end: 9,
-        stop_memory: 1,
-        stop_credit: 6,
-        ..NO_CORE
-    },
-};
-
-static SENT: [(LinkId, Cycle); 2] = [(0, 2), (0, 9)];
-
-#[test]
-fn a_credit_lets_the_next_read_go(rt: HostRuntime) -> Result<(), Fail> {
-    let (spans, replay) = did(rt.alloc(), &ONE_CREDIT)?;
-    let sent = arrivals_of(rt.alloc(), &spans.2)?;
-    expect(
-        &rt,
-        &(spans.0, sent.as_slice()),
-        &(ONE_CREDIT.did, SENT.as_slice()),
+/// Asserts what a core of one channel did, and when it acts next.
+fn assert_did(
+    rt: &impl Abort,
+    number: usize,
+    core: &FedCore,
+    sent: &[(LinkId, Cycle)],
+    case: &Case<'_>,
+) {
+    let channels = core.core().credits().len();
+    expect_at(
+        rt,
+        &number,
+        &(core.stats(), (core.now(), core.next_act(), channels), sent),
+        &(case.did, (case.now, case.next, 1), case.sent),
     );
-    expect(&rt, &replay, &spans);
-    Ok(())
 }
 
-/// The entries of a core that issues a Plain entry and a Read in cycle 0 and a Read in cycle 1, and has two Reads more, at cycle 2.
-static TO_TWO: [Entry; 5] = [
-    Entry::Plain,
-    Entry::Read(0),
-    Entry::Read(64),
-    Entry::Read(128),
-    Entry::Read(192),
-];
+/// Asserts whether a core takes a step.
+fn assert_further(rt: &impl Abort, alloc: Global, feeding: &mut Feeding, further: &Further<'_>) {
+    let (step, wrong) = *further;
+    let refused = feeding.take(alloc, step).err();
+    expect_at(rt, &wrong, &refused, &wrong.map(|_| FeedFault::Unfit));
+}
 
-/// Why the core does not take a step at cycle 2; none, where it does.
-fn refusal_of(
+/// Takes a core through a case.
+fn take_case(
+    rt: &impl Abort,
     alloc: Global,
     feeding: &mut Feeding,
-    step: Step<'_>,
-) -> Result<Option<FeedFault>, Fail> {
-    feeding.run(alloc, &[], 2)?;
-    Ok(feeding.take(alloc, step).err())
-}
-
-fn refusal(alloc: Global, step: Step<'_>) -> Result<Option<FeedFault>, Fail> {
-    let mut feeding = Feeding::start(alloc, &[], &TO_TWO)?;
-    refusal_of(alloc, &mut feeding, step)
-}
-
-/// A step, and what is wrong with it; none, where it is taken.
-type Refusal<'x> = (Step<'x>, Option<&'x str>);
-
-static REFUSALS: [Refusal<'static>; 17] = [
-    (
-        Step::Run(
-            &[
-                Mail::Credit(1, 7),
-                Mail::Credit(2, 7),
-                Mail::Reply(1, 14),
-                Mail::Reply(2, 14),
-            ],
-            32,
-        ),
-        None,
-    ),
-    (Step::Run(&[], 2), None),
-    (
-        Step::Run(&[Mail::Reply(1, 14), Mail::Reply(1, 15)], 32),
-        Some("a reply twice"),
-    ),
-    (
-        Step::Run(&[Mail::Reply(0, 14)], 32),
-        Some("a reply of a Plain entry"),
-    ),
-    (
-        Step::Run(&[Mail::Reply(3, 2)], 32),
-        Some("a reply of an entry not issued yet"),
-    ),
-    (
-        Step::Run(&[Mail::Reply(9, 14)], 32),
-        Some("a reply of no entry"),
-    ),
-    (
-        Step::Run(
-            &[Mail::Credit(1, 2), Mail::Credit(2, 2), Mail::Credit(3, 2)],
-            32,
-        ),
-        Some("one credit too many"),
-    ),
-    (
-        Step::Run(&[Mail::CreditOn(2, true)], 32),
-        Some("a credit of a kind of which none is spent"),
-    ),
-    (
-        Step::Run(&[Mail::CreditOn(5, false)], 32),
-        Some("a credit on another core's link"),
-    ),
-    (
-        Step::Run(&[Mail::CreditOn(1, false)], 32),
-        Some("a credit on the link of replies"),
-    ),
-    (
-        Step::Run(&[Mail::Reply(2, 15), Mail::Reply(1, 14)], 32),
-        Some("out of order"),
-    ),
-    (Step::Run(&[Mail::Reply(1, 1)], 32), Some("before the span")),
-    (Step::Run(&[Mail::Reply(1, 32)], 32), Some("after the span")),
-    (Step::Run(&[], 1), Some("a span that ends before it begins")),
-    (Step::Run(&[], 1 << 62), Some("a span that ends too late")),
-    (Step::Run(&[Mail::Request], 32), Some("a request")),
-    (Step::Skip(3), Some("a cycle in which it acts")),
-];
-
-#[test]
-fn steps_are_taken_or_refused(rt: HostRuntime) -> Result<(), Fail> {
-    for (step, why) in &REFUSALS {
-        let found = refusal(rt.alloc(), *step)?;
-        expect_at(&rt, &why, &found, &why.map(|_| FeedFault::Unfit));
+    number: usize,
+    case: &Case<'_>,
+    further: Option<&Further<'_>>,
+) -> Result<(), Fail> {
+    feeding.take_all(alloc, case.steps)?;
+    let sent = arrivals_of(alloc, &feeding.sent)?;
+    assert_did(rt, number, feeding.core()?, &sent, case);
+    replays(rt, alloc, feeding)?;
+    if let Some(further) = further {
+        assert_further(rt, alloc, feeding, further);
     }
     Ok(())
 }
 
-/// When a core acts next, before and after its first cycle; where it stands that skipped, and its channels; and when it finished.
-type Rested = (Option<Cycle>, Option<Cycle>, (Cycle, usize), Option<Cycle>);
-
-fn rest(alloc: Global, feeding: &mut Feeding) -> Result<Rested, FeedFault> {
-    let first = feeding.core()?.next_act();
-    feeding.run(alloc, &[], 1)?;
-    let next = feeding.core()?.next_act();
-    feeding.skip(15)?;
-    let skipped = feeding.core()?;
-    let stands = (skipped.now(), skipped.core().credits().len());
-    feeding.run(alloc, &[credit(0, 15), reply(0, 15)], 16)?;
-    let finish = feeding.core()?.stats().finish;
-    Ok((first, next, stands, finish))
+fn run_case(
+    rt: &impl Abort,
+    alloc: Global,
+    number: usize,
+    case: &Case<'_>,
+    further: Option<&Further<'_>>,
+) -> Result<(), Fail> {
+    let mut feeding = Feeding::start(alloc, case.changes, case.entries)?;
+    take_case(rt, alloc, &mut feeding, number, case, further)
 }
 
-/// What a core does with one Read.
-fn rested(alloc: Global) -> Result<Result<Rested, FeedFault>, Fail> {
-    let mut feeding = Feeding::start(alloc, &[], &[Entry::Read(0)])?;
-    Ok(rest(alloc, &mut feeding))
+/// Takes a core through a case, and for each further step one anew.
+fn run_each(rt: &impl Abort, alloc: Global, number: usize, case: &Case<'_>) -> Result<(), Fail> {
+    run_case(rt, alloc, number, case, None)?;
+    for further in case.further {
+        run_case(rt, alloc, number, case, Some(further))?;
+    }
+    Ok(())
+}
+
+fn run_cases(rt: &impl Abort, alloc: Global, cases: &[Case<'_>]) -> Result<(), Fail> {
+    for (number, case) in cases.iter().enumerate() {
+        run_each(rt, alloc, number, case)?;
+    }
+    Ok(())
 }
 
 #[test]
-fn a_core_at_rest_skips(rt: HostRuntime) -> Result<(), Fail> {
-    let found = rested(rt.alloc())?;
-    expect(&rt, &found, &Ok((Some(0), None, (15, 1), Some(15))));
-    Ok(())
+fn fed_cores_do_what_is_worked_out(rt: HostRuntime) -> Result<(), Fail> {
+    run_cases(&rt, rt.alloc(), &CASES)
 }

@@ -13,3 +13,5 @@ mod fed_channels;
 mod fed_cores;
 #[cfg(test)]
 mod none;
+#[cfg(test)]
+mod one_read;

@@ -5,3 +5,4 @@ pub mod gate;
 pub mod group;
 pub mod machine;
 pub mod runner;
+pub mod watch;

@@ -9,6 +9,7 @@ ghost use Rattle.workers.specs.Runs.{IsRefusedTo};
 use crate::gate::Gate;
 use crate::group::{AtGate, Group, Results};
 use crate::runner::{Claims, Runner, Serial};
+use crate::watch::{Plan, Watch, entries_of, stretch_end};
 use cpu_trace::trace::Trace;
 use crew::bell::Patience;
 use crew::caller::Phases;
@@ -87,9 +88,11 @@ fn run_steps<N: Runner>(
     Ok(rested.brought_up(alloc)?)
 }
 
-/// Runs a machine to its end: by phases, or in place by the caller alone. Only memory can be refused.
-fn run_by<N: Runner>(
+/// Runs a machine to its end, in the stretches that the watcher wants: by phases, or in place by the caller alone. Only memory can be
+/// refused.
+fn run_by<W: Watch, N: Runner>(
     alloc: Global,
+    watch: &mut W,
     config: &Config,
     traces: Vec<Trace>,
     cycles: Cycle,
@@ -101,11 +104,18 @@ fn run_by<N: Runner>(
     ensures outcome { IfOk result (λ o. o ≡ outcome_of config.now traces.items (cycles_run config.now traces.items cycles)) }
     ensures refused { IfErr result (λ fault. fault ≡ Fault.Memory) }
 {
+    let plan = Plan {
+        limit: cycles,
+        ends_drained: config.ends_drained,
+        entries: entries_of(&traces),
+    };
+    let mut look = 0;
     let mut sim = Sim::start(alloc, config, traces)?;
     while let Some(stop) = sim.next_stop(cycles) {
+        let until = stretch_end(&sim, alloc, stop, plan, watch, &mut look);
         sim = match way {
-            Way::Alone => sim.run_alone(alloc, stop)?,
-            Way::Together { few } => run_steps(sim, alloc, stop, few, runner)?,
+            Way::Alone => sim.run_alone(alloc, until)?,
+            Way::Together { few } => run_steps(sim, alloc, until, few, runner)?,
         };
     }
     let outcome = sim.outcome(alloc)?;
@@ -114,7 +124,8 @@ fn run_by<N: Runner>(
 
 /// The phases of a machine that so many workers run.
 #[derive(Drop)]
-struct Voyage<'a> {
+struct Voyage<'a, W: Watch> {
+    watch: &'a mut W,
     config: &'a Config,
     traces: Vec<Trace>,
     cycles: Cycle,
@@ -125,7 +136,7 @@ struct Voyage<'a> {
     ghost some: { 0 < most },
 }
 
-impl<'a> Course<Group, Results, Outcome> for Voyage<'a> {
+impl<'a, W: Watch> Course<Group, Results, Outcome> for Voyage<'a, W> {
     ghost use Rattle.std.specs.Prelude.{◌≡◌};
     ghost use Rattle.sim_base.specs.Machine.{cycles_run};
     ghost use Rattle.statistics.specs.Runs.{outcome_of};
@@ -138,6 +149,7 @@ impl<'a> Course<Group, Results, Outcome> for Voyage<'a> {
         crew: &mut P,
     ) -> Result<Outcome, AllocError> {
         let Voyage {
+            watch,
             config,
             traces,
             cycles,
@@ -145,7 +157,7 @@ impl<'a> Course<Group, Results, Outcome> for Voyage<'a> {
             way,
         } = self;
         let mut claims = Claims::new(alloc, crew, most);
-        match run_by(alloc, config, traces, cycles, way, &mut claims) {
+        match run_by(alloc, watch, config, traces, cycles, way, &mut claims) {
             Ok(outcome) => Ok(outcome),
             Err(_) => Err(AllocError),
         }
@@ -162,10 +174,11 @@ fn useful(workers: usize, config: &Config) -> usize
 }
 
 /// Runs a machine by several workers.
-fn run_together<R: Threads + Wait + Sync, G: Gate + Sync>(
+fn run_together<R: Threads + Wait + Sync, G: Gate + Sync, W: Watch>(
     rt: &R,
     alloc: Global,
     gate: &G,
+    watch: &mut W,
     workers: usize,
     config: &Config,
     traces: Vec<Trace>,
@@ -182,6 +195,7 @@ fn run_together<R: Threads + Wait + Sync, G: Gate + Sync>(
     let most = GROUPS_A_WORKER * useful;
     let few = if gate.watches() { 0 } else { FEW };
     let voyage = Voyage {
+        watch,
         config,
         traces,
         cycles,
@@ -196,16 +210,12 @@ fn run_together<R: Threads + Wait + Sync, G: Gate + Sync>(
     }
 }
 
-/// Runs a machine over one trace a core, up to a limit of at most 10^12 cycles or, where the configuration ends it drained, until
-/// all is done, and gives its commands, its statistics and the state in which it ends. Each phase is run by so many workers at
-/// most, 1 to 64: the caller, and threads that are started once. With one worker it is run in the thread of the caller, and in
-/// place where the gate does not watch. What comes out depends on neither them nor the order in which they end: it is what the
-/// one-clock machine does. Only the host can refuse: memory (fault 10), or, where there are several workers, a worker's start
-/// (fault 11). All workers have ended when this returns.
-pub fn run_machine<R: Threads + Wait + Sync, G: Gate + Sync>(
+/// The same as `run_machine`, whose watcher is not told of the end.
+fn run_watched<R: Threads + Wait + Sync, G: Gate + Sync, W: Watch>(
     rt: &R,
     alloc: Global,
     gate: &G,
+    watch: &mut W,
     workers: usize,
     config: &Config,
     traces: Vec<Trace>,
@@ -221,7 +231,7 @@ pub fn run_machine<R: Threads + Wait + Sync, G: Gate + Sync>(
     let units = usize::from(config.cores) + usize::from(config.channels);
     let is_small = units <= FEW && !gate.watches();
     if workers > 1 && !is_small {
-        return run_together(rt, alloc, gate, workers, config, traces, cycles);
+        return run_together(rt, alloc, gate, watch, workers, config, traces, cycles);
     }
     let way = if gate.watches() {
         Way::Together { few: 0 }
@@ -229,5 +239,33 @@ pub fn run_machine<R: Threads + Wait + Sync, G: Gate + Sync>(
         Way::Alone
     };
     let mut serial = Serial::new(alloc, gate);
-    run_by(alloc, config, traces, cycles, way, &mut serial)
+    run_by(alloc, watch, config, traces, cycles, way, &mut serial)
+}
+
+/// Runs a machine over one trace a core, up to a limit of at most 10^12 cycles or, where the configuration ends it drained, until
+/// all is done, and gives its commands, its statistics and the state in which it ends. Each phase is run by so many workers at
+/// most, 1 to 64: the caller, and threads that are started once. With one worker it is run in the thread of the caller, and in
+/// place where the gate does not watch. The watcher is told how far the run is, and when it has ended. What comes out depends on neither
+/// it, nor the workers, nor the order in which they end: it is what the one-clock machine does. Only the host can refuse: memory (fault
+/// 10), or, where there are several workers, a worker's start (fault 11). All workers have ended when this returns.
+pub fn run_machine<R: Threads + Wait + Sync, G: Gate + Sync, W: Watch>(
+    rt: &R,
+    alloc: Global,
+    gate: &G,
+    watch: &mut W,
+    workers: usize,
+    config: &Config,
+    traces: Vec<Trace>,
+    cycles: Cycle,
+) -> Result<Outcome, Fault>
+    requires one_trace_a_core { length traces.items ≡ config.now.cores }
+    requires some { 1 ≤ workers }
+    requires few { workers ≤ 64 }
+    requires limit { cycles ≤ 10 ^ 12 }
+    ensures outcome { IfOk result (λ o. o ≡ outcome_of config.now traces.items (cycles_run config.now traces.items cycles)) }
+    ensures refused { IfErr result (IsRefusedTo workers) }
+{
+    let outcome = run_watched(rt, alloc, gate, watch, workers, config, traces, cycles);
+    watch.end();
+    outcome
 }

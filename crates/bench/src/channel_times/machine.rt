@@ -3,6 +3,7 @@
 use crate::machines::ddr4_2400;
 use anyhow::Result;
 use sim_base::config::Config;
+use sim_base::message::Cycle;
 use std::alloc::Global;
 
 /// Two ranks, and all else that is the same in each machine.
@@ -16,30 +17,40 @@ write_high = 12
 write_low = 4
 ";
 
-/// What machines differ in.
-#[derive(Clone, Copy)]
+/// What machines differ in, and what they have to do.
 pub struct Machine {
-    pub cores: u16,
-    /// Credits of a core for reads, and as many for writes.
-    pub credits: u16,
-    /// Cycles from one refresh of a rank to the next; 0: there is none.
-    pub refresh: u32,
+    /// Its own keys.
+    own: &'static str,
+    /// The places of the channel's queue that are kept full.
+    pub room: usize,
+    /// Cycles of a span.
+    pub span: Cycle,
 }
 
-impl Machine {
-    /// The places of the channel's queue.
-    pub fn room(self) -> usize {
-        usize::from(self.cores) * (2 * usize::from(self.credits))
-    }
+/// A queue with room for 32 requests.
+pub static SHORT_QUEUE: Machine = Machine {
+    own: "cores = 4\nread_credits = 4\nwrite_credits = 4\nnREFI = 9360\n",
+    room: 32,
+    span: 16,
+};
 
+/// A queue with room for 1,024 requests.
+pub static LONG_QUEUE: Machine = Machine {
+    own: "cores = 64\nread_credits = 8\nwrite_credits = 8\nnREFI = 9360\n",
+    room: 1024,
+    span: 16,
+};
+
+/// A machine without refreshes to which nothing comes for a trillion cycles.
+pub static IDLE: Machine = Machine {
+    own: "cores = 4\nread_credits = 4\nwrite_credits = 4\nnREFI = 0\n",
+    room: 0,
+    span: 1_000_000_000_000,
+};
+
+impl Machine {
     /// Its configuration.
-    pub fn config(self, alloc: Global) -> Result<Config> {
-        let cores = self.cores;
-        let credits = self.credits;
-        let refresh = self.refresh;
-        let own = format!(in alloc;
-            "cores = {cores}\nread_credits = {credits}\nwrite_credits = {credits}\nnREFI = {refresh}\n{ONE_CHANNEL}"
-        )?;
-        ddr4_2400(alloc, own.as_str())
+    pub fn config(&self, alloc: Global) -> Result<Config> {
+        ddr4_2400(alloc, self.own, ONE_CHANNEL)
     }
 }

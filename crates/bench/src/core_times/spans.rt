@@ -1,10 +1,9 @@
 //! A core that is run span by span, and then anew in one span.
 
-use crate::clock::{Stopwatch, nanoseconds_since};
-use crate::core_times::running::Running;
+use crate::clock::Stopwatch;
 use crate::core_times::traces::sparse_trace;
 use crate::machines::ddr4_2400;
-use anyhow::Result;
+use anyhow::{Context, Result};
 use core_feed::done::CoreDone;
 use core_feed::fed::FedCore;
 use sim_base::config::Config;
@@ -28,83 +27,24 @@ nREFI = 0
 /// Cycles of a span.
 const SPAN: u64 = 2000;
 
+/// Said where a core is asked for that could not be started, or a run of which failed.
+const FAILED: &str = "a run of the core failed";
+
 /// What a core did, and how long it took.
 #[derive(Clone, Copy)]
 pub struct Did {
     pub retired: u64,
     pub cycles: Cycle,
-    pub nanoseconds: u64,
+    pub watch: Stopwatch,
 }
 
-/// What a core did that was fed span by span, where the test of the messages counts too, and one that ran all in one span.
-#[derive(Clone, Copy)]
-pub struct Runs {
-    pub fed: Did,
-    pub at_once: Did,
-}
-
-/// The reply and the credit to each request, all of which arrive in a cycle.
-fn answers(
-    alloc: Global,
-    config: &Config,
-    sent: &[Message],
-    arrival: Cycle,
-) -> Result<Vec<Message>, AllocError> {
-    let mut answers = Vec::new(alloc);
-    for message in sent {
-        if let Load::Request(request) = message.load {
-            answers.push(Message {
-                link: config.reply_link(request.core, request.place.channel),
-                arrival,
-                load: Load::Reply(request.entry),
-            })?;
-            answers.push(Message {
-                link: config.credit_link(request.core, request.place.channel),
-                arrival,
-                load: Load::Credit {
-                    write: false,
-                    entry: request.entry,
-                },
-            })?;
-        }
-    }
-    Ok(answers)
-}
-
-/// Runs a core until it has retired as many entries, span by span.
-fn run_spans(alloc: Global, config: &Config, running: &mut Running, len: u64) -> Result<()> {
-    let mut inbox = Vec::new(alloc);
-    for span in 1..len.saturating_add(2) {
-        let until = span.wrapping_mul(SPAN);
-        let sent = running.run(alloc, &inbox, until)?;
-        if running.core()?.stats().retired == len {
-            break;
-        }
-        inbox = answers(alloc, config, &sent, until)?;
-    }
-    Ok(())
-}
-
-/// What a core did that was run in one span, with no time.
-fn did_of(done: CoreDone) -> Did {
+/// What a core did that was run in one span.
+fn did_at_once(done: CoreDone, watch: Stopwatch) -> Did {
     Did {
         retired: done.core.stats().retired,
         cycles: done.core.now(),
-        nanoseconds: 0,
+        watch,
     }
-}
-
-/// Runs a core anew over all cycles that were run, in one span.
-fn run_at_once(rt: &impl Clock, alloc: Global, core: &FedCore) -> Result<Did> {
-    let mut watch = Stopwatch::new();
-    let start = Instant::now(rt);
-    let replay = core.replay(alloc);
-    watch.stop(rt, start);
-    let did = did_of(replay?);
-    Ok(Did {
-        nanoseconds: watch.read()?,
-        ..did
-    })
 }
 
 fn start_core<R: Threads + Sync>(
@@ -117,30 +57,98 @@ fn start_core<R: Threads + Sync>(
     Ok(FedCore::start(alloc, config, 0, trace)?)
 }
 
-/// Runs a core span by span until it has retired as many entries, and then one anew over all these cycles, in one span.
-fn run_both(
-    rt: &impl Clock,
-    alloc: Global,
-    config: &Config,
-    running: &mut Running,
-    len: u64,
-) -> Result<Runs> {
-    let start = Instant::now(rt)?;
-    run_spans(alloc, config, running, len)?;
-    let nanoseconds = nanoseconds_since(rt, start)?;
-    let core = running.core()?;
-    let fed = Did {
-        retired: core.stats().retired,
-        cycles: core.now(),
-        nanoseconds,
-    };
-    let at_once = run_at_once(rt, alloc, core)?;
-    Ok(Runs { fed, at_once })
+/// A core that is run span by span, with its machine; no core, where a run of it failed.
+#[derive(Drop)]
+pub struct Running {
+    config: Config,
+    core: Option<FedCore>,
 }
 
-/// Runs a core until it has retired a trace of so many lines, span by span, and then one anew over all these cycles, in one span.
-pub fn run_lines<R: Clock + Threads + Sync>(rt: &R, alloc: Global, lines: u64) -> Result<Runs> {
-    let config = ddr4_2400(alloc, MACHINE)?;
-    let mut running = Running::new(start_core(rt, alloc, &config, lines)?);
-    run_both(rt, alloc, &config, &mut running, lines.wrapping_mul(1001))
+impl Running {
+    /// A core that has a trace of so many lines to run.
+    pub fn start<R: Threads + Sync>(rt: &R, alloc: Global, lines: u64) -> Result<Running> {
+        let config = ddr4_2400(alloc, "", MACHINE)?;
+        let core = start_core(rt, alloc, &config, lines).ok();
+        Ok(Running { config, core })
+    }
+
+    fn core(&self) -> Result<&FedCore> {
+        self.core.as_ref().context(FAILED)
+    }
+
+    /// The reply and the credit to each request, all of which arrive in a cycle.
+    fn answers(
+        &self,
+        alloc: Global,
+        sent: &[Message],
+        arrival: Cycle,
+    ) -> Result<Vec<Message>, AllocError> {
+        let mut answers = Vec::new(alloc);
+        for message in sent {
+            if let Load::Request(request) = message.load {
+                let channel = request.place.channel;
+                answers.push(Message {
+                    link: self.config.reply_link(request.core, channel),
+                    arrival,
+                    load: Load::Reply(request.entry),
+                })?;
+                answers.push(Message {
+                    link: self.config.credit_link(request.core, channel),
+                    arrival,
+                    load: Load::Credit {
+                        write: false,
+                        entry: request.entry,
+                    },
+                })?;
+            }
+        }
+        Ok(answers)
+    }
+
+    /// Runs it up to a cycle, and gives what it sent.
+    fn run(&mut self, alloc: Global, inbox: &[Message], until: Cycle) -> Result<Vec<Message>> {
+        let core = self.core.take().context(FAILED)?;
+        let done = core.run(alloc, inbox, until).ok();
+        let done = done.context("a message is unfit")?;
+        self.core.insert(done.core);
+        Ok(done.messages)
+    }
+
+    /// Runs it span by span until it has retired as many entries.
+    fn run_spans(&mut self, alloc: Global, len: u64) -> Result<()> {
+        let mut inbox = Vec::new(alloc);
+        for span in 1..len.saturating_add(2) {
+            let until = span.wrapping_mul(SPAN);
+            let sent = self.run(alloc, &inbox, until)?;
+            if self.core()?.stats().retired == len {
+                break;
+            }
+            inbox = self.answers(alloc, &sent, until)?;
+        }
+        Ok(())
+    }
+
+    /// What it does until it has retired as many entries, span by span, where the test of the messages counts too.
+    pub fn run_all(&mut self, rt: &impl Clock, alloc: Global, len: u64) -> Result<Did> {
+        let mut watch = Stopwatch::new();
+        let start = Instant::now(rt);
+        self.run_spans(alloc, len)?;
+        watch.stop(rt, start);
+        let core = self.core()?;
+        Ok(Did {
+            retired: core.stats().retired,
+            cycles: core.now(),
+            watch,
+        })
+    }
+
+    /// What a core does anew over all cycles that were run, in one span.
+    pub fn run_at_once(&self, rt: &impl Clock, alloc: Global) -> Result<Did> {
+        let core = self.core()?;
+        let mut watch = Stopwatch::new();
+        let start = Instant::now(rt);
+        let done = core.replay(alloc);
+        watch.stop(rt, start);
+        Ok(did_at_once(done?, watch))
+    }
 }

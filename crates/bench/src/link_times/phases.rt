@@ -141,8 +141,7 @@ fn start_links(alloc: Global) -> Result<Links> {
 }
 
 /// Sends messages in so many phases, each of which takes out what the one before it sent.
-pub fn run_phases(rt: &impl Clock, alloc: Global, phases: u64) -> Result<Times> {
-    let mut links = start_links(alloc)?;
+fn run_all(rt: &impl Clock, alloc: Global, links: &mut Links, phases: u64) -> Result<Times> {
     let mut times = Times {
         arrived: 0,
         accept: Stopwatch::new(),
@@ -153,7 +152,13 @@ pub fn run_phases(rt: &impl Clock, alloc: Global, phases: u64) -> Result<Times> 
     for phase in 0..phases {
         let now = phase.wrapping_mul(SPAN);
         let mut messages = messages_of(alloc, phase, now)?;
-        times.add_phase(rt, &mut links, alloc, &mut messages, now)?;
+        times.add_phase(rt, links, alloc, &mut messages, now)?;
     }
     Ok(times)
+}
+
+/// Sends messages in so many phases, over links that have nothing in flight.
+pub fn run_phases(rt: &impl Clock, alloc: Global, phases: u64) -> Result<Times> {
+    let mut links = start_links(alloc)?;
+    run_all(rt, alloc, &mut links, phases)
 }

@@ -1,5 +1,8 @@
-use Rattle.program.proofs.LineFacts.{none_taken, begun}
+use Rattle.program.proofs.LineFacts.{explained_none, explained_by}
 use Rattle.program.proofs.lines.tell.Goals as goal
 
-pub returns-in_err-lines-clause-part : goal.returns-in_err-lines-clause-part
-returns-in_err-lines-clause-part g c = begun _ _ _ _ (none_taken _ _)
+pub returns-in_err-tell_lines : goal.returns-in_err-tell_lines
+returns-in_err-tell_lines g c = explained_none _ _ _ c.tell_lines.ensures.part
+
+pub returns : goal.returns
+returns g c = explained_by _ _ _ _ _ c.in_ok-tell_lines.ensures.whole c.put.ensures.part

@@ -1,0 +1,9 @@
+//! Tests of the texts that explain a refusal: the texts were written by hand.
+#![tactic(auto)]
+
+#[cfg(test)]
+mod configs;
+#[cfg(test)]
+mod expect;
+#[cfg(test)]
+mod others;

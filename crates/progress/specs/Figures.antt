@@ -1,0 +1,44 @@
+-- What is told of a run that goes on.
+--     quotient dividend divisor      rounded down, if there is anything to divide by
+--     percent_of stage      how many in a hundred of the traces' entries have retired
+--     left_by millis part whole      how many seconds are left where so many milliseconds were spent on a part of the whole
+--     sooner_of one other      the lesser of what is known
+--     left_of stage millis      how many seconds are left of a run
+--     figures_of stage millis      all that is told of a run that has gone on for so many milliseconds
+use Rattle.std.specs.Prelude.{ℕ, ◌-◌, ◌*◌, ◌/◌, ◌^◌, ◌==◌, min, Bool, true, false, Option, Some, None, option_and_then, if◌then◌else◌}
+use Rattle.progress.specs.declared.figures.Figures.{Figures}
+use Rattle.workers.specs.declared.watch.Stage.{Stage}
+
+abbrev pub quotient : ℕ → ℕ → Option ℕ
+quotient dividend divisor = if divisor == 0 then None else Some (dividend / divisor)
+
+-- a count above 2^80 counts as 2^80
+abbrev pub percent_of : Stage → Option ℕ
+percent_of stage = option_and_then (λ retired. quotient (100 * min retired (2 ^ 80)) stage.entries) stage.retired
+
+-- of more milliseconds than 2^40 as many are taken, and of a rest above 2^80 so much
+abbrev pub left_by : ℕ → ℕ → ℕ → Option ℕ
+left_by millis part whole =
+    option_and_then (λ more. Some (more / 1000)) (quotient (min millis (2 ^ 40) * min (whole - part) (2 ^ 80)) part)
+
+abbrev pub sooner_of : Option ℕ → Option ℕ → Option ℕ
+sooner_of (Some one) (Some other) = Some (min one other)
+sooner_of (Some one) None = Some one
+sooner_of None other = other
+
+-- what is left up to the limit, or, where the run ends drained, until all has retired, if that is sooner
+abbrev pub left_if : Bool → ℕ → Stage → Option ℕ → Option ℕ
+left_if true millis stage (Some retired) = sooner_of (left_by millis stage.now stage.limit) (left_by millis retired stage.entries)
+left_if true millis stage None = left_by millis stage.now stage.limit
+left_if false millis stage retired = left_by millis stage.now stage.limit
+
+abbrev pub left_of : Stage → ℕ → Option ℕ
+left_of stage millis = left_if stage.ends_drained millis stage stage.retired
+
+abbrev pub figures_of : Stage → ℕ → Figures
+figures_of stage millis = record {
+  cycles = stage.now;
+  percent = percent_of stage;
+  rate = quotient (1000 * stage.now) millis;
+  left = left_of stage millis;
+}

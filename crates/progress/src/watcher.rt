@@ -1,0 +1,129 @@
+//! Who watches a run and draws the line.
+
+use crate::figures::Figures;
+use crate::line::line_of;
+use crate::pace::{FIRST_STRETCH, next_stretch};
+use sim_base::message::Cycle;
+use std::alloc::{AllocError, Global};
+use std::io::Write;
+use std::rt::Clock;
+use std::time::Instant;
+use workers::watch::{Stage, Watch};
+
+/// Nothing is drawn of a run before it has gone on for so many milliseconds.
+const QUIET: u128 = 1_000;
+
+/// How many milliseconds a line stands before it is drawn anew.
+const STANDS: u128 = 500;
+
+/// When a run began, when it was looked at last, how far it went since, and when the line was drawn.
+#[derive(Clone, Copy)]
+struct Course {
+    begun: Instant,
+    looked: Instant,
+    stretch: Cycle,
+    drawn: Option<Instant>,
+}
+
+impl Course {
+    // A run that begins.
+    fn begun(now: Instant) -> Course {
+        Course {
+            begun: now,
+            looked: now,
+            stretch: FIRST_STRETCH,
+            drawn: None,
+        }
+    }
+
+    // The same run, looked at again.
+    fn looked_at(self, now: Instant) -> Course {
+        let stretch = next_stretch(self.stretch, now.duration_since(self.looked));
+        Course {
+            looked: now,
+            stretch,
+            ..self
+        }
+    }
+
+    // Whether it is time to draw the line.
+    fn is_due(&self) -> bool {
+        match self.drawn {
+            Some(drawn) => self.looked.duration_since(drawn).as_millis() >= STANDS,
+            None => self.looked.duration_since(self.begun).as_millis() >= QUIET,
+        }
+    }
+}
+
+/// Draws how far a run is, on one line, twice a second from its first second on, and clears the line where the run has ended. Where the
+/// clock fails, no line is drawn; that the stream or memory refuses a line changes nothing else.
+#[derive(Drop)]
+pub struct ProgressLine<'a, C: Clock, E: Write> {
+    alloc: Global,
+    clock: &'a C,
+    errors: E,
+    watches: bool,
+    course: Option<Course>,
+}
+
+impl<'a, C: Clock, E: Write> ProgressLine<'a, C, E> {
+    /// A line on this stream, by this clock. Where the stream is no terminal, no run is to be watched.
+    pub fn new(alloc: Global, clock: &'a C, errors: E, is_terminal: bool) -> Self {
+        ProgressLine {
+            alloc,
+            clock,
+            errors,
+            watches: is_terminal,
+            course: None,
+        }
+    }
+
+    // The text in place of the line.
+    fn draw(&mut self, text: &str) -> Result<(), AllocError> {
+        let line = line_of(self.alloc, text)?;
+        let _ = self.errors.write_all(line.as_bytes());
+        let _ = self.errors.flush();
+        Ok(())
+    }
+
+    fn draw_figures(&mut self, figures: Figures) -> Result<(), AllocError> {
+        let text = figures.to_string(self.alloc)?;
+        self.draw(text.as_str())
+    }
+}
+
+impl<'a, C: Clock, E: Write> Watch for ProgressLine<'a, C, E> {
+    fn watches(&self) -> bool {
+        self.watches
+    }
+
+    fn next_stretch(&mut self, stage: &Stage) -> Cycle {
+        let Ok(now) = Instant::now(self.clock) else {
+            return Cycle::MAX;
+        };
+        let mut course = match self.course {
+            Some(course) => course.looked_at(now),
+            None => Course::begun(now),
+        };
+        if course.is_due() {
+            course.drawn = Some(now);
+            let figures = Figures::of(*stage, now.duration_since(course.begun));
+            let _ = self.draw_figures(figures);
+        }
+        self.course = Some(course);
+        course.stretch
+    }
+
+    fn end(&mut self) {
+        let is_drawn = match self.course {
+            Some(course) => course.drawn.is_some(),
+            None => false,
+        };
+        self.course = None;
+        if is_drawn {
+            let _ = self.draw("");
+            let _ = self.errors.write_all(b"\r");
+            let _ = self.errors.flush();
+        }
+    }
+}

@@ -1,0 +1,239 @@
+//! The line that tells how far a run is: its texts, and when it is drawn, worked out by hand.
+
+use crate::expect::{expect, expect_at};
+use progress::figures::Figures;
+use progress::line::line_of;
+use progress::pace::next_stretch;
+use progress::watcher::ProgressLine;
+use sim_base::message::Cycle;
+use std::alloc::{AllocError, Global};
+use std::cell::Cell;
+use std::io;
+use std::io::ErrorKind;
+use std::rt::Clock;
+use std::test::Fail;
+use std::time::Duration;
+use workers::watch::{Stage, Watch};
+
+/// Figures, and the text that tells them.
+static TEXTS: [(Figures, &str); 4] = [
+    (
+        Figures {
+            cycles: 4_200_000,
+            percent: Some(37),
+            rate: Some(1_234_567),
+            left: Some(12),
+        },
+        "4,200,000 cycles, 37 % of the traces, 1.2 M cycles/s, 0:12 left",
+    ),
+    (
+        Figures {
+            cycles: 999,
+            percent: None,
+            rate: Some(999),
+            left: None,
+        },
+        "999 cycles, 999 cycles/s",
+    ),
+    // A trillion cycles, and the longest text of a day.
+    (
+        Figures {
+            cycles: 1_000_000_000_000,
+            percent: Some(100),
+            rate: Some(12_390),
+            left: Some(86_399),
+        },
+        "1,000,000,000,000 cycles, 100 % of the traces, 12.3 k cycles/s, 23:59:59 left",
+    ),
+    (
+        Figures {
+            cycles: 1_002_030,
+            percent: Some(0),
+            rate: Some(45_678_000_000),
+            left: Some(3_605),
+        },
+        "1,002,030 cycles, 0 % of the traces, 45.6 G cycles/s, 1:00:05 left",
+    ),
+];
+
+#[test]
+fn figures_are_told(rt: HostRuntime) -> Result<(), Fail> {
+    for (figures, text) in &TEXTS {
+        let found = figures.to_string(rt.alloc())?;
+        expect_at(&rt, figures, &found.as_str(), text);
+    }
+    Ok(())
+}
+
+/// A quarter of the limit is done in 4 seconds, so 12 more are left; a third of the entries has retired, so 8 are left where the run
+/// ends drained.
+#[test]
+fn figures_are_those_of_a_stage(rt: HostRuntime) {
+    for (ends_drained, left) in [(false, 12), (true, 8)] {
+        let stage = Stage {
+            now: 1_000_000,
+            limit: 4_000_000,
+            ends_drained,
+            retired: Some(200),
+            entries: 600,
+        };
+        let want = Figures {
+            cycles: 1_000_000,
+            percent: Some(33),
+            rate: Some(250_000),
+            left: Some(left),
+        };
+        let found = Figures::of(stage, Duration::from_millis(4_000));
+        expect_at(&rt, &ends_drained, &found, &want);
+    }
+}
+
+/// Before its first cycle nothing is known of a run without entries.
+#[test]
+fn nothing_is_known_of_no_cycles(rt: HostRuntime) {
+    let stage = Stage {
+        now: 0,
+        limit: 100,
+        ends_drained: true,
+        retired: Some(0),
+        entries: 0,
+    };
+    let want = Figures {
+        cycles: 0,
+        percent: None,
+        rate: None,
+        left: None,
+    };
+    let found = Figures::of(stage, Duration::from_millis(0));
+    expect(&rt, &found, &want);
+}
+
+/// How many cycles, in how many milliseconds, and how many come next.
+static STRETCHES: [(Cycle, u64, Cycle); 7] = [
+    (2_000, 49, 4_000),
+    (2_000, 50, 2_000),
+    (2_000, 200, 2_000),
+    (2_000, 201, 1_000),
+    (1, 300, 1),
+    (0, 100, 1),
+    (Cycle::MAX, 0, Cycle::MAX),
+];
+
+#[test]
+fn stretches_take_a_tenth_of_a_second(rt: HostRuntime) {
+    for (stretch, millis, next) in &STRETCHES {
+        let found = next_stretch(*stretch, Duration::from_millis(*millis));
+        expect_at(&rt, &(stretch, millis), &found, next);
+    }
+}
+
+/// A clock that shows these times, in milliseconds, one after the other, and then fails.
+#[derive(Drop)]
+struct Shown<'a> {
+    times: &'a [u64],
+    next: Cell<usize>,
+}
+
+impl<'a> Clock for Shown<'a> {
+    fn monotonic(&self) -> io::Result<Duration> {
+        let next = self.next.get();
+        match self.times.get(next) {
+            Some(millis) => {
+                self.next.set(next.saturating_add(1));
+                Ok(Duration::from_millis(*millis))
+            }
+            None => Err(io::Error::from(ErrorKind::Unsupported)),
+        }
+    }
+
+    fn since_1970(&self) -> io::Result<Duration> {
+        self.monotonic()
+    }
+}
+
+/// A run that has gone on for so many cycles of a million.
+fn stage_at(now: Cycle) -> Stage {
+    Stage {
+        now,
+        limit: 1_000_000,
+        ends_drained: false,
+        retired: Some(0),
+        entries: 1,
+    }
+}
+
+/// What is drawn of a run that is looked at in each of these cycles, by a clock that shows these times, and how far it goes each time.
+fn drawn(
+    alloc: Global,
+    times: &[u64],
+    cycles: &[Cycle],
+) -> Result<(Vec<u8>, Vec<Cycle>), AllocError> {
+    let clock = Shown {
+        times,
+        next: Cell::new(0),
+    };
+    let mut stretches = Vec::new(alloc);
+    let mut lines = Vec::new(alloc);
+    let mut watch = ProgressLine::new(alloc, &clock, &mut lines, true);
+    for now in cycles {
+        stretches.push(watch.next_stretch(&stage_at(*now)))?;
+    }
+    watch.end();
+    drop(watch);
+    Ok((lines, stretches))
+}
+
+/// The lines of these texts, and a carriage return.
+fn lines_of(alloc: Global, texts: &[&str]) -> Result<Vec<u8>, AllocError> {
+    let mut lines = Vec::new(alloc);
+    for text in texts {
+        let line = line_of(alloc, text)?;
+        lines.extend_from_slice(line.as_bytes())?;
+    }
+    lines.push(b'\r')?;
+    Ok(lines)
+}
+
+/// The run is looked at when it begins, and after 900, 1,000, 1,499 and 1,500 ms. It is drawn the third and the fifth time, and then
+/// cleared. The stretch of 900 ms is cut to the half; those of 100 and 499 ms are kept and cut, and that of 1 ms is doubled.
+#[test]
+fn the_line_is_drawn_twice_a_second(rt: HostRuntime) -> Result<(), Fail> {
+    let times = [5_000, 5_900, 6_000, 6_499, 6_500];
+    let cycles = [0, 100_000, 200_000, 250_000, 300_000];
+    let (lines, stretches) = drawn(rt.alloc(), &times, &cycles)?;
+    let first = "200,000 cycles, 0 % of the traces, 200.0 k cycles/s, 0:04 left";
+    let second = "300,000 cycles, 0 % of the traces, 200.0 k cycles/s, 0:03 left";
+    let want = lines_of(rt.alloc(), &[first, second, ""])?;
+    expect(&rt, &lines.as_slice(), &want.as_slice());
+    let want = [2_000, 1_000, 1_000, 500, 1_000];
+    expect(&rt, &stretches.as_slice(), &want.as_slice());
+    Ok(())
+}
+
+/// A run that ends before a second is over leaves nothing, and neither does one whose clock fails.
+#[test]
+fn nothing_is_drawn_of_a_short_run(rt: HostRuntime) -> Result<(), Fail> {
+    let (lines, _) = drawn(rt.alloc(), &[0, 999], &[0, 100])?;
+    let (blind, stretches) = drawn(rt.alloc(), &[], &[0, 100])?;
+    expect(&rt, &(lines.len(), blind.len()), &(0, 0));
+    expect(&rt, &stretches.as_slice(), &[Cycle::MAX; 2].as_slice());
+    Ok(())
+}
+
+/// A text is filled with spaces, or cut, to 79 characters.
+#[test]
+fn a_line_has_79_characters(rt: HostRuntime) -> Result<(), Fail> {
+    let long = "0123456789".repeat(rt.alloc(), 8)?;
+    for text in ["", "12 cycles", long.as_str()] {
+        let line = line_of(rt.alloc(), text)?;
+        let shown = text.get(..79).unwrap_or(text);
+        let trimmed = line.as_str().trim_end_matches(' ');
+        expect_at(
+            &rt,
+            &text,
+            &(line.len(), trimmed.strip_prefix('\r')),
+            &(80, Some(shown)),
+        );
+    }
+    Ok(())
+}
