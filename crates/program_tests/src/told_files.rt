@@ -72,9 +72,10 @@ impl FileSet for ToldFiles {
         let Ok(_) = self.files.insert(key, copy) else {
             return Err(Reason::from(Fault::Memory));
         };
-        if from != to {
-            let _ = self.files.remove(from);
+        if from == to {
+            return Ok(());
         }
+        let _ = self.files.remove(from);
         Ok(())
     }
 
