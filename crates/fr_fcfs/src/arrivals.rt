@@ -19,22 +19,13 @@ ghost use Rattle.fr_fcfs.specs.Choices.{choice_in};
 ghost use Rattle.fr_fcfs.specs.Requests.{IsInBanks, KnowsRows};
 
 use crate::choice::Choice;
-use crate::needs::{bank_of_place, is_column};
 use crate::offers::ready;
 use bank_ready::banks::Banks;
 use heads::Heads;
 use queue::Queue;
+use queue_columns::words::bank_number;
 use sim_base::command::Kind;
 use sim_base::message::{Cycle, Request};
-use sim_base::place::Place;
-
-/// The number of the bank of a place.
-#[inline(always)]
-fn bank_number(place: Place) -> usize
-    ensures { result ≡ bank_number place }
-{
-    (place.rank as usize * 4 + place.group as usize) * 4 + place.bank as usize
-}
 
 /// The kind of what a request for a row needs where this row of its bank is open.
 #[inline(always)]
@@ -66,7 +57,7 @@ fn comes_after(heads: &Heads, banks: &Banks, request: &Request, cycle: Cycle, hi
     ensures { (s : Config) (history : List CommandRow) → result ≡ true → BanksStandFor banks.now s history → KnowsRows heads.now history
         → ComesAfter s history cycle hit request.now }
 {
-    let open_row = heads.open_row(bank_of_place(request.place));
+    let open_row = heads.open_row(request.place.bank_id());
     let kind = kind_needed(open_row, request.place.row, request.write);
     let after = cycle <= ready(banks, bank_number(request.place), kind);
     after && (hit || !moves_data(kind))
@@ -94,7 +85,7 @@ pub fn stays(
     if queue.high() != 0 {
         return false;
     }
-    let hit = is_column(choice.command);
+    let hit = choice.command.is_column();
     let requests = queue.requests();
     for slot in from..requests.len() {
         if !comes_after(heads, banks, &requests[slot], cycle, hit) {

@@ -16,7 +16,7 @@ ghost use Rattle.fr_fcfs.specs.Requests.{IsInBanks, KnowsRows, candidates_of};
 ghost use Rattle.fr_fcfs.specs.Cycles.{IsNext};
 ghost use Rattle.fr_fcfs.specs.Choices.{StandFor, choice_in, IsFor};
 
-use crate::needs::{is_column, needed, refresh_need};
+use crate::needs::{needed, refresh_need};
 use crate::offers::first_offer;
 use bank_ready::banks::Banks;
 use heads::Heads;
@@ -42,7 +42,7 @@ fn choice_at(heads: &Heads, requests: &[Request], slot: usize) -> Choice
     ensures place { IsFor requests.now result }
 {
     let command = needed(heads, requests[slot]);
-    let place = is_column(command).then_some(slot);
+    let place = command.is_column().then_some(slot);
     Choice {
         command,
         slot: place,

@@ -3,7 +3,7 @@
 ghost use Rattle.std.specs.Prelude.{◌≡◌, ◌+◌, ◌*◌, ◌<◌, ◌≤◌, List, false, true};
 ghost use Rattle.sim_base.specs.Places.{bank_in};
 ghost use Rattle.sim_base.specs.Rules.{kind_of, bank_of, is_open, has_open_bank_in_group, has_open_bank};
-ghost use Rattle.sim_base.specs.Scheduling.{source_of, column_command, needed_at, needed, is_column_command, refresh_command};
+ghost use Rattle.sim_base.specs.Scheduling.{column_command, needed, is_column_command, refresh_command};
 ghost use Rattle.sim_base.specs.declared.config.Config.{Config};
 ghost use Rattle.sim_base.specs.declared.command.CommandRow.{CommandRow};
 ghost use Rattle.bank_ready.specs.Words.{names_bank, names_rank};
@@ -13,92 +13,15 @@ ghost use Rattle.fr_fcfs.specs.Requests.{KnowsRows, IsLegalFrom};
 
 use bank_ready::banks::Banks;
 use heads::Heads;
-use sim_base::command::{Command, Kind, Source};
+use sim_base::command::{Command, Kind};
 use sim_base::message::{Cycle, Request};
-use sim_base::place::{BankId, Place};
+use sim_base::place::BankId;
 
 /// What a rank needs next, and from which cycle on that may be issued.
 #[derive(Clone, Copy)]
 pub(crate) struct Need {
     pub(crate) command: Command,
     pub(crate) ready: Cycle,
-}
-
-#[inline]
-fn source_of(request: Request) -> Source
-    ensures { result ≡ source_of request }
-{
-    Source {
-        core: request.core,
-        entry: request.entry,
-    }
-}
-
-#[inline]
-pub(crate) fn bank_of_place(place: Place) -> BankId
-    ensures { result ≡ bank_in place }
-{
-    BankId {
-        rank: place.rank,
-        group: place.group,
-        bank: place.bank,
-    }
-}
-
-#[inline]
-fn column_command(request: Request) -> Command
-    ensures { result ≡ column_command request }
-{
-    let bank = bank_of_place(request.place);
-    let source = source_of(request);
-    let row = request.place.row;
-    let column = request.place.column;
-    if request.write {
-        Command::Wr {
-            bank,
-            row,
-            column,
-            source,
-        }
-    } else {
-        Command::Rd {
-            bank,
-            row,
-            column,
-            source,
-        }
-    }
-}
-
-#[inline]
-fn needed_with(open_row: Option<u32>, request: Request) -> Command
-    ensures { result ≡ needed_at open_row request }
-{
-    match open_row {
-        None => Command::Act {
-            bank: bank_of_place(request.place),
-            row: request.place.row,
-            source: source_of(request),
-        },
-        Some(row) => {
-            if row == request.place.row {
-                column_command(request)
-            } else {
-                Command::Pre {
-                    bank: bank_of_place(request.place),
-                    source: source_of(request),
-                }
-            }
-        }
-    }
-}
-
-/// Whether a command moves data.
-#[inline]
-pub(crate) fn is_column(command: Command) -> bool
-    ensures { result ≡ is_column_command command }
-{
-    matches!(command.kind(), Kind::Rd | Kind::Wr)
 }
 
 /// What a request needs next.
@@ -108,8 +31,8 @@ pub(crate) fn needed(heads: &Heads, request: Request) -> Command
     ensures command { (history : List CommandRow) → KnowsRows heads.now history → result ≡ needed history request }
     ensures column { is_column_command result ≡ true → result ≡ column_command request }
 {
-    let bank = bank_of_place(request.place);
-    needed_with(heads.open_row(bank), request)
+    let bank = request.place.bank_id();
+    request.needed_at(heads.open_row(bank))
 }
 
 fn is_open(heads: &Heads, rank: u32, group: u32, bank: u32) -> bool

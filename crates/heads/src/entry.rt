@@ -3,14 +3,13 @@
 ghost use Rattle.std.specs.Prelude.{◌≡◌, ◌-◌, ◌<◌, ◌^◌, true, false, List, length, remove};
 ghost use Rattle.sim_base.specs.Rules.{is_row};
 ghost use Rattle.sim_base.specs.declared.message.Request.{Request};
-ghost use Rattle.queue_columns.specs.Columns.{bank_number};
 ghost use Rattle.heads.specs.Heads.{number_of, kind_number, AreFirst};
 ghost use Rattle.heads.specs.Moves.{kind_past, OnlyMoves};
 ghost use Rattle.heads.specs.Places.{IsShort};
 
 use crate::search::{Gap, next_hit, next_place};
 use queue_columns::Columns;
-use sim_base::place::{BankId, Place};
+use sim_base::place::BankId;
 
 /// The first requests of a bank that may be served, to read or to write: their places in the queue.
 #[derive(Clone, Copy, PartialEq, Eq, Debug)]
@@ -27,15 +26,6 @@ pub struct BankHeads {
     pub row: Option<u32>,
     pub reads: KindHeads,
     pub writes: KindHeads,
-}
-
-/// The number of the bank of a place, whose row has 32 bits.
-pub(crate) fn bank_number(place: Place) -> usize
-    ensures number { result ≡ bank_number place }
-    ensures row { place.row < 2 ^ 32 }
-    ensures small { result < 2 ^ 40 }
-{
-    (place.rank as usize * 4 + place.group as usize) * 4 + place.bank as usize
 }
 
 /// The number of a bank and a kind: twice that of the bank, and one more to write.

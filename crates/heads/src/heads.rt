@@ -2,13 +2,12 @@
 
 ghost use Rattle.std.specs.Prelude.{◌≡◌, ◌*◌, ◌≤◌, length};
 
-use crate::entry::{
-    BankHeads, KindHeads, bank_number, is_open, kind_number, number_of, only_moves,
-};
+use crate::entry::{BankHeads, KindHeads, is_open, kind_number, number_of, only_moves};
 use crate::places::Places;
 use crate::search::Gap;
 use crate::sets::BankSet;
 use queue_columns::Columns;
+use queue_columns::words::bank_number;
 use sim_base::command::Command;
 use sim_base::message::Request;
 use sim_base::place::BankId;

@@ -6,10 +6,9 @@ ghost use Rattle.heads.specs.Heads.{asks, wants, first_place, kind_number};
 ghost use Rattle.heads.specs.Moves.{past, NoneBefore, OnlyMoves};
 ghost use Rattle.heads.specs.Places.{IsShort};
 
-use crate::entry::bank_number;
 use memchr::memchr;
 use queue_columns::Columns;
-use queue_columns::words::tag_word;
+use queue_columns::words::{bank_number, tag_word};
 use sim_base::message::Request;
 
 /// The place that a request of a bank has left, and what is known of the requests of the bank and a kind.

@@ -2,7 +2,7 @@
 --     InFlight      the messages, and how many channels the machine has
 --     receiver_of channels link      the unit that a link leads to
 --     is_due channels unit from until m      a message that arrives at a unit within a span
-use Rattle.std.specs.Prelude.{ℕ, ◌+◌, ◌*◌, ◌/◌, ◌%◌, ◌==◌, nat_lt, nat_le, Bool, ◌&&◌, List, if◌then◌else◌}
+use Rattle.std.specs.Prelude.{ℕ, ◌/◌, ◌%◌, ◌==◌, nat_lt, nat_le, Bool, ◌&&◌, List, if◌then◌else◌}
 use Rattle.sim_base.specs.History.{is_unit}
 use Rattle.sim_base.specs.declared.message.Message.{Message}
 use Rattle.sim_base.specs.declared.message.Unit.{Unit as MachineUnit}
@@ -24,8 +24,3 @@ arrives_within from until m = nat_le from m.arrival && nat_lt m.arrival until
 -- a message to this unit that arrives within a span
 abbrev pub is_due : ℕ → MachineUnit → ℕ → ℕ → Message → Bool
 is_due channels unit from until m = is_unit (receiver_of channels m.link) unit && arrives_within from until m
-
--- units by number: channels have the even numbers, cores the odd ones
-abbrev pub unit_number : MachineUnit → ℕ
-unit_number (Channel channel) = 2 * channel
-unit_number (Core core) = 2 * core + 1

@@ -7,7 +7,7 @@ ghost use Rattle.links.specs.InFlight.{arrives_within};
 ghost use Rattle.links.specs.Rings.{arrives_outside, contents, joined};
 
 use crate::rings::{
-    Ring, append_all, begins_before, copy_both_before, head_before, is_first_before, is_older,
+    Ring, append_all, begins_before, copy_both_before, head_before, is_first_before,
 };
 use sim_base::message::{Cycle, Message};
 use std::alloc::{AllocError, Global};
@@ -34,7 +34,7 @@ fn merge_into(
     let (mut i, mut j) = (0, 0);
     while are_left(first, i, second, j) {
         let (a, b) = (&first[i], &second[j]);
-        if is_older(b, a) {
+        if b.is_before(a) {
             inbox.push_reserved(*b);
             j += 1;
         } else {

@@ -32,13 +32,6 @@ pub fn make_room(ring: &mut Ring, more: usize) -> Result<(), AllocError>
     ring.resize(needed.max(2 * capacity).max(FEW))
 }
 
-/// Whether a message goes before another one.
-pub fn is_older(a: &Message, b: &Message) -> bool
-    ensures { result ≡ is_before a.now b.now }
-{
-    a.arrival < b.arrival || (a.arrival == b.arrival && a.link < b.link)
-}
-
 /// Puts another message into a place.
 fn put_into(ring: &mut Ring, place: usize, message: &Message)
     requires { place < length ring.old.items }
@@ -57,7 +50,7 @@ fn younger_before(ring: &Ring, place: usize, message: &Message) -> Option<Messag
 {
     let before = place.checked_sub(1)?;
     let last = ring.get(before)?;
-    if is_older(message, last) {
+    if message.is_before(last) {
         Some(*last)
     } else {
         None
@@ -92,7 +85,7 @@ fn put_among(ring: &mut Ring, message: &Message)
 fn is_before_last(ring: &Ring, message: &Message) -> bool
     ensures { result ≡ option_map_or (is_before message.now) (slice_get ring.now.items (length ring.now.items - 1)) false }
 {
-    ring.nth_back(0).is_some_and(|last| is_older(message, last))
+    ring.nth_back(0).is_some_and(|last| message.is_before(last))
 }
 
 /// Puts a message into its place by age, which is the back of the ring unless a younger one stands there.
@@ -328,7 +321,7 @@ pub fn copy_both_before(
 {
     let (mut i, mut j) = (0, 0);
     while let (Some(a), Some(b)) = (arrived_at(first, i, until), arrived_at(second, j, until)) {
-        if is_older(b, a) {
+        if b.is_before(a) {
             append(inbox, b);
             j += 1;
         } else {

@@ -13,7 +13,6 @@ ghost use Rattle.one_clock.specs.Steps.{is_read_in, is_write_in};
 
 use cpu_trace::trace::Trace;
 use plain_steps::cores::entry_of;
-use plain_steps::rules::is_same_kind;
 use plain_steps::scheduling::{self, ChannelStep};
 use sim_base::command::{Command, CommandRow, Kind, Source};
 use sim_base::config::Config;
@@ -205,20 +204,8 @@ fn does_issue(kind: Kind, command: Option<Command>) -> bool
     ensures { result ≡ issues kind command }
 {
     match command {
-        Some(command) => is_same_kind(command.kind(), kind),
+        Some(command) => command.kind().is_kind(kind),
         None => false,
-    }
-}
-
-fn source_named(command: Command) -> Option<Source>
-    ensures { result ≡ source_in command }
-{
-    match command {
-        Command::Act { source, .. }
-        | Command::Rd { source, .. }
-        | Command::Wr { source, .. }
-        | Command::Pre { source, .. } => Some(source),
-        Command::Prea { .. } | Command::Ref { .. } => None,
     }
 }
 
@@ -251,7 +238,7 @@ fn needs_no_act(history: &[CommandRow], source: Option<Source>) -> bool
 fn is_command_hit(history: &[CommandRow], command: Command) -> bool
     ensures { result ≡ is_hit history.now command }
 {
-    scheduling::is_column(command) && needs_no_act(history, source_named(command))
+    command.is_column() && needs_no_act(history, command.source())
 }
 
 /// Whether the channel moves data for a request that no ACT was issued for.

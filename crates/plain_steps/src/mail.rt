@@ -1,7 +1,7 @@
 //! Messages by age.
 
 ghost use Rattle.std.specs.Prelude.{◌≡◌, ◌≤◌, length, filter, fold, IfOk, OnOk};
-ghost use Rattle.sim_base.specs.History.{is_to, is_before, place_by_age, insert_by_age};
+ghost use Rattle.sim_base.specs.History.{is_to, place_by_age, insert_by_age};
 
 use sim_base::config::Config;
 use sim_base::message::{Message, Unit};
@@ -24,18 +24,12 @@ pub fn is_for(s: &Config, unit: Unit, m: Message) -> bool
     }
 }
 
-fn is_older(a: Message, b: Message) -> bool
-    ensures { result ≡ is_before a b }
-{
-    a.arrival < b.arrival || (a.arrival == b.arrival && a.link < b.link)
-}
-
 #[tactic(auto, unfolding(sim_base::specs::History::place_by_age))]
 fn place_in_order(m: Message, sorted: &[Message]) -> usize
     ensures value { result ≡ place_by_age m sorted.now }
     ensures small { result ≤ length sorted.now }
 {
-    sorted.iter().take_while(|n| !is_older(m, **n)).count()
+    sorted.iter().take_while(|n| !m.is_before(n)).count()
 }
 
 /// Puts a message into its place by age.

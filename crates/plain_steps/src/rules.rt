@@ -2,54 +2,14 @@
 
 ghost use Rattle.std.specs.Prelude.{◌≡◌, ◌+◌, ◌==◌, ◌&&◌, nat_le, nat_lt};
 ghost use Rattle.sim_base.specs.Rules.{is_kind, kind_of, rank_of};
-ghost use Rattle.sim_base.specs.Rules.{row_after, open_row, recent_acts, is_past_gap, is_allowed, keeps_distances, is_open, has_open_bank_in_group, has_open_bank, is_row, finds_its_banks, is_legal};
-ghost use Rattle.sim_base.specs.Places.{is_bank};
+ghost use Rattle.sim_base.specs.Rules.{open_row, recent_acts, is_past_gap, is_allowed, keeps_distances, is_open, has_open_bank_in_group, has_open_bank, finds_its_banks, is_legal};
 
 use sim_base::command::{Command, CommandRow, Kind};
 use sim_base::config::Config;
-use sim_base::place::BankId;
+use sim_base::place::{BankId, is_row};
 use sim_base::timing::Timing;
 use timing::gap_table::GapTable;
 use timing::rules::relation;
-
-pub fn is_same_kind(a: Kind, b: Kind) -> bool
-    ensures { result ≡ is_kind a b }
-{
-    a == b
-}
-
-pub fn is_same_bank(a: BankId, b: BankId) -> bool
-    ensures { result ≡ is_bank a b }
-{
-    a.rank == b.rank && a.group == b.group && a.bank == b.bank
-}
-
-fn row_after_command(bank: BankId, row_before: Option<u32>, command: Command) -> Option<u32>
-    ensures { result ≡ row_after bank row_before command }
-{
-    match command {
-        Command::Act {
-            bank: other,
-            row,
-            ..
-        } => {
-            if is_same_bank(bank, other) {
-                Some(row)
-            } else {
-                row_before
-            }
-        }
-        Command::Pre { bank: other, .. } => {
-            if is_same_bank(bank, other) {
-                None
-            } else {
-                row_before
-            }
-        }
-        Command::Prea { rank } => { if bank.rank == rank { None } else { row_before } }
-        Command::Rd { .. } | Command::Wr { .. } | Command::Ref { .. } => row_before,
-    }
-}
 
 /// The row that is open in a bank.
 #[tactic(auto, unfolding(sim_base::specs::Rules::open_row))]
@@ -58,7 +18,7 @@ pub fn row_of_bank(bank: BankId, history: &[CommandRow]) -> Option<u32>
 {
     history
         .iter()
-        .fold(None, |row, i| row_after_command(bank, row, i.command))
+        .fold(None, |row, i| i.command.row_after(bank, row))
 }
 
 fn has_passed(cycle: u64, distance: u64, now: u64) -> bool
@@ -76,7 +36,7 @@ fn is_ahead(cycle: u64, distance: u64, now: u64) -> bool
 fn is_recent_act(t: Timing, of_rank: u32, now: u64, i: CommandRow) -> bool
     ensures { result ≡ (is_kind (kind_of i.command) Kind.Act && (rank_of i.command == of_rank) && nat_lt now (i.cycle + t.n_faw)) }
 {
-    is_same_kind(i.command.kind(), Kind::Act)
+    i.command.kind().is_kind(Kind::Act)
         && i.command.rank() == of_rank
         && is_ahead(i.cycle, u64::from(t.n_faw), now)
 }
@@ -125,7 +85,7 @@ pub fn is_command_allowed(
     ensures { result ≡ is_allowed s.now.timing history.now now command }
 {
     keeps_all_distances(gaps, history, now, command)
-        && (!is_same_kind(command.kind(), Kind::Act)
+        && (!command.kind().is_kind(Kind::Act)
             || recent_act_count(s.timing, command.rank(), now, history) <= 3)
 }
 
@@ -148,22 +108,13 @@ pub fn has_open_bank_of_rank(s: &Config, history: &[CommandRow], rank: u32) -> b
     (0..s.groups).any(|group| has_open_bank_of_group(history, rank, group))
 }
 
-pub fn is_same_row(row: u32, open_row: Option<u32>) -> bool
-    ensures { result ≡ is_row row open_row }
-{
-    match open_row {
-        None => false,
-        Some(other) => row == other,
-    }
-}
-
 pub fn finds_banks(s: &Config, history: &[CommandRow], command: Command) -> bool
     ensures { result ≡ finds_its_banks s.now history.now command }
 {
     match command {
         Command::Act { bank, .. } => !is_bank_open(history, bank),
         Command::Rd { bank, row, .. } | Command::Wr { bank, row, .. } => {
-            is_same_row(row, row_of_bank(bank, history))
+            is_row(row, row_of_bank(bank, history))
         }
         Command::Ref { rank } => !has_open_bank_of_rank(s, history, rank),
         Command::Pre { .. } | Command::Prea { .. } => true,

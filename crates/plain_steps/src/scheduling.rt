@@ -1,16 +1,15 @@
 //! First-ready first-come-first-served scheduling of one channel.
 
 ghost use Rattle.std.specs.Prelude.{◌≡◌, ◌+◌, ◌<◌, ◌^◌, find, filter, count_by, take, IfOk};
-ghost use Rattle.sim_base.specs.Places.{is_line, bank_in};
-ghost use Rattle.sim_base.specs.Scheduling.{request_in, is_source, source_of, serves, is_served, drains_with};
-ghost use Rattle.sim_base.specs.Scheduling.{asks_for_line, first_of_lines, is_favoured, candidates, column_command, needed_at, needed, is_column_command, is_row_hit, has_hit, is_withheld, ready_hit, ready_row, first_ready, refreshes, due, lowest_due, refresh_command, if_legal, choice_between};
+ghost use Rattle.sim_base.specs.Scheduling.{request_in, is_source, serves, is_served, drains_with};
+ghost use Rattle.sim_base.specs.Scheduling.{asks_for_line, first_of_lines, is_favoured, candidates, needed, is_row_hit, has_hit, is_withheld, ready_hit, ready_row, first_ready, refreshes, due, lowest_due, refresh_command, if_legal, choice_between};
 ghost use Rattle.plain_steps.specs.Plain.{queue_of, is_request_left, is_left};
 
 use crate::rules;
 use sim_base::command::{Command, CommandRow, Kind, Source};
 use sim_base::config::Config;
 use sim_base::message::{Load, Message, Request};
-use sim_base::place::{BankId, Place};
+use sim_base::place::{BankId, Place, is_row};
 use std::alloc::{AllocError, Global};
 use timing::gap_table::GapTable;
 
@@ -27,15 +26,6 @@ fn is_from(r: Request, source: Source) -> bool
     ensures { result ≡ is_source r source }
 {
     r.core == source.core && r.entry == source.entry
-}
-
-fn source(r: Request) -> Source
-    ensures { result ≡ source_of r }
-{
-    Source {
-        core: r.core,
-        entry: r.entry,
-    }
 }
 
 pub fn does_serve(r: Request, command: Command) -> bool
@@ -110,33 +100,11 @@ fn drains_at(s: &Config, draining: bool, writes: usize) -> bool
     (0 < high && high <= writes) || (draining && low < writes)
 }
 
-fn is_same_line(a: Place, b: Place) -> bool
-    ensures { result ≡ is_line a b }
-{
-    a.channel == b.channel
-        && rules::is_same_bank(bank_of_place(a), bank_of_place(b))
-        && a.row == b.row
-        && a.column == b.column
-}
-
-fn bank_of_place(place: Place) -> BankId
-    ensures { result ≡ bank_in place }
-{
-    BankId {
-        rank: place.rank,
-        group: place.group,
-        bank: place.bank,
-    }
-}
-
 #[tactic(auto, unfolding(sim_base::specs::Scheduling::asks_for_line))]
 fn is_line_asked(place: Place, requests: &[Request], count: usize) -> bool
     ensures { result ≡ asks_for_line place (take count requests.now) }
 {
-    requests
-        .iter()
-        .take(count)
-        .any(|q| is_same_line(q.place, place))
+    requests.iter().take(count).any(|q| q.place.is_line(place))
 }
 
 /// The requests with no older one for the same line.
@@ -191,72 +159,18 @@ fn candidate_requests(
     }
 }
 
-fn column_command_of(r: Request) -> Command
-    ensures { result ≡ column_command r }
-{
-    let bank = bank_of_place(r.place);
-    let source = source(r);
-    let row = r.place.row;
-    let column = r.place.column;
-    if r.write {
-        Command::Wr {
-            bank,
-            row,
-            column,
-            source,
-        }
-    } else {
-        Command::Rd {
-            bank,
-            row,
-            column,
-            source,
-        }
-    }
-}
-
-fn needed_with(open_row: Option<u32>, r: Request) -> Command
-    ensures { result ≡ needed_at open_row r }
-{
-    match open_row {
-        None => Command::Act {
-            bank: bank_of_place(r.place),
-            row: r.place.row,
-            source: source(r),
-        },
-        Some(row) => {
-            if row == r.place.row {
-                column_command_of(r)
-            } else {
-                Command::Pre {
-                    bank: bank_of_place(r.place),
-                    source: source(r),
-                }
-            }
-        }
-    }
-}
-
 /// The command that a request needs next.
 #[tactic(auto, unfolding(sim_base::specs::Scheduling::needed))]
 fn needed_command(history: &[CommandRow], r: Request) -> Command
     ensures { result ≡ needed history.now r }
 {
-    needed_with(rules::row_of_bank(bank_of_place(r.place), history), r)
-}
-
-/// Whether the command moves data.
-pub fn is_column(command: Command) -> bool
-    ensures { result ≡ is_column_command command }
-{
-    let kind = command.kind();
-    rules::is_same_kind(kind, Kind::Rd) || rules::is_same_kind(kind, Kind::Wr)
+    r.needed_at(rules::row_of_bank(r.place.bank_id(), history))
 }
 
 fn hits_row(r: Request, bank: BankId, open_row: Option<u32>) -> bool
     ensures { result ≡ is_row_hit r bank open_row }
 {
-    rules::is_same_bank(bank_of_place(r.place), bank) && rules::is_same_row(r.place.row, open_row)
+    r.place.bank_id().is_bank(bank) && is_row(r.place.row, open_row)
 }
 
 fn is_hit_in(history: &[CommandRow], requests: &[Request], bank: BankId) -> bool
@@ -283,7 +197,7 @@ fn is_ready_hit(s: &Config, gaps: &GapTable, history: &[CommandRow], now: u64, r
     ensures { result ≡ ready_hit s.now history.now now r }
 {
     let command = needed_command(history, r);
-    is_column(command) && rules::is_legal_now(s, gaps, history, now, command)
+    command.is_column() && rules::is_legal_now(s, gaps, history, now, command)
 }
 
 #[tactic(auto, unfolding(sim_base::specs::Scheduling::ready_row))]
@@ -299,7 +213,7 @@ fn is_ready_row(
     ensures { result ≡ ready_row s.now history.now now requests.now r }
 {
     let command = needed_command(history, r);
-    !is_column(command)
+    !command.is_column()
         && rules::is_legal_now(s, gaps, history, now, command)
         && !is_command_withheld(history, requests, command)
 }
@@ -360,7 +274,7 @@ fn first_ready_command(
 fn is_refresh_of(rank: u32, command: Command) -> bool
     ensures { result ≡ refreshes rank command }
 {
-    rules::is_same_kind(command.kind(), Kind::Ref) && command.rank() == rank
+    command.kind().is_kind(Kind::Ref) && command.rank() == rank
 }
 
 fn refresh_count(rank: u32, history: &[CommandRow]) -> usize

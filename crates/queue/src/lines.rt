@@ -12,20 +12,13 @@ use sim_base::message::Request;
 use sim_base::place::Place;
 use std::alloc::{AllocError, Global};
 
-fn is_same_line(a: Place, b: Place) -> bool
-    ensures { result ≡ is_line a b }
-{
-    let same_bank = a.rank == b.rank && a.group == b.group && a.bank == b.bank;
-    a.channel == b.channel && same_bank && a.row == b.row && a.column == b.column
-}
-
 /// The first of these requests that asks for the line of a place.
 fn first_for_line(place: Place, requests: &[Request]) -> Option<usize>
     ensures { result ≡ position (λ q. is_line q.place place) requests.now }
 {
     requests
         .iter()
-        .position(|request| is_same_line(request.place, place))
+        .position(|request| request.place.is_line(place))
 }
 
 /// Whether one of these requests asks for the line of a place. `alike` is 0 only where none does.

@@ -5,7 +5,6 @@
 --     tag_of eligible r, tags_of requests marks      the tag of a request, and those of some, of which those that are marked may be served
 --     tag_column requests      the tags of all
 --     waiting_count marks      how many are not marked
---     line_print place, print_column requests      a byte that is the same for places of one line
 --     line_slot mask place      the counter that counts the requests for the line of a place, and for some others
 --     slot_count mask requests slot, AreCounted mask counts requests      how many requests a counter counts, and that each says so many
 --     marked_items items marks      the items at the places that are marked
@@ -45,14 +44,6 @@ tag_column requests = tags_of requests (eligible_column requests)
 -- how many of these words are no marks: of the eligible ones, how many requests wait for an older one of their line
 abbrev pub waiting_count : List ℕ → ℕ
 waiting_count marks = count_by (λ word. not (is_marked word)) marks
-
--- a byte that places of one line have in common, and most others do not
-abbrev pub line_print : Place → ℕ
-line_print place = (place.row * 97 + bank_number place * 41 + place.column) % 256
-
--- the print of the line of each request
-abbrev pub print_column : List Request → List ℕ
-print_column requests = map (λ r. line_print r.place) requests
 
 -- one of the counters up to `mask`, the same for all places of a line
 unfoldable pub line_slot : ℕ → Place → ℕ

@@ -1,17 +1,20 @@
 //! The words of a request in the columns.
 
-ghost use Rattle.std.specs.Prelude.{◌≡◌, ◌≤◌};
+ghost use Rattle.std.specs.Prelude.{◌≡◌, ◌<◌, ◌≤◌, ◌^◌};
 ghost use Rattle.queue_columns.specs.Marks.{mark};
-ghost use Rattle.queue_columns.specs.Columns.{bank_number, tag_word, tag_of, line_print, line_slot};
+ghost use Rattle.queue_columns.specs.Columns.{bank_number, tag_word, tag_of, line_slot};
 
 use sim_base::message::Request;
 use sim_base::place::Place;
 
-/// The number of the bank of a place.
-pub fn bank_number(place: Place) -> u64
-    ensures { result ≡ bank_number place }
+/// The number of the bank of a place, whose row has 32 bits.
+#[inline(always)]
+pub fn bank_number(place: Place) -> usize
+    ensures number { result ≡ bank_number place }
+    ensures row { place.row < 2 ^ 32 }
+    ensures small { result < 2 ^ 40 }
 {
-    (u64::from(place.rank) * 4 + u64::from(place.group)) * 4 + u64::from(place.bank)
+    (place.rank as usize * 4 + place.group as usize) * 4 + place.bank as usize
 }
 
 pub fn mark(test: bool) -> u64
@@ -34,15 +37,7 @@ pub fn tag_word(eligible: bool, write: bool, bank: u64) -> u8
 pub fn tag(eligible: bool, request: Request) -> u8
     ensures { result ≡ tag_of eligible request }
 {
-    tag_word(eligible, request.write, bank_number(request.place))
-}
-
-/// A byte that places of one line have in common, and most others do not.
-pub fn line_print(place: Place) -> u8
-    ensures { result ≡ line_print place }
-{
-    let mixed = u64::from(place.row) * 97 + bank_number(place) * 41 + u64::from(place.column);
-    (mixed % 256) as u8
+    tag_word(eligible, request.write, bank_number(request.place) as u64)
 }
 
 /// One of the counters up to `mask`, the same for all places of a line.
@@ -52,6 +47,7 @@ pub fn line_slot(place: Place, mask: usize) -> usize
     ensures value { result ≡ line_slot mask place }
     ensures within { result ≤ mask }
 {
-    let line = (u64::from(place.row) * 128 + bank_number(place)) * 1024 + u64::from(place.column);
+    let bank = bank_number(place) as u64;
+    let line = (u64::from(place.row) * 128 + bank) * 1024 + u64::from(place.column);
     (line.wrapping_mul(11_400_714_819_323_198_485) >> 32) as usize & mask
 }

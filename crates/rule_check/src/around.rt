@@ -7,7 +7,6 @@ ghost use Rattle.rule_check.specs.Around.{latest_at, is_ahead_by, IsAround};
 
 use crate::channel::{group_number, number_of};
 use crate::latest::{Latest, is_ahead, latest_of};
-use crate::rules::is_same_kind;
 use crate::state::{Bank, Channel, Group, NEW_BANK, NEW_GROUP, NEW_RANK, Rank};
 use sim_base::command::{Command, Kind};
 use sim_base::place::BankId;
@@ -86,7 +85,7 @@ fn latest_at(around: Around<'_>, scope: Scope) -> &Latest
 pub(crate) fn is_ahead_by(around: Around<'_>, rule: &Rule, kind: Kind, now: u64) -> bool
     ensures { result ≡ is_ahead_by around.entry kind now rule.now }
 {
-    is_same_kind(rule.later, kind)
+    rule.later.is_kind(kind)
         && is_ahead(
             now,
             rule.cycles,

@@ -8,11 +8,10 @@ ghost use Rattle.rule_check.specs.Kept.{kept_breaks_distance, kept_window, kept_
 ghost use Rattle.rule_check.specs.Kept.{kept_row, has_kept_open_in_group, has_kept_open, kept_finds_banks, kept_breaks, comes_too_soon, keeps_each};
 
 use crate::around::{around_command, bank_at, is_ahead_by, rank_at};
-use crate::rules::{is_row, is_same_kind};
 use crate::state::{Bank, Channel, Rank};
 use sim_base::command::{Command, CommandRow, Kind};
 use sim_base::config::Config;
-use sim_base::place::BankId;
+use sim_base::place::{BankId, is_row};
 use sim_base::rule::Rule;
 
 #[tactic(auto, unfolding(crate::specs::Kept::is_too_soon, crate::specs::Kept::kept_breaks_distance))]
@@ -27,7 +26,7 @@ fn breaks_distance(table: &[Rule], channel: &Channel, row: CommandRow, number: u
 fn breaks_window(channel: &Channel, row: CommandRow) -> bool
     ensures { result ≡ kept_breaks_window channel.now row }
 {
-    is_same_kind(row.command.kind(), Kind::Act)
+    row.command.kind().is_kind(Kind::Act)
         && row.cycle < rank_at(&channel.ranks, row.command.rank()).window.fourth
 }
 

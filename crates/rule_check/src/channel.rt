@@ -12,7 +12,6 @@ ghost use Rattle.rule_check.specs.Fields.{CommandFits, RowFits};
 ghost use Rattle.rule_check.specs.Kept.{activates, deadline_after, first_deadline, bank_after, group_after, rank_after, number_of, bank_numbered, group_number, IsKept};
 
 use crate::latest;
-use crate::rules::{is_same_kind, row_after};
 use crate::state::{Bank, Channel, Group, NEW_BANK, NEW_GROUP, NEW_RANK, Rank};
 use crate::window::window_after;
 use sim_base::command::{Command, CommandRow, Kind, Relation};
@@ -31,7 +30,7 @@ fn note_in_bank(state: &mut Bank, bank: BankId, command: Command, cycle: u64)
     ) {
         latest::note(&mut state.latest, command.kind(), cycle);
     }
-    state.row = row_after(bank, state.row, command);
+    state.row = command.row_after(bank, state.row);
 }
 
 fn note_in_group(state: &mut Group, rank: u32, group: u32, command: Command, cycle: u64)
@@ -54,13 +53,13 @@ fn note_in_group(state: &mut Group, rank: u32, group: u32, command: Command, cyc
 fn activates(rank: u32, command: Command) -> bool
     ensures { result ≡ activates rank command }
 {
-    is_same_kind(command.kind(), Kind::Act) && command.rank() == rank
+    command.kind().is_kind(Kind::Act) && command.rank() == rank
 }
 
 fn refreshes(rank: u32, command: Command) -> bool
     ensures { result ≡ refreshes rank command }
 {
-    is_same_kind(command.kind(), Kind::Ref) && command.rank() == rank
+    command.kind().is_kind(Kind::Ref) && command.rank() == rank
 }
 
 fn deadline_after(interval: u32, deadline: u64) -> u64

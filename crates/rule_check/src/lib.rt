@@ -9,7 +9,6 @@ mod latest;
 mod numbers;
 mod past;
 mod reading;
-mod rules;
 mod state;
 mod table;
 mod verdict;

@@ -5,11 +5,10 @@ ghost use Rattle.std.specs.List.{range_with_len};
 ghost use Rattle.sim_base.specs.declared.command.CommandRow.{CommandRow};
 ghost use Rattle.sim_base.specs.Rules.{rules};
 ghost use Rattle.rule_check.specs.Fields.{RowFits};
-ghost use Rattle.rule_check.specs.Broken.{stands_wrongly, lowest_broken};
+ghost use Rattle.rule_check.specs.Broken.{stands_before, stands_wrongly, lowest_broken};
 ghost use Rattle.rule_check.specs.Kept.{IsKept, kept_breaks};
 ghost use Rattle.rule_check.specs.Past.{IsPast, past_breaks};
 
-use crate::rules::stands_before;
 use crate::state::{Channel, Past};
 use crate::{broken, channel};
 use sim_base::command::CommandRow;
@@ -36,6 +35,13 @@ pub(crate) fn start(alloc: Global, config: &Config) -> Result<Past, AllocError>
         last: None,
         channels: start_channels(alloc, config)?,
     })
+}
+
+/// Whether a row stands before another, by cycle and then by channel.
+fn stands_before(a: CommandRow, b: CommandRow) -> bool
+    ensures { result ≡ stands_before a b }
+{
+    a.cycle < b.cycle || (a.cycle == b.cycle && a.channel < b.channel)
 }
 
 fn stands_wrongly(last: Option<CommandRow>, row: CommandRow) -> bool

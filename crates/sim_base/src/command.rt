@@ -14,6 +14,19 @@ pub enum Kind {
     Ref,
 }
 
+impl Kind {
+    ghost use Rattle.std.specs.Prelude.{◌≡◌};
+    ghost use Rattle.sim_base.specs.Rules.{is_kind};
+
+    /// Whether another kind is the same.
+    #[inline(always)]
+    pub fn is_kind(self, other: Kind) -> bool
+        ensures { result ≡ is_kind self other }
+    {
+        self == other
+    }
+}
+
 /// How the banks of two commands lie to one another. A command of a whole rank speaks of each bank of it.
 #[derive(Clone, Copy, PartialEq, Eq, Debug)]
 pub enum Relation {
@@ -64,7 +77,9 @@ pub enum Command {
 
 impl Command {
     ghost use Rattle.std.specs.Prelude.{◌≡◌};
-    ghost use Rattle.sim_base.specs.Rules.{kind_of, bank_of, rank_of};
+    ghost use Rattle.sim_base.specs.Counts.{source_in};
+    ghost use Rattle.sim_base.specs.Rules.{kind_of, bank_of, rank_of, row_after};
+    ghost use Rattle.sim_base.specs.Scheduling.{is_column_command};
 
     /// The kind of the command.
     pub fn kind(self) -> Kind
@@ -103,6 +118,55 @@ impl Command {
             | Command::Wr { bank, .. }
             | Command::Pre { bank, .. } => bank.rank,
             Command::Prea { rank } | Command::Ref { rank } => rank,
+        }
+    }
+
+    /// The entry in whose name it is issued: PREA and REF are issued for a rank.
+    pub fn source(self) -> Option<Source>
+        ensures { result ≡ source_in self }
+    {
+        match self {
+            Command::Act { source, .. }
+            | Command::Rd { source, .. }
+            | Command::Wr { source, .. }
+            | Command::Pre { source, .. } => Some(source),
+            Command::Prea { .. } | Command::Ref { .. } => None,
+        }
+    }
+
+    /// Whether it moves data.
+    #[inline(always)]
+    pub fn is_column(self) -> bool
+        ensures { result ≡ is_column_command self }
+    {
+        matches!(self.kind(), Kind::Rd | Kind::Wr)
+    }
+
+    /// The row that is open in a bank after it, where this one was open before.
+    pub fn row_after(self, bank: BankId, row_before: Option<u32>) -> Option<u32>
+        ensures { result ≡ row_after bank row_before self }
+    {
+        match self {
+            Command::Act {
+                bank: other,
+                row,
+                ..
+            } => {
+                if bank.is_bank(other) {
+                    Some(row)
+                } else {
+                    row_before
+                }
+            }
+            Command::Pre { bank: other, .. } => {
+                if bank.is_bank(other) {
+                    None
+                } else {
+                    row_before
+                }
+            }
+            Command::Prea { rank } => { if bank.rank == rank { None } else { row_before } }
+            Command::Rd { .. } | Command::Wr { .. } | Command::Ref { .. } => row_before,
         }
     }
 }

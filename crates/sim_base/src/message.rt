@@ -1,5 +1,6 @@
 //! What travels on the links between cores and channels.
 
+use crate::command::{Command, Source};
 use crate::place::Place;
 use std::fmt;
 
@@ -47,6 +48,72 @@ pub struct Request {
     pub link: LinkId,
 }
 
+impl Request {
+    ghost use Rattle.std.specs.Prelude.{◌≡◌};
+    ghost use Rattle.sim_base.specs.Scheduling.{source_of, column_command, needed_at};
+
+    /// The entry that it is of.
+    #[inline]
+    pub fn source(self) -> Source
+        ensures { result ≡ source_of self }
+    {
+        Source {
+            core: self.core,
+            entry: self.entry,
+        }
+    }
+
+    /// The command that moves its data: RD or WR.
+    #[inline]
+    pub fn column_command(self) -> Command
+        ensures { result ≡ column_command self }
+    {
+        let bank = self.place.bank_id();
+        let source = self.source();
+        let row = self.place.row;
+        let column = self.place.column;
+        if self.write {
+            Command::Wr {
+                bank,
+                row,
+                column,
+                source,
+            }
+        } else {
+            Command::Rd {
+                bank,
+                row,
+                column,
+                source,
+            }
+        }
+    }
+
+    /// The command that it needs next where this row of its bank is open, or none is: ACT opens its row, PRE closes another one.
+    #[inline]
+    pub fn needed_at(self, open_row: Option<u32>) -> Command
+        ensures { result ≡ needed_at open_row self }
+    {
+        match open_row {
+            None => Command::Act {
+                bank: self.place.bank_id(),
+                row: self.place.row,
+                source: self.source(),
+            },
+            Some(row) => {
+                if row == self.place.row {
+                    self.column_command()
+                } else {
+                    Command::Pre {
+                        bank: self.place.bank_id(),
+                        source: self.source(),
+                    }
+                }
+            }
+        }
+    }
+}
+
 /// What a message carries.
 #[derive(Clone, Copy, PartialEq, Eq, Debug)]
 pub enum Load {
@@ -61,4 +128,17 @@ pub struct Message {
     pub link: LinkId,
     pub arrival: Cycle,
     pub load: Load,
+}
+
+impl Message {
+    ghost use Rattle.std.specs.Prelude.{◌≡◌};
+    ghost use Rattle.sim_base.specs.History.{is_before};
+
+    /// Whether it goes before another one: it arrives sooner, or in the same cycle by a lower link.
+    #[inline(always)]
+    pub fn is_before(&self, other: &Message) -> bool
+        ensures { result ≡ is_before self.now other.now }
+    {
+        self.arrival < other.arrival || (self.arrival == other.arrival && self.link < other.link)
+    }
 }

@@ -1,7 +1,7 @@
 //! The rules between two commands, as a table.
 
 ghost use Rattle.std.specs.Prelude.{◌≡◌, ◌+◌, ◌==◌, ◌&&◌, ◌≤◌};
-ghost use Rattle.sim_base.specs.Rules.{rules, is_kind, covers, binds, is_bound, gap};
+ghost use Rattle.sim_base.specs.Rules.{rules, covers, binds, is_bound, gap};
 ghost use Rattle.sim_base.specs.Rules.{relation_in_rank, relation_of};
 ghost use Rattle.timing.specs.Relation.{relation_to};
 
@@ -119,12 +119,6 @@ pub fn rules(timing: &Timing) -> [Rule; 30]
     ]
 }
 
-fn is_same_kind(a: Kind, b: Kind) -> bool
-    ensures { result ≡ is_kind a b }
-{
-    a == b
-}
-
 fn is_covered(scope: Scope, relation: Relation) -> bool
     ensures { result ≡ covers scope relation }
 {
@@ -141,9 +135,7 @@ fn is_covered(scope: Scope, relation: Relation) -> bool
 fn does_bind(rule: &Rule, earlier: Kind, later: Kind, relation: Relation) -> bool
     ensures { result ≡ binds rule.now earlier later relation }
 {
-    is_same_kind(rule.earlier, earlier)
-        && is_same_kind(rule.later, later)
-        && is_covered(rule.scope, relation)
+    rule.earlier.is_kind(earlier) && rule.later.is_kind(later) && is_covered(rule.scope, relation)
 }
 
 /// Whether a rule binds two such commands.

@@ -9,11 +9,11 @@ use Rattle.fr_fcfs.proofs.needs.needed.Goals as goal
 pub returns-clause-command : goal.returns-clause-command
 unfolding needed
 returns-clause-command c history knows =
-    c.needed_with.ensures ∙ ap (λ o. needed_at o c.args.request) (c.open_row.ensures knows.requests history knows.stands ∙ ap (λ b. open_row b history) c.bank_of_place-bank.ensures)
+    c.needed_at.ensures ∙ ap (λ o. needed_at o c.args.request) (c.open_row.ensures knows.requests history knows.stands ∙ ap (λ b. open_row b history) c.bank_id-bank.ensures)
 
 pub returns-clause-column : goal.returns-clause-column
 returns-clause-column c hit =
-    c.needed_with.ensures ∙ column_needed c.open_row.result c.args.request (ap is_column_command (sym c.needed_with.ensures) ∙ hit)
+    c.needed_at.ensures ∙ column_needed c.open_row.result c.args.request (ap is_column_command (sym c.needed_at.ensures) ∙ hit)
 
 pub open_row-requires : goal.open_row-requires
-open_row-requires c = subst (IsAmong c.args.heads.now) (sym c.bank_of_place-bank.ensures) c.requires
+open_row-requires c = subst (IsAmong c.args.heads.now) (sym c.bank_id-bank.ensures) c.requires

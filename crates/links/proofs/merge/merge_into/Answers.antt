@@ -16,19 +16,19 @@ push_reserved-requires c =
     let first : c.loop-a.i < length c.args.first.now = ltb-true _ _ both.0 in
     omega (arith, c.loop-a.invariant.room, first)
 
-pub push_reserved-requires-else-is_older : goal.push_reserved-requires-else-is_older
-push_reserved-requires-else-is_older c =
+pub push_reserved-requires-else-is_before : goal.push_reserved-requires-else-is_before
+push_reserved-requires-else-is_before c =
     let both = and_parts (ltb c.loop-a.i (length c.args.first.now)) (ltb c.loop-a.j (length c.args.second.now)) (sym c.are_left.ensures ∙ c.loop-a-test.true) in
     let first : c.loop-a.i < length c.args.first.now = ltb-true _ _ both.0 in
     omega (arith, c.loop-a.invariant.room, first)
 
-pub loop-a-preserved-then-is_older : goal.loop-a-preserved-then-is_older
-loop-a-preserved-then-is_older c =
+pub loop-a-preserved-then-is_before : goal.loop-a-preserved-then-is_before
+loop-a-preserved-then-is_before c =
     let both = and_parts (ltb c.loop-a.i (length c.args.first.now)) (ltb c.loop-a.j (length c.args.second.now)) (sym c.are_left.ensures ∙ c.loop-a-test.true) in
     let first : c.loop-a.i < length c.args.first.now = ltb-true _ _ both.0 in
     let second : c.loop-a.j < length c.args.second.now = ltb-true _ _ both.1 in
     record {
-      merges = rw c.push_reserved.ensures.items (Merges-second _ _ _ _ _ _ _ first second c.loop-a.invariant.merges (sym c.is_older.ensures ∙ c.if-is_older.true));
+      merges = rw c.push_reserved.ensures.items (Merges-second _ _ _ _ _ _ _ first second c.loop-a.invariant.merges (sym c.is_before.ensures ∙ c.if-is_before.true));
       room = omega (arith, c.push_reserved.ensures.len, c.push_reserved.ensures.capacity, c.loop-a.invariant.room, first, second);
     }
 
@@ -38,8 +38,8 @@ loop-a-preserved c =
     let first : c.loop-a.i < length c.args.first.now = ltb-true _ _ both.0 in
     let second : c.loop-a.j < length c.args.second.now = ltb-true _ _ both.1 in
     record {
-      merges = rw c.push_reserved-else-is_older.ensures.items (Merges-first _ _ _ _ _ _ _ first second c.loop-a.invariant.merges (sym c.is_older.ensures ∙ c.if-is_older.false));
-      room = omega (arith, c.push_reserved-else-is_older.ensures.len, c.push_reserved-else-is_older.ensures.capacity, c.loop-a.invariant.room, first, second);
+      merges = rw c.push_reserved-else-is_before.ensures.items (Merges-first _ _ _ _ _ _ _ first second c.loop-a.invariant.merges (sym c.is_before.ensures ∙ c.if-is_before.false));
+      room = omega (arith, c.push_reserved-else-is_before.ensures.len, c.push_reserved-else-is_before.ensures.capacity, c.loop-a.invariant.room, first, second);
     }
 
 pub append_all-requires : goal.append_all-requires

@@ -11,13 +11,13 @@ loop-a-init c = record {
   room = omega (arith, c.requires.room);
 }
 
-pub loop-a-preserved-then-is_older : goal.loop-a-preserved-then-is_older
-loop-a-preserved-then-is_older c =
+pub loop-a-preserved-then-is_before : goal.loop-a-preserved-then-is_before
+loop-a-preserved-then-is_before c =
     let a = c.in-Some-Some.ensures.some in
     let b = c.in-Some-Some.ensures'.some in
     record {
       merges = subst (λ ms. Merges c.loop-a.i (c.loop-a.j + 1) (head_of c.args.until c.args.first.now.items) (head_of c.args.until c.args.second.now.items) ms) (sym c.append.ensures.items)
-          (merged_second c.args.until c.loop-a.i c.loop-a.j c.args.first.now.items c.args.second.now.items _ _ _ a b (sym c.is_older.ensures ∙ c.if-is_older.true) c.loop-a.invariant.merges);
+          (merged_second c.args.until c.loop-a.i c.loop-a.j c.args.first.now.items c.args.second.now.items _ _ _ a b (sym c.is_before.ensures ∙ c.if-is_before.true) c.loop-a.invariant.merges);
       room = omega (arith, c.append.ensures.len, c.append.ensures.capacity, c.loop-a.invariant.room, a.0, b.0);
     }
 
@@ -26,9 +26,9 @@ loop-a-preserved c =
     let a = c.in-Some-Some.ensures.some in
     let b = c.in-Some-Some.ensures'.some in
     record {
-      merges = subst (λ ms. Merges (c.loop-a.i + 1) c.loop-a.j (head_of c.args.until c.args.first.now.items) (head_of c.args.until c.args.second.now.items) ms) (sym c.append-else-is_older.ensures.items)
-          (merged_first c.args.until c.loop-a.i c.loop-a.j c.args.first.now.items c.args.second.now.items _ _ _ a b (sym c.is_older.ensures ∙ c.if-is_older.false) c.loop-a.invariant.merges);
-      room = omega (arith, c.append-else-is_older.ensures.len, c.append-else-is_older.ensures.capacity, c.loop-a.invariant.room, a.0, b.0);
+      merges = subst (λ ms. Merges (c.loop-a.i + 1) c.loop-a.j (head_of c.args.until c.args.first.now.items) (head_of c.args.until c.args.second.now.items) ms) (sym c.append-else-is_before.ensures.items)
+          (merged_first c.args.until c.loop-a.i c.loop-a.j c.args.first.now.items c.args.second.now.items _ _ _ a b (sym c.is_before.ensures ∙ c.if-is_before.false) c.loop-a.invariant.merges);
+      room = omega (arith, c.append-else-is_before.ensures.len, c.append-else-is_before.ensures.capacity, c.loop-a.invariant.room, a.0, b.0);
     }
 
 pub returns-clause-copied : goal.returns-clause-copied
