@@ -117,7 +117,7 @@ pub(crate) fn call_all(
     }) }
 {
     let mut seats = Vec::with_capacity(alloc, slots.len())?;
-    let mut jobs = Vec::new(alloc);
+    let mut jobs = Vec::with_capacity(alloc, slots.len())?;
     for slot in slots {
         let place = seats.len();
         let seat = slot.called(machine, links, &mut jobs, words[place], place, span)?;

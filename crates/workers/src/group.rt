@@ -108,11 +108,11 @@ pub fn split(alloc: Global, jobs: Vec<Job>, most: usize) -> Result<Vec<Group>, A
     Ok(groups)
 }
 
-/// What came of all groups, one after the other. Only memory can be refused.
-pub fn join(alloc: Global, results: Vec<Results>) -> Result<Vec<Done>, AllocError>
+/// What came of all groups, one after the other, in a list with room for so many. Only memory can be refused.
+pub fn join(alloc: Global, results: Vec<Results>, room: usize) -> Result<Vec<Done>, AllocError>
     ensures { IfOk result (λ dones. dones.items ≡ joined results.items) }
 {
-    let mut dones = Vec::new(alloc);
+    let mut dones = Vec::with_capacity(alloc, room)?;
     for group in results {
         let mut theirs = group.dones;
         dones.append(&mut theirs)?;

@@ -64,9 +64,10 @@ impl<'a, P: Phases<Group, Results>> Claims<'a, P> {
 
 impl<'a, P: Phases<Group, Results>> Runner for Claims<'a, P> {
     fn run_phase(&mut self, jobs: Vec<Job>) -> Result<Vec<Done>, Fault> {
+        let count = jobs.len();
         let groups = split(self.alloc, jobs, self.most)?;
         let results = self.crew.run_tasks(groups)?;
-        let dones = join(self.alloc, results)?;
+        let dones = join(self.alloc, results, count)?;
         Ok(dones)
     }
 }

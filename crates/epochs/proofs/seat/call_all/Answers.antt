@@ -22,7 +22,7 @@ loop-slot-init c =
     record {
       whole = refl;
       steps = search rules;
-      called = call-none s traces span.number span.until _ _ _ _ c.in_ok-seats.ensures.items c.new-jobs.ensures.items;
+      called = call-none s traces span.number span.until _ _ _ _ c.in_ok-seats.ensures.items c.in_ok-jobs.ensures.items;
       flight = c.requires.asleep.flight ∙ ap {B = InFlight} (λ x. record { channels = s.channels; messages = x }) (sym (left-none s span.from span.until ms));
     }
 
