@@ -1,15 +1,8 @@
-//! The page of a run: one HTML file, with its pictures in it, that needs no network and no scripts.
+//! The page of a run: one HTML file, with its pictures in it, that needs no network and no scripts. `run_pictures` makes what stands on
+//! it; here it is asked whether the commands are those of the run.
 #![tactic(auto)]
 
-mod activity;
 pub mod fault;
-mod kinds;
-mod overview;
 pub mod page;
 mod rows;
-mod stops;
-mod strips;
-mod style;
-mod tables;
-mod timeline;
 pub mod window;

@@ -1,5 +1,5 @@
 use Rattle.std.proofs.Common.{◌-◌, ◌≤◌, vec_len}
-use Rattle.page.proofs.strips.write_strips.Given as goal
+use Rattle.run_pictures.proofs.strips.write_strips.Given as goal
 
 -- the commands of the strips so far are among the channel's
 abbrev pub invariant-strips : goal.invariant-strips

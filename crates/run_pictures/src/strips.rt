@@ -3,7 +3,6 @@
 use crate::activity::BURST;
 use crate::kinds::{BankWords, CommandWords, class_of, name_of};
 use crate::timeline::{ChannelTimeline, Lane, OpenRow};
-use crate::window::Window;
 use drawing::numbers::{Grouped, Tenths};
 use drawing::scales::{Scale, tick_step};
 use drawing::shapes::{Extent, LegendEntry};
@@ -285,15 +284,15 @@ fn write_strip<W: Write>(
     Ok(())
 }
 
-// The strips of a window that ends before a cycle.
+// The strips of a window, from a cycle to before another.
 fn write_strips<W: Write>(
-    window: Window,
+    start: u64,
     end: u64,
     channel: &mut ChannelTimeline,
     writer: &mut W,
 ) -> io::Result<()> {
-    let room = end.saturating_sub(window.from).min(STRIP);
-    let mut from = window.from;
+    let room = end.saturating_sub(start).min(STRIP);
+    let mut from = start;
     let mut first = 0;
     'strips: while from < end {
         let to = from.saturating_add(room.max(1)).min(end);
@@ -313,10 +312,10 @@ fn write_strips<W: Write>(
     Ok(())
 }
 
-/// Writes the timeline of a channel in a window that ends before a cycle of the run.
+/// Writes the timeline of a channel in a window, from a cycle to before another.
 pub(crate) fn write_timeline<W: Write>(
     id: usize,
-    window: Window,
+    from: u64,
     end: u64,
     channel: &mut ChannelTimeline,
     writer: &mut W,
@@ -325,7 +324,7 @@ pub(crate) fn write_timeline<W: Write>(
         writer,
         r#"<details class="channel" open><summary>channel {id}</summary>"#
     )?;
-    write_strips(window, end, channel, writer)?;
+    write_strips(from, end, channel, writer)?;
     writeln!(writer, "</details>")?;
     Ok(())
 }

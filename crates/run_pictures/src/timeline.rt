@@ -1,7 +1,6 @@
 //! What a channel does in a window: its commands there, and its banks with the rows that are open before the window.
 
 use crate::activity::{Activity, ChannelActivity};
-use crate::window::Window;
 use command_table::list::CommandList;
 use sim_base::command::{Command, CommandRow};
 use sim_base::place::BankId;
@@ -108,22 +107,21 @@ fn closed_channels(alloc: Global, activity: &Activity) -> Result<Vec<ChannelTime
     Ok(channels)
 }
 
-/// What each channel does in a window of a run of so many cycles.
+/// What each channel does in a window, from a cycle to before another.
 pub(crate) fn timelines_of(
     alloc: Global,
-    window: Window,
-    cycles: u64,
+    from: u64,
+    end: u64,
     activity: &Activity,
     commands: &CommandList,
 ) -> Result<Vec<ChannelTimeline>, AllocError> {
     let mut channels = closed_channels(alloc, activity)?;
-    let end = window.end_in(cycles);
     for place in 0..commands.len() {
         if let Some(row) = commands.get(place)
             && row.cycle < end
             && let Some(channel) = channels.get_mut(row.channel as usize)
         {
-            channel.add(window.from, row)?;
+            channel.add(from, row)?;
         }
     }
     Ok(channels)

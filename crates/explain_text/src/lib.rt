@@ -1,0 +1,17 @@
+//! What the texts that explain a refusal are made of: the place of a fault, what stands there, and what may stand there.
+//!
+//! A text has lines that are each ended by a line feed. The calls fail for memory alone.
+#![tactic(auto)]
+
+pub mod config;
+pub mod counts;
+mod keys;
+mod lines;
+mod links;
+mod nearest;
+mod relations;
+pub mod row;
+mod section;
+mod shown;
+pub mod table;
+pub mod traces;
