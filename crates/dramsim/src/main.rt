@@ -1,16 +1,17 @@
 //! Simulates the main memory of a computer: cores that read traces, and DDR4 channels that serve them.
 #![tactic(auto)]
 
-use program::files::HostFiles;
 use program::host::Host;
-use program::perform::{REFUSED, perform};
+use program::perform::perform;
 use progress::watcher::ProgressLine;
+use refusal::status::REFUSED;
 use sim_base::fault::Fault;
 use std::io::{ErrorKind, IsTerminal};
 use std::process::ExitCode;
 use std::sync::Wait;
 use std::thread::Threads;
 use std::{env, io};
+use whole_files::files::HostFiles;
 
 // Hands the words, the files, the streams and the threads of the host over. How far a run is is told where standard error is a terminal.
 fn perform_words<T: Threads + Wait + Sync>(rt: &HostRuntime, threads: &T) -> io::Result<u8> {

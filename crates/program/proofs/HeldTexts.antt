@@ -5,7 +5,7 @@ use Rattle.std.proofs.Math.Seq.{get_or-append_seam}
 use Rattle.std.proofs.lemmas.Bool.{cases_lt}
 use Rattle.std.proofs.lemmas.List.{get_or_append_left, get_or_default}
 use Rattle.std.specs.Result.{IfOk}
-use Rattle.program.specs.Files.{Held, AreHeld, SameFiles}
+use Rattle.whole_files.specs.Files.{Held, AreHeld, SameFiles}
 
 map_same : {A B : Type 0} (f h : A → B) → ((x : A) → f x ≡ h x) → (xs : List A) → map f xs ≡ map h xs
 map_same f h same [] = refl

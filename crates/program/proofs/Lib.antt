@@ -1,12 +1,3 @@
-pub mod AskLemmas
-pub mod CommandLemmas
 pub mod HeldTexts
-pub mod LevelFacts
-pub mod LineFacts
-pub mod MatchLemmas
 pub mod PageFacts
-pub mod Places
 pub mod RefusedFacts
-pub mod RowFacts
-pub mod TakenLemmas
-pub mod WalkFacts

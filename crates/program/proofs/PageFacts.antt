@@ -3,9 +3,9 @@ use Rattle.std.proofs.Common.{◌≡◌, ◌⊎◌, inl, inr, ℕ, List, [], ◌
 use Rattle.sim_base.specs.declared.fault.Fault.{Fault}
 use Rattle.sim_base.specs.declared.fault.Fault.TheVariants.{Memory, CheckRow}
 use Rattle.run_tables.specs.Records as Tables
-use Rattle.program.specs.Files.{Held, SameFiles}
+use Rattle.whole_files.specs.Files.{Held, SameFiles}
 use Rattle.program.specs.Refused.{AreTexts, IsInputFault, IsPageFault}
-use Rattle.program.specs.WholeFile.{IsWhole}
+use Rattle.whole_files.specs.WholeFile.{IsWhole}
 
 pub page_fault : (tells : Type 0) (held : Held) (paths : List (List ℕ)) (stats commands : List ℕ) (fault : Fault) → AreTexts tells held paths (stats ∷ commands ∷ []) → Tables.IsTableFault fault
     → IsInputFault tells held paths IsPageFault fault

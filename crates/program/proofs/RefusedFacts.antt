@@ -11,7 +11,7 @@ use Rattle.rule_check.specs.Verdict.{records_of, verdict}
 use Rattle.run_tables.specs.Records as Stats
 use Rattle.simulation.specs.Runs.{IsRunOf}
 use Rattle.statistics.specs.Values.{RunOutcome}
-use Rattle.program.specs.Files.{Held, SameFiles, IsReadFault}
+use Rattle.whole_files.specs.Files.{Held, SameFiles, IsReadFault}
 use Rattle.program.specs.Refused.{LacksOne, AreTexts, IsFilesFault, IsInputFault, IsRightRun, IsMapFault, IsTableFault, IsRowRefusal, IsShowFault}
 use Rattle.program.proofs.HeldTexts.{texts_held}
 

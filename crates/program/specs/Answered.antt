@@ -23,14 +23,15 @@ use Rattle.rule_check.specs.declared.verdict.Verdict.{Verdict}
 use Rattle.rule_check.specs.declared.verdict.Verdict.TheVariants.{Legal, Broken}
 use Rattle.show.specs.Screen.{IsScreen}
 use Rattle.simulation.specs.Runs.{IsRunOf, IsJudgedLegal}
-use Rattle.program.specs.Ask.{IsAskedBy}
-use Rattle.program.specs.Files.{Held, IsUntouched}
-use Rattle.program.specs.WholeFile.{part_of, IsUnwritten}
-use Rattle.program.specs.Tables.{path_in, stats_name, parts, IsKept, IsWritten, LeavesAll, IsUnplaced}
+use Rattle.command_line.specs.Ask.{IsAskedBy}
+use Rattle.whole_files.specs.Files.{Held, IsUntouched}
+use Rattle.whole_files.specs.WholeFile.{part_of, IsUnwritten}
+use Rattle.refusal.specs.Refusals.{IsKept}
+use Rattle.whole_files.specs.Tables.{path_in, stats_name, parts, IsWritten, LeavesAll, IsUnplaced}
 use Rattle.program.specs.Pages.{IsPageDone}
-use Rattle.program.specs.declared.tables.Refusal.{Refusal}
-use Rattle.program.specs.declared.words.Ask.{Ask}
-use Rattle.program.specs.declared.words.Ask.TheVariants.{Run, Check, Map, Show, Page, Help, Version}
+use Rattle.refusal.specs.declared.refusal.Refusal.{Refusal}
+use Rattle.command_line.specs.declared.words.Ask.{Ask}
+use Rattle.command_line.specs.declared.words.Ask.TheVariants.{Run, Check, Map, Show, Page, Help, Version}
 
 -- what the paths hold, which of them were opened to be written, and what the stream of answers holds, where that is told
 pub record Seen : Type 0 where

@@ -1,9 +1,4 @@
-pub mod CommandLine
-pub mod Ask
-pub mod Files
-pub mod WholeFile
-pub mod Tables
 pub mod Pages
 pub mod Answered
 pub mod Refused
-pub mod Lines
+pub mod Told

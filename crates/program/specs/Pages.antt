@@ -12,9 +12,9 @@ use Rattle.reports.specs.Stats.{stats_header, stats_rows}
 use Rattle.rule_check.specs.Verdict.{records_of}
 use Rattle.statistics.specs.Values.{RunStats}
 use Rattle.page.specs.Rows.{IsOfRun, IsOfRunAt}
-use Rattle.program.specs.Files.{Held}
-use Rattle.program.specs.Tables.{path_in, stats_name, commands_name}
-use Rattle.program.specs.WholeFile.{IsWhole}
+use Rattle.whole_files.specs.Files.{Held}
+use Rattle.whole_files.specs.Tables.{path_in, stats_name, commands_name}
+use Rattle.whole_files.specs.WholeFile.{IsWhole}
 
 -- one table has just the records of the statistics, and the other a row for each command, by their cycles, below its header
 pub record AreTablesIn (stats_table commands_table : List ℕ) (stats : RunStats) (commands : List CommandRow) : Type 0 where

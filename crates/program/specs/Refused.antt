@@ -24,12 +24,12 @@ use Rattle.reports.specs.Stats.{stats_header, stats_rows}
 use Rattle.sim_base.specs.declared.command.CommandRow.{CommandRow}
 use Rattle.simulation.specs.Runs.{input_of, IsRefusal}
 use Rattle.statistics.specs.Values.{RunStats}
-use Rattle.program.specs.Ask.{is_taken, command_of, IsCallForHelp, IsCallForVersion, HasBadAddress, IsAskedBy}
-use Rattle.program.specs.Files.{Held}
-use Rattle.program.specs.Tables.{path_in, stats_name, commands_name}
+use Rattle.command_line.specs.Ask.{is_taken, command_of, IsCallForHelp, IsCallForVersion, HasBadAddress, IsAskedBy}
+use Rattle.whole_files.specs.Files.{Held}
+use Rattle.whole_files.specs.Tables.{path_in, stats_name, commands_name}
 use Rattle.program.specs.Pages.{AreTablesIn}
-use Rattle.program.specs.declared.words.Ask.{Ask}
-use Rattle.program.specs.declared.words.Ask.TheVariants.{Run, Check, Map, Show, Page, Help, Version}
+use Rattle.command_line.specs.declared.words.Ask.{Ask}
+use Rattle.command_line.specs.declared.words.Ask.TheVariants.{Run, Check, Map, Show, Page, Help, Version}
 
 -- the words call for no help and no version, and the command line does not take them, unless they are a `map` of what is no number
 pub record HasNoAsk (words : List Text) : Type 0 where

@@ -10,10 +10,10 @@ ghost use Rattle.sim_base.specs.Values.{values_of};
 ghost use Rattle.simulation.specs.Runs.{IsJudgedLegal, IsRefusal, IsRunOf};
 
 use crate::host::Host;
-use crate::reason::Reason;
 use command_table::list::CommandList;
 use config_reader::read_config;
 use explain::{TableKind, of_config, of_host, of_numbers, of_table, of_traces};
+use refusal::reason::Reason;
 use rule_check::{Verdict, check};
 use run_tables::{read_commands, read_stats};
 use sim_base::config::Config;

@@ -3,24 +3,24 @@
 ghost use Rattle.std.specs.Prelude.{◌≡◌, ◌+◌, ◌<◌, ◌++◌, ◌∷◌, [], ℕ, length, IfOk, IfErr, OnOk, OnErr};
 ghost use Rattle.page.specs.Rows.{IsOfRunAt};
 ghost use Rattle.run_tables.specs.Records.{IsTableFault};
-ghost use Rattle.program.specs.Files.{SameFiles};
-ghost use Rattle.program.specs.Tables.{path_in, stats_name, commands_name};
-ghost use Rattle.program.specs.WholeFile.{part_of, IsUnwritten};
+ghost use Rattle.whole_files.specs.Files.{SameFiles};
+ghost use Rattle.whole_files.specs.Tables.{path_in, stats_name, commands_name};
+ghost use Rattle.whole_files.specs.WholeFile.{part_of, IsUnwritten};
 ghost use Rattle.program.specs.Pages.{AreTablesIn, AreTablesAt, IsNoPage, IsPageDone};
 ghost use Rattle.program.specs.Refused.{IsPageFault, IsRightPage, IsReady, IsInputFault, IsAnswerFault};
 
 use crate::explained::{commands_of, statistics_of};
-use crate::files::FileSet;
-use crate::moves::path_of;
-use crate::reason::Reason;
-use crate::whole_file::write_whole;
 use command_table::list::CommandList;
 use page::fault::PageFault;
 use page::page::write_page;
 use page::window::Window;
+use refusal::reason::Reason;
 use sim_base::fault::Fault;
 use statistics::stats::Stats;
 use std::alloc::Global;
+use whole_files::files::FileSet;
+use whole_files::moves::path_of;
+use whole_files::whole_file::write_whole;
 
 // What a page is made of.
 #[derive(Drop)]

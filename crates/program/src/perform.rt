@@ -2,24 +2,24 @@
 
 ghost use Rattle.std.specs.Prelude.{◌≡◌, ◌≢◌, ◌<◌, ◌≤◌, ◌++◌, ◌∷◌, [], length, map, slice_index_or, Some, IfOk, IfErr, IfSome, OnOk, OnErr, string_bytes};
 ghost use Rattle.std.specs.Io.KnownBytes.{Appends};
-ghost use Rattle.program.specs.Files.{SameFiles, AreHeld, IsReadFault};
-ghost use Rattle.program.specs.Lines.{IsTold};
+ghost use Rattle.whole_files.specs.Files.{SameFiles, AreHeld, IsReadFault};
+ghost use Rattle.program.specs.Told.{IsTold};
 ghost use Rattle.program.specs.Refused.{IsRunFault, IsRightRun, IsTableFault, IsRightTable, IsMapFault, IsRightMap, IsShowFault, IsRightShow, IsFilesFault, IsReady, IsInputFault, IsAnswerFault, IsAskFault, IsFaultOf};
-ghost use Rattle.program.specs.Tables.{fault_of, parts, path_in, stats_name};
+ghost use Rattle.refusal.specs.Refusals.{fault_of};
+ghost use Rattle.whole_files.specs.Tables.{parts, path_in, stats_name};
 ghost use Rattle.program.specs.Answered.{seen, IsOutcome, IsRunDone, IsUnfinished, IsVerdict, verdict_line, verdict_status, IsChecked, IsPlace, rank_words, place_line, IsMapped, IsStatsOf, IsShown, IsAnswer, IsLeft, IsAnswered, IsRefusedBy, IsRefused};
 
 use crate::explained::{Input, configuration_of, outcome_of, statistics_of, verdict_of};
-use crate::files::FileSet;
 use crate::host::Host;
-use crate::lines::tell;
-use crate::moves::path_of;
 use crate::pages::perform_page;
-use crate::reason::Reason;
 use crate::shared::SharedText;
-use crate::tables::{Refusal, write_tables};
-use crate::words::{Ask, read_words};
 use address_map::place_of;
+use command_line::words::{Ask, read_words};
 use page::window::Window;
+use refusal::lines::tell;
+use refusal::reason::Reason;
+use refusal::refusal::Refusal;
+use refusal::status::{BROKEN, DONE, REFUSED};
 use rule_check::Verdict;
 use show::show_text;
 use sim_base::fault::Fault;
@@ -31,16 +31,10 @@ use std::alloc::{AllocError, Global};
 use std::io::{self, Write};
 use std::sync::Wait;
 use std::thread::Threads;
+use whole_files::files::FileSet;
+use whole_files::moves::path_of;
+use whole_files::tables::write_tables;
 use workers::watch::Watch;
-
-/// The status of a program that did what it was asked.
-const DONE: u8 = 0;
-
-/// The status of a check that found a broken rule.
-const BROKEN: u8 = 1;
-
-/// The status of a program that refused.
-pub const REFUSED: u8 = 2;
 
 // Sends a text down a stream.
 fn send<P: Write>(print: &mut P, text: &str) -> io::Result<()>

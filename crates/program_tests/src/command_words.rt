@@ -1,7 +1,7 @@
 //! Words of each command, calls for help, and words that are none.
 
 use crate::expect::expect_at;
-use program::words::{Ask, read_words};
+use command_line::words::{Ask, read_words};
 use sim_base::fault::Fault;
 use std::test::Fail;
 

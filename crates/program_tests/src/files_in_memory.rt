@@ -2,13 +2,13 @@
 
 ghost use Rattle.std.specs.Prelude.{◌≡◌, IfErr};
 
-use program::files::FileSet;
-use program::reason::Reason;
+use refusal::reason::Reason;
 use sim_base::fault::Fault;
 use std::alloc::{AllocError, Global};
 use std::collections::BTreeMap;
 use std::io;
 use std::io::{ErrorKind, Write};
+use whole_files::files::FileSet;
 
 // What goes wrong with a file. A placing or a renaming fails by the path that the file is to have.
 #[derive(Clone, Copy, PartialEq, Eq, Debug)]

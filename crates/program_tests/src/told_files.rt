@@ -5,16 +5,16 @@ ghost use Rattle.std.specs.BTreeMap.{get_by_text};
 ghost use Rattle.program.specs.Answered.{seen, IsAnswered, IsRefused};
 
 use fixtures::small::SMALL;
-use program::files::FileSet;
 use program::host::Host;
 use program::perform::perform;
-use program::reason::Reason;
+use refusal::reason::Reason;
 use sim_base::fault::Fault;
 use std::alloc::{AllocError, Global};
 use std::collections::BTreeMap;
 use std::sync::Wait;
 use std::test::Fail;
 use std::thread::Threads;
+use whole_files::files::FileSet;
 use workers::watch::Unwatched;
 
 /// Files in memory, of which what is written is there once it is closed.

@@ -1,5 +1,5 @@
 use Rattle.std.proofs.Common.{rules, ◌≡◌, Err}
-use Rattle.program.specs.declared.tables.Refusal.TheVariants.{Kept}
+use Rattle.refusal.specs.declared.refusal.Refusal.TheVariants.{Kept}
 use Rattle.program.proofs.perform.answer.Goals as goal
 
 pub returns-in_err-perform_run-in-Run-clause-fault : goal.returns-in_err-perform_run-in-Run-clause-fault

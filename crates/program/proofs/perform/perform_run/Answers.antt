@@ -1,6 +1,6 @@
 use Rattle.std.proofs.Common.{inl, inr}
 use Rattle.std.proofs.lemmas.Result.{on_ok_weaker, IfErr-weaker}
-use Rattle.program.proofs.Places.{written_from, left_from}
+use Rattle.whole_files.proofs.Places.{written_from, left_from}
 use Rattle.program.proofs.perform.perform_run.Goals as goal
 
 pub returns-clause-done : goal.returns-clause-done

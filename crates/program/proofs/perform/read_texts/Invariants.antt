@@ -1,6 +1,6 @@
 -- The texts so far are those of the paths so far, and no file has changed.
 use Rattle.std.proofs.Common.{◌≡◌, length, map, take, Some}
-use Rattle.program.specs.Files.{AreHeld, SameFiles}
+use Rattle.whole_files.specs.Files.{AreHeld, SameFiles}
 use Rattle.program.proofs.perform.read_texts.Given as goal
 
 abbrev pub invariant-loop-path : goal.invariant-loop-path

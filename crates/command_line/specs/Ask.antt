@@ -1,0 +1,220 @@
+-- What the words of a command line ask for. The first word is the name of the program.
+--     is_taken words      the command line takes the words
+--     command_of words      the command that they name, with a row for each of its arguments
+--     kinds_of_fault words      why it may not take them
+--     IsCallForHelp words, IsCallForVersion words      they call for help, or for the version
+--     IsAskedBy words ask      they ask for this
+--     GivesAll command      each argument that the command needs is there
+--     HasBadAddress command      a `map` of what is no number
+--     IsAnswerTo words result      an answer to words that the command line takes
+use Rattle.std.specs.Prelude.{◌≡◌, ◌≢◌, ◌⊎◌, ℕ, ◌<◌, ◌^◌, ⊤, Bool, true, false, List, [], ◌∷◌, map, codes, Option, Some, None, Result, Ok, Err, IsSome, IsErr}
+use Rattle.std.specs.Str.Parse.{IsNumeral, digits_value, without_leading_plus}
+use Rattle.clap.specs.Words.{Row, Text, all_of, fault_of, first_of, one_of, subcommand_of, takes, Kinds, IsAmong}
+use Rattle.clap.specs.declared.error.kind.ErrorKind.{ErrorKind}
+use Rattle.clap.specs.declared.error.kind.ErrorKind.TheVariants.{DisplayHelp, DisplayVersion, OutOfMemory}
+use Rattle.sim_base.specs.declared.fault.Fault.{Fault}
+use Rattle.sim_base.specs.declared.fault.Fault.TheVariants.{Memory, CommandLine}
+use Rattle.command_line.specs.CommandLine.{program_app}
+use Rattle.sim_base.specs.TraceText.{number_of}
+use Rattle.command_line.specs.declared.words.Ask.{Ask}
+use Rattle.command_line.specs.declared.words.Ask.TheVariants.{Run, Check, Map, Show, Page, Help, Version}
+
+-- the command line takes the words
+unfoldable pub is_taken : List Text → Bool
+is_taken words = takes program_app words
+
+-- the command that the words name, and a row for each of its arguments
+unfoldable pub command_of : List Text → Option (Text × List Row)
+command_of words = subcommand_of program_app words
+
+-- why the command line may not take the words; a call for help is among these
+unfoldable pub kinds_of_fault : List Text → Kinds
+kinds_of_fault words = fault_of program_app words
+
+-- the words call for help, as by `--help`, before anything in them is wrong
+abbrev pub IsCallForHelp : List Text → Type 0
+IsCallForHelp words = kinds_of_fault words ≡ DisplayHelp ∷ []
+
+-- the words call for the version, as by `--version`, before anything in them is wrong
+abbrev pub IsCallForVersion : List Text → Type 0
+IsCallForVersion words = kinds_of_fault words ≡ DisplayVersion ∷ []
+
+-- the number that a text of decimal digits is, after a plus or none
+abbrev pub IsCount : Option Text → ℕ → Type 0
+IsCount None n = ⊥
+IsCount (Some text) n = n ≡ digits_value 10 (without_leading_plus text)
+
+-- the same, or this number where there is no text
+abbrev pub IsCountOr : ℕ → Option Text → ℕ → Type 0
+IsCountOr absent None n = n ≡ absent
+IsCountOr absent (Some text) n = IsCount (Some text) n
+
+-- the number that a text is in a trace
+abbrev pub IsAddress : Option Text → ℕ → Type 0
+IsAddress None n = ⊥
+IsAddress (Some text) n = number_of text ≡ Ok n
+
+-- whether a flag is set, as its text says
+pub record IsFlag (o : Option Text) (set : Bool) : Type 0 where
+  pub none : o ≡ None → set ≡ false
+  pub set_by : o ≡ Some (codes "true") → set ≡ true
+  pub unset_by : o ≡ Some (codes "false") → set ≡ false
+
+-- a run with these values
+pub record IsRun (rows : List Row) (config : Text) (cycles workers : ℕ) (out : Text) (traces : List Text) : Type 0 where
+  pub config_is : first_of (codes "config") rows ≡ Some config
+  pub cycles_is : IsCount (one_of (codes "cycles") rows) cycles
+  pub workers_is : IsCount (one_of (codes "workers") rows) workers
+  pub out_is : first_of (codes "out") rows ≡ Some out
+  pub traces_is : all_of (codes "trace") rows ≡ Some traces
+
+-- a check with these values
+pub record IsCheck (rows : List Row) (config commands : Text) : Type 0 where
+  pub config_is : first_of (codes "config") rows ≡ Some config
+  pub commands_is : first_of (codes "commands") rows ≡ Some commands
+
+-- a map with these values
+pub record IsMap (rows : List Row) (config : Text) (address : ℕ) : Type 0 where
+  pub config_is : first_of (codes "config") rows ≡ Some config
+  pub address_is : IsAddress (first_of (codes "address") rows) address
+
+-- a show with these values
+pub record IsShow (rows : List Row) (dir : Text) (all : Bool) : Type 0 where
+  pub dir_is : first_of (codes "dir") rows ≡ Some dir
+  pub all_is : IsFlag (one_of (codes "all") rows) all
+
+-- a page with these values: its timeline is of the first 2,000 cycles unless the words say otherwise
+pub record IsPage (rows : List Row) (dir file : Text) (from cycles : ℕ) : Type 0 where
+  pub dir_is : first_of (codes "dir") rows ≡ Some dir
+  pub file_is : first_of (codes "file") rows ≡ Some file
+  pub from_is : IsCountOr 0 (one_of (codes "from") rows) from
+  pub cycles_is : IsCountOr 2000 (one_of (codes "cycles") rows) cycles
+
+-- the command of this name, with these rows, is what is asked for
+abbrev pub IsCommand : Text → List Row → Ask → Type 0
+IsCommand name rows (Run config cycles workers out traces) =
+    (name ≡ codes "run") × IsRun rows config.now cycles workers out.now (map (λ t. t.now) traces.items)
+IsCommand name rows (Check config commands) = (name ≡ codes "check") × IsCheck rows config.now commands.now
+IsCommand name rows (Map config address) = (name ≡ codes "map") × IsMap rows config.now address
+IsCommand name rows (Show dir all) = (name ≡ codes "show") × IsShow rows dir.now all
+IsCommand name rows (Page dir file from cycles) = (name ≡ codes "page") × IsPage rows dir.now file.now from cycles
+IsCommand name rows (Help text) = ⊥
+IsCommand name rows (Version text) = ⊥
+
+abbrev pub IsCommandOf : Option (Text × List Row) → Ask → Type 0
+IsCommandOf None ask = ⊥
+IsCommandOf (Some command) ask = IsCommand command.0 command.1 ask
+
+-- a text that answers a call for help
+abbrev pub IsHelp : Ask → Type 0
+IsHelp (Help text) = ⊤
+IsHelp _ = ⊥
+
+-- a text that answers a call for the version
+abbrev pub IsVersion : Ask → Type 0
+IsVersion (Version text) = ⊤
+IsVersion _ = ⊥
+
+-- the text that answers an error of this kind
+abbrev pub IsShown : Ask → ErrorKind → Type 0
+IsShown (Help text) kind = kind ≡ DisplayHelp
+IsShown (Version text) kind = kind ≡ DisplayVersion
+IsShown _ kind = ⊥
+
+-- help, or want of memory for its text
+abbrev pub IsHelpUnlessMemory : Result Ask Fault → Type 0
+IsHelpUnlessMemory (Ok ask) = IsHelp ask
+IsHelpUnlessMemory (Err fault) = fault ≡ Memory
+
+-- the same of the version
+abbrev pub IsVersionUnlessMemory : Result Ask Fault → Type 0
+IsVersionUnlessMemory (Ok ask) = IsVersion ask
+IsVersionUnlessMemory (Err fault) = fault ≡ Memory
+
+-- an error that is no call for help or for the version, nor want of memory
+pub record IsNoHelp (kind : ErrorKind) : Type 0 where
+  pub no_help : kind ≢ DisplayHelp
+  pub no_version : kind ≢ DisplayVersion
+  pub no_memory : kind ≢ OutOfMemory
+
+-- the words name the command that is asked for, with its values, or call for help or for the version
+abbrev pub IsAskedBy : List Text → Ask → Type 0
+IsAskedBy words (Help text) = IsAmong DisplayHelp (kinds_of_fault words)
+IsAskedBy words (Version text) = IsAmong DisplayVersion (kinds_of_fault words)
+IsAskedBy words ask = IsCommandOf (command_of words) ask
+
+-- a text is a number of 64 bits
+abbrev pub IsCountText : Option Text → Type 0
+IsCountText None = ⊥
+IsCountText (Some text) = IsNumeral 10 (without_leading_plus text) × (digits_value 10 (without_leading_plus text) < 2 ^ 64)
+
+-- the same, or there is none
+abbrev pub IsNoneOrCount : Option Text → Type 0
+IsNoneOrCount None = ⊤
+IsNoneOrCount (Some text) = IsCountText (Some text)
+
+-- each argument of a run is there
+pub record GivesRun (rows : List Row) : Type 0 where
+  pub config : IsSome (first_of (codes "config") rows)
+  pub cycles : IsCountText (one_of (codes "cycles") rows)
+  pub workers : IsCountText (one_of (codes "workers") rows)
+  pub out : IsSome (first_of (codes "out") rows)
+  pub traces : IsSome (all_of (codes "trace") rows)
+
+-- each argument of a check is there
+pub record GivesCheck (rows : List Row) : Type 0 where
+  pub config : IsSome (first_of (codes "config") rows)
+  pub commands : IsSome (first_of (codes "commands") rows)
+
+-- each argument of a map is there
+pub record GivesMap (rows : List Row) : Type 0 where
+  pub config : IsSome (first_of (codes "config") rows)
+  pub address : IsSome (first_of (codes "address") rows)
+
+-- the argument that a show needs is there
+pub record GivesShow (rows : List Row) : Type 0 where
+  pub dir : IsSome (first_of (codes "dir") rows)
+
+-- the arguments that a page needs are there, and those that it may have are numbers
+pub record GivesPage (rows : List Row) : Type 0 where
+  pub dir : IsSome (first_of (codes "dir") rows)
+  pub file : IsSome (first_of (codes "file") rows)
+  pub from : IsNoneOrCount (one_of (codes "from") rows)
+  pub cycles : IsNoneOrCount (one_of (codes "cycles") rows)
+
+-- the text of an address is no number of a trace
+abbrev pub IsNoAddress : Option Text → Type 0
+IsNoAddress None = ⊥
+IsNoAddress (Some text) = IsErr (number_of text)
+
+-- the command is a `map` of what is no number
+abbrev pub HasBadAddress : Option (Text × List Row) → Type 0
+HasBadAddress None = ⊥
+HasBadAddress (Some command) = (command.0 ≡ codes "map") × IsNoAddress (first_of (codes "address") command.1)
+
+-- each argument that the command needs is there
+abbrev pub GivesAll : Option (Text × List Row) → Type 0
+GivesAll None = ⊥
+GivesAll (Some command) =
+    ((command.0 ≡ codes "run") × GivesRun command.1) ⊎ ((command.0 ≡ codes "check") × GivesCheck command.1)
+    ⊎ ((command.0 ≡ codes "map") × GivesMap command.1) ⊎ ((command.0 ≡ codes "show") × GivesShow command.1)
+    ⊎ ((command.0 ≡ codes "page") × GivesPage command.1)
+
+-- why a command is refused that has each argument: want of memory, or an address that is no number
+abbrev pub IsCommandFault : Option (Text × List Row) → Fault → Type 0
+IsCommandFault command Memory = ⊤
+IsCommandFault command CommandLine = HasBadAddress command
+IsCommandFault command _ = ⊥
+
+-- an answer to words that the command line takes: a command, or the refusal of one that has each argument
+abbrev pub IsAnswerTo : List Text → Result Ask Fault → Type 0
+IsAnswerTo words (Ok (Help text)) = ⊥
+IsAnswerTo words (Ok (Version text)) = ⊥
+IsAnswerTo words (Ok ask) = ⊤
+IsAnswerTo words (Err fault) = IsCommandFault (command_of words) fault
+
+-- memory was refused, or the words are none that the program knows
+abbrev pub IsWordsFault : Fault → Type 0
+IsWordsFault Memory = ⊤
+IsWordsFault CommandLine = ⊤
+IsWordsFault _ = ⊥

@@ -1,0 +1,5 @@
+//! What the words of a call mean: the command that they name, with its values, as `clap` reads them.
+#![tactic(auto)]
+
+pub mod command_line;
+pub mod words;

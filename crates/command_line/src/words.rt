@@ -1,0 +1,252 @@
+//! What a command line asks for.
+
+ghost use Rattle.std.specs.Prelude.{◌≡◌, ◌⊎◌, true, Some, None, Ok, IfOk, IfErr, IsOk, IsErr, map, codes};
+ghost use Rattle.clap.specs.Words.{Row, app_of, all_of, first_of, found_of, kind_of, one_of, rows_of, subcommand_rows_of};
+ghost use Rattle.sim_base.specs.TraceText.{number_of};
+ghost use Rattle.command_line.specs.Ask.{is_taken, IsCallForHelp, IsCallForVersion, IsCount, IsCountText, IsCountOr, IsNoneOrCount, IsFlag, IsNoAddress, IsCommand, IsCommandOf, IsCommandFault, IsShown, IsHelpUnlessMemory, IsVersionUnlessMemory, IsNoHelp, IsAskedBy, IsAnswerTo, IsWordsFault, GivesRun, GivesCheck, GivesMap, GivesShow, GivesPage, GivesAll};
+
+use crate::command_line::program;
+use clap::error::{Error, ErrorKind};
+use clap::{ArgMatches, Command};
+use cpu_trace::number::read_number;
+use refusal::reason::Reason;
+use sim_base::fault::Fault;
+use std::alloc::{AllocError, Global};
+
+/// What a command line asks for.
+#[derive(Debug, Drop)]
+pub enum Ask<'a> {
+    /// `run CONFIG --cycles N --workers N --out DIR TRACE...`: simulates the traces.
+    Run {
+        config: &'a str,
+        cycles: u64,
+        workers: u64,
+        out: &'a str,
+        traces: Vec<&'a str>,
+    },
+    /// `check CONFIG COMMANDS`: tests a table of commands.
+    Check {
+        config: &'a str,
+        commands: &'a str,
+    },
+    /// `map CONFIG ADDRESS`: tells where an address lies.
+    Map {
+        config: &'a str,
+        address: u64,
+    },
+    /// `show DIR [--all]`: tells what the run did whose tables are in a folder.
+    Show {
+        dir: &'a str,
+        all: bool,
+    },
+    /// `page DIR FILE [--from N] [--cycles N]`: draws the run whose tables are in a folder, and its commands in a window of cycles.
+    Page {
+        dir: &'a str,
+        file: &'a str,
+        from: u64,
+        cycles: u64,
+    },
+    /// A call for help, with the text that answers it.
+    Help(String),
+    /// A call for the version, with the text that answers it.
+    Version(String),
+}
+
+// The text of an argument.
+fn text_of<'a>(found: &ArgMatches<'a>, id: &str) -> Result<&'a str, Fault>
+    ensures given { IfOk result (λ s. first_of id.now (rows_of (found_of found.now)) ≡ Some s.now) }
+    ensures missing { IfErr result (λ e. (e ≡ Fault.CommandLine) × (first_of id.now (rows_of (found_of found.now)) ≡ None)) }
+{
+    match found.get_str(id) {
+        Some(text) => Ok(text),
+        None => Err(Fault::CommandLine),
+    }
+}
+
+// The number of an argument.
+fn count_of(found: &ArgMatches<'_>, id: &str) -> Result<u64, Fault>
+    ensures given { IfOk result (IsCount (one_of id.now (rows_of (found_of found.now)))) }
+    ensures missing { IfErr result (λ e. (e ≡ Fault.CommandLine) × ¬ (IsCountText (one_of id.now (rows_of (found_of found.now))))) }
+{
+    match found.get_one::<u64>(id) {
+        Some(count) => Ok(count),
+        None => Err(Fault::CommandLine),
+    }
+}
+
+// The number of an argument that may be left out.
+fn count_or(found: &ArgMatches<'_>, id: &str, absent: u64) -> Result<u64, Fault>
+    ensures given { IfOk result (IsCountOr absent (one_of id.now (rows_of (found_of found.now)))) }
+    ensures missing { IfErr result (λ e. (e ≡ Fault.CommandLine) × ¬ (IsNoneOrCount (one_of id.now (rows_of (found_of found.now))))) }
+{
+    match found.get_str(id) {
+        Some(_) => count_of(found, id),
+        None => Ok(absent),
+    }
+}
+
+// Whether a flag is set.
+fn is_set(found: &ArgMatches<'_>, id: &str) -> bool
+    ensures { IsFlag (one_of id.now (rows_of (found_of found.now))) result }
+{
+    found.get_flag(id)
+}
+
+// The texts of an argument that may have several.
+fn texts_of<'a>(alloc: Global, found: &ArgMatches<'a>, id: &str) -> Result<Vec<&'a str>, Fault>
+    ensures given { IfOk result (λ v. all_of id.now (rows_of (found_of found.now)) ≡ Some (map (λ t. t.now) v.items)) }
+    ensures missing { IfErr result (λ e. (e ≡ Fault.Memory) ⊎ ((e ≡ Fault.CommandLine) × (all_of id.now (rows_of (found_of found.now)) ≡ None))) }
+{
+    match found.get_strs(id) {
+        Some(texts) => Ok(Vec::from_slice(alloc, texts)?),
+        None => Err(Fault::CommandLine),
+    }
+}
+
+fn run_ask<'a>(alloc: Global, found: &ArgMatches<'a>) -> Result<Ask<'a>, Fault>
+    ensures asked { IfOk result (IsCommand (codes "run") (rows_of (found_of found.now))) }
+    ensures refused { GivesRun (rows_of (found_of found.now)) → IfErr result (λ e. e ≡ Fault.Memory) }
+    ensures fault { IfErr result (λ e. IsWordsFault e) }
+{
+    Ok(Ask::Run {
+        config: text_of(found, "config")?,
+        cycles: count_of(found, "cycles")?,
+        workers: count_of(found, "workers")?,
+        out: text_of(found, "out")?,
+        traces: texts_of(alloc, found, "trace")?,
+    })
+}
+
+fn check_ask<'a>(found: &ArgMatches<'a>) -> Result<Ask<'a>, Fault>
+    ensures asked { IfOk result (IsCommand (codes "check") (rows_of (found_of found.now))) }
+    ensures refused { GivesCheck (rows_of (found_of found.now)) → IsOk result }
+    ensures fault { IfErr result (λ e. e ≡ Fault.CommandLine) }
+{
+    Ok(Ask::Check {
+        config: text_of(found, "config")?,
+        commands: text_of(found, "commands")?,
+    })
+}
+
+// The number of a trace that a text is.
+fn address_of(text: &str) -> Result<u64, Fault>
+    ensures number { IfOk result (λ a. number_of text.now ≡ Ok a) }
+    ensures refused { IfErr result (λ e. (e ≡ Fault.CommandLine) × IsErr (number_of text.now)) }
+{
+    match read_number(text.as_bytes()) {
+        Ok(address) => Ok(address),
+        Err(_) => Err(Fault::CommandLine),
+    }
+}
+
+fn map_ask<'a>(found: &ArgMatches<'a>) -> Result<Ask<'a>, Fault>
+    ensures asked { IfOk result (IsCommand (codes "map") (rows_of (found_of found.now))) }
+    ensures refused { GivesMap (rows_of (found_of found.now)) → IfErr result (λ e. IsNoAddress (first_of (codes "address") (rows_of (found_of found.now)))) }
+    ensures fault { IfErr result (λ e. e ≡ Fault.CommandLine) }
+{
+    Ok(Ask::Map {
+        config: text_of(found, "config")?,
+        address: address_of(text_of(found, "address")?)?,
+    })
+}
+
+fn show_ask<'a>(found: &ArgMatches<'a>) -> Result<Ask<'a>, Fault>
+    ensures asked { IfOk result (IsCommand (codes "show") (rows_of (found_of found.now))) }
+    ensures refused { GivesShow (rows_of (found_of found.now)) → IsOk result }
+    ensures fault { IfErr result (λ e. e ≡ Fault.CommandLine) }
+{
+    Ok(Ask::Show {
+        dir: text_of(found, "dir")?,
+        all: is_set(found, "all"),
+    })
+}
+
+fn page_ask<'a>(found: &ArgMatches<'a>) -> Result<Ask<'a>, Fault>
+    ensures asked { IfOk result (IsCommand (codes "page") (rows_of (found_of found.now))) }
+    ensures refused { GivesPage (rows_of (found_of found.now)) → IsOk result }
+    ensures fault { IfErr result (λ e. e ≡ Fault.CommandLine) }
+{
+    Ok(Ask::Page {
+        dir: text_of(found, "dir")?,
+        file: text_of(found, "file")?,
+        from: count_or(found, "from", 0)?,
+        cycles: count_or(found, "cycles", 2_000)?,
+    })
+}
+
+// What the matches of a command line ask for.
+fn ask_of<'a>(alloc: Global, matches: &ArgMatches<'a>) -> Result<Ask<'a>, Fault>
+    ensures asked { IfOk result (IsCommandOf (subcommand_rows_of matches.now)) }
+    ensures refused { GivesAll (subcommand_rows_of matches.now) → IfErr result (IsCommandFault (subcommand_rows_of matches.now)) }
+    ensures fault { IfErr result (λ e. IsWordsFault e) }
+{
+    match matches.subcommand() {
+        Some(("run", found)) => run_ask(alloc, found),
+        Some(("check", found)) => check_ask(found),
+        Some(("map", found)) => map_ask(found),
+        Some(("show", found)) => show_ask(found),
+        Some(("page", found)) => page_ask(found),
+        _ => Err(Fault::CommandLine),
+    }
+}
+
+// What explains an address that is no number.
+fn explain_address(alloc: Global, matches: &ArgMatches<'_>) -> Result<String, AllocError> {
+    match matches.subcommand() {
+        Some((_, found)) => match found.get_str("address") {
+            Some(text) => format!(in alloc;
+                "'{text}' is no ADDRESS: a decimal number, or a hexadecimal one after 0x, at most 18446744073709551615\n"
+            ),
+            None => Ok(String::new(alloc)),
+        },
+        None => Ok(String::new(alloc)),
+    }
+}
+
+// What the matches of a command line ask for, and why not.
+fn command_of<'a>(alloc: Global, matches: &ArgMatches<'a>) -> Result<Ask<'a>, Reason>
+    ensures asked { IfOk result (IsCommandOf (subcommand_rows_of matches.now)) }
+    ensures refused { GivesAll (subcommand_rows_of matches.now) → IfErr result (IsCommandFault (subcommand_rows_of matches.now)) }
+    ensures fault { IfErr result (λ e. IsWordsFault e) }
+{
+    match ask_of(alloc, matches) {
+        Ok(ask) => Ok(ask),
+        Err(Fault::CommandLine) => Err(Reason::explained(
+            Fault::CommandLine,
+            explain_address(alloc, matches),
+        )),
+        Err(fault) => Err(Reason::from(fault)),
+    }
+}
+
+// Why a command line refuses its words, or the text that answers a call for help or for the version.
+fn help_of<'a>(alloc: Global, error: Error) -> Result<Ask<'a>, Reason>
+    ensures shown { IfOk result (λ ask. IsShown ask (kind_of error)) }
+    ensures refused { IfErr result (λ e. (e ≡ Fault.Memory) ⊎ ((e ≡ Fault.CommandLine) × IsNoHelp (kind_of error))) }
+{
+    match error.kind() {
+        ErrorKind::OutOfMemory => Err(Reason::from(Fault::Memory)),
+        ErrorKind::DisplayHelp => Ok(Ask::Help(error.to_string(alloc)?)),
+        ErrorKind::DisplayVersion => Ok(Ask::Version(error.to_string(alloc)?)),
+        _ => Err(Reason::explained(Fault::CommandLine, error.to_string(alloc))),
+    }
+}
+
+/// Reads the words of a command line, of which the first is the program's name.
+///
+/// # Errors
+///
+/// `Fault::CommandLine` where the words are no command of `Ask`, or the address of a `map` is no number, and
+/// `Fault::Memory`.
+pub fn read_words<'a>(alloc: Global, words: &'a [&'a str]) -> Result<Ask<'a>, Reason>
+    ensures asked { IfOk result (IsAskedBy (map (λ w. w.now) words.entry.now)) }
+    ensures answered { is_taken (map (λ w. w.now) words.entry.now) ≡ true → IsAnswerTo (map (λ w. w.now) words.entry.now) result }
+    ensures helped { IsCallForHelp (map (λ w. w.now) words.entry.now) → IsHelpUnlessMemory result }
+    ensures versioned { IsCallForVersion (map (λ w. w.now) words.entry.now) → IsVersionUnlessMemory result }
+    ensures refused { IfErr result (λ e. IsWordsFault e) }
+{
+    match program(alloc)?.try_get_matches_from(words) {
+        Ok(matches) => command_of(alloc, &matches),
+        Err(error) => help_of(alloc, error),
+    }
+}

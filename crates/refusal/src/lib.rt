@@ -1,0 +1,7 @@
+//! Why the program refuses, the lines that tell it, and the statuses that it ends with.
+#![tactic(auto)]
+
+pub mod lines;
+pub mod reason;
+pub mod refusal;
+pub mod status;
