@@ -1,5 +1,5 @@
 -- Why a page is refused, and what a file in its place leaves alone, from the steps.
-use Rattle.std.proofs.Common.{◌≡◌, ◌⊎◌, inl, inr, ℕ, List, [], ◌∷◌, refl, ◌∙◌}
+use Rattle.std.proofs.Common.{inl, inr, ℕ, List, [], ◌∷◌, refl, ◌∙◌}
 use Rattle.sim_base.specs.declared.fault.Fault.{Fault}
 use Rattle.sim_base.specs.declared.fault.Fault.TheVariants.{Memory, CheckRow}
 use Rattle.run_tables.specs.Records as Tables
