@@ -6,8 +6,6 @@ mod checks;
 #[cfg(test)]
 mod command_words;
 #[cfg(test)]
-mod counts;
-#[cfg(test)]
 mod ends;
 #[cfg(test)]
 mod expect;
@@ -39,8 +37,6 @@ mod quiet_runs;
 mod refusals;
 #[cfg(test)]
 mod result_orders;
-#[cfg(test)]
-mod rows;
 #[cfg(test)]
 mod same;
 #[cfg(test)]

@@ -43,7 +43,7 @@ fn is_right(alloc: Global, outcome: &Outcome) -> bool {
     has_commands(alloc, outcome) && has_stats(outcome) && outcome.last.in_flight.is_empty()
 }
 
-/// Whether a run by so many workers gives what it is to give, or is refused for want of memory, or of a worker.
+/// Whether a run by so many workers gives what it is to give, or is refused memory, or a worker.
 fn is_right_or_refused<R: Threads + Wait + Sync>(rt: &R, alloc: Global, workers: u64) -> bool {
     let texts: [&[u8]; 1] = [b"0 0\n"];
     let watch = &mut Unwatched;

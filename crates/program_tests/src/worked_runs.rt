@@ -1,4 +1,4 @@
-//! The runs of the worked rows.
+//! The runs of the worked cases.
 
 use fixtures::small::TWO_RANKS;
 
@@ -23,12 +23,6 @@ pub(crate) const ONE_READ: Run = Run {
     more: "",
     traces: &["0 0\n"],
     cycles: 16,
-};
-
-pub(crate) const READ_CUT: Run = Run {
-    name: "one read, up to its ACT",
-    cycles: 3,
-    ..ONE_READ
 };
 
 pub(crate) const READ_IN_FLIGHT: Run = Run {
@@ -105,12 +99,6 @@ pub(crate) const ONE_CREDIT: Run = Run {
     name: "one credit",
     changes: &["read_credits = 1"],
     ..HITS
-};
-
-pub(crate) const FAST_CREDIT: Run = Run {
-    name: "one credit, which is fast",
-    more: FAST_LINK,
-    ..ONE_CREDIT
 };
 
 pub(crate) const NARROW_WINDOW: Run = Run {
@@ -208,12 +196,6 @@ pub(crate) const DRAINED_READ: Run = Run {
     more: DRAINED,
     cycles: 1_000,
     ..ONE_READ
-};
-
-pub(crate) const DRAINED_CUT: Run = Run {
-    name: "one read, up to its ACT, before it is drained",
-    more: DRAINED,
-    ..READ_CUT
 };
 
 pub(crate) const DRAINED_LINE: Run = Run {
