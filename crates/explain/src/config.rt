@@ -1,9 +1,10 @@
 //! Why a configuration is refused.
 
-ghost use Rattle.std.specs.Prelude.{◌≡◌, false, [], IfOk, string_bytes};
+ghost use Rattle.std.specs.Prelude.{◌≡◌, true, false, [], IfOk, string_bytes};
 ghost use Rattle.explain.specs.Silence.{is_of_config};
+ghost use Rattle.explain_text.specs.Heads.{Begins, file_head};
 
-use explain_text::config::{document_text, syntax_text};
+use explain_text::config::{key_text, range_text, relation_text, syntax_text};
 use sim_base::fault::Fault;
 use std::alloc::{AllocError, Global};
 
@@ -15,12 +16,13 @@ pub fn of_config(
     document: &[u8],
 ) -> Result<String, AllocError>
     ensures silent { is_of_config fault ≡ false → IfOk result (λ s. string_bytes s ≡ []) }
+    ensures file { is_of_config fault ≡ true → IfOk result (λ s. Begins (file_head path.now) (string_bytes s)) }
 {
     match fault {
         Fault::ConfigSyntax => syntax_text(alloc, path, document),
-        Fault::ConfigKey(_) | Fault::ConfigRange(_) | Fault::ConfigRelation(_) => {
-            document_text(alloc, fault, path, document)
-        }
+        Fault::ConfigKey(key) => key_text(alloc, path, document, key),
+        Fault::ConfigRange(key) => range_text(alloc, path, document, key),
+        Fault::ConfigRelation(number) => relation_text(alloc, path, document, number),
         _ => Ok(String::new(alloc)),
     }
 }

@@ -1,7 +1,9 @@
 //! Why a table is refused.
 
-ghost use Rattle.std.specs.Prelude.{◌≡◌, false, [], IfOk, string_bytes};
+ghost use Rattle.std.specs.Prelude.{◌≡◌, ℕ, false, [], IfOk, string_bytes};
+ghost use Rattle.sim_base.specs.declared.fault.Fault.TheVariants.{CheckRow};
 ghost use Rattle.explain.specs.Silence.{is_of_table};
+ghost use Rattle.explain_text.specs.Heads.{Begins, row_head};
 
 use explain_text::row::TableKind;
 use explain_text::table::row_text;
@@ -17,6 +19,7 @@ pub fn of_table(
     table: &[u8],
 ) -> Result<String, AllocError>
     ensures silent { is_of_table fault ≡ false → IfOk result (λ s. string_bytes s ≡ []) }
+    ensures row { (row : ℕ) → fault ≡ CheckRow row → IfOk result (λ s. Begins (row_head path.now row) (string_bytes s)) }
 {
     match fault {
         Fault::CheckRow(row) => row_text(alloc, kind, path, row, table),

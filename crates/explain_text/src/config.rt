@@ -1,19 +1,21 @@
 //! What is said of a configuration that is refused.
 
+ghost use Rattle.std.specs.Prelude.{IfOk, string_bytes};
+ghost use Rattle.explain_text.specs.Heads.{Begins, file_head};
+
+use crate::heads::of_file;
 use crate::lines::{Position, line_at};
 use crate::links::link_text;
-use crate::relations::relation_text;
+use crate::relations::broken_text;
 use crate::section::Section;
 use crate::shown::Shown;
-use sim_base::fault::Fault;
 use sim_base::key::Key;
 use std::alloc::{AllocError, Global};
 use toml::Table;
 
-// What is wrong at a place of a document, and the line of that place.
+// What is wrong at a place of a document, and the line of that place, behind the path.
 fn place_text(
     alloc: Global,
-    path: &str,
     document: &[u8],
     offset: usize,
     flaw: &str,
@@ -21,37 +23,35 @@ fn place_text(
     let Position { line, column } = Position::behind(document, offset);
     let text = line_at(document, line).unwrap_or(b"").trim_ascii();
     if text.is_empty() {
-        return format!(in alloc; "{path}: line {line}, column {column}: {flaw}\n");
+        return format!(in alloc; " line {line}, column {column}: {flaw}\n");
     }
-    format!(in alloc;
-        "{path}: line {line}, column {column}: {flaw}\n{}\n",
-        Shown(text)
-    )
+    format!(in alloc; " line {line}, column {column}: {flaw}\n{}\n", Shown(text))
 }
 
-// Why a text is no TOML.
-fn text_flaw(alloc: Global, path: &str, text: &str) -> Result<String, AllocError> {
+// Why a text is no TOML, behind the path.
+fn text_flaw(alloc: Global, text: &str) -> Result<String, AllocError> {
     match toml::table_from_str(alloc, text) {
         Err(error) => match error.span() {
-            Some(span) => place_text(alloc, path, text.as_bytes(), span.start, error.message()),
+            Some(span) => place_text(alloc, text.as_bytes(), span.start, error.message()),
             None => Err(AllocError),
         },
-        Ok(_) => format!(in alloc; "{path}: a configuration is a TOML document in UTF-8\n"),
+        Ok(_) => String::from_str(alloc, " a configuration is a TOML document in UTF-8\n"),
+    }
+}
+
+// Why a document is no TOML in UTF-8, behind the path.
+fn flaw_of(alloc: Global, document: &[u8]) -> Result<String, AllocError> {
+    match str::from_utf8(document) {
+        Ok(text) => text_flaw(alloc, text),
+        Err(error) => place_text(alloc, document, error.valid_up_to(), "this is no UTF-8"),
     }
 }
 
 /// Says why a document is no TOML in UTF-8, and where.
-pub fn syntax_text(alloc: Global, path: &str, document: &[u8]) -> Result<String, AllocError> {
-    match str::from_utf8(document) {
-        Ok(text) => text_flaw(alloc, path, text),
-        Err(error) => place_text(
-            alloc,
-            path,
-            document,
-            error.valid_up_to(),
-            "this is no UTF-8",
-        ),
-    }
+pub fn syntax_text(alloc: Global, path: &str, document: &[u8]) -> Result<String, AllocError>
+    ensures { IfOk result (λ s. Begins (file_head path.now) (string_bytes s)) }
+{
+    of_file(alloc, path, flaw_of(alloc, document)?.as_str())
 }
 
 // The table of a document; an empty one where the document is no TOML.
@@ -66,7 +66,7 @@ fn table_of(alloc: Global, document: &[u8]) -> Result<Table, AllocError> {
     }
 }
 
-fn key_text(alloc: Global, document: &Section<'_>, key: Key) -> Result<String, AllocError> {
+fn flaw_at(alloc: Global, document: &Section<'_>, key: Key) -> Result<String, AllocError> {
     match key {
         Key::Unknown => document.unknown_text(alloc),
         Key::Link => link_text(alloc, document),
@@ -74,40 +74,45 @@ fn key_text(alloc: Global, document: &Section<'_>, key: Key) -> Result<String, A
     }
 }
 
-fn range_text(alloc: Global, document: &Section<'_>, key: Key) -> Result<String, AllocError> {
+/// Says what is wrong with a key of a document: it is missing, of another type, or not known.
+pub fn key_text(alloc: Global, path: &str, document: &[u8], key: Key) -> Result<String, AllocError>
+    ensures { IfOk result (λ s. Begins (file_head path.now) (string_bytes s)) }
+{
+    let table = table_of(alloc, document)?;
+    let section = Section::of_document(path, &table);
+    of_file(alloc, path, flaw_at(alloc, &section, key)?.as_str())
+}
+
+fn excess_at(alloc: Global, document: &Section<'_>, key: Key) -> Result<String, AllocError> {
     match key {
         Key::Link => link_text(alloc, document),
         key => document.range_text(alloc, key),
     }
 }
 
-// What is wrong with the table of a document.
-fn table_text(
+/// Says that the value of a key of a document is out of its range.
+pub fn range_text(
     alloc: Global,
-    fault: Fault,
-    path: &str,
-    table: &Table,
-) -> Result<String, AllocError> {
-    let document = Section {
-        path,
-        table,
-        item: None,
-    };
-    match fault {
-        Fault::ConfigKey(key) => key_text(alloc, &document, key),
-        Fault::ConfigRange(key) => range_text(alloc, &document, key),
-        Fault::ConfigRelation(number) => relation_text(alloc, path, number, table),
-        _ => Ok(String::new(alloc)),
-    }
-}
-
-/// Says what is wrong with a key, a value or a relation of a document, by a fault of a configuration, 2 to 4.
-pub fn document_text(
-    alloc: Global,
-    fault: Fault,
     path: &str,
     document: &[u8],
-) -> Result<String, AllocError> {
+    key: Key,
+) -> Result<String, AllocError>
+    ensures { IfOk result (λ s. Begins (file_head path.now) (string_bytes s)) }
+{
     let table = table_of(alloc, document)?;
-    table_text(alloc, fault, path, &table)
+    let section = Section::of_document(path, &table);
+    of_file(alloc, path, excess_at(alloc, &section, key)?.as_str())
+}
+
+/// Says which relation between keys of a document does not hold, by its number.
+pub fn relation_text(
+    alloc: Global,
+    path: &str,
+    document: &[u8],
+    number: u8,
+) -> Result<String, AllocError>
+    ensures { IfOk result (λ s. Begins (file_head path.now) (string_bytes s)) }
+{
+    let table = table_of(alloc, document)?;
+    of_file(alloc, path, broken_text(alloc, number, &table)?.as_str())
 }

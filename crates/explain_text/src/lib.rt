@@ -5,6 +5,7 @@
 
 pub mod config;
 pub mod counts;
+mod heads;
 mod keys;
 mod lines;
 mod links;

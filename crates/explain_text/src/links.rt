@@ -61,7 +61,7 @@ fn item_text(alloc: Global, path: &str, item: usize, value: &Value) -> Result<St
             };
             table_text(alloc, &section)
         }
-        None => format!(in alloc; "{path}: item {item} of link is no table of id and latency\n"),
+        None => format!(in alloc; " item {item} of link is no table of id and latency\n"),
     }
 }
 
@@ -76,7 +76,7 @@ fn items_text(alloc: Global, path: &str, items: &Array) -> Result<String, AllocE
         }
     }
     format!(in alloc;
-        "{path}: each item of link is a table of id, 0 to 12287, and latency, 1 to 1000000\n"
+        " each item of link is a table of id, 0 to 12287, and latency, 1 to 1000000\n"
     )
 }
 
@@ -87,7 +87,7 @@ fn array_at<'t>(table: &'t Table, key: Key) -> Option<&'t Array> {
     }
 }
 
-/// Says what is wrong with `link`, or with the first of its items that is not right.
+/// Says what is wrong with `link`, or with the first of its items that is not right, behind the path.
 pub(crate) fn link_text(alloc: Global, document: &Section<'_>) -> Result<String, AllocError> {
     match array_at(document.table, Key::Link) {
         Some(items) => items_text(alloc, document.path, items),

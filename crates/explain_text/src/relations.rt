@@ -249,18 +249,18 @@ fn numbers_text(
 }
 
 // A relation between two sides.
-fn sides_text(alloc: Global, path: &str, number: u8, table: &Table) -> Result<String, AllocError> {
+fn sides_text(alloc: Global, number: u8, table: &Table) -> Result<String, AllocError> {
     let Some(relation) = relation_of(number) else {
-        return format!(in alloc; "{path}: relation {number} does not hold\n");
+        return format!(in alloc; " relation {number} does not hold\n");
     };
     match numbers_text(alloc, relation, number, table)? {
-        Some(numbers) => format!(in alloc; "{path}: {relation} does not hold: {numbers}\n"),
-        None => format!(in alloc; "{path}: {relation} must hold\n"),
+        Some(numbers) => format!(in alloc; " {relation} does not hold: {numbers}\n"),
+        None => format!(in alloc; " {relation} must hold\n"),
     }
 }
 
 // Relation 8: each link that has a latency of its own is there.
-fn absent_link_text(alloc: Global, path: &str, table: &Table) -> Result<String, AllocError> {
+fn absent_link_text(alloc: Global, table: &Table) -> Result<String, AllocError> {
     let ids = ids_of(alloc, table)?;
     let (cores, channels) = (
         number_at(table, Key::Cores),
@@ -270,12 +270,10 @@ fn absent_link_text(alloc: Global, path: &str, table: &Table) -> Result<String, 
         Some((id, links)) => {
             let last = links.saturating_sub(1);
             format!(in alloc;
-                "{path}: link has the id {id}, and there are the links 0 to {last}: 3 for each pair of a core and a channel\n"
+                " link has the id {id}, and there are the links 0 to {last}: 3 for each pair of a core and a channel\n"
             )
         }
-        None => {
-            format!(in alloc; "{path}: each id of link must be less than 3 * cores * channels\n")
-        }
+        None => { format!(in alloc; " each id of link must be less than 3 * cores * channels\n") }
     }
 }
 
@@ -300,37 +298,32 @@ fn repeated(ids: &[i64]) -> Option<i64> {
 }
 
 // Relation 9: no two latencies are of one link.
-fn repeated_link_text(alloc: Global, path: &str, table: &Table) -> Result<String, AllocError> {
+fn repeated_link_text(alloc: Global, table: &Table) -> Result<String, AllocError> {
     match repeated(&ids_of(alloc, table)?) {
-        Some(id) => format!(in alloc; "{path}: two items of link have the id {id}\n"),
-        None => format!(in alloc; "{path}: no two items of link may have the same id\n"),
+        Some(id) => format!(in alloc; " two items of link have the id {id}\n"),
+        None => format!(in alloc; " no two items of link may have the same id\n"),
     }
 }
 
 // Relation 10: where there are several ranks an address has a field of the rank.
-fn rank_text(alloc: Global, path: &str, table: &Table) -> Result<String, AllocError> {
+fn rank_text(alloc: Global, table: &Table) -> Result<String, AllocError> {
     const RULE: &str = "where ranks is above 1 fields must have \"rank\"";
     let (Some(ranks), Some(fields)) = (number_at(table, Key::Ranks), table.get("fields")) else {
-        return format!(in alloc; "{path}: {RULE}\n");
+        return format!(in alloc; " {RULE}\n");
     };
     let entry = entry_text(alloc, Key::Fields, fields)?;
     format!(in alloc;
-        "{path}: {RULE}: ranks = {ranks}, {}\n",
+        " {RULE}: ranks = {ranks}, {}\n",
         Shown(entry.as_str().as_bytes())
     )
 }
 
-/// Says which relation does not hold, and by which numbers.
-pub(crate) fn relation_text(
-    alloc: Global,
-    path: &str,
-    number: u8,
-    table: &Table,
-) -> Result<String, AllocError> {
+/// Says which relation does not hold, and by which numbers, behind the path.
+pub(crate) fn broken_text(alloc: Global, number: u8, table: &Table) -> Result<String, AllocError> {
     match number {
-        8 => absent_link_text(alloc, path, table),
-        9 => repeated_link_text(alloc, path, table),
-        10 => rank_text(alloc, path, table),
-        _ => sides_text(alloc, path, number, table),
+        8 => absent_link_text(alloc, table),
+        9 => repeated_link_text(alloc, table),
+        10 => rank_text(alloc, table),
+        _ => sides_text(alloc, number, table),
     }
 }

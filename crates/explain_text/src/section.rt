@@ -17,16 +17,26 @@ pub(crate) struct Section<'a> {
     pub(crate) item: Option<usize>,
 }
 
+/// Where in the document a table stands, behind the document's path.
 impl fmt::Display for Section<'_> {
     fn fmt<W: fmt::Write>(&self, f: &mut fmt::Formatter<W>) -> fmt::Result {
         match self.item {
-            Some(item) => write!(f, "{}: item {item} of link", self.path),
-            None => f.write_str(self.path),
+            Some(item) => write!(f, " item {item} of link:"),
+            None => Ok(()),
         }
     }
 }
 
 impl<'a> Section<'a> {
+    /// The table of a document at this path.
+    pub(crate) fn of_document(path: &'a str, table: &'a Table) -> Section<'a> {
+        Section {
+            path,
+            table,
+            item: None,
+        }
+    }
+
     fn keys(&self) -> &'static [Key] {
         match self.item {
             Some(_) => &ITEM_KEYS,
@@ -34,14 +44,14 @@ impl<'a> Section<'a> {
         }
     }
 
-    /// Says what is wrong with the type of a key's value, or that the key is missing.
+    /// Says what is wrong with the type of a key's value, or that the key is missing, behind the path.
     pub(crate) fn key_text(&self, alloc: Global, key: Key) -> Result<String, AllocError> {
         match self.table.get(key.name()) {
             Some(value) => {
                 let entry = entry_text(alloc, key, value)?;
                 let allowed = Allowed::at(key).with_type();
                 format!(in alloc;
-                    "{self}: {}, where {allowed} may stand\n",
+                    "{self} {}, where {allowed} may stand\n",
                     Shown(entry.as_str().as_bytes())
                 )
             }
@@ -52,22 +62,26 @@ impl<'a> Section<'a> {
     fn missing_text(&self, alloc: Global, key: Key) -> Result<String, AllocError> {
         let allowed = Allowed::at(key).with_type();
         let mut text = format!(in alloc;
-            "{self}: the key {key} is missing; {allowed} may stand there\n"
+            "{self} the key {key} is missing; {allowed} may stand there\n"
         )?;
         text.push_str(self.instead_text(alloc, key)?.as_str())?;
         Ok(text)
     }
 
-    // What stands in the document, and may be meant for a key that is missing.
+    // What stands in the document, and may be meant for a key that is missing, as a line of its own.
     fn instead_text(&self, alloc: Global, key: Key) -> Result<String, AllocError> {
         if let Some(holder) = self.holder_of(key) {
             return format!(in alloc;
-                "{self}: it stands in the table {}, and must stand in none, so before the first line in brackets\n",
+                "{}:{self} it stands in the table {}, and must stand in none, so before the first line in brackets\n",
+                self.path,
                 Shown(holder.as_bytes())
             );
         }
         match self.misspelt(alloc, key)? {
-            Some(name) => self.unknown_text_of(alloc, name, Some(key)),
+            Some(name) => {
+                let unknown = self.unknown_text_of(alloc, name, Some(key))?;
+                format!(in alloc; "{}:{unknown}", self.path)
+            }
             None => Ok(String::new(alloc)),
         }
     }
@@ -100,18 +114,18 @@ impl<'a> Section<'a> {
         is_near(alloc, name, key)
     }
 
-    /// Says that the value of a key is out of its range.
+    /// Says that the value of a key is out of its range, behind the path.
     pub(crate) fn range_text(&self, alloc: Global, key: Key) -> Result<String, AllocError> {
         let allowed = Allowed::at(key);
         match self.table.get(key.name()) {
             Some(value) => {
                 let entry = entry_text(alloc, key, value)?;
                 format!(in alloc;
-                    "{self}: {}, where {allowed} may stand\n",
+                    "{self} {}, where {allowed} may stand\n",
                     Shown(entry.as_str().as_bytes())
                 )
             }
-            None => format!(in alloc; "{self}: at {key} {allowed} may stand\n"),
+            None => format!(in alloc; "{self} at {key} {allowed} may stand\n"),
         }
     }
 
@@ -124,14 +138,14 @@ impl<'a> Section<'a> {
             .find(|name| key_named(keys, name).is_none())
     }
 
-    /// Says which name is not known, and which may be meant.
+    /// Says which name is not known, and which may be meant, behind the path.
     pub(crate) fn unknown_text(&self, alloc: Global) -> Result<String, AllocError> {
         match self.unknown() {
             Some(name) => {
                 let meant = nearest(alloc, self.keys(), self.table, name)?;
                 self.unknown_text_of(alloc, name, meant)
             }
-            None => format!(in alloc; "{self}: a key is not known\n"),
+            None => format!(in alloc; "{self} a key is not known\n"),
         }
     }
 
@@ -144,9 +158,9 @@ impl<'a> Section<'a> {
         let name = Shown(name.as_bytes());
         match meant {
             Some(key) => {
-                format!(in alloc; "{self}: the key {name} is not known: did you mean {key}?\n")
+                format!(in alloc; "{self} the key {name} is not known: did you mean {key}?\n")
             }
-            None => format!(in alloc; "{self}: the key {name} is not known\n"),
+            None => format!(in alloc; "{self} the key {name} is not known\n"),
         }
     }
 

@@ -1,5 +1,9 @@
 //! What is said of a table that is refused.
 
+ghost use Rattle.std.specs.Prelude.{IfOk, string_bytes};
+ghost use Rattle.explain_text.specs.Heads.{Begins, row_head};
+
+use crate::heads::behind;
 use crate::row::{RowFlaw, TableKind};
 use crate::shown::Shown;
 use csv::{ByteRecord, Reader, ReaderBuilder};
@@ -57,26 +61,40 @@ fn column_count(alloc: Global, table: &[u8]) -> Result<usize, AllocError> {
     Ok(record_at(alloc, table, 0)?.map_or(0, |header| header.len()))
 }
 
+// What stands in a row, and what is wrong with it, behind its number.
 fn record_text(
     alloc: Global,
     kind: TableKind,
-    path: &str,
     row: u64,
     record: &ByteRecord,
     columns: usize,
 ) -> Result<String, AllocError> {
     let text = joined(alloc, record)?;
     let flaw = RowFlaw::of(kind, row, record, columns);
-    format!(in alloc; "{path}: row {row}: {}\n{flaw}\n", Shown(&text))
+    format!(in alloc; ": {}\n{flaw}\n", Shown(&text))
 }
 
-fn absent_text(alloc: Global, kind: TableKind, path: &str, row: u64) -> Result<String, AllocError> {
+// What is said of a row that is not there, behind its number.
+fn absent_text(alloc: Global, kind: TableKind, row: u64) -> Result<String, AllocError> {
     match row {
         0 => {
             let flaw = RowFlaw::Header(kind);
-            format!(in alloc; "{path}: row 0 is missing\n{flaw}\n")
+            format!(in alloc; " is missing\n{flaw}\n")
         }
-        row => format!(in alloc; "{path}: row {row} is missing\n"),
+        _ => String::from_str(alloc, " is missing\n"),
+    }
+}
+
+fn found_text(
+    alloc: Global,
+    kind: TableKind,
+    row: u64,
+    table: &[u8],
+) -> Result<String, AllocError> {
+    let columns = column_count(alloc, table)?;
+    match record_at(alloc, table, row)? {
+        Some(record) => record_text(alloc, kind, row, &record, columns),
+        None => absent_text(alloc, kind, row),
     }
 }
 
@@ -87,10 +105,11 @@ pub fn row_text(
     path: &str,
     row: u64,
     table: &[u8],
-) -> Result<String, AllocError> {
-    let columns = column_count(alloc, table)?;
-    match record_at(alloc, table, row)? {
-        Some(record) => record_text(alloc, kind, path, row, &record, columns),
-        None => absent_text(alloc, kind, path, row),
-    }
+) -> Result<String, AllocError>
+    ensures { IfOk result (λ s. Begins (row_head path.now row) (string_bytes s)) }
+{
+    let head = format!(in alloc; "{path}: row {row}")?;
+    let rest = found_text(alloc, kind, row, table)?;
+    let text = behind(head, rest.as_str())?;
+    Ok(text)
 }

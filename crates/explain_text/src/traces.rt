@@ -1,5 +1,10 @@
 //! What is said of a trace that is refused.
 
+ghost use Rattle.std.specs.Prelude.{◌≡◌, IfOk, string_bytes, codes, slice_get};
+ghost use Rattle.std.specs.Option.{option_map_or};
+ghost use Rattle.explain_text.specs.Heads.{Begins, line_head, length_text};
+
+use crate::heads::behind;
 use crate::lines::line_at;
 use crate::shown::Shown;
 use cpu_trace::number::read_number;
@@ -99,18 +104,21 @@ impl fmt::Display for Flaw<'_> {
     }
 }
 
-fn of_line(alloc: Global, path: &str, number: u64, text: &[u8]) -> Result<String, AllocError> {
+// What stands on a line of a trace, and what is wrong with it.
+fn shown_line(alloc: Global, number: u64, text: &[u8]) -> Result<String, AllocError> {
     match line_at(text, number) {
         Some(line) => {
             let shown = Shown(line.trim_ascii());
             let flaw = flaw_of(line);
-            format!(in alloc; "{path}:{number}: {shown}\n{flaw}\n")
+            format!(in alloc; "{shown}\n{flaw}\n")
         }
-        None => format!(in alloc; "{path}:{number}: {}\n", Flaw::None),
+        None => format!(in alloc; "{}\n", Flaw::None),
     }
 }
 
-fn path_of<'a>(paths: &[&'a str], core: CoreId) -> &'a str {
+fn path_of<'a>(paths: &[&'a str], core: CoreId) -> &'a str
+    ensures { result.now ≡ option_map_or (λ p. p.now) (slice_get paths.now core) (codes "trace") }
+{
     match paths.get(usize::from(core)) {
         Some(path) => path,
         None => "trace",
@@ -131,12 +139,20 @@ pub fn line_text(
     line: u64,
     paths: &[&str],
     texts: &[&[u8]],
-) -> Result<String, AllocError> {
-    of_line(alloc, path_of(paths, core), line, text_of(texts, core))
+) -> Result<String, AllocError>
+    ensures { IfOk result (λ s. Begins (line_head (option_map_or (λ p. p.now) (slice_get paths.now core) (codes "trace")) line) (string_bytes s)) }
+{
+    let path = path_of(paths, core);
+    let head = format!(in alloc; "{path}:{line}: ")?;
+    let rest = shown_line(alloc, line, text_of(texts, core))?;
+    let text = behind(head, rest.as_str())?;
+    Ok(text)
 }
 
 /// Says that a core's trace is too long, by the paths of all traces.
-pub fn length_text(alloc: Global, core: CoreId, paths: &[&str]) -> Result<String, AllocError> {
+pub fn length_text(alloc: Global, core: CoreId, paths: &[&str]) -> Result<String, AllocError>
+    ensures { IfOk result (λ s. string_bytes s ≡ length_text (option_map_or (λ p. p.now) (slice_get paths.now core) (codes "trace"))) }
+{
     let path = path_of(paths, core);
     format!(in alloc;
         "{path}: its lines stand for more than 2^62 entries: 'COUNT READ' for COUNT + 1, 'COUNT READ WRITE' for COUNT + 2\n"

@@ -1,5 +1,7 @@
 //! Who watches a run and draws the line.
 
+ghost use Rattle.std.specs.Prelude.{◌≡◌, None};
+
 use crate::figures::Figures;
 use crate::line::line_of;
 use crate::pace::{FIRST_STRETCH, next_stretch};
@@ -68,7 +70,10 @@ pub struct ProgressLine<'a, C: Clock, E: Write> {
 
 impl<'a, C: Clock, E: Write> ProgressLine<'a, C, E> {
     /// A line on this stream, by this clock. Where the stream is no terminal, no run is to be watched.
-    pub fn new(alloc: Global, clock: &'a C, errors: E, is_terminal: bool) -> Self {
+    pub fn new(alloc: Global, clock: &'a C, errors: E, is_terminal: bool) -> Self
+        ensures watches { result.watches ≡ is_terminal }
+        ensures begun { result.course ≡ None }
+    {
         ProgressLine {
             alloc,
             clock,

@@ -69,7 +69,7 @@ impl Reason {
     }
 
     /// The lines that explain it.
-    pub fn more(&self) -> &str {
+    pub(crate) fn more(&self) -> &str {
         match &self.more {
             Some(text) => text.as_str(),
             None => "",

@@ -58,7 +58,7 @@ channel,0,refreshing,1999
 const DRAINING: &str = "channel,0,draining,250\n";
 
 /// The table of two cores and a channel.
-pub fn two_cores(alloc: Global) -> Result<String, AllocError> {
+pub(crate) fn two_cores(alloc: Global) -> Result<String, AllocError> {
     format!(in alloc; "{HEADER}{CYCLES}{CORE_0}{CORE_1}{FINISH_1}{CHANNEL}{DRAINING}")
 }
 
