@@ -9,7 +9,7 @@ use Rattle.sim_base.specs.declared.command.Kind.{Kind}
 use Rattle.sim_base.specs.declared.command.Kind.TheVariants as kind
 use Rattle.sim_base.specs.declared.command.Command.{Command}
 use Rattle.sim_base.specs.declared.command.Command.TheVariants.{Act, Rd, Wr, Pre, Prea, Ref}
-use Rattle.sim_base.specs.declared.command.CommandRow.{CommandRow}
+use Rattle.sim_base.specs.declared.command.IssuedCommand.{IssuedCommand}
 use Rattle.sim_base.specs.Rules.{is_kind, kind_of, rank_of, bank_of, keeps_distances, recent_acts, is_allowed}
 use Rattle.bank_ready.specs.Ready.{ready_from, window_ends}
 use Rattle.bank_ready.specs.Words.{names_rank, window_from}
@@ -36,7 +36,7 @@ bank_of-rank (Prea rank) h = refl
 bank_of-rank (Ref rank) h = refl
 
 -- a command that is no ACT
-other : (t : Timing) (history : List CommandRow) (now : ℕ) (command : Command) → is_kind (kind_of command) kind.Act ≡ false
+other : (t : Timing) (history : List IssuedCommand) (now : ℕ) (command : Command) → is_kind (kind_of command) kind.Act ≡ false
     → (ready_from t history (kind_of command) (rank_of command) (bank_of command) ≤ now) ↔ IsTrue (is_allowed t history now command)
 unfolding is_allowed
 other t history now command h =
@@ -47,7 +47,7 @@ other t history now command h =
     )
 
 -- an ACT
-act : (t : Timing) (history : List CommandRow) (now : ℕ) (command : Command) → Ascends history → is_kind (kind_of command) kind.Act ≡ true
+act : (t : Timing) (history : List IssuedCommand) (now : ℕ) (command : Command) → Ascends history → is_kind (kind_of command) kind.Act ≡ true
     → (max (ready_from t history (kind_of command) (rank_of command) (bank_of command)) (window_from t (rank_of command) history).oldest ≤ now)
     ↔ IsTrue (is_allowed t history now command)
 unfolding is_allowed window_from
@@ -66,13 +66,13 @@ act t history now command up h =
           omega (arith, keeps.1 parts.0, three.0 few),
     )
 
-pub allowed-other : (t : Timing) (history : List CommandRow) (now : ℕ) (command : Command) (later : Kind) (bank : BankId)
+pub allowed-other : (t : Timing) (history : List IssuedCommand) (now : ℕ) (command : Command) (later : Kind) (bank : BankId)
     → kind_of command ≡ later → bank_of command ≡ Some bank → is_kind later kind.Act ≡ false
     → (ready_from t history later bank.rank (Some bank) ≤ now) ↔ IsTrue (is_allowed t history now command)
 allowed-other t history now command later bank e f h =
     rw (← f, ← rank_of-bank command bank f, ← e) (other t history now command (rw e h))
 
-pub allowed-act : (t : Timing) (history : List CommandRow) (now : ℕ) (command : Command) (bank : BankId)
+pub allowed-act : (t : Timing) (history : List IssuedCommand) (now : ℕ) (command : Command) (bank : BankId)
     → Ascends history → kind_of command ≡ kind.Act → bank_of command ≡ Some bank
     → (max (ready_from t history kind.Act bank.rank (Some bank)) (window_from t bank.rank history).oldest ≤ now)
     ↔ IsTrue (is_allowed t history now command)
@@ -80,7 +80,7 @@ allowed-act t history now command bank up e f =
     rw (← f, ← rank_of-bank command bank f, ← e) (act t history now command up (rw e refl))
 
 -- a command that is no ACT is allowed no sooner than all before it allow it
-pub no-sooner : (s : Config) (history : List CommandRow) (command : Command) (cycle : ℕ) (later : Kind) (floor : ℕ)
+pub no-sooner : (s : Config) (history : List IssuedCommand) (command : Command) (cycle : ℕ) (later : Kind) (floor : ℕ)
     → kind_of command ≡ later → is_kind later kind.Act ≡ false → IsAllowedFrom s history command cycle
     → floor ≤ ready_from s.timing history later (rank_of command) (bank_of command) → floor ≤ cycle
 no-sooner s history command cycle later floor e h from le =
@@ -88,7 +88,7 @@ no-sooner s history command cycle later floor e h from le =
     let floored : floor ≤ ready_from s.timing history (kind_of command) (rank_of command) (bank_of command) = rw e le in
     omega (arith, ready, floored)
 
-pub allowed-rank : (t : Timing) (history : List CommandRow) (now : ℕ) (command : Command) (later : Kind) (rank : ℕ)
+pub allowed-rank : (t : Timing) (history : List IssuedCommand) (now : ℕ) (command : Command) (later : Kind) (rank : ℕ)
     → kind_of command ≡ later → rank_of command ≡ rank → names_rank later ≡ true → is_kind later kind.Act ≡ false
     → (ready_from t history later rank None ≤ now) ↔ IsTrue (is_allowed t history now command)
 allowed-rank t history now command later rank e f names h =

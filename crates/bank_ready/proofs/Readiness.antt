@@ -9,13 +9,13 @@ use Rattle.sim_base.specs.declared.timing.Timing.{Timing}
 use Rattle.sim_base.specs.declared.place.BankId.{BankId}
 use Rattle.sim_base.specs.declared.command.Kind.{Kind}
 use Rattle.sim_base.specs.declared.command.Command.{Command}
-use Rattle.sim_base.specs.declared.command.CommandRow.{CommandRow}
+use Rattle.sim_base.specs.declared.command.IssuedCommand.{IssuedCommand}
 use Rattle.sim_base.specs.Rules.{kind_of, rank_of, bank_of, is_past_gap, keeps_distances}
 use Rattle.timing.specs.Holds.{hold}
 use Rattle.bank_ready.specs.Ready.{held_until, held_by, ready_from}
 
 -- one command more
-pub ready_from-more : (t : Timing) (history : List CommandRow) (i : CommandRow) (later : Kind) (rank : ℕ) (bank : Option BankId)
+pub ready_from-more : (t : Timing) (history : List IssuedCommand) (i : IssuedCommand) (later : Kind) (rank : ℕ) (bank : Option BankId)
     → ready_from t (history ++ i ∷ []) later rank bank ≡ max (ready_from t history later rank bank) (held_by t later rank bank i)
 unfolding ready_from
 ready_from-more t history i later rank bank =
@@ -28,19 +28,19 @@ passed true cycle g now = (λ h. le-leb (cycle + g) now h, λ h. leb-true (cycle
 passed false cycle g now = (λ h. refl, λ h. omega arith)
 
 -- one command
-held_by-past : (t : Timing) (now : ℕ) (command : Command) (i : CommandRow)
+held_by-past : (t : Timing) (now : ℕ) (command : Command) (i : IssuedCommand)
     → (held_by t (kind_of command) (rank_of command) (bank_of command) i ≤ now) ↔ IsTrue (is_past_gap t now command i)
 unfolding held_until hold is_past_gap
 held_by-past t now command i = passed _ i.cycle _ now
 
-greatest-down : (f : CommandRow → ℕ) (p : CommandRow → Bool) (now a : ℕ) (history : List CommandRow) → ((i : CommandRow) → f i ≤ now → p i ≡ true)
+greatest-down : (f : IssuedCommand → ℕ) (p : IssuedCommand → Bool) (now a : ℕ) (history : List IssuedCommand) → ((i : IssuedCommand) → f i ≤ now → p i ≡ true)
     → fold max a (map f history) ≤ now → (a ≤ now) × (list_all p history ≡ true)
 greatest-down f p now a [] h k = (k, refl)
 greatest-down f p now a (i ∷ history) h k =
     let rest = greatest-down f p now (max a (f i)) history h k in
     (omega (arith, rest.0), and_from (p i) (list_all p history) (h i (omega (arith, rest.0))) rest.1)
 
-greatest-up : (f : CommandRow → ℕ) (p : CommandRow → Bool) (now a : ℕ) (history : List CommandRow) → ((i : CommandRow) → p i ≡ true → f i ≤ now)
+greatest-up : (f : IssuedCommand → ℕ) (p : IssuedCommand → Bool) (now a : ℕ) (history : List IssuedCommand) → ((i : IssuedCommand) → p i ≡ true → f i ≤ now)
     → a ≤ now → list_all p history ≡ true → fold max a (map f history) ≤ now
 greatest-up f p now a [] h k e = k
 greatest-up f p now a (i ∷ history) h k e =
@@ -48,7 +48,7 @@ greatest-up f p now a (i ∷ history) h k e =
     greatest-up f p now (max a (f i)) history h (omega (arith, h i parts.0)) parts.1
 
 -- all commands of a history
-pub ready_from-keeps : (t : Timing) (history : List CommandRow) (now : ℕ) (command : Command)
+pub ready_from-keeps : (t : Timing) (history : List IssuedCommand) (now : ℕ) (command : Command)
     → (ready_from t history (kind_of command) (rank_of command) (bank_of command) ≤ now) ↔ IsTrue (keeps_distances t history now command)
 unfolding ready_from
 ready_from-keeps t history now command =

@@ -10,7 +10,7 @@ use Rattle.sim_base.specs.declared.timing.Timing.{Timing}
 use Rattle.sim_base.specs.declared.command.Command.{Command}
 use Rattle.sim_base.specs.declared.command.Kind.{Kind}
 use Rattle.sim_base.specs.declared.command.Kind.TheVariants as kind
-use Rattle.sim_base.specs.declared.command.CommandRow.{CommandRow}
+use Rattle.sim_base.specs.declared.command.IssuedCommand.{IssuedCommand}
 use Rattle.sim_base.specs.History.{below}
 use Rattle.bank_ready.specs.Ready.{held_by, ready_from, window_ends}
 use Rattle.bank_ready.specs.Words.{act_word, rd_word, wr_word, pre_word, bank_at, no_acts, window_from, word_from, act_word_from, word_until, acts_in, rank_state_from, rank_state_after}
@@ -44,17 +44,17 @@ changed f g after n xs ys d made long each step =
     ∙ ap (after k) (ap (λ zs. get_or zs k d) made ∙ get_or-map-range_with_len f 0 n k k d l (omega arith))
     ∙ step k l)
 
-Ascends-more : (history : List CommandRow) (i : CommandRow) → Ascends history → All (λ (j : CommandRow). j.cycle < i.cycle) history → Ascends (history ++ i ∷ [])
+Ascends-more : (history : List IssuedCommand) (i : IssuedCommand) → Ascends history → All (λ (j : IssuedCommand). j.cycle < i.cycle) history → Ascends (history ++ i ∷ [])
 Ascends-more [] i h k = (tt, tt)
 Ascends-more (j ∷ history) i h k =
-    (Each-push j.cycle history (All-head (λ (l : CommandRow). l.cycle < i.cycle) j history k) h.0, Ascends-more history i h.1 (All-tail (λ (l : CommandRow). l.cycle < i.cycle) j history k))
+    (Each-push j.cycle history (All-head (λ (l : IssuedCommand). l.cycle < i.cycle) j history k) h.0, Ascends-more history i h.1 (All-tail (λ (l : IssuedCommand). l.cycle < i.cycle) j history k))
   where
-    Each-push : (cycle : ℕ) (rows : List CommandRow) → cycle < i.cycle → Each (λ (l : CommandRow). cycle < l.cycle) rows → Each (λ (l : CommandRow). cycle < l.cycle) (rows ++ i ∷ [])
+    Each-push : (cycle : ℕ) (rows : List IssuedCommand) → cycle < i.cycle → Each (λ (l : IssuedCommand). cycle < l.cycle) rows → Each (λ (l : IssuedCommand). cycle < l.cycle) (rows ++ i ∷ [])
     Each-push cycle [] a b = (a, tt)
     Each-push cycle (l ∷ rows) a b = (b.0, Each-push cycle rows a b.1)
 
 -- one command more makes of a rank what it makes of its state
-rank_state-more : (t : Timing) (history : List CommandRow) (i : CommandRow) (rank : ℕ)
+rank_state-more : (t : Timing) (history : List IssuedCommand) (i : IssuedCommand) (rank : ℕ)
     → rank_state_after t i.cycle i.command rank (rank_state_from t history rank) ≡ rank_state_from t (history ++ i ∷ []) rank
 rank_state-more t history i rank =
     λ x. record {
@@ -64,7 +64,7 @@ rank_state-more t history i rank =
     }
 
 -- and of a word of ACTs what it makes of that word, where the window says when it allows one more
-act_word-more : (t : Timing) (history : List CommandRow) (i : CommandRow) (k word : ℕ) → Ascends history
+act_word-more : (t : Timing) (history : List IssuedCommand) (i : IssuedCommand) (k word : ℕ) → Ascends history
     → word ≡ cond (acts_in i.command (k / 16)) (window_from t (k / 16) history).second 0
     → max (act_word_from t history k) (max (word_until t i.cycle i.command kind.Act k) word) ≡ act_word_from t (history ++ i ∷ []) k
 act_word-more t history i k word up is =
@@ -90,14 +90,14 @@ raised_word : (before after until from : ℕ → ℕ) (ranks : ℕ) (banks : Ban
 raised_word before after until from ranks banks h count k l is = h.each k (rw count l) ∙ ap (λ x. max x (until k)) is
 
 -- what one command more makes of a word
-word-more : (u : Timing) (s : Config) (history : List CommandRow) (i : CommandRow) (later : Kind) (k : ℕ) → u ≡ s.timing
+word-more : (u : Timing) (s : Config) (history : List IssuedCommand) (i : IssuedCommand) (later : Kind) (k : ℕ) → u ≡ s.timing
     → max (word_from s.timing history later k) (word_until u i.cycle i.command later k) ≡ word_from s.timing (history ++ i ∷ []) later k
 word-more u s history i later k e =
     ap (λ v. max (word_from s.timing history later k) (word_until v i.cycle i.command later k)) e
     ∙ sym (ready_from-more s.timing history i later (k / 16) (Some (bank_at k)))
 
 -- what one command more makes of a cycle before which none of a kind is allowed
-floor-more : (u : Timing) (s : Config) (history : List CommandRow) (i : CommandRow) (later : Kind) (before after : ℕ) → u ≡ s.timing
+floor-more : (u : Timing) (s : Config) (history : List IssuedCommand) (i : IssuedCommand) (later : Kind) (before after : ℕ) → u ≡ s.timing
     → IsFloor s.timing history later before → IsFloorRaised u i.cycle i.command later before after → IsFloor s.timing (history ++ i ∷ []) later after
 floor-more u s history i later before after e h raised rank bank =
     let more = ready_from-more s.timing history i later rank bank in
@@ -105,7 +105,7 @@ floor-more u s history i later before after e h raised rank bank =
     omega (arith, h rank bank, more, within)
 
 -- one command more
-pub noted : (banks after : Banks) (s : Config) (history : List CommandRow) (i : CommandRow) → StandsFor banks s history → All (λ (j : CommandRow). j.cycle < i.cycle) history
+pub noted : (banks after : Banks) (s : Config) (history : List IssuedCommand) (i : IssuedCommand) → StandsFor banks s history → All (λ (j : IssuedCommand). j.cycle < i.cycle) history
     → IsNoted banks after banks.delays.value i.cycle i.command → StandsFor after s (history ++ i ∷ [])
 noted banks after s history i h later e =
     let t = s.timing in
@@ -141,8 +141,8 @@ noted banks after s history i h later e =
     }
 
 -- the same, by the command that it is
-pub noted_is : (banks after : Banks) (s : Config) (history : List CommandRow) (cycle channel : ℕ) (command is : Command) → StandsFor banks s history
-    → All (λ (j : CommandRow). j.cycle < cycle) history → command ≡ is → IsNoted banks after banks.delays.value cycle is
+pub noted_is : (banks after : Banks) (s : Config) (history : List IssuedCommand) (cycle channel : ℕ) (command is : Command) → StandsFor banks s history
+    → All (λ (j : IssuedCommand). j.cycle < cycle) history → command ≡ is → IsNoted banks after banks.delays.value cycle is
     → StandsFor after s (history ++ record { cycle = cycle; channel = channel; command = command } ∷ [])
 noted_is banks after s history cycle channel command is h later e noted_so =
     noted banks after s history (record { cycle = cycle; channel = channel; command = command }) h later (rw e noted_so)

@@ -7,7 +7,7 @@ use Rattle.std.proofs.lemmas.List.{map-append}
 use Rattle.std.proofs.lemmas.List.Elements.{filter-append}
 use Rattle.std.proofs.lemmas.List.Sums.{sum_by-cons, count_by-le-length, fold-append}
 use Rattle.sim_base.specs.declared.timing.Timing.{Timing}
-use Rattle.sim_base.specs.declared.command.CommandRow.{CommandRow}
+use Rattle.sim_base.specs.declared.command.IssuedCommand.{IssuedCommand}
 use Rattle.sim_base.specs.Rules.{recent_acts}
 use Rattle.bank_ready.specs.Ready.{is_act_in, window_ends}
 use Rattle.bank_ready.specs.Words.{no_acts, pushed, window_from}
@@ -60,12 +60,12 @@ three-ahead now (a ∷ b ∷ c ∷ d ∷ e ∷ es) h =
     ]
 
 -- the ACTs that count are those whose ends are ahead
-pub recent_acts-ahead : (t : Timing) (rank now : ℕ) (history : List CommandRow) → recent_acts t rank now history ≡ ahead now (window_ends t rank history)
+pub recent_acts-ahead : (t : Timing) (rank now : ℕ) (history : List IssuedCommand) → recent_acts t rank now history ≡ ahead now (window_ends t rank history)
 unfolding window_ends
 recent_acts-ahead t rank now [] = refl
 recent_acts-ahead t rank now (i ∷ history) =
-    let p = λ (j : CommandRow). is_act_in rank j && nat_lt now (j.cycle + t.n_faw) in
-    let f = λ (j : CommandRow). j.cycle + t.n_faw in
+    let p = λ (j : IssuedCommand). is_act_in rank j && nat_lt now (j.cycle + t.n_faw) in
+    let f = λ (j : IssuedCommand). j.cycle + t.n_faw in
     let rest : recent_acts t rank now history ≡ ahead now (map f (filter (is_act_in rank) history)) = recent_acts-ahead t rank now history in
     let step : recent_acts t rank now (i ∷ history) ≡ cond (p i) 1 0 + recent_acts t rank now history = sum_by-cons (λ j. cond (p j) 1 0) i history in
     step ∙ ap (λ n. cond (p i) 1 0 + n) rest
@@ -75,41 +75,41 @@ recent_acts-ahead t rank now (i ∷ history) =
       | false ↦ omega arith
     ])
 
-ends-later : (t : Timing) (rank cycle : ℕ) (history : List CommandRow) → Each (λ (j : CommandRow). cycle < j.cycle) history → Each (λ e. cycle + t.n_faw ≤ e) (window_ends t rank history)
+ends-later : (t : Timing) (rank cycle : ℕ) (history : List IssuedCommand) → Each (λ (j : IssuedCommand). cycle < j.cycle) history → Each (λ e. cycle + t.n_faw ≤ e) (window_ends t rank history)
 unfolding window_ends
 ends-later t rank cycle [] h = tt
 ends-later t rank cycle (j ∷ history) h =
     cond_both (is_act_in rank j) (j ∷ filter (is_act_in rank) history) (filter (is_act_in rank) history)
-    (λ (js : List CommandRow). Each (λ e. cycle + t.n_faw ≤ e) (map (λ (k : CommandRow). k.cycle + t.n_faw) js))
+    (λ (js : List IssuedCommand). Each (λ e. cycle + t.n_faw ≤ e) (map (λ (k : IssuedCommand). k.cycle + t.n_faw) js))
     (λ e. (omega (arith, h.0), ends-later t rank cycle history h.1))
     (λ e. ends-later t rank cycle history h.1)
 
-pub window_ends-ascending : (t : Timing) (rank : ℕ) (history : List CommandRow) → Ascends history → Ascending (window_ends t rank history)
+pub window_ends-ascending : (t : Timing) (rank : ℕ) (history : List IssuedCommand) → Ascends history → Ascending (window_ends t rank history)
 unfolding window_ends
 window_ends-ascending t rank [] h = tt
 window_ends-ascending t rank (i ∷ history) h =
     cond_both (is_act_in rank i) (i ∷ filter (is_act_in rank) history) (filter (is_act_in rank) history)
-    (λ (js : List CommandRow). Ascending (map (λ (k : CommandRow). k.cycle + t.n_faw) js))
+    (λ (js : List IssuedCommand). Ascending (map (λ (k : IssuedCommand). k.cycle + t.n_faw) js))
     (λ e. (ends-later t rank i.cycle history h.0, window_ends-ascending t rank history h.1))
     (λ e. window_ends-ascending t rank history h.1)
 
-window_ends-more : (t : Timing) (rank : ℕ) (history : List CommandRow) (i : CommandRow)
+window_ends-more : (t : Timing) (rank : ℕ) (history : List IssuedCommand) (i : IssuedCommand)
     → window_ends t rank (history ++ i ∷ []) ≡ window_ends t rank history ++ window_ends t rank (i ∷ [])
 unfolding window_ends
 window_ends-more t rank history i =
-    ap (map (λ (k : CommandRow). k.cycle + t.n_faw)) (filter-append (is_act_in rank) history (i ∷ []))
-    ∙ map-append (λ (k : CommandRow). k.cycle + t.n_faw) (filter (is_act_in rank) history) (filter (is_act_in rank) (i ∷ []))
+    ap (map (λ (k : IssuedCommand). k.cycle + t.n_faw)) (filter-append (is_act_in rank) history (i ∷ []))
+    ∙ map-append (λ (k : IssuedCommand). k.cycle + t.n_faw) (filter (is_act_in rank) history) (filter (is_act_in rank) (i ∷ []))
 
-end-of-act : (t : Timing) (rank : ℕ) (i : CommandRow) → is_act_in rank i ≡ true → window_ends t rank (i ∷ []) ≡ (i.cycle + t.n_faw) ∷ []
+end-of-act : (t : Timing) (rank : ℕ) (i : IssuedCommand) → is_act_in rank i ≡ true → window_ends t rank (i ∷ []) ≡ (i.cycle + t.n_faw) ∷ []
 unfolding window_ends
-end-of-act t rank i h = ap (map (λ (k : CommandRow). k.cycle + t.n_faw)) (cond-true (is_act_in rank i) (i ∷ []) [] h)
+end-of-act t rank i h = ap (map (λ (k : IssuedCommand). k.cycle + t.n_faw)) (cond-true (is_act_in rank i) (i ∷ []) [] h)
 
-end-of-other : (t : Timing) (rank : ℕ) (i : CommandRow) → is_act_in rank i ≡ false → window_ends t rank (i ∷ []) ≡ []
+end-of-other : (t : Timing) (rank : ℕ) (i : IssuedCommand) → is_act_in rank i ≡ false → window_ends t rank (i ∷ []) ≡ []
 unfolding window_ends
-end-of-other t rank i h = ap (map (λ (k : CommandRow). k.cycle + t.n_faw)) (cond-false (is_act_in rank i) (i ∷ []) [] h)
+end-of-other t rank i h = ap (map (λ (k : IssuedCommand). k.cycle + t.n_faw)) (cond-false (is_act_in rank i) (i ∷ []) [] h)
 
 -- one command more
-pub window_from-more : (t : Timing) (rank : ℕ) (history : List CommandRow) (i : CommandRow)
+pub window_from-more : (t : Timing) (rank : ℕ) (history : List IssuedCommand) (i : IssuedCommand)
     → window_from t rank (history ++ i ∷ []) ≡ cond (is_act_in rank i) (pushed (window_from t rank history) (i.cycle + t.n_faw)) (window_from t rank history)
 unfolding window_from
 window_from-more t rank history i =
@@ -130,7 +130,7 @@ all-above : (es : List ℕ) → Each (λ e. 0 ≤ e) es
 all-above [] = tt
 all-above (e ∷ es) = (omega arith, all-above es)
 
-pub oldest-first : (t : Timing) (rank : ℕ) (history : List CommandRow) → Ascends history → (window_from t rank history).oldest ≤ (window_from t rank history).second
+pub oldest-first : (t : Timing) (rank : ℕ) (history : List IssuedCommand) → Ascends history → (window_from t rank history).oldest ≤ (window_from t rank history).second
 unfolding window_from
 oldest-first t rank history up =
     folded-up (window_ends t rank history) no_acts (omega arith) (omega arith) (omega arith) (all-above (window_ends t rank history)) (window_ends-ascending t rank history up)

@@ -8,7 +8,7 @@ use Rattle.sim_base.specs.declared.place.BankId.{BankId}
 use Rattle.sim_base.specs.declared.command.Kind.{Kind}
 use Rattle.sim_base.specs.declared.command.Kind.TheVariants as kind
 use Rattle.sim_base.specs.declared.command.Relation.{Relation}
-use Rattle.sim_base.specs.declared.command.CommandRow.{CommandRow}
+use Rattle.sim_base.specs.declared.command.IssuedCommand.{IssuedCommand}
 use Rattle.sim_base.specs.Rules.{is_kind, kind_of, rank_of}
 use Rattle.timing.specs.Relation.{relation_to}
 use Rattle.timing.specs.Holds.{hold}
@@ -19,17 +19,17 @@ unfoldable pub held_until : Timing → ℕ → Kind → Kind → Relation → �
 held_until t cycle earlier later relation = unwrap_or (option_map (λ gap. cycle + gap) (hold t earlier later relation)) 0
 
 -- the same for a command of a history, and a later one in a rank, which names this bank, if it names one
-abbrev pub held_by : Timing → Kind → ℕ → Option BankId → CommandRow → ℕ
+abbrev pub held_by : Timing → Kind → ℕ → Option BankId → IssuedCommand → ℕ
 held_by t later rank bank i = held_until t i.cycle (kind_of i.command) later (relation_to i.command rank bank)
 
 -- from which cycle on no command of a history holds back such a one
-unfoldable pub ready_from : Timing → List CommandRow → Kind → ℕ → Option BankId → ℕ
+unfoldable pub ready_from : Timing → List IssuedCommand → Kind → ℕ → Option BankId → ℕ
 ready_from t history later rank bank = fold max 0 (map (held_by t later rank bank) history)
 
 -- an ACT in this rank
-abbrev pub is_act_in : ℕ → CommandRow → Bool
+abbrev pub is_act_in : ℕ → IssuedCommand → Bool
 is_act_in rank i = is_kind (kind_of i.command) kind.Act && (rank_of i.command == rank)
 
 -- from which cycle on each ACT of a rank no longer counts for the four-activate window, oldest first
-unfoldable pub window_ends : Timing → ℕ → List CommandRow → List ℕ
+unfoldable pub window_ends : Timing → ℕ → List IssuedCommand → List ℕ
 window_ends t rank history = map (λ i. i.cycle + t.n_faw) (filter (is_act_in rank) history)

@@ -12,7 +12,7 @@ use Rattle.sim_base.specs.declared.place.BankId.{BankId}
 use Rattle.sim_base.specs.declared.command.Command.{Command}
 use Rattle.sim_base.specs.declared.command.Kind.{Kind}
 use Rattle.sim_base.specs.declared.command.Kind.TheVariants.{Rd, Wr, Pre}
-use Rattle.sim_base.specs.declared.command.CommandRow.{CommandRow}
+use Rattle.sim_base.specs.declared.command.IssuedCommand.{IssuedCommand}
 use Rattle.sim_base.specs.History.{below}
 use Rattle.sim_base.specs.Rules.{is_allowed}
 use Rattle.bank_ready.specs.Ready.{ready_from}
@@ -24,22 +24,22 @@ abbrev pub rank_count : Banks → ℕ
 rank_count banks = length banks.ranks.items
 
 -- From this cycle on, and not before, the distances and the four-activate window allow a command after a history.
-abbrev pub IsAllowedFrom : Config → List CommandRow → Command → ℕ → Type 0
+abbrev pub IsAllowedFrom : Config → List IssuedCommand → Command → ℕ → Type 0
 IsAllowedFrom s history command cycle = (now : ℕ) → (cycle ≤ now) ↔ IsTrue (is_allowed s.timing history now command)
 
 -- each command is later than those before it
-abbrev pub Ascends : List CommandRow → Type 0
+abbrev pub Ascends : List IssuedCommand → Type 0
 Ascends [] = Unit {0}
-Ascends (i ∷ history) = Each (λ (j : CommandRow). i.cycle < j.cycle) history × Ascends history
+Ascends (i ∷ history) = Each (λ (j : IssuedCommand). i.cycle < j.cycle) history × Ascends history
 
 -- none of them allows a command of this kind before a cycle, whatever bank it names
-abbrev pub IsFloor : Timing → List CommandRow → Kind → ℕ → Type 0
+abbrev pub IsFloor : Timing → List IssuedCommand → Kind → ℕ → Type 0
 IsFloor t history later floor = (rank : ℕ) (bank : Option BankId) → floor ≤ ready_from t history later rank bank
 
 -- Commands whose cycles ascend made each word the least cycle from which on none of them holds back such a command, an ACT's also
 -- by the four-activate window, each floor a cycle before which they allow no such command in any bank,
 -- and each window the last four ACTs of its rank.
-pub record StandsFor (banks : Banks) (s : Config) (history : List CommandRow) : Type 0 where
+pub record StandsFor (banks : Banks) (s : Config) (history : List IssuedCommand) : Type 0 where
   pub timing : banks.delays.value ≡ s.timing
   pub ranks : rank_count banks ≡ s.ranks
   pub act_words : (k : ℕ) → k < 16 * s.ranks → act_word banks k ≡ act_word_from s.timing history k

@@ -18,7 +18,7 @@ use Rattle.sim_base.specs.declared.command.Kind.{Kind}
 use Rattle.sim_base.specs.declared.command.Kind.TheVariants.{Act, Rd, Wr, Pre, Prea, Ref}
 use Rattle.sim_base.specs.declared.command.Relation.{Relation}
 use Rattle.sim_base.specs.declared.command.Relation.TheVariants.{SameBank, SameGroup, OtherGroup, OtherRank}
-use Rattle.sim_base.specs.declared.command.CommandRow.{CommandRow}
+use Rattle.sim_base.specs.declared.command.IssuedCommand.{IssuedCommand}
 use Rattle.sim_base.specs.Rules.{is_kind, kind_of, rank_of, relation_in_rank}
 use Rattle.timing.specs.Relation.{relation_to}
 use Rattle.bank_ready.specs.Ready.{held_until, ready_from, window_ends}
@@ -96,20 +96,20 @@ abbrev pub pushed : Window → ℕ → Window
 pushed window end = record { oldest = window.second; second = window.third; third = window.last; last = end }
 
 -- the last four ACTs of a rank
-unfoldable pub window_from : Timing → ℕ → List CommandRow → Window
+unfoldable pub window_from : Timing → ℕ → List IssuedCommand → Window
 window_from t rank history = fold pushed no_acts (window_ends t rank history)
 
 -- from which cycle on no command of a history holds back one of the bank with this number
-abbrev pub word_from : Timing → List CommandRow → Kind → ℕ → ℕ
+abbrev pub word_from : Timing → List IssuedCommand → Kind → ℕ → ℕ
 word_from t history later k = ready_from t history later (k / 16) (Some (bank_at k))
 
 -- From which cycle on neither does so to an ACT, nor makes it the fifth one within the four-activate window: that ends with the oldest
 -- of the last four.
-abbrev pub act_word_from : Timing → List CommandRow → ℕ → ℕ
+abbrev pub act_word_from : Timing → List IssuedCommand → ℕ → ℕ
 act_word_from t history k = max (word_from t history Act k) (window_from t (k / 16) history).oldest
 
 -- what the commands of a history make of a rank
-abbrev pub rank_state_from : Timing → List CommandRow → ℕ → RankState
+abbrev pub rank_state_from : Timing → List IssuedCommand → ℕ → RankState
 rank_state_from t history rank =
     record {
       prea = ready_from t history Prea rank None;

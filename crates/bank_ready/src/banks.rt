@@ -60,7 +60,7 @@ impl Banks {
     ghost use Rattle.std.specs.Prelude.{ℕ, ◌≡◌, ◌+◌, ◌*◌, ◌^◌, ◌<◌, ◌≤◌, List, [], ◌∷◌, ◌++◌, All, Some, None, IsTrue, IfOk};
     ghost use Rattle.sim_base.specs.declared.config.Config.{Config};
     ghost use Rattle.sim_base.specs.declared.command.Command.{Command};
-    ghost use Rattle.sim_base.specs.declared.command.CommandRow.{CommandRow};
+    ghost use Rattle.sim_base.specs.declared.command.IssuedCommand.{IssuedCommand};
     ghost use Rattle.sim_base.specs.declared.command.Source.{Source};
     ghost use Rattle.sim_base.specs.Rules.{kind_of, bank_of, rank_of};
     ghost use Rattle.bank_ready.specs.Words.{names_bank, names_rank, moves_data, bank_at};
@@ -94,7 +94,7 @@ impl Banks {
     pub fn earliest_in(&self, kind: Kind, bank: usize) -> Cycle
         requires kind { IsTrue (names_bank kind) }
         requires bank { bank < 16 * rank_count self.now }
-        ensures least { (s : Config) (history : List CommandRow) (command : Command)
+        ensures least { (s : Config) (history : List IssuedCommand) (command : Command)
             → StandsFor self.now s history → kind_of command ≡ kind → bank_of command ≡ Some (bank_at bank)
             → IsAllowedFrom s history command result }
     {
@@ -111,7 +111,7 @@ impl Banks {
     #[inline(always)]
     pub fn data_floor(&self, kind: Kind) -> Cycle
         requires kind { IsTrue (moves_data kind) }
-        ensures least { (s : Config) (history : List CommandRow) (command : Command) (cycle : ℕ)
+        ensures least { (s : Config) (history : List IssuedCommand) (command : Command) (cycle : ℕ)
             → StandsFor self.now s history → kind_of command ≡ kind → IsAllowedFrom s history command cycle → result ≤ cycle }
     {
         match kind {
@@ -126,7 +126,7 @@ impl Banks {
     pub fn earliest_all(&self, kind: Kind, rank: u32) -> Cycle
         requires kind { IsTrue (names_rank kind) }
         requires rank { rank < rank_count self.now }
-        ensures least { (s : Config) (history : List CommandRow) (command : Command)
+        ensures least { (s : Config) (history : List IssuedCommand) (command : Command)
             → StandsFor self.now s history → kind_of command ≡ kind → rank_of command ≡ rank
             → IsAllowedFrom s history command result }
     {
@@ -233,7 +233,7 @@ impl Banks {
     pub fn note(&mut self, command: Command, cycle: Cycle)
         requires rank { rank_of command < rank_count self.old }
         requires cycle { cycle < 2 ^ 62 }
-        ensures stands { (s : Config) (history : List CommandRow) (channel : ℕ)
+        ensures stands { (s : Config) (history : List IssuedCommand) (channel : ℕ)
             → StandsFor self.old s history → All (λ i. i.cycle < cycle) history
             → StandsFor self.new s (history ++ record { cycle = cycle; channel = channel; command = command } ∷ []) }
         ensures ranks { rank_count self.new ≡ rank_count self.old }

@@ -2,7 +2,7 @@
 
 use crate::written::{Report, assert_report};
 use command_table::table::CommandTable;
-use sim_base::command::{Command, CommandRow, Source};
+use sim_base::command::{Command, IssuedCommand, Source};
 use sim_base::place::BankId;
 use std::test::Fail;
 
@@ -19,8 +19,8 @@ const OTHER_RANK: BankId = BankId {
 };
 
 // The commands of one read of the first line.
-const OF_ONE_READ: [CommandRow; 2] = [
-    CommandRow {
+const OF_ONE_READ: [IssuedCommand; 2] = [
+    IssuedCommand {
         cycle: 2,
         channel: 0,
         command: Command::Act {
@@ -29,7 +29,7 @@ const OF_ONE_READ: [CommandRow; 2] = [
             source: Source { core: 0, entry: 0 },
         },
     },
-    CommandRow {
+    IssuedCommand {
         cycle: 5,
         channel: 0,
         command: Command::Rd {
@@ -47,8 +47,8 @@ const ONE_READ: &str = "cycle,channel,command,group,bank,row,column,core,entry
 ";
 
 // Commands that leave fields empty.
-const WITHOUT_FIELDS: [CommandRow; 3] = [
-    CommandRow {
+const WITHOUT_FIELDS: [IssuedCommand; 3] = [
+    IssuedCommand {
         cycle: 17,
         channel: 0,
         command: Command::Pre {
@@ -56,20 +56,20 @@ const WITHOUT_FIELDS: [CommandRow; 3] = [
             source: Source { core: 0, entry: 1 },
         },
     },
-    CommandRow {
+    IssuedCommand {
         cycle: 100,
         channel: 0,
         command: Command::Prea { rank: 0 },
     },
-    CommandRow {
+    IssuedCommand {
         cycle: 103,
         channel: 0,
         command: Command::Ref { rank: 0 },
     },
 ];
 
-const OF_RANKS: [CommandRow; 6] = [
-    CommandRow {
+const OF_RANKS: [IssuedCommand; 6] = [
+    IssuedCommand {
         cycle: 2,
         channel: 0,
         command: Command::Act {
@@ -78,7 +78,7 @@ const OF_RANKS: [CommandRow; 6] = [
             source: Source { core: 0, entry: 0 },
         },
     },
-    CommandRow {
+    IssuedCommand {
         cycle: 3,
         channel: 0,
         command: Command::Act {
@@ -87,7 +87,7 @@ const OF_RANKS: [CommandRow; 6] = [
             source: Source { core: 0, entry: 1 },
         },
     },
-    CommandRow {
+    IssuedCommand {
         cycle: 5,
         channel: 0,
         command: Command::Rd {
@@ -97,7 +97,7 @@ const OF_RANKS: [CommandRow; 6] = [
             source: Source { core: 0, entry: 0 },
         },
     },
-    CommandRow {
+    IssuedCommand {
         cycle: 11,
         channel: 0,
         command: Command::Rd {
@@ -107,12 +107,12 @@ const OF_RANKS: [CommandRow; 6] = [
             source: Source { core: 0, entry: 1 },
         },
     },
-    CommandRow {
+    IssuedCommand {
         cycle: 104,
         channel: 0,
         command: Command::Prea { rank: 1 },
     },
-    CommandRow {
+    IssuedCommand {
         cycle: 107,
         channel: 0,
         command: Command::Ref { rank: 1 },
@@ -120,7 +120,7 @@ const OF_RANKS: [CommandRow; 6] = [
 ];
 
 // A number of ranks, commands, and their table.
-type Case<'x> = (u32, &'x [CommandRow], &'x str);
+type Case<'x> = (u32, &'x [IssuedCommand], &'x str);
 
 static TABLES: [Case<'static>; 3] = [
     (1, &OF_ONE_READ, ONE_READ),

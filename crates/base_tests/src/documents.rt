@@ -196,31 +196,11 @@ fn assert_numbers(rt: &impl Abort, config: &Config, case: &Case<'_>) {
     );
 }
 
-/// The word of a field.
-fn word(field: Field) -> &'static str {
-    match field {
-        Field::Channel => "channel",
-        Field::Column => "column",
-        Field::Rank => "rank",
-        Field::Group => "group",
-        Field::Bank => "bank",
-        Field::Row => "row",
-    }
-}
-
-/// Asserts which fields an address has, low end first.
-fn assert_order(rt: &impl Abort, fields: &[Field], order: &[Field]) {
-    expect(rt, &fields.len(), &order.len());
-    for (field, other) in fields.iter().zip(order) {
-        expect(rt, &word(*field), &word(*other));
-    }
-}
-
 /// Asserts the fields, the timing and the links of a machine.
 fn assert_parts(rt: &impl Abort, config: &Config, case: &Case<'_>) {
     let overrides = config.overrides.as_slice().len();
     let latencies = (config.latency(1), config.latency(2));
-    assert_order(rt, config.fields.as_slice(), case.order);
+    expect(rt, &config.fields.as_slice(), &case.order);
     expect(
         rt,
         &(config.timing, overrides, latencies),

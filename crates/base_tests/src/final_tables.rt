@@ -56,9 +56,9 @@ const WRITE: Request = Request {
 };
 
 // What a core issued and retired, and its credits.
-type CoreRow<'x> = (u64, u64, &'x [Credits]);
+type CoreStep<'x> = (u64, u64, &'x [Credits]);
 
-fn cores(alloc: Global, rows: &[CoreRow<'_>]) -> Result<Vec<CoreState>, AllocError> {
+fn cores(alloc: Global, rows: &[CoreStep<'_>]) -> Result<Vec<CoreState>, AllocError> {
     let mut cores = Vec::new(alloc);
     for (issued, retired, credits) in rows {
         cores.push(CoreState {
@@ -92,7 +92,7 @@ fn channels(alloc: Global, rows: &[ChannelRow<'_>]) -> Result<Vec<ChannelState>,
 
 // A state, the number of its ranks, and its table.
 struct Case<'x> {
-    cores: &'x [CoreRow<'x>],
+    cores: &'x [CoreStep<'x>],
     channels: &'x [ChannelRow<'x>],
     in_flight: &'x [Message],
     ranks: u32,

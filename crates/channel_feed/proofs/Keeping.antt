@@ -15,9 +15,9 @@ use Rattle.sim_base.specs.declared.config.Config.{Config}
 use Rattle.sim_base.specs.Counts.{source_in, queue_length}
 use Rattle.sim_base.specs.History.{issued_commands}
 use Rattle.sim_base.specs.Machine.{channel_run}
-use Rattle.sim_base.specs.Scheduling.{request_in, source_of, serves, is_served, is_waiting, waiting, queue_in, drains, choice}
+use Rattle.sim_base.specs.Scheduling.{request_in, source_of, serves, is_served, is_queued, queued_requests, queue_in, drains, choice}
 use Rattle.sim_base.specs.declared.command.Command.{Command}
-use Rattle.sim_base.specs.declared.command.CommandRow.{CommandRow}
+use Rattle.sim_base.specs.declared.command.IssuedCommand.{IssuedCommand}
 use Rattle.sim_base.specs.declared.command.Source.{Source}
 use Rattle.sim_base.specs.declared.message.Message.{Message}
 use Rattle.sim_base.specs.declared.message.Request.{Request}
@@ -35,21 +35,21 @@ use Rattle.channel_step.proofs.Running.{run-length}
 use Rattle.channel_step.proofs.Spans.{length-channel_run, issued-after}
 use Rattle.channel_feed.specs.Fits.{may_come_all, firsts_after_all}
 use Rattle.channel_feed.specs.Kept.{IsAsked, IsNamed, IsKept}
-use Rattle.channel_feed.specs.Rows.{rows_of}
+use Rattle.channel_feed.specs.Rows.{channel_steps_of}
 use Rattle.channel_feed.proofs.Comes.{IsNew, HasMore, come-carry, come-by_age, come-in_span, come-more, asked-more, come-new, come-asked, come-length, other, come-differ}
 use Rattle.channel_feed.proofs.Replaying.{issued-none, ran-none, ran-more}
-use Rattle.channel_feed.proofs.Rows.{rows_of-issued, length-rows_of}
+use Rattle.channel_feed.proofs.Rows.{channel_steps_of-issued, length-channel_steps_of}
 use Rattle.channel_feed.specs.declared.fit.Turn.{Turn}
 
 -- a run adds commands to those before it
-issued-more : (s : Config) (channel : ℕ) (rows : List (Option Command)) (mail : List Message) (n : ℕ)
-    → (more : List CommandRow) × (issued_commands channel (channel_run s channel rows mail n) ≡ issued_commands channel rows ++ more)
+issued-more : (s : Config) (channel : ℕ) (steps : List (Option Command)) (mail : List Message) (n : ℕ)
+    → (more : List IssuedCommand) × (issued_commands channel (channel_run s channel steps mail n) ≡ issued_commands channel steps ++ more)
 unfolding channel_run
-issued-more s channel rows mail zero = ([], sym (append-nil (issued_commands channel rows)))
-issued-more s channel rows mail (suc n) =
-    let before = issued-more s channel rows mail n in
-    let last = channel_run s channel rows mail n in
-    (before.0 ++ issued_now channel (length last) (choice s channel last mail), issued-after channel last (choice s channel last mail) (issued_commands channel rows) before.0 before.1)
+issued-more s channel steps mail zero = ([], sym (append-nil (issued_commands channel steps)))
+issued-more s channel steps mail (suc n) =
+    let before = issued-more s channel steps mail n in
+    let last = channel_run s channel steps mail n in
+    (before.0 ++ issued_now channel (length last) (choice s channel last mail), issued-after channel last (choice s channel last mail) (issued_commands channel steps) before.0 before.1)
 
 filter-fewer : (p q : Request → Bool) (rs : List Request) → Each (λ (r : Request). p r ≡ true → q r ≡ true) rs → length (filter p rs) ≤ length (filter q rs)
 filter-fewer p q [] h = omega arith
@@ -78,11 +78,11 @@ requests-most (m ∷ ms) = by (request_in m.load) (requests-most ms)
     by (Some r) l = omega arith
 
 -- what waits after a longer history waited before
-waited : (history more : List CommandRow) (until later : ℕ) (r : Request) → r.arrival < until → is_waiting (history ++ more) later r ≡ true → is_waiting history until r ≡ true
+waited : (history more : List IssuedCommand) (until later : ℕ) (r : Request) → r.arrival < until → is_queued (history ++ more) later r ≡ true → is_queued history until r ≡ true
 unfolding is_served
 waited history more until later r l h =
     let parts = and_parts _ _ h in
-    let e : is_served (history ++ more) r ≡ (is_served history r || is_served more r) = list_any-append (λ (i : CommandRow). serves r i.command) history more in
+    let e : is_served (history ++ more) r ≡ (is_served history r || is_served more r) = list_any-append (λ (i : IssuedCommand). serves r i.command) history more in
     ap₂ (λ a b. a && b) (lt-ltb r.arrival until l) (still (is_served history r) (is_served more r) (ap not (sym e) ∙ parts.1))
   where
     still : (a b : Bool) → not (a || b) ≡ true → not a ≡ true
@@ -90,51 +90,51 @@ waited history more until later r l h =
     still false b h = refl
 
 -- the queue is never longer than what waits and what comes
-room-left : (s : Config) (channel : ℕ) (rows : List (Option Command)) (mail inbox : List Message) (n : ℕ) → Each (ArrivedBefore (length rows)) (requests_of mail)
-    → queue_length channel (channel_run s channel rows (mail ++ inbox) n) (mail ++ inbox) (length rows + n) ≤ length (waiting (issued_commands channel rows) mail (length rows)) + length inbox
-unfolding queue_length queue_in waiting
-room-left s channel rows mail inbox n h =
+room-left : (s : Config) (channel : ℕ) (steps : List (Option Command)) (mail inbox : List Message) (n : ℕ) → Each (ArrivedBefore (length steps)) (requests_of mail)
+    → queue_length channel (channel_run s channel steps (mail ++ inbox) n) (mail ++ inbox) (length steps + n) ≤ length (queued_requests (issued_commands channel steps) mail (length steps)) + length inbox
+unfolding queue_length queue_in queued_requests
+room-left s channel steps mail inbox n h =
     let all = mail ++ inbox in
-    let run = channel_run s channel rows all n in
-    let now = length rows + n in
-    let whole : take now run ≡ run = ap (λ k. take k run) (sym (length-channel_run s channel rows all n)) ∙ take-length run in
-    let more = issued-more s channel rows all n in
-    let history = issued_commands channel rows in
+    let run = channel_run s channel steps all n in
+    let now = length steps + n in
+    let whole : take now run ≡ run = ap (λ k. take k run) (sym (length-channel_run s channel steps all n)) ∙ take-length run in
+    let more = issued-more s channel steps all n in
+    let history = issued_commands channel steps in
     let longer = history ++ more.0 in
-    let p = is_waiting longer (now + 1) in
-    let parts : filter (is_waiting (issued_commands channel (take now run)) (now + 1)) (requests_of all) ≡ filter p (requests_of mail) ++ filter p (requests_of inbox) =
-    ap₂ (λ x rs. filter (is_waiting x (now + 1)) rs) (ap (issued_commands channel) whole ∙ more.1) (requests-append mail inbox) ∙ filter-append p (requests_of mail) (requests_of inbox) in
-    let old : length (filter p (requests_of mail)) ≤ length (filter (is_waiting history (length rows)) (requests_of mail)) =
-    filter-fewer p (is_waiting history (length rows)) (requests_of mail)
-    (Each-weaker (ArrivedBefore (length rows)) (λ (r : Request). p r ≡ true → is_waiting history (length rows) r ≡ true) (λ r l. waited history more.0 (length rows) (now + 1) r l) (requests_of mail) h) in
+    let p = is_queued longer (now + 1) in
+    let parts : filter (is_queued (issued_commands channel (take now run)) (now + 1)) (requests_of all) ≡ filter p (requests_of mail) ++ filter p (requests_of inbox) =
+    ap₂ (λ x rs. filter (is_queued x (now + 1)) rs) (ap (issued_commands channel) whole ∙ more.1) (requests-append mail inbox) ∙ filter-append p (requests_of mail) (requests_of inbox) in
+    let old : length (filter p (requests_of mail)) ≤ length (filter (is_queued history (length steps)) (requests_of mail)) =
+    filter-fewer p (is_queued history (length steps)) (requests_of mail)
+    (Each-weaker (ArrivedBefore (length steps)) (λ (r : Request). p r ≡ true → is_queued history (length steps) r ≡ true) (λ r l. waited history more.0 (length steps) (now + 1) r l) (requests_of mail) h) in
     let new : length (filter p (requests_of inbox)) ≤ length inbox = let a = filter-most p (requests_of inbox) in let b = requests-most inbox in omega arith in
-    let sum : length (filter (is_waiting (issued_commands channel (take now run)) (now + 1)) (requests_of all)) ≡ length (filter p (requests_of mail)) + length (filter p (requests_of inbox)) =
+    let sum : length (filter (is_queued (issued_commands channel (take now run)) (now + 1)) (requests_of all)) ≡ length (filter p (requests_of mail)) + length (filter p (requests_of inbox)) =
     ap length parts ∙ length-append (filter p (requests_of mail)) (filter p (requests_of inbox)) in
     omega arith
 
 -- what is chosen stands in the name of a request, if it stands in the name of one
-choice-named : (P : Source → Type 0) (s : Config) (channel : ℕ) (rows : List (Option Command)) (mail : List Message) → Each (λ (r : Request). P (source_of r)) (requests_of mail)
-    → IfSome (choice s channel rows mail) (λ c. IfSome (source_in c) P)
-unfolding choice queue_in waiting
-choice-named P s channel rows mail h =
-    chosen-named P s (issued_commands channel rows) (length rows) (drains s channel rows mail (length rows)) (queue_in channel rows mail (length rows))
-    (Each-filter (λ (r : Request). P (source_of r)) (is_waiting (issued_commands channel (take (length rows) rows)) (length rows + 1)) (requests_of mail) h)
+choice-named : (P : Source → Type 0) (s : Config) (channel : ℕ) (steps : List (Option Command)) (mail : List Message) → Each (λ (r : Request). P (source_of r)) (requests_of mail)
+    → IfSome (choice s channel steps mail) (λ c. IfSome (source_in c) P)
+unfolding choice queue_in queued_requests
+choice-named P s channel steps mail h =
+    chosen-named P s (issued_commands channel steps) (length steps) (drains s channel steps mail (length steps)) (queue_in channel steps mail (length steps))
+    (Each-filter (λ (r : Request). P (source_of r)) (is_queued (issued_commands channel (take (length steps) steps)) (length steps + 1)) (requests_of mail) h)
 
-now-named : (P : Source → Type 0) (channel now : ℕ) (o : Option Command) → IfSome o (λ c. IfSome (source_in c) P) → Each (λ (i : CommandRow). IfSome (source_in i.command) P) (issued_now channel now o)
+now-named : (P : Source → Type 0) (channel now : ℕ) (o : Option Command) → IfSome o (λ c. IfSome (source_in c) P) → Each (λ (i : IssuedCommand). IfSome (source_in i.command) P) (issued_now channel now o)
 now-named P channel now None h = tt
 now-named P channel now (Some c) h = (h, tt)
 
 -- so do all commands of a run
-run-named : (P : Source → Type 0) (s : Config) (channel : ℕ) (rows : List (Option Command)) (mail : List Message) (n : ℕ) → Each (λ (r : Request). P (source_of r)) (requests_of mail)
-    → Each (λ (i : CommandRow). IfSome (source_in i.command) P) (issued_commands channel rows)
-    → Each (λ (i : CommandRow). IfSome (source_in i.command) P) (issued_commands channel (channel_run s channel rows mail n))
+run-named : (P : Source → Type 0) (s : Config) (channel : ℕ) (steps : List (Option Command)) (mail : List Message) (n : ℕ) → Each (λ (r : Request). P (source_of r)) (requests_of mail)
+    → Each (λ (i : IssuedCommand). IfSome (source_in i.command) P) (issued_commands channel steps)
+    → Each (λ (i : IssuedCommand). IfSome (source_in i.command) P) (issued_commands channel (channel_run s channel steps mail n))
 unfolding channel_run
-run-named P s channel rows mail zero h k = k
-run-named P s channel rows mail (suc n) h k =
-    let last = channel_run s channel rows mail n in
-    let Q = λ (i : CommandRow). IfSome (source_in i.command) P in
+run-named P s channel steps mail zero h k = k
+run-named P s channel steps mail (suc n) h k =
+    let last = channel_run s channel steps mail n in
+    let Q = λ (i : IssuedCommand). IfSome (source_in i.command) P in
     subst (Each Q) (sym (issued_commands-push channel last (choice s channel last mail)))
-    (Each-append Q (issued_commands channel last) (issued_now channel (length last) (choice s channel last mail)) (run-named P s channel rows mail n h k)
+    (Each-append Q (issued_commands channel last) (issued_now channel (length last) (choice s channel last mail)) (run-named P s channel steps mail n h k)
     (now-named P channel (length last) (choice s channel last mail) (choice-named P s channel last mail h)))
 
 differ-append : (xs ys : List Request) → Differ xs → Differ ys → Each (λ (r : Request). Each (IsOther r) ys) xs → Differ (xs ++ ys)
@@ -149,14 +149,14 @@ unnamed_by firsts q k (Some source) h =
     other firsts r q h k
 
 -- messages that were tested are fit
-pub kept-fit : (channel : Channel) (s : Config) (number now : ℕ) (firsts : List ℕ) (commands : List CommandRow) (mail inbox : List Message) (until : ℕ) → IsKept channel s number now firsts commands mail
+pub kept-fit : (channel : Channel) (s : Config) (number now : ℕ) (firsts : List ℕ) (commands : List IssuedCommand) (mail inbox : List Message) (until : ℕ) → IsKept channel s number now firsts commands mail
     → may_come_all s number until (record { arrival = now; link = 0 }) firsts inbox ≡ true
-    → length (waiting (issued_commands number (rows_of now commands)) mail now) + length inbox ≤ queue_room s
-    → IsFit s number (rows_of now commands) mail inbox now until
+    → length (queued_requests (issued_commands number (channel_steps_of now commands)) mail now) + length inbox ≤ queue_room s
+    → IsFit s number (channel_steps_of now commands) mail inbox now until
 kept-fit channel s number now firsts commands mail inbox until h test left =
-    let rows = rows_of now commands in
+    let steps = channel_steps_of now commands in
     let turn : Turn = record { arrival = now; link = 0 } in
-    let len : length rows ≡ now = length-rows_of now commands in
+    let len : length steps ≡ now = length-channel_steps_of now commands in
     let past = h.stands.recalls.past in
     let new = come-new s number until turn firsts inbox test in
     record {
@@ -168,14 +168,14 @@ kept-fit channel s number now firsts commands mail inbox until h test left =
           (differ-append (requests_of mail) (requests_of inbox) past.differ (come-differ s number until turn firsts inbox test)
           (Each-weaker (IsAsked firsts) (λ (r : Request). Each (IsOther r) (requests_of inbox)) (λ r a. Each-weaker (IsNew firsts) (IsOther r) (λ q b. other firsts r q a b) (requests_of inbox) new) (requests_of mail) h.asked));
       unnamed =
-          Each-weaker (IsNew firsts) (IsUnnamed (issued_commands number rows))
-          (λ q b. subst (λ x. IsUnnamed x q) (sym h.issued) (Each-weaker (λ (i : CommandRow). IsNamed firsts i.command) (λ (i : CommandRow). is_named_by i.command q ≡ false) (λ i a. unnamed_by firsts q b (source_in i.command) a) commands h.named))
+          Each-weaker (IsNew firsts) (IsUnnamed (issued_commands number steps))
+          (λ q b. subst (λ x. IsUnnamed x q) (sym h.issued) (Each-weaker (λ (i : IssuedCommand). IsNamed firsts i.command) (λ (i : IssuedCommand). is_named_by i.command q ≡ false) (λ i a. unnamed_by firsts q b (source_in i.command) a) commands h.named))
           (requests_of inbox) new;
       room = λ n l.
-          let fits : queue_length number (channel_run s number rows (mail ++ inbox) n) (mail ++ inbox) (length rows + n) ≤ length (waiting (issued_commands number rows) mail (length rows)) + length inbox =
-          room-left s number rows mail inbox n (requests-arrived s number (length rows) mail past.requests past.arrived) in
-          let moved : queue_length number (channel_run s number rows (mail ++ inbox) n) (mail ++ inbox) (now + n) ≤ length (waiting (issued_commands number rows) mail now) + length inbox =
-          subst (λ k. queue_length number (channel_run s number rows (mail ++ inbox) n) (mail ++ inbox) (k + n) ≤ length (waiting (issued_commands number rows) mail k) + length inbox) len fits in
+          let fits : queue_length number (channel_run s number steps (mail ++ inbox) n) (mail ++ inbox) (length steps + n) ≤ length (queued_requests (issued_commands number steps) mail (length steps)) + length inbox =
+          room-left s number steps mail inbox n (requests-arrived s number (length steps) mail past.requests past.arrived) in
+          let moved : queue_length number (channel_run s number steps (mail ++ inbox) n) (mail ++ inbox) (now + n) ≤ length (queued_requests (issued_commands number steps) mail now) + length inbox =
+          subst (λ k. queue_length number (channel_run s number steps (mail ++ inbox) n) (mail ++ inbox) (k + n) ≤ length (queued_requests (issued_commands number steps) mail k) + length inbox) len fits in
           omega arith;
     }
 
@@ -187,7 +187,7 @@ named-more a b h command k = by (source_in command) k
     by (Some source) l = let x = h source.core in omega arith
 
 -- what was asked for stays so, and what the messages ask for is asked for
-pub kept-asked : (channel : Channel) (s : Config) (number now : ℕ) (firsts : List ℕ) (commands : List CommandRow) (mail inbox : List Message) (until : ℕ) → IsKept channel s number now firsts commands mail
+pub kept-asked : (channel : Channel) (s : Config) (number now : ℕ) (firsts : List ℕ) (commands : List IssuedCommand) (mail inbox : List Message) (until : ℕ) → IsKept channel s number now firsts commands mail
     → may_come_all s number until (record { arrival = now; link = 0 }) firsts inbox ≡ true
     → IsKept channel s number now (firsts_after_all firsts inbox) commands mail × Each (IsAsked (firsts_after_all firsts inbox)) (requests_of inbox)
 kept-asked channel s number now firsts commands mail inbox until h test =
@@ -198,7 +198,7 @@ kept-asked channel s number now firsts commands mail inbox until h test =
         stands = h.stands;
         issued = h.issued;
         asked = asked-more firsts later more (requests_of mail) h.asked;
-        named = Each-weaker (λ (i : CommandRow). IsNamed firsts i.command) (λ (i : CommandRow). IsNamed later i.command) (λ i k. named-more firsts later more i.command k) commands h.named;
+        named = Each-weaker (λ (i : IssuedCommand). IsNamed firsts i.command) (λ (i : IssuedCommand). IsNamed later i.command) (λ i k. named-more firsts later more i.command k) commands h.named;
         cores = come-length s number until turn firsts inbox test ∙ h.cores;
         in_time = h.in_time;
         ran = h.ran;
@@ -207,9 +207,9 @@ kept-asked channel s number now firsts commands mail inbox until h test =
       come-asked s number until turn firsts inbox test,
     )
 
-pub rows_of-none : rows_of 0 [] ≡ []
-unfolding rows_of
-rows_of-none = refl
+pub channel_steps_of-none : channel_steps_of 0 [] ≡ []
+unfolding channel_steps_of
+channel_steps_of-none = refl
 
 -- before the first cycle
 pub kept-start : (channel : Channel) (s : Config) (number : ℕ) (firsts : List ℕ) → StandsFor channel s number [] [] → length firsts ≡ s.cores
@@ -217,47 +217,47 @@ pub kept-start : (channel : Channel) (s : Config) (number : ℕ) (firsts : List 
 kept-start channel s number firsts h l =
     let none = ran-none s number in
     record {
-      stands = subst (λ rows. StandsFor channel s number rows []) (sym rows_of-none) h;
-      issued = ap (issued_commands number) rows_of-none ∙ issued-none number;
+      stands = subst (λ steps. StandsFor channel s number steps []) (sym channel_steps_of-none) h;
+      issued = ap (issued_commands number) channel_steps_of-none ∙ issued-none number;
       asked = tt;
       named = tt;
       cores = l;
       in_time = lit≤ tt;
-      ran = rows_of-none ∙ none.ran;
+      ran = channel_steps_of-none ∙ none.ran;
       came = none.came;
     }
 
 -- what it stands for when a run is over
-pub rows-done : (c : Channel) (s : Config) (number now : ℕ) (firsts : List ℕ) (commands : List CommandRow) (mail inbox : List Message) (until : ℕ) (done : ChannelDone) → IsKept c s number now firsts commands mail
-    → now ≤ until → IsDone done s number (rows_of now commands) mail inbox now until
-    → rows_of until (commands ++ done.commands.items) ≡ channel_run s number (rows_of now commands) (mail ++ inbox) (until - now)
-rows-done c s number now firsts commands mail inbox until done h l d =
-    let rows = rows_of now commands in
-    let run = channel_run s number rows (mail ++ inbox) (until - now) in
-    let len : length run ≡ until = run-length s number rows (mail ++ inbox) now until (length-rows_of now commands) l in
+pub steps-done : (c : Channel) (s : Config) (number now : ℕ) (firsts : List ℕ) (commands : List IssuedCommand) (mail inbox : List Message) (until : ℕ) (done : ChannelDone) → IsKept c s number now firsts commands mail
+    → now ≤ until → IsDone done s number (channel_steps_of now commands) mail inbox now until
+    → channel_steps_of until (commands ++ done.commands.items) ≡ channel_run s number (channel_steps_of now commands) (mail ++ inbox) (until - now)
+steps-done c s number now firsts commands mail inbox until done h l d =
+    let steps = channel_steps_of now commands in
+    let run = channel_run s number steps (mail ++ inbox) (until - now) in
+    let len : length run ≡ until = run-length s number steps (mail ++ inbox) now until (length-channel_steps_of now commands) l in
     let all : commands ++ done.commands.items ≡ issued_commands number run = ap (λ x. x ++ done.commands.items) (sym h.issued) ∙ sym d.commands_are in
-    ap₂ rows_of (sym len) all ∙ rows_of-issued number run
+    ap₂ channel_steps_of (sym len) all ∙ channel_steps_of-issued number run
 
 -- after a run
-pub kept-done : (c : Channel) (s : Config) (number now : ℕ) (firsts : List ℕ) (commands : List CommandRow) (mail inbox : List Message) (until : ℕ) (done : ChannelDone) → IsKept c s number now firsts commands mail
-    → Each (IsAsked firsts) (requests_of inbox) → now ≤ until → until ≤ 2 ^ 62 → IsFit s number (rows_of now commands) mail inbox now until
-    → IsDone done s number (rows_of now commands) mail inbox now until
+pub kept-done : (c : Channel) (s : Config) (number now : ℕ) (firsts : List ℕ) (commands : List IssuedCommand) (mail inbox : List Message) (until : ℕ) (done : ChannelDone) → IsKept c s number now firsts commands mail
+    → Each (IsAsked firsts) (requests_of inbox) → now ≤ until → until ≤ 2 ^ 62 → IsFit s number (channel_steps_of now commands) mail inbox now until
+    → IsDone done s number (channel_steps_of now commands) mail inbox now until
     → IsKept done.channel s number until firsts (commands ++ done.commands.items) (mail ++ inbox)
 kept-done c s number now firsts commands mail inbox until done h a l e fit d =
-    let rows = rows_of now commands in
-    let run = channel_run s number rows (mail ++ inbox) (until - now) in
-    let same : rows_of until (commands ++ done.commands.items) ≡ run = rows-done c s number now firsts commands mail inbox until done h l d in
+    let steps = channel_steps_of now commands in
+    let run = channel_run s number steps (mail ++ inbox) (until - now) in
+    let same : channel_steps_of until (commands ++ done.commands.items) ≡ run = steps-done c s number now firsts commands mail inbox until done h l d in
     let all : issued_commands number run ≡ commands ++ done.commands.items = d.commands_are ∙ ap (λ x. x ++ done.commands.items) h.issued in
     let asked : Each (IsAsked firsts) (requests_of (mail ++ inbox)) =
     subst (Each (IsAsked firsts)) (sym (requests-append mail inbox)) (Each-append (IsAsked firsts) (requests_of mail) (requests_of inbox) h.asked a) in
     let P = λ (source : Source). source.entry < slice_index_or firsts source.core 0 in
-    let Q = λ (i : CommandRow). IfSome (source_in i.command) P in
-    let all_ran = ran-more s number rows mail inbox now until (record { ran = h.ran; came = h.came }) fit l in
+    let Q = λ (i : IssuedCommand). IfSome (source_in i.command) P in
+    let all_ran = ran-more s number steps mail inbox now until (record { ran = h.ran; came = h.came }) fit l in
     record {
       stands = subst (λ x. StandsFor done.channel s number x (mail ++ inbox)) (sym same) d.stands;
       issued = ap (issued_commands number) same ∙ all;
       asked = asked;
-      named = subst (Each Q) all (run-named P s number rows (mail ++ inbox) (until - now) asked (subst (Each Q) (sym h.issued) h.named));
+      named = subst (Each Q) all (run-named P s number steps (mail ++ inbox) (until - now) asked (subst (Each Q) (sym h.issued) h.named));
       cores = h.cores;
       in_time = e;
       ran = same ∙ all_ran.ran;
@@ -265,14 +265,14 @@ kept-done c s number now firsts commands mail inbox until done h a l e fit d =
     }
 
 -- messages that are fit let the channel be run
-pub kept-can_run : (c : Channel) (s : Config) (number now : ℕ) (firsts : List ℕ) (commands : List CommandRow) (mail inbox : List Message) (until : ℕ) → IsKept c s number now firsts commands mail
-    → IsFit s number (rows_of now commands) mail inbox now until → CanRun c inbox now until
+pub kept-can_run : (c : Channel) (s : Config) (number now : ℕ) (firsts : List ℕ) (commands : List IssuedCommand) (mail inbox : List Message) (until : ℕ) → IsKept c s number now firsts commands mail
+    → IsFit s number (channel_steps_of now commands) mail inbox now until → CanRun c inbox now until
 kept-can_run c s number now firsts commands mail inbox until h f =
-    record { s = s; channel = number; rows = rows_of now commands; mail = mail; stands = h.stands; at = length-rows_of now commands; fit = f }
+    record { s = s; channel = number; steps = channel_steps_of now commands; mail = mail; stands = h.stands; at = length-channel_steps_of now commands; fit = f }
 
-pub kept-stands_at : (c : Channel) (s : Config) (number now : ℕ) (firsts : List ℕ) (commands : List CommandRow) (mail : List Message) → IsKept c s number now firsts commands mail → StandsAt c now
+pub kept-stands_at : (c : Channel) (s : Config) (number now : ℕ) (firsts : List ℕ) (commands : List IssuedCommand) (mail : List Message) → IsKept c s number now firsts commands mail → StandsAt c now
 kept-stands_at c s number now firsts commands mail h =
-    record { s = s; channel = number; rows = rows_of now commands; mail = mail; stands = h.stands; at = length-rows_of now commands }
+    record { s = s; channel = number; steps = channel_steps_of now commands; mail = mail; stands = h.stands; at = length-channel_steps_of now commands }
 
 -- the test of the room
 pub room-test : (waits inbox room : ℕ) → waits ≤ room → leb inbox (room - waits) ≡ leb (waits + inbox) room

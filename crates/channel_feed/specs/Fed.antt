@@ -1,18 +1,18 @@
 -- What a fed channel stands for, and what a run makes of it.
---     rows_fed fed, mail_fed fed      what it did, one row a cycle, and the messages that came to it
+--     steps_fed fed, mail_fed fed      what it did, one row a cycle, and the messages that came to it
 --     waits fed      the requests that wait
 --     has_room fed inbox, fits fed inbox until      there is room for messages; they and a span fit it
 --     IsAskedMore old new inbox      what messages ask for is asked for
 --     MayRun fed inbox until      messages are fit for a span, and asked for
 --     MaySkipTo fed until      it may move on to a cycle
---     IsOfPast fed s channel rows mail      it is that channel, with that past
---     IsFedDone s channel from rows mail inbox until done      what comes back from a run
+--     IsOfPast fed s channel steps mail      it is that channel, with that past
+--     IsFedDone s channel from steps mail inbox until done      what comes back from a run
 --     IsReplayed fed done      what comes back from a run over all cycles so far
 use Rattle.std.specs.Prelude.{◌≡◌, ℕ, ◌+◌, ◌-◌, ◌≤◌, ◌^◌, nat_le, Bool, ◌&&◌, List, ◌++◌, length, Option}
 use Rattle.std.specs.List.{AllByRecursion as Each}
 use Rattle.sim_base.specs.History.{issued_commands, channel_messages}
 use Rattle.sim_base.specs.Machine.{channel_run}
-use Rattle.sim_base.specs.Scheduling.{waiting}
+use Rattle.sim_base.specs.Scheduling.{queued_requests}
 use Rattle.sim_base.specs.declared.config.Config.{Config}
 use Rattle.sim_base.specs.declared.command.Command.{Command}
 use Rattle.sim_base.specs.declared.message.Message.{Message}
@@ -24,13 +24,13 @@ use Rattle.channel_step.specs.Past.{requests_of}
 use Rattle.channel_feed.specs.Done.{IsDone}
 use Rattle.channel_feed.specs.Fits.{may_come_all, firsts_after_all}
 use Rattle.channel_feed.specs.Kept.{IsAsked}
-use Rattle.channel_feed.specs.Rows.{rows_of}
+use Rattle.channel_feed.specs.Rows.{channel_steps_of}
 use Rattle.channel_feed.specs.declared.fed.FedChannel.{FedChannel}
 use Rattle.channel_feed.specs.declared.fed.FedChannelDone.{FedChannelDone}
 
 -- what it did, one row a cycle
-abbrev pub rows_fed : FedChannel → List (Option Command)
-rows_fed fed = rows_of fed.cycle fed.commands.items
+abbrev pub steps_fed : FedChannel → List (Option Command)
+steps_fed fed = channel_steps_of fed.cycle fed.commands.items
 
 -- the messages that came to it
 abbrev pub mail_fed : FedChannel → List Message
@@ -38,7 +38,7 @@ mail_fed fed = fed.mail.items
 
 -- the requests that wait
 abbrev pub waits : FedChannel → List Request
-waits fed = waiting (issued_commands fed.number (rows_fed fed)) (mail_fed fed) fed.cycle
+waits fed = queued_requests (issued_commands fed.number (steps_fed fed)) (mail_fed fed) fed.cycle
 
 -- there is room for these messages beside those that wait
 abbrev pub has_room : FedChannel → List Message → Bool
@@ -63,7 +63,7 @@ pub record IsAskedMore (old new : FedChannel) (inbox : List Message) : Type 0 wh
 
 -- Messages are fit for a span after its past, and what they ask for was asked for.
 pub record MayRun (fed : FedChannel) (inbox : List Message) (until : ℕ) : Type 0 where
-  pub fit : IsFit fed.config fed.number (rows_fed fed) (mail_fed fed) inbox fed.cycle until
+  pub fit : IsFit fed.config fed.number (steps_fed fed) (mail_fed fed) inbox fed.cycle until
   pub asked : Each (IsAsked fed.firsts.items) (requests_of inbox)
   pub from_now : fed.cycle ≤ until
   pub in_time : until ≤ 2 ^ 62
@@ -73,25 +73,25 @@ pub record MayRun (fed : FedChannel) (inbox : List Message) (until : ℕ) : Type
 pub record MaySkipTo (fed : FedChannel) (until : ℕ) : Type 0 where
   pub from_now : fed.cycle ≤ until
   pub in_time : until ≤ 2 ^ 62
-  pub idle : IsIdle fed.config fed.number (rows_fed fed) (mail_fed fed) (until - fed.cycle)
+  pub idle : IsIdle fed.config fed.number (steps_fed fed) (mail_fed fed) (until - fed.cycle)
 
 -- it is the channel with this number, of a machine with this configuration, with this past
-pub record IsOfPast (fed : FedChannel) (s : Config) (channel : ℕ) (rows : List (Option Command)) (mail : List Message) : Type 0 where
+pub record IsOfPast (fed : FedChannel) (s : Config) (channel : ℕ) (steps : List (Option Command)) (mail : List Message) : Type 0 where
   pub config_is : fed.config ≡ s
   pub number_is : fed.number ≡ channel
-  pub now_is : fed.cycle ≡ length rows
-  pub rows_are : rows_fed fed ≡ rows
+  pub now_is : fed.cycle ≡ length steps
+  pub rows_are : steps_fed fed ≡ steps
   pub mail_is : mail_fed fed ≡ mail
 
--- What comes back from a run is of the past with the rows of the channel's run over the span and all messages that came. The
--- channel stands for it, and the commands and messages are those of the longer rows beyond those of the earlier ones.
-pub record IsFedDone (s : Config) (channel from : ℕ) (rows : List (Option Command)) (mail inbox : List Message) (until : ℕ) (done : FedChannelDone) : Type 0 where
-  pub past : IsOfPast done.channel s channel (channel_run s channel rows (mail ++ inbox) (until - from)) (mail ++ inbox)
-  pub done_is : IsDone (record { channel = done.channel.channel; commands = done.commands; messages = done.messages }) s channel rows mail inbox from until
+-- What comes back from a run is of the past with the steps of the channel's run over the span and all messages that came. The
+-- channel stands for it, and the commands and messages are those of the longer steps beyond those of the earlier ones.
+pub record IsFedDone (s : Config) (channel from : ℕ) (steps : List (Option Command)) (mail inbox : List Message) (until : ℕ) (done : FedChannelDone) : Type 0 where
+  pub past : IsOfPast done.channel s channel (channel_run s channel steps (mail ++ inbox) (until - from)) (mail ++ inbox)
+  pub done_is : IsDone (record { channel = done.channel.channel; commands = done.commands; messages = done.messages }) s channel steps mail inbox from until
 
 -- What comes back from a run over all cycles so far, in one span, stands for all that was done and all messages that came. The
 -- commands and messages are all that were issued and sent.
 pub record IsReplayed (fed : FedChannel) (done : ChannelDone) : Type 0 where
-  pub stands : StandsFor done.channel fed.config fed.number (rows_fed fed) (mail_fed fed)
-  pub commands_are : done.commands.items ≡ issued_commands fed.number (rows_fed fed)
-  pub messages_are : done.messages.items ≡ channel_messages fed.config fed.number (rows_fed fed)
+  pub stands : StandsFor done.channel fed.config fed.number (steps_fed fed) (mail_fed fed)
+  pub commands_are : done.commands.items ≡ issued_commands fed.number (steps_fed fed)
+  pub messages_are : done.messages.items ≡ channel_messages fed.config fed.number (steps_fed fed)

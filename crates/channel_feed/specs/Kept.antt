@@ -13,7 +13,7 @@ use Rattle.sim_base.specs.History.{issued_commands}
 use Rattle.sim_base.specs.Machine.{channel_run}
 use Rattle.sim_base.specs.declared.config.Config.{Config}
 use Rattle.sim_base.specs.declared.command.Command.{Command}
-use Rattle.sim_base.specs.declared.command.CommandRow.{CommandRow}
+use Rattle.sim_base.specs.declared.command.IssuedCommand.{IssuedCommand}
 use Rattle.sim_base.specs.declared.command.Source.{Source}
 use Rattle.sim_base.specs.declared.message.Message.{Message}
 use Rattle.sim_base.specs.declared.message.Request.{Request}
@@ -22,7 +22,7 @@ use Rattle.channel_step.specs.Channels.{StandsFor}
 use Rattle.channel_step.specs.Fit.{ComeByAge, IsFit}
 use Rattle.channel_step.specs.Past.{requests_of, Differ, IsRequestIn}
 use Rattle.channel_step.specs.declared.channel.Channel.{Channel}
-use Rattle.channel_feed.specs.Rows.{rows_of}
+use Rattle.channel_feed.specs.Rows.{channel_steps_of}
 
 -- the entry of a request was asked for
 abbrev pub IsAsked : List ℕ → Request → Type 0
@@ -38,21 +38,21 @@ CameFit s number mail now = IsFit s number [] [] mail 0 now
 
 -- A channel stands for its commands so far, each in its cycle, and the messages that came; what they ask for and what the
 -- commands name was asked for. With these messages, which are fit together, a run from the first cycle on does the same.
-pub record IsKept (channel : Channel) (s : Config) (number now : ℕ) (firsts : List ℕ) (commands : List CommandRow) (mail : List Message) : Type 0 where
-  pub stands : StandsFor channel s number (rows_of now commands) mail
-  pub issued : issued_commands number (rows_of now commands) ≡ commands
+pub record IsKept (channel : Channel) (s : Config) (number now : ℕ) (firsts : List ℕ) (commands : List IssuedCommand) (mail : List Message) : Type 0 where
+  pub stands : StandsFor channel s number (channel_steps_of now commands) mail
+  pub issued : issued_commands number (channel_steps_of now commands) ≡ commands
   pub asked : Each (IsAsked firsts) (requests_of mail)
-  pub named : Each (λ (i : CommandRow). IsNamed firsts i.command) commands
+  pub named : Each (λ (i : IssuedCommand). IsNamed firsts i.command) commands
   pub cores : length firsts ≡ s.cores
   pub in_time : now ≤ 2 ^ 62
-  pub ran : rows_of now commands ≡ channel_run s number [] mail now
+  pub ran : channel_steps_of now commands ≡ channel_run s number [] mail now
   pub came : CameFit s number mail now
 
 Differ-prop : (rs : List Request) → IsProp (Differ rs)
 Differ-prop [] = Unit-prop
 Differ-prop (r ∷ rs) = ×_prop (hlevel props) (Differ-prop rs)
 
-Ascends-prop : (history : List CommandRow) → IsProp (Ascends history)
+Ascends-prop : (history : List IssuedCommand) → IsProp (Ascends history)
 Ascends-prop [] = Unit-prop
 Ascends-prop (i ∷ history) = ×_prop (hlevel props) (Ascends-prop history)
 
@@ -60,8 +60,8 @@ IsRequestIn-prop : (s : Config) (channel : ℕ) (m : Message) (o : Option Reques
 IsRequestIn-prop s channel m (Some r) = hlevel props
 IsRequestIn-prop s channel m None = hlevel props
 
-StandsFor-prop : (c : Channel) (s : Config) (channel : ℕ) (rows : List (Option Command)) (mail : List Message) → IsProp (StandsFor c s channel rows mail)
-StandsFor-prop c s channel rows mail = hlevel (props, Differ-prop, Ascends-prop, IsRequestIn-prop)
+StandsFor-prop : (c : Channel) (s : Config) (channel : ℕ) (steps : List (Option Command)) (mail : List Message) → IsProp (StandsFor c s channel steps mail)
+StandsFor-prop c s channel steps mail = hlevel (props, Differ-prop, Ascends-prop, IsRequestIn-prop)
 
 ComeByAge-prop : (ms : List Message) → IsProp (ComeByAge ms)
 ComeByAge-prop [] = Unit-prop
@@ -71,5 +71,5 @@ CameFit-prop : (s : Config) (number : ℕ) (mail : List Message) (now : ℕ) →
 CameFit-prop s number mail now = hlevel (props, Differ-prop, ComeByAge-prop, IsRequestIn-prop)
 
 -- there is one proof of it at most
-pub IsKept-prop : (channel : Channel) (s : Config) (number now : ℕ) (firsts : List ℕ) (commands : List CommandRow) (mail : List Message) → IsProp (IsKept channel s number now firsts commands mail)
+pub IsKept-prop : (channel : Channel) (s : Config) (number now : ℕ) (firsts : List ℕ) (commands : List IssuedCommand) (mail : List Message) → IsProp (IsKept channel s number now firsts commands mail)
 IsKept-prop channel s number now firsts commands mail = hlevel (props, StandsFor-prop, CameFit-prop)

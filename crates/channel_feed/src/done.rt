@@ -11,7 +11,7 @@ ghost use Rattle.channel_feed.specs.Done.{IsDone};
 
 use channel_step::channel::Channel;
 use command_table::list::CommandList;
-use sim_base::command::CommandRow;
+use sim_base::command::IssuedCommand;
 use sim_base::message::{Cycle, Message};
 use std::alloc::{AllocError, Global};
 
@@ -19,7 +19,7 @@ use std::alloc::{AllocError, Global};
 #[derive(Drop)]
 pub struct ChannelDone {
     pub channel: Channel,
-    pub commands: Vec<CommandRow>,
+    pub commands: Vec<IssuedCommand>,
     pub messages: Vec<Message>,
 }
 
@@ -34,9 +34,9 @@ pub(crate) fn run_alone(
     requires can_run { CanRun channel inbox.now from until }
     requires span { from ≤ until }
     requires until { until ≤ 2 ^ 62 }
-    ensures { (s : Config) (number : ℕ) (rows : List (Option Command)) (mail : List Message)
-        → StandsFor channel s number rows mail → length rows ≡ from → IsFit s number rows mail inbox.now from until
-        → IfOk result (λ done. IsDone done s number rows mail inbox.now from until) }
+    ensures { (s : Config) (number : ℕ) (steps : List (Option Command)) (mail : List Message)
+        → StandsFor channel s number steps mail → length steps ≡ from → IsFit s number steps mail inbox.now from until
+        → IfOk result (λ done. IsDone done s number steps mail inbox.now from until) }
 {
     let mut channel = channel;
     let mut issued = CommandList::new(alloc);

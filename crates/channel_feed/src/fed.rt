@@ -9,7 +9,7 @@ use crate::done::{ChannelDone, run_alone};
 use crate::fault::FeedFault;
 use crate::fit::may_come_all;
 use channel_step::channel::Channel;
-use sim_base::command::CommandRow;
+use sim_base::command::IssuedCommand;
 use sim_base::config::Config;
 use sim_base::message::{ChannelId, Cycle, Message};
 use statistics::channels::ChannelStats;
@@ -28,7 +28,7 @@ pub struct FedChannel {
     cycle: Cycle,
     /// For each core the first entry from which on none was asked for.
     firsts: Vec<u64>,
-    commands: Vec<CommandRow>,
+    commands: Vec<IssuedCommand>,
     mail: Vec<Message>,
     ghost kept: { IsKept channel config number cycle firsts.items commands.items mail.items } by { IsKept-prop channel config number cycle firsts.items commands.items mail.items },
 }
@@ -37,7 +37,7 @@ pub struct FedChannel {
 #[derive(Drop)]
 pub struct FedChannelDone {
     pub channel: FedChannel,
-    pub commands: Vec<CommandRow>,
+    pub commands: Vec<IssuedCommand>,
     pub messages: Vec<Message>,
 }
 
@@ -47,7 +47,7 @@ impl FedChannel {
     ghost use Rattle.fr_fcfs.specs.Cycles.{IsFirstCycle};
     ghost use Rattle.statistics.specs.Channels.{channel_stats};
     ghost use Rattle.channel_feed.specs.declared.fault.FeedFault.TheVariants.{Unfit};
-    ghost use Rattle.channel_feed.specs.Fed.{rows_fed, mail_fed, has_room, fits, IsAskedMore, MayRun, MaySkipTo, IsOfPast, IsFedDone, IsReplayed};
+    ghost use Rattle.channel_feed.specs.Fed.{steps_fed, mail_fed, has_room, fits, IsAskedMore, MayRun, MaySkipTo, IsOfPast, IsFedDone, IsReplayed};
 
     /// The channel with a number, of a machine with this configuration, before the first cycle. Where the machine has no such
     /// channel, no message fits it. Only memory can be refused.
@@ -86,7 +86,7 @@ impl FedChannel {
 
     /// The statistics of the cycles so far.
     pub fn stats(&self) -> ChannelStats
-        ensures { result ≡ channel_stats self.now.config self.now.number (rows_fed self.now) (mail_fed self.now) }
+        ensures { result ≡ channel_stats self.now.config self.now.number (steps_fed self.now) (mail_fed self.now) }
     {
         self.channel.stats()
     }
@@ -94,7 +94,7 @@ impl FedChannel {
     /// The first cycle from now on in which the channel issues a command, if nothing arrives; None where there is none.
     pub fn next_act(&mut self) -> Option<Cycle>
         ensures same { self.new ≡ self.old }
-        ensures first { IsFirstCycle (λ cycle. is_some (choice self.old.config self.old.number (rows_fed self.old ++ replicate (cycle - self.old.cycle) None) (mail_fed self.old))) self.old.cycle result }
+        ensures first { IsFirstCycle (λ cycle. is_some (choice self.old.config self.old.number (steps_fed self.old ++ replicate (cycle - self.old.cycle) None) (mail_fed self.old))) self.old.cycle result }
     {
         self.channel.next_act(self.cycle)
     }
@@ -102,7 +102,7 @@ impl FedChannel {
     /// Moves the channel on to the cycle `until`, without a look at the cycles before it. It is `Unfit`, and the channel is gone,
     /// where the channel stands after that cycle already or issues a command before it, or the cycle is above 2^62.
     pub fn skip(self, until: Cycle) -> Result<FedChannel, FeedFault>
-        ensures done { IfOk result (λ fed. IsOfPast fed self.config self.number (rows_fed self ++ replicate (until - self.cycle) None) (mail_fed self)) }
+        ensures done { IfOk result (λ fed. IsOfPast fed self.config self.number (steps_fed self ++ replicate (until - self.cycle) None) (mail_fed self)) }
         ensures fits { IsOk result ↔ MaySkipTo self until }
         ensures unfit { IfErr result (λ e. e ≡ Unfit) }
     {
@@ -180,7 +180,7 @@ impl FedChannel {
         until: Cycle,
     ) -> Result<FedChannelDone, AllocError>
         requires { MayRun self inbox.now until }
-        ensures { IfOk result (λ done. IsFedDone self.config self.number self.cycle (rows_fed self) (mail_fed self) inbox.now until done) }
+        ensures { IfOk result (λ done. IsFedDone self.config self.number self.cycle (steps_fed self) (mail_fed self) inbox.now until done) }
     {
         let FedChannel {
             channel,
@@ -217,7 +217,7 @@ impl FedChannel {
         inbox: &[Message],
         until: Cycle,
     ) -> Result<FedChannelDone, FeedFault>
-        ensures done { IfOk result (λ done. IsFedDone self.config self.number self.cycle (rows_fed self) (mail_fed self) inbox.now until done) }
+        ensures done { IfOk result (λ done. IsFedDone self.config self.number self.cycle (steps_fed self) (mail_fed self) inbox.now until done) }
         ensures unfit { (result ≡ Err Unfit) ↔ (fits self inbox.now until ≡ false) }
     {
         let Some(fed) = self.admit(inbox, until) else {

@@ -10,7 +10,7 @@ use Rattle.sim_base.specs.Fields.{is_field}
 use Rattle.sim_base.specs.History.{issued_commands}
 use Rattle.sim_base.specs.Machine.{channel_run}
 use Rattle.sim_base.specs.Places.{field_size, digit_of, field_of, place_of}
-use Rattle.sim_base.specs.Scheduling.{request_in, queue_in, waiting}
+use Rattle.sim_base.specs.Scheduling.{request_in, queue_in, queued_requests}
 use Rattle.sim_base.specs.declared.command.Command.{Command}
 use Rattle.sim_base.specs.declared.message.Message.{Message}
 use Rattle.sim_base.specs.declared.message.Request.{Request}
@@ -42,9 +42,9 @@ place-zero s =
       column = digit field.Column i;
     }
 
-none-waits : (channel : ℕ) (rows : List (Option Command)) (cycle : ℕ) → queue_length channel rows [] cycle ≡ 0
-unfolding queue_length queue_in waiting
-none-waits channel rows cycle = refl
+none-waits : (channel : ℕ) (steps : List (Option Command)) (cycle : ℕ) → queue_length channel steps [] cycle ≡ 0
+unfolding queue_length queue_in queued_requests
+none-waits channel steps cycle = refl
 
 -- no message
 pub fit-none : (s : Config) (channel until : ℕ) → IsFit s channel [] [] [] 0 until
@@ -61,9 +61,9 @@ length-filter_one : {X : Type 0} (p : X → Bool) (o : Option X) → length (fil
 length-filter_one p None = omega arith
 length-filter_one p (Some x) = cond_both (p x) (x ∷ []) [] (λ xs. length xs ≤ 1) (λ e. omega arith) (λ e. omega arith)
 
-one-waits : (channel : ℕ) (rows : List (Option Command)) (m : Message) (cycle : ℕ) → queue_length channel rows (m ∷ []) cycle ≤ 1
-unfolding queue_length queue_in waiting
-one-waits channel rows m cycle = length-filter_one _ (request_in m.load)
+one-waits : (channel : ℕ) (steps : List (Option Command)) (m : Message) (cycle : ℕ) → queue_length channel steps (m ∷ []) cycle ≤ 1
+unfolding queue_length queue_in queued_requests
+one-waits channel steps m cycle = length-filter_one _ (request_in m.load)
 
 room-some : (s : Config) → 1 ≤ queue_room s
 room-some s =

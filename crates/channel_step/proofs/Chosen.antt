@@ -15,17 +15,17 @@ use Rattle.sim_base.specs.Rules.{is_legal, has_open_bank, open_row, rank_of, ban
 use Rattle.sim_base.specs.Scheduling.{source_of, column_command, needed_at, needed, ready_hit, ready_row, first_ready, refresh_command, if_legal, candidates, choice_between, due, lowest_due}
 use Rattle.sim_base.specs.declared.command.Command.{Command}
 use Rattle.sim_base.specs.declared.command.Command.TheVariants.{Act, Rd, Wr, Pre, Prea, Ref}
-use Rattle.sim_base.specs.declared.command.CommandRow.{CommandRow}
+use Rattle.sim_base.specs.declared.command.IssuedCommand.{IssuedCommand}
 use Rattle.sim_base.specs.declared.command.Source.{Source}
 use Rattle.sim_base.specs.declared.message.Request.{Request}
 use Rattle.refresh.specs.Refreshes.{IsNoRefresh}
 
 -- what holds of all that is needed holds of what is chosen
-ready-each : (P : Command → Type 0) (history : List CommandRow) (o : Option Request) → IfSome o (λ r. P (needed history r)) → IfSome (option_map (needed history) o) P
+ready-each : (P : Command → Type 0) (history : List IssuedCommand) (o : Option Request) → IfSome o (λ r. P (needed history r)) → IfSome (option_map (needed history) o) P
 ready-each P history None h = tt
 ready-each P history (Some r) h = h
 
-pub between-each : (P : Command → Type 0) (s : Config) (history : List CommandRow) (now : ℕ) (requests : List Request) → Each (λ (r : Request). P (needed history r)) requests
+pub between-each : (P : Command → Type 0) (s : Config) (history : List IssuedCommand) (now : ℕ) (requests : List Request) → Each (λ (r : Request). P (needed history r)) requests
     → (due : Option ℕ) → IfSome due (λ rank. P (refresh_command s history rank)) → IfSome (choice_between s history now requests due) P
 unfolding choice_between first_ready if_legal
 between-each P s history now requests h None k =
@@ -35,7 +35,7 @@ between-each P s history now requests h (Some rank) k =
     cond_both (is_legal s history now (refresh_command s history rank)) (Some (refresh_command s history rank)) None (λ o. IfSome o P) (λ e. k) (λ e. tt)
 
 -- the same of what waits in a queue
-pub chosen-each : (P : Command → Type 0) (s : Config) (history : List CommandRow) (now : ℕ) (draining : Bool) (queue : List Request)
+pub chosen-each : (P : Command → Type 0) (s : Config) (history : List IssuedCommand) (now : ℕ) (draining : Bool) (queue : List Request)
     → Each (λ (r : Request). P (needed history r)) queue → IfSome (lowest_due s history now) (λ rank. P (refresh_command s history rank))
     → IfSome (choice_between s history now (candidates s draining queue) (lowest_due s history now)) P
 chosen-each P s history now draining queue h k =
@@ -52,7 +52,7 @@ needed-cases P r a b c d (Some row) =
     (λ f. c r.place.row r.place.column) (λ f. b r.place.row r.place.column))
     (λ e. d)
 
-refresh-cases : (P : Command → Type 0) (s : Config) (history : List CommandRow) (rank : ℕ) → P (Prea rank) → P (Ref rank) → P (refresh_command s history rank)
+refresh-cases : (P : Command → Type 0) (s : Config) (history : List IssuedCommand) (rank : ℕ) → P (Prea rank) → P (Ref rank) → P (refresh_command s history rank)
 unfolding refresh_command
 refresh-cases P s history rank a b = cond_both (has_open_bank s history rank) (Prea rank) (Ref rank) P (λ e. a) (λ e. b)
 
@@ -61,7 +61,7 @@ ifsome-all P None h = tt
 ifsome-all P (Some x) h = h x
 
 -- what is chosen stands in the name of a request that waits, if it stands in the name of one
-pub chosen-named : (P : Source → Type 0) (s : Config) (history : List CommandRow) (now : ℕ) (draining : Bool) (queue : List Request)
+pub chosen-named : (P : Source → Type 0) (s : Config) (history : List IssuedCommand) (now : ℕ) (draining : Bool) (queue : List Request)
     → Each (λ (r : Request). P (source_of r)) queue
     → IfSome (choice_between s history now (candidates s draining queue) (lowest_due s history now)) (λ c. IfSome (source_in c) P)
 unfolding needed
@@ -83,7 +83,7 @@ find-below p a (suc n) =
     more (Some k) h = (omega arith, h.1)
 
 -- the lowest rank with a refresh that is due is one of the ranks, and has one
-pub lowest-is_due : (s : Config) (history : List CommandRow) (now : ℕ) → IfSome (lowest_due s history now) (λ rank. (rank < s.ranks) × (0 < due s rank history now))
+pub lowest-is_due : (s : Config) (history : List IssuedCommand) (now : ℕ) → IfSome (lowest_due s history now) (λ rank. (rank < s.ranks) × (0 < due s rank history now))
 unfolding lowest_due
 lowest-is_due s history now = positive (find (λ rank. ltb 0 (due s rank history now)) (below s.ranks)) (find-below (λ rank. ltb 0 (due s rank history now)) 0 s.ranks)
   where
@@ -92,7 +92,7 @@ lowest-is_due s history now = positive (find (λ rank. ltb 0 (due s rank history
     positive (Some k) h = (omega arith, ltb-true 0 (due s k history now) h.1)
 
 -- what is chosen speaks of one of the ranks
-pub chosen-rank : (s : Config) (history : List CommandRow) (now : ℕ) (draining : Bool) (queue : List Request) → Each (λ (r : Request). r.place.rank < s.ranks) queue
+pub chosen-rank : (s : Config) (history : List IssuedCommand) (now : ℕ) (draining : Bool) (queue : List Request) → Each (λ (r : Request). r.place.rank < s.ranks) queue
     → IfSome (choice_between s history now (candidates s draining queue) (lowest_due s history now)) (λ c. rank_of c < s.ranks)
 unfolding needed
 chosen-rank s history now draining queue h =
@@ -109,7 +109,7 @@ chosen-rank s history now draining queue h =
 abbrev pub NamesBank : Config → Command → Type 0
 NamesBank s c = IfSome (bank_of c) (λ b. (b.rank < s.ranks) × (b.group < 4) × (b.bank < 4))
 
-pub chosen-bank : (s : Config) (history : List CommandRow) (now : ℕ) (draining : Bool) (queue : List Request)
+pub chosen-bank : (s : Config) (history : List IssuedCommand) (now : ℕ) (draining : Bool) (queue : List Request)
     → Each (λ (r : Request). (r.place.rank < s.ranks) × (r.place.group < 4) × (r.place.bank < 4)) queue
     → IfSome (choice_between s history now (candidates s draining queue) (lowest_due s history now)) (NamesBank s)
 unfolding needed
@@ -120,7 +120,7 @@ chosen-bank s history now draining queue h =
     (ifsome-all _ (lowest_due s history now) (λ rank. refresh-cases (NamesBank s) s history rank tt tt))
 
 -- a REF is chosen only for a rank with a refresh that is due
-abbrev pub RefIsDue : Config → List CommandRow → ℕ → Command → Type 0
+abbrev pub RefIsDue : Config → List IssuedCommand → ℕ → Command → Type 0
 RefIsDue s history now (Ref rank) = (rank < s.ranks) × (0 < due s rank history now)
 RefIsDue s history now (Act bank row source) = Unit {0}
 RefIsDue s history now (Rd bank row column source) = Unit {0}
@@ -128,7 +128,7 @@ RefIsDue s history now (Wr bank row column source) = Unit {0}
 RefIsDue s history now (Pre bank source) = Unit {0}
 RefIsDue s history now (Prea rank) = Unit {0}
 
-pub chosen-ref_is_due : (s : Config) (history : List CommandRow) (now : ℕ) (draining : Bool) (queue : List Request)
+pub chosen-ref_is_due : (s : Config) (history : List IssuedCommand) (now : ℕ) (draining : Bool) (queue : List Request)
     → IfSome (choice_between s history now (candidates s draining queue) (lowest_due s history now)) (RefIsDue s history now)
 unfolding needed
 chosen-ref_is_due s history now draining queue =

@@ -11,9 +11,9 @@ use Rattle.sim_base.proofs.Same.{drains-same}
 use Rattle.sim_base.specs.declared.config.Config.{Config}
 use Rattle.sim_base.specs.Counts.{has_refresh_due, queue_length}
 use Rattle.sim_base.specs.History.{issued_commands}
-use Rattle.sim_base.specs.Scheduling.{waiting, is_waiting, drains_with, drains, lowest_due, candidates, choice_between, choice}
+use Rattle.sim_base.specs.Scheduling.{queued_requests, is_queued, drains_with, drains, lowest_due, candidates, choice_between, choice}
 use Rattle.sim_base.specs.declared.command.Command.{Command}
-use Rattle.sim_base.specs.declared.command.CommandRow.{CommandRow}
+use Rattle.sim_base.specs.declared.command.IssuedCommand.{IssuedCommand}
 use Rattle.sim_base.specs.declared.message.Message.{Message}
 use Rattle.sim_base.specs.declared.message.Request.{Request}
 use Rattle.statistics.specs.Channels.{channel_cycle_with, channel_cycle, channel_joined}
@@ -25,35 +25,35 @@ use Rattle.statistics.proofs.ChannelSteps.{issued_now, issued_commands-push, cha
 use Rattle.channel_step.specs.Past.{requests_of, CarriesRequest, IsOther, Differ, is_named}
 use Rattle.channel_step.specs.Fit.{IsUnnamed}
 use Rattle.channel_step.specs.Stands.{marks_of, Recalls, HasJoined}
-use Rattle.channel_step.proofs.Requests.{ArrivedBefore, requests-arrived, carries-stamped, waiting-arrivals, waiting-command, unserved_by}
+use Rattle.channel_step.proofs.Requests.{ArrivedBefore, requests-arrived, carries-stamped, queued_requests-arrivals, queued_requests-command, unserved_by}
 use Rattle.channel_step.proofs.Spans.{queue-next, drains-next, drains_before-row, choice-next}
 use Rattle.channel_step.proofs.Marks.{unnamed-marks}
 
--- the requests that arrive in the cycle after these rows, and that no command has named
-pub record Arrives (s : Config) (channel : ℕ) (rows : List (Option Command)) (mail new : List Message) : Type 0 where
+-- the requests that arrive in the cycle after these steps, and that no command has named
+pub record Arrives (s : Config) (channel : ℕ) (steps : List (Option Command)) (mail new : List Message) : Type 0 where
   pub requests : Each (CarriesRequest s channel) new
-  pub now : Each (λ (m : Message). m.arrival ≡ length rows) new
+  pub now : Each (λ (m : Message). m.arrival ≡ length steps) new
   pub differ : Differ (requests_of (mail ++ new))
-  pub unnamed : Each (IsUnnamed (issued_commands channel rows)) (requests_of new)
+  pub unnamed : Each (IsUnnamed (issued_commands channel steps)) (requests_of new)
 
 not_before : (now : ℕ) (new : List Message) → Each (λ (m : Message). m.arrival ≡ now) new → NotBefore now new
 not_before now new h = Each-weaker (λ (m : Message). m.arrival ≡ now) (λ (m : Message). now ≤ m.arrival) (λ m e. omega arith) new h
 
 -- when the requests of a cycle have joined
-pub joined : (queue : List Request) (drained : Bool) (marks : List Bool) (stats : ChannelStats) (s : Config) (channel : ℕ) (rows : List (Option Command)) (mail new : List Message)
-    → Recalls queue drained marks stats s channel rows mail → Arrives s channel rows mail new
+pub joined : (queue : List Request) (drained : Bool) (marks : List Bool) (stats : ChannelStats) (s : Config) (channel : ℕ) (steps : List (Option Command)) (mail new : List Message)
+    → Recalls queue drained marks stats s channel steps mail → Arrives s channel steps mail new
     → HasJoined (queue ++ requests_of new) (drains_with s drained (count_by (λ r. r.write) (queue ++ requests_of new))) (marks ++ map (λ r. false) (requests_of new)) stats
-    s channel rows (mail ++ new)
-joined queue drained marks stats s channel rows mail new h a =
-    let now = length rows in
-    let history = issued_commands channel rows in
+    s channel steps (mail ++ new)
+joined queue drained marks stats s channel steps mail new h a =
+    let now = length steps in
+    let history = issued_commands channel steps in
     let before : Each (ArrivedBefore now) (requests_of mail) = requests-arrived s channel now mail h.past.requests h.past.arrived in
     let soon : Each (λ (m : Message). m.arrival < now + 1) new = Each-weaker (λ (m : Message). m.arrival ≡ now) (λ (m : Message). m.arrival < now + 1) (λ m e. omega arith) new a.now in
     let stamped = carries-stamped s channel mail h.past.requests in
     let later = carries-stamped s channel new a.requests in
-    let same : queue ++ requests_of new ≡ waiting history (mail ++ new) (now + 1) =
+    let same : queue ++ requests_of new ≡ queued_requests history (mail ++ new) (now + 1) =
     ap (λ q. q ++ requests_of new) h.queue_is
-    ∙ sym (waiting-arrivals history mail new now before (requests-arrived s channel (now + 1) new a.requests soon) a.unnamed) in
+    ∙ sym (queued_requests-arrivals history mail new now before (requests-arrived s channel (now + 1) new a.requests soon) a.unnamed) in
     record {
       requests = Each-append (CarriesRequest s channel) mail new h.past.requests a.requests;
       arrived = Each-append (λ (m : Message). m.arrival < now + 1) mail new (Each-weaker (λ (m : Message). m.arrival < now) (λ (m : Message). m.arrival < now + 1) (λ m l. omega arith) mail h.past.arrived) soon;
@@ -61,20 +61,20 @@ joined queue drained marks stats s channel rows mail new h a =
       queue_is = same;
       drained_is =
           ap₂ (λ d q. drains_with s d (count_by (λ r. r.write) q))
-          (h.drained_is ∙ sym (drains-same s channel rows (mail ++ new) mail now (AgreeUpTo-later now mail new stamped later (not_before now new a.now)))) same
-          ∙ sym (drains-next s channel rows (mail ++ new));
+          (h.drained_is ∙ sym (drains-same s channel steps (mail ++ new) mail now (AgreeUpTo-later now mail new stamped later (not_before now new a.now)))) same
+          ∙ sym (drains-next s channel steps (mail ++ new));
       marks_are =
           ap₂ (λ x y. x ++ y) h.marks_are (sym (unnamed-marks history (requests_of new) a.unnamed))
           ∙ sym (map-append (is_named history) queue (requests_of new));
-      stats_are = h.stats_are ∙ sym (channel_stats-later s channel rows mail new stamped later (not_before now new a.now));
+      stats_are = h.stats_are ∙ sym (channel_stats-later s channel steps mail new stamped later (not_before now new a.now));
     }
 
 -- what the channel then chooses
-pub joined-choice : (queue : List Request) (drained : Bool) (marks : List Bool) (stats : ChannelStats) (s : Config) (channel : ℕ) (rows : List (Option Command)) (mail : List Message)
-    → HasJoined queue drained marks stats s channel rows mail
-    → choice s channel rows mail
-    ≡ choice_between s (issued_commands channel rows) (length rows) (candidates s drained queue) (lowest_due s (issued_commands channel rows) (length rows))
-joined-choice queue drained marks stats s channel rows mail h = choice-next s channel rows mail queue drained (sym h.queue_is) (sym h.drained_is)
+pub joined-choice : (queue : List Request) (drained : Bool) (marks : List Bool) (stats : ChannelStats) (s : Config) (channel : ℕ) (steps : List (Option Command)) (mail : List Message)
+    → HasJoined queue drained marks stats s channel steps mail
+    → choice s channel steps mail
+    ≡ choice_between s (issued_commands channel steps) (length steps) (candidates s drained queue) (lowest_due s (issued_commands channel steps) (length steps))
+joined-choice queue drained marks stats s channel steps mail h = choice-next s channel steps mail queue drained (sym h.queue_is) (sym h.drained_is)
 
 -- the queue after a command or none
 abbrev pub queue_after : Option Command → List Request → List Request
@@ -82,59 +82,59 @@ queue_after None queue = queue
 queue_after (Some command) queue = unserved_by command queue
 
 -- the marks after it, of the requests that are left
-abbrev pub marks_after : List CommandRow → ℕ → ℕ → Option Command → List Request → List Bool
+abbrev pub marks_after : List IssuedCommand → ℕ → ℕ → Option Command → List Request → List Bool
 marks_after history channel now o queue = marks_of (history ++ issued_now channel now o) (queue_after o queue)
 
-waiting-after : (history : List CommandRow) (channel now : ℕ) (o : Option Command) (mail : List Message) (until : ℕ)
-    → waiting (history ++ issued_now channel now o) mail until ≡ queue_after o (waiting history mail until)
-waiting-after history channel now None mail until = ap (λ x. waiting x mail until) (append-nil history)
-waiting-after history channel now (Some command) mail until = waiting-command history (record { cycle = now; channel = channel; command = command }) mail until
+queued_requests-after : (history : List IssuedCommand) (channel now : ℕ) (o : Option Command) (mail : List Message) (until : ℕ)
+    → queued_requests (history ++ issued_now channel now o) mail until ≡ queue_after o (queued_requests history mail until)
+queued_requests-after history channel now None mail until = ap (λ x. queued_requests x mail until) (append-nil history)
+queued_requests-after history channel now (Some command) mail until = queued_requests-command history (record { cycle = now; channel = channel; command = command }) mail until
 
--- whether a refresh is due in the cycle after these rows
-pub has_due-next : (s : Config) (channel : ℕ) (rows : List (Option Command)) → has_refresh_due s channel rows (length rows) ≡ is_some (lowest_due s (issued_commands channel rows) (length rows))
+-- whether a refresh is due in the cycle after these steps
+pub has_due-next : (s : Config) (channel : ℕ) (steps : List (Option Command)) → has_refresh_due s channel steps (length steps) ≡ is_some (lowest_due s (issued_commands channel steps) (length steps))
 unfolding has_refresh_due
-has_due-next s channel rows = ap (λ x. is_some (lowest_due s (issued_commands channel x) (length rows))) (take-length rows)
+has_due-next s channel steps = ap (λ x. is_some (lowest_due s (issued_commands channel x) (length steps))) (take-length steps)
 
 -- what the next cycle counts
-pub cycle-with : (s : Config) (channel : ℕ) (rows : List (Option Command)) (mail : List Message) (o : Option Command)
-    → channel_cycle s channel rows mail o
-    ≡ channel_cycle_with s (issued_commands channel rows) (length (waiting (issued_commands channel rows) mail (length rows + 1)))
-    (is_some (lowest_due s (issued_commands channel rows) (length rows))) (drains s channel rows mail (length rows)) o
+pub cycle-with : (s : Config) (channel : ℕ) (steps : List (Option Command)) (mail : List Message) (o : Option Command)
+    → channel_cycle s channel steps mail o
+    ≡ channel_cycle_with s (issued_commands channel steps) (length (queued_requests (issued_commands channel steps) mail (length steps + 1)))
+    (is_some (lowest_due s (issued_commands channel steps) (length steps))) (drains s channel steps mail (length steps)) o
 unfolding channel_cycle queue_length
-cycle-with s channel rows mail o =
-    ap₂ (λ q d. channel_cycle_with s (issued_commands channel rows) q d (drains s channel rows mail (length rows)) o)
-    (ap length (queue-next channel rows mail)) (has_due-next s channel rows)
+cycle-with s channel steps mail o =
+    ap₂ (λ q d. channel_cycle_with s (issued_commands channel steps) q d (drains s channel steps mail (length steps)) o)
+    (ap length (queue-next channel steps mail)) (has_due-next s channel steps)
 
 -- what the channel keeps after it
-pub recalled : (queue : List Request) (drained : Bool) (marks : List Bool) (stats : ChannelStats) (s : Config) (channel : ℕ) (rows : List (Option Command)) (mail : List Message)
-    → HasJoined queue drained marks stats s channel rows mail
-    → let o = choice s channel rows mail in
-    let history = issued_commands channel rows in
-    Recalls (queue_after o queue) drained (marks_after history channel (length rows) o queue)
-    (channel_joined stats (channel_cycle_with s history (length queue) (is_some (lowest_due s history (length rows))) drained o)) s channel (rows ++ o ∷ []) mail
-recalled queue drained marks stats s channel rows mail h =
-    let o = choice s channel rows mail in
-    let history = issued_commands channel rows in
-    let now = length rows in
-    let len : length (rows ++ o ∷ []) ≡ suc now = length-push_suc rows o in
+pub recalled : (queue : List Request) (drained : Bool) (marks : List Bool) (stats : ChannelStats) (s : Config) (channel : ℕ) (steps : List (Option Command)) (mail : List Message)
+    → HasJoined queue drained marks stats s channel steps mail
+    → let o = choice s channel steps mail in
+    let history = issued_commands channel steps in
+    Recalls (queue_after o queue) drained (marks_after history channel (length steps) o queue)
+    (channel_joined stats (channel_cycle_with s history (length queue) (is_some (lowest_due s history (length steps))) drained o)) s channel (steps ++ o ∷ []) mail
+recalled queue drained marks stats s channel steps mail h =
+    let o = choice s channel steps mail in
+    let history = issued_commands channel steps in
+    let now = length steps in
+    let len : length (steps ++ o ∷ []) ≡ suc now = length-push_suc steps o in
     let one : now + 1 ≡ suc now = add-one now in
-    let issued = issued_commands-push channel rows o in
+    let issued = issued_commands-push channel steps o in
     record {
       past = record {
         requests = h.requests;
-        arrived = Each-weaker (λ (m : Message). m.arrival < now + 1) (λ (m : Message). m.arrival < length (rows ++ o ∷ [])) (λ m l. omega arith) mail h.arrived;
+        arrived = Each-weaker (λ (m : Message). m.arrival < now + 1) (λ (m : Message). m.arrival < length (steps ++ o ∷ [])) (λ m l. omega arith) mail h.arrived;
         differ = h.differ;
       };
       queue_is =
           ap (queue_after o) h.queue_is
-          ∙ sym (waiting-after history channel now o mail (now + 1))
-          ∙ ap₂ (λ x u. waiting x mail u) (sym issued) (one ∙ sym len);
-      drained_is = h.drained_is ∙ sym (drains_before-row s channel rows o mail);
+          ∙ sym (queued_requests-after history channel now o mail (now + 1))
+          ∙ ap₂ (λ x u. queued_requests x mail u) (sym issued) (one ∙ sym len);
+      drained_is = h.drained_is ∙ sym (drains_before-row s channel steps o mail);
       marks_are = ap (λ x. marks_of x (queue_after o queue)) (sym issued);
       stats_are =
           ap₂ (λ q d. channel_joined stats (channel_cycle_with s history (length q) (is_some (lowest_due s history now)) d o)) h.queue_is h.drained_is
-          ∙ ap₂ channel_joined h.stats_are (sym (cycle-with s channel rows mail o))
-          ∙ sym (channel_stats-push s channel rows o mail (choice-not_late s channel rows mail));
+          ∙ ap₂ channel_joined h.stats_are (sym (cycle-with s channel steps mail o))
+          ∙ sym (channel_stats-push s channel steps o mail (choice-not_late s channel steps mail));
     }
 
 Differ-filter : (p : Request → Bool) (rs : List Request) → Differ rs → Differ (filter p rs)
@@ -146,8 +146,8 @@ Differ-filter p (r ∷ rs) d = by (p r) (Differ-filter p rs d.1)
     by false rest = rest
 
 -- the requests that wait are of different entries
-pub joined-differ : (queue : List Request) (drained : Bool) (marks : List Bool) (stats : ChannelStats) (s : Config) (channel : ℕ) (rows : List (Option Command)) (mail : List Message)
-    → HasJoined queue drained marks stats s channel rows mail → Differ queue
-unfolding waiting
-joined-differ queue drained marks stats s channel rows mail h =
-    subst Differ (sym h.queue_is) (Differ-filter (is_waiting (issued_commands channel rows) (length rows + 1)) (requests_of mail) h.differ)
+pub joined-differ : (queue : List Request) (drained : Bool) (marks : List Bool) (stats : ChannelStats) (s : Config) (channel : ℕ) (steps : List (Option Command)) (mail : List Message)
+    → HasJoined queue drained marks stats s channel steps mail → Differ queue
+unfolding queued_requests
+joined-differ queue drained marks stats s channel steps mail h =
+    subst Differ (sym h.queue_is) (Differ-filter (is_queued (issued_commands channel steps) (length steps + 1)) (requests_of mail) h.differ)

@@ -14,9 +14,9 @@ some-drains s n true e = grind arith
 some-drains s n false e = grind arith
 
 -- a channel in a cycle counts cycles of draining where it ever drains
-pub counts-drains : (c : Channel) (s : Config) (channel : ℕ) (rows : List (Option Command)) (mail : List Message) → IsInCycle c s channel rows mail → CountsDrains c
+pub counts-drains : (c : Channel) (s : Config) (channel : ℕ) (steps : List (Option Command)) (mail : List Message) → IsInCycle c s channel steps mail → CountsDrains c
 unfolding channel_stats
-counts-drains c s channel rows mail h =
+counts-drains c s channel steps mail h =
     ap (λ (x : ChannelStats). is_some x.draining) h.joined.stats_are
     ∙ some-drains s _ (nat_lt 0 s.write_high) refl
     ∙ ap (λ (x : Config). nat_lt 0 x.write_high) (sym h.made_for.config_is)

@@ -4,12 +4,12 @@ use Rattle.std.specs.Prelude.{IfSome, MatchOption, option_map, slice_get}
 use Rattle.sim_base.specs.declared.config.Config.{Config}
 use Rattle.sim_base.specs.Scheduling.{candidates, choice_between, lowest_due, column_command, is_column_command}
 use Rattle.sim_base.specs.declared.command.Command.{Command}
-use Rattle.sim_base.specs.declared.command.CommandRow.{CommandRow}
+use Rattle.sim_base.specs.declared.command.IssuedCommand.{IssuedCommand}
 use Rattle.sim_base.specs.declared.message.Request.{Request}
 use Rattle.queue.specs.View.{QueueView, is_draining}
 use Rattle.fr_fcfs.specs.Arrivals.{KeepsNext}
 use Rattle.fr_fcfs.specs.Choices.{choice_in, IsFor, Serves}
-use Rattle.channel_step.specs.Queued.{settled}
+use Rattle.channel_step.specs.Queued.{drain_decided}
 use Rattle.sim_base.specs.History.{issued_commands}
 use Rattle.sim_base.specs.declared.message.Message.{Message}
 use Rattle.fr_fcfs.specs.Cycles.{IsNext}
@@ -84,15 +84,15 @@ ahead-later commands requests from later (Known None) l h = λ t m. h t (omega a
 ahead-later commands requests from later (Known (Some next)) l h =
     record { then_is = h.then_is; none_before = λ t m k. h.none_before t (omega arith) k; place = h.place }
 
--- a queue that is settled drains as before
-pub settled-same : (queue : QueueView) → is_draining queue ≡ is_draining (settled queue)
-settled-same queue = sym (settled_twice _ _ queue.settled)
+-- a queue that is decided drains as before
+pub drain_decided-same : (queue : QueueView) → is_draining queue ≡ is_draining (drain_decided queue)
+drain_decided-same queue = sym (settled_twice _ _ queue.drain_decided)
 
--- and it is so for the queue when that is settled
-ahead-settled : (s : Config) (history : List CommandRow) (queue : QueueView) (from : ℕ) (ahead : Ahead) → IsAhead (choice_in s history queue) queue.requests from ahead
-    → IsAhead (choice_in s history (settled queue)) queue.requests from ahead
-ahead-settled s history queue from ahead h =
-    subst (λ d. IsAhead (λ t. choice_between s history t (candidates s d queue.requests) (lowest_due s history t)) queue.requests from ahead) (settled-same queue) h
+-- and it is so for the queue when that is decided
+ahead-drain_decided : (s : Config) (history : List IssuedCommand) (queue : QueueView) (from : ℕ) (ahead : Ahead) → IsAhead (choice_in s history queue) queue.requests from ahead
+    → IsAhead (choice_in s history (drain_decided queue)) queue.requests from ahead
+ahead-drain_decided s history queue from ahead h =
+    subst (λ d. IsAhead (λ t. choice_between s history t (candidates s d queue.requests) (lowest_due s history t)) queue.requests from ahead) (drain_decided-same queue) h
 
 -- what was found is known from the cycle on in which it was looked for
 found-ahead : (commands : ℕ → Option Command) (requests : List Request) (now : ℕ) (next : Option (ℕ × Choice)) → IsNext commands now next → IfSome next (λ n. IsFor requests n.1)
@@ -100,10 +100,10 @@ found-ahead : (commands : ℕ → Option Command) (requests : List Request) (now
 found-ahead commands requests now None h place = h
 found-ahead commands requests now (Some next) h place = record { then_is = h.then_is; none_before = h.none_before; place = place }
 
-pub kept-in_cycle : (c : Channel) (s : Config) (channel : ℕ) (rows : List (Option Command)) (mail : List Message) (now : ℕ) (next : Option (ℕ × Choice)) → IsInCycle c s channel rows mail → now ≡ c.cycle
-    → IsFound c s (issued_commands channel rows) now next → IsInCycle (record c { ahead = Known next }) s channel rows mail
-kept-in_cycle c s channel rows mail now next h at f =
-    let commands = choice_in s (issued_commands channel rows) c.waiting.queue in
+pub kept-in_cycle : (c : Channel) (s : Config) (channel : ℕ) (steps : List (Option Command)) (mail : List Message) (now : ℕ) (next : Option (ℕ × Choice)) → IsInCycle c s channel steps mail → now ≡ c.cycle
+    → IsFound c s (issued_commands channel steps) now next → IsInCycle (record c { ahead = Known next }) s channel steps mail
+kept-in_cycle c s channel steps mail now next h at f =
+    let commands = choice_in s (issued_commands channel steps) c.marked_queue.queue in
     record {
       made_for = record {
         config_is = h.made_for.config_is;
@@ -117,12 +117,12 @@ kept-in_cycle c s channel rows mail now next h at f =
       };
       cycle_is = h.cycle_is;
       joined = h.joined;
-      heads_stand = h.heads_stand;
+      candidates_stand = h.candidates_stand;
       banks_stand = h.banks_stand;
       refreshes_stand = h.refreshes_stand;
       foresees =
-          foreseen-from commands c.waiting.queue.requests c.cycle (Known next)
-          (subst (λ t. IsAhead commands c.waiting.queue.requests t (Known next)) at (found-ahead commands c.waiting.queue.requests now next f.0 f.1));
+          foreseen-from commands c.marked_queue.queue.requests c.cycle (Known next)
+          (subst (λ t. IsAhead commands c.marked_queue.queue.requests t (Known next)) at (found-ahead commands c.marked_queue.queue.requests now next f.0 f.1));
     }
 
 -- the same of what is foreseen
@@ -133,11 +133,11 @@ pub foreseen-later : (commands : ℕ → Option Command) (requests : List Reques
 foreseen-later commands requests from later ahead l h =
     foreseen-from commands requests later ahead (ahead-later commands requests from later ahead l (ahead-from commands requests from ahead h))
 
-pub foreseen-settled : (s : Config) (history : List CommandRow) (queue : QueueView) (from : ℕ) (ahead : Ahead) → IsForeseen (choice_in s history queue) queue.requests from ahead
-    → IsForeseen (choice_in s history (settled queue)) queue.requests from ahead
-foreseen-settled s history queue from ahead h =
-    foreseen-from (choice_in s history (settled queue)) queue.requests from ahead
-    (ahead-settled s history queue from ahead (ahead-from (choice_in s history queue) queue.requests from ahead h))
+pub foreseen-drain_decided : (s : Config) (history : List IssuedCommand) (queue : QueueView) (from : ℕ) (ahead : Ahead) → IsForeseen (choice_in s history queue) queue.requests from ahead
+    → IsForeseen (choice_in s history (drain_decided queue)) queue.requests from ahead
+foreseen-drain_decided s history queue from ahead h =
+    foreseen-from (choice_in s history (drain_decided queue)) queue.requests from ahead
+    (ahead-drain_decided s history queue from ahead (ahead-from (choice_in s history queue) queue.requests from ahead h))
 
 -- a place among the first requests is one among all
 get_taken : {X : Type 0} (n k : ℕ) (xs : List X) (x : X) → slice_get (take n xs) k ≡ Some x → slice_get xs k ≡ Some x

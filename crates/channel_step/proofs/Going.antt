@@ -45,165 +45,165 @@ in_span-from : (now next until : ℕ) (inbox : List Message) → Each (λ (m : M
 in_span-from now next until [] h k = tt
 in_span-from now next until (m ∷ ms) h k = ((h.0, k.0.1), in_span-from now next until ms h.1 k.1)
 
--- the rows of the idle cycles before the first message, and what is fit after them
-idle-rows : (s : Config) (channel : ℕ) (rows : List (Option Command)) (mail inbox : List Message) (n : ℕ) → Each (CarriesRequest s channel) mail → Each (CarriesRequest s channel) inbox
-    → Each (λ (m : Message). length rows + n ≤ m.arrival) inbox → IsIdle s channel rows mail n → channel_run s channel rows (mail ++ inbox) n ≡ rows ++ replicate n None
-idle-rows s channel rows mail inbox n old new late idle =
-    channel_run-same s channel rows (mail ++ inbox) mail n (AgreeUpTo-later (length rows + n) mail inbox (carries-stamped s channel mail old) (carries-stamped s channel inbox new) late)
-    ∙ idle-run s channel rows mail n idle
+-- the steps of the idle cycles before the first message, and what is fit after them
+idle-steps : (s : Config) (channel : ℕ) (steps : List (Option Command)) (mail inbox : List Message) (n : ℕ) → Each (CarriesRequest s channel) mail → Each (CarriesRequest s channel) inbox
+    → Each (λ (m : Message). length steps + n ≤ m.arrival) inbox → IsIdle s channel steps mail n → channel_run s channel steps (mail ++ inbox) n ≡ steps ++ replicate n None
+idle-steps s channel steps mail inbox n old new late idle =
+    channel_run-same s channel steps (mail ++ inbox) mail n (AgreeUpTo-later (length steps + n) mail inbox (carries-stamped s channel mail old) (carries-stamped s channel inbox new) late)
+    ∙ idle-run s channel steps mail n idle
 
-idle-fit : (s : Config) (channel : ℕ) (rows : List (Option Command)) (mail inbox : List Message) (now until n : ℕ) → length rows ≡ now → IsFit s channel rows mail inbox now until
-    → Each (λ (m : Message). now + n ≤ m.arrival) inbox → channel_run s channel rows (mail ++ inbox) n ≡ rows ++ replicate n None
-    → IsFit s channel (rows ++ replicate n None) mail inbox (now + n) until
-idle-fit s channel rows mail inbox now until n at f late is =
+idle-fit : (s : Config) (channel : ℕ) (steps : List (Option Command)) (mail inbox : List Message) (now until n : ℕ) → length steps ≡ now → IsFit s channel steps mail inbox now until
+    → Each (λ (m : Message). now + n ≤ m.arrival) inbox → channel_run s channel steps (mail ++ inbox) n ≡ steps ++ replicate n None
+    → IsFit s channel (steps ++ replicate n None) mail inbox (now + n) until
+idle-fit s channel steps mail inbox now until n at f late is =
     let all = mail ++ inbox in
     record {
       requests = f.requests;
       by_age = f.by_age;
       in_span = in_span-from now (now + n) until inbox late f.in_span;
       differ = f.differ;
-      unnamed = subst (λ x. Each (IsUnnamed x) (requests_of inbox)) (sym (idle-issued channel rows n)) f.unnamed;
+      unnamed = subst (λ x. Each (IsUnnamed x) (requests_of inbox)) (sym (idle-issued channel steps n)) f.unnamed;
       room = λ k l.
           let e : now + (n + k) ≡ now + n + k = omega arith in
-          let x : queue_length channel (channel_run s channel rows all (n + k)) all (now + (n + k)) ≡ queue_length channel (channel_run s channel (rows ++ replicate n None) all k) all (now + n + k) =
-          ap₂ (λ r t. queue_length channel r all t) (channel_run-more s channel rows all n k ∙ ap (λ r. channel_run s channel r all k) is) e in
+          let x : queue_length channel (channel_run s channel steps all (n + k)) all (now + (n + k)) ≡ queue_length channel (channel_run s channel (steps ++ replicate n None) all k) all (now + n + k) =
+          ap₂ (λ r t. queue_length channel r all t) (channel_run-more s channel steps all n k ∙ ap (λ r. channel_run s channel r all k) is) e in
           omega (arith, x, f.room (n + k) (omega arith));
     }
 
 -- what is known of the way of a channel from a cycle on, in which the first n messages arrive, to the next one with an arrival
-pub record Goes (s : Config) (channel : ℕ) (rows : List (Option Command)) (mail inbox : List Message) (now until n end : ℕ) : Type 0 where
-  pub at : length rows ≡ now
-  pub fit : IsFit s channel rows mail inbox now until
+pub record Goes (s : Config) (channel : ℕ) (steps : List (Option Command)) (mail inbox : List Message) (now until n end : ℕ) : Type 0 where
+  pub at : length steps ≡ now
+  pub fit : IsFit s channel steps mail inbox now until
   pub span : now < until
   pub due : n ≡ due_count inbox now
   pub end_is : end ≡ first_arrival (drop n inbox) until
   pub carry : Each (CarriesRequest s channel) (mail ++ take n inbox)
 
 -- the others arrive later
-goes-late : (s : Config) (channel : ℕ) (rows : List (Option Command)) (mail inbox : List Message) (now until n end : ℕ) → Goes s channel rows mail inbox now until n end
+goes-late : (s : Config) (channel : ℕ) (steps : List (Option Command)) (mail inbox : List Message) (now until n end : ℕ) → Goes s channel steps mail inbox now until n end
     → Each (λ (m : Message). now + 1 ≤ m.arrival) (drop n inbox)
-goes-late s channel rows mail inbox now until n end h =
+goes-late s channel steps mail inbox now until n end h =
     let at = h.at in
     subst (λ k. Each (λ (m : Message). now + 1 ≤ m.arrival) (drop k inbox)) (sym h.due)
-    (Each-weaker (λ (m : Message). length rows + 1 ≤ m.arrival) (λ (m : Message). now + 1 ≤ m.arrival) (λ m l. omega arith) (drop (due_count inbox now) inbox)
-    (fit-later s channel rows mail inbox now until at h.fit).1)
+    (Each-weaker (λ (m : Message). length steps + 1 ≤ m.arrival) (λ (m : Message). now + 1 ≤ m.arrival) (λ m l. omega arith) (drop (due_count inbox now) inbox)
+    (fit-later s channel steps mail inbox now until at h.fit).1)
 
 -- the first of them in the span
-pub goes-end : (s : Config) (channel : ℕ) (rows : List (Option Command)) (mail inbox : List Message) (now until n end : ℕ) → Goes s channel rows mail inbox now until n end
+pub goes-end : (s : Config) (channel : ℕ) (steps : List (Option Command)) (mail inbox : List Message) (now until n end : ℕ) → Goes s channel steps mail inbox now until n end
     → (now + 1 ≤ end) × (end ≤ until)
-goes-end s channel rows mail inbox now until n end h =
+goes-end s channel steps mail inbox now until n end h =
     let span = h.span in
     subst (λ t. (now + 1 ≤ t) × (t ≤ until)) (sym h.end_is)
     (arrival-within (now + 1) until (drop n inbox) (omega arith)
-    (in_span-from now (now + 1) until (drop n inbox) (goes-late s channel rows mail inbox now until n end h) (fit-taken s channel rows mail inbox now until n h.fit).in_span))
+    (in_span-from now (now + 1) until (drop n inbox) (goes-late s channel steps mail inbox now until n end h) (fit-taken s channel steps mail inbox now until n h.fit).in_span))
 
 whole : (mail inbox : List Message) (n : ℕ) → mail ++ inbox ≡ (mail ++ take n inbox) ++ drop n inbox
 whole mail inbox n = ap (λ x. mail ++ x) (sym (take-append-drop n inbox)) ∙ sym (append_assoc mail (take n inbox) (drop n inbox))
 
--- the rows of idle cycles before the next message, and what is fit after them
-goes-idle : (s : Config) (channel : ℕ) (rows : List (Option Command)) (mail inbox : List Message) (now until n end cycle : ℕ) → Goes s channel rows mail inbox now until n end
-    → now ≤ cycle → cycle ≤ end → IsIdle s channel rows (mail ++ take n inbox) (cycle - length rows)
-    → (channel_run s channel rows (mail ++ inbox) (cycle - now) ≡ rows ++ replicate (cycle - length rows) None)
-    × IsFit s channel (rows ++ replicate (cycle - length rows) None) (mail ++ take n inbox) (drop n inbox) cycle until
-goes-idle s channel rows mail inbox now until n end cycle h from before idle =
+-- the steps of idle cycles before the next message, and what is fit after them
+goes-idle : (s : Config) (channel : ℕ) (steps : List (Option Command)) (mail inbox : List Message) (now until n end cycle : ℕ) → Goes s channel steps mail inbox now until n end
+    → now ≤ cycle → cycle ≤ end → IsIdle s channel steps (mail ++ take n inbox) (cycle - length steps)
+    → (channel_run s channel steps (mail ++ inbox) (cycle - now) ≡ steps ++ replicate (cycle - length steps) None)
+    × IsFit s channel (steps ++ replicate (cycle - length steps) None) (mail ++ take n inbox) (drop n inbox) cycle until
+goes-idle s channel steps mail inbox now until n end cycle h from before idle =
     let at = h.at in
-    let k = cycle - length rows in
+    let k = cycle - length steps in
     let there = mail ++ take n inbox in
     let rest = drop n inbox in
-    let f = fit-taken s channel rows mail inbox now until n h.fit in
+    let f = fit-taken s channel steps mail inbox now until n h.fit in
     let then : now + k ≡ cycle = omega arith in
     let much : cycle - now ≡ k = omega arith in
     let late : Each (λ (m : Message). cycle ≤ m.arrival) rest = arrive-from cycle until rest f.by_age (let e = h.end_is in omega arith) in
-    let is : channel_run s channel rows (there ++ rest) k ≡ rows ++ replicate k None =
-    idle-rows s channel rows there rest k h.carry f.requests (Each-weaker (λ (m : Message). cycle ≤ m.arrival) (λ (m : Message). length rows + k ≤ m.arrival) (λ m l. omega arith) rest late) idle in (
-      ap₂ (λ m j. channel_run s channel rows m j) (whole mail inbox n) much ∙ is,
-      subst (λ t. IsFit s channel (rows ++ replicate k None) there rest t until) then
-          (idle-fit s channel rows there rest now until k at f (Each-weaker (λ (m : Message). cycle ≤ m.arrival) (λ (m : Message). now + k ≤ m.arrival) (λ m l. omega arith) rest late) is),
+    let is : channel_run s channel steps (there ++ rest) k ≡ steps ++ replicate k None =
+    idle-steps s channel steps there rest k h.carry f.requests (Each-weaker (λ (m : Message). cycle ≤ m.arrival) (λ (m : Message). length steps + k ≤ m.arrival) (λ m l. omega arith) rest late) idle in (
+      ap₂ (λ m j. channel_run s channel steps m j) (whole mail inbox n) much ∙ is,
+      subst (λ t. IsFit s channel (steps ++ replicate k None) there rest t until) then
+          (idle-fit s channel steps there rest now until k at f (Each-weaker (λ (m : Message). cycle ≤ m.arrival) (λ (m : Message). now + k ≤ m.arrival) (λ m l. omega arith) rest late) is),
     )
 
-pub goes-some : (s : Config) (channel : ℕ) (rows : List (Option Command)) (mail inbox : List Message) (now until n end : ℕ) → Goes s channel rows mail inbox now until n end → n ≤ length inbox
-goes-some s channel rows mail inbox now until n end h = omega (arith, h.due, prefix_len-le-length (λ (m : Message). eqb m.arrival now) inbox)
+pub goes-some : (s : Config) (channel : ℕ) (steps : List (Option Command)) (mail inbox : List Message) (now until n end : ℕ) → Goes s channel steps mail inbox now until n end → n ≤ length inbox
+goes-some s channel steps mail inbox now until n end h = omega (arith, h.due, prefix_len-le-length (λ (m : Message). eqb m.arrival now) inbox)
 
 -- what is left where nothing is issued before that
-pub waits : (d : Channel) (s : Config) (channel : ℕ) (rows : List (Option Command)) (mail inbox : List Message) (now until n end : ℕ) → Goes s channel rows mail inbox now until n end
-    → IsIdle s channel rows (mail ++ take n inbox) (end - length rows) → StandsFor d s channel (rows ++ replicate (end - length rows) None) (mail ++ take n inbox)
-    → HasRun d s channel rows mail inbox now (end - 1 + 1) until n [] []
-waits d s channel rows mail inbox now until n end h idle stands =
-    let within = goes-end s channel rows mail inbox now until n end h in
-    let k = end - length rows in
+pub waits : (d : Channel) (s : Config) (channel : ℕ) (steps : List (Option Command)) (mail inbox : List Message) (now until n end : ℕ) → Goes s channel steps mail inbox now until n end
+    → IsIdle s channel steps (mail ++ take n inbox) (end - length steps) → StandsFor d s channel (steps ++ replicate (end - length steps) None) (mail ++ take n inbox)
+    → HasRun d s channel steps mail inbox now (end - 1 + 1) until n [] []
+waits d s channel steps mail inbox now until n end h idle stands =
+    let within = goes-end s channel steps mail inbox now until n end h in
+    let k = end - length steps in
     let last : end ≡ end - 1 + 1 = omega (arith, within.0) in
-    let passed = goes-idle s channel rows mail inbox now until n end end h (omega (arith, within.0)) (omega arith) idle in
-    subst (λ t. HasRun d s channel rows mail inbox now t until n [] []) last
+    let passed = goes-idle s channel steps mail inbox now until n end end h (omega (arith, within.0)) (omega arith) idle in
+    subst (λ t. HasRun d s channel steps mail inbox now t until n [] []) last
     (record {
       stands = subst (λ r. StandsFor d s channel r (mail ++ take n inbox)) (sym passed.0) stands;
       fit = subst (λ r. IsFit s channel r (mail ++ take n inbox) (drop n inbox) end until) (sym passed.0) passed.1;
-      some = goes-some s channel rows mail inbox now until n end h;
-      commands_are = ap (issued_commands channel) passed.0 ∙ idle-issued channel rows k ∙ sym (append-nil (issued_commands channel rows));
-      messages_are = ap (channel_messages s channel) passed.0 ∙ idle-messages s channel rows k ∙ sym (append-nil (channel_messages s channel rows));
+      some = goes-some s channel steps mail inbox now until n end h;
+      commands_are = ap (issued_commands channel) passed.0 ∙ idle-issued channel steps k ∙ sym (append-nil (issued_commands channel steps));
+      messages_are = ap (channel_messages s channel) passed.0 ∙ idle-messages s channel steps k ∙ sym (append-nil (channel_messages s channel steps));
     })
 
 -- a command in a cycle in which nothing arrives
-act-fit : (c : Channel) (s : Config) (channel : ℕ) (rows : List (Option Command)) (mail inbox : List Message) (now until : ℕ) (command : Command) → IsInCycle c s channel rows mail → length rows ≡ now
-    → IsFit s channel rows mail inbox now until → Each (λ (m : Message). now + 1 ≤ m.arrival) inbox → Some command ≡ choice s channel rows mail
-    → (choice s channel rows (mail ++ inbox) ≡ Some command) × IsFit s channel (rows ++ Some command ∷ []) mail inbox (now + 1) until
-act-fit c s channel rows mail inbox now until command h at f late is =
+act-fit : (c : Channel) (s : Config) (channel : ℕ) (steps : List (Option Command)) (mail inbox : List Message) (now until : ℕ) (command : Command) → IsInCycle c s channel steps mail → length steps ≡ now
+    → IsFit s channel steps mail inbox now until → Each (λ (m : Message). now + 1 ≤ m.arrival) inbox → Some command ≡ choice s channel steps mail
+    → (choice s channel steps (mail ++ inbox) ≡ Some command) × IsFit s channel (steps ++ Some command ∷ []) mail inbox (now + 1) until
+act-fit c s channel steps mail inbox now until command h at f late is =
     let n = due_count inbox now in
     let none : n ≡ 0 = none-due now inbox late in
     let same : mail ++ take n inbox ≡ mail = ap (λ k. mail ++ take k inbox) none ∙ append-nil mail in
-    let q = c.waiting in
+    let q = c.marked_queue in
     let left =
-    fit-rest q.queue.requests q.queue.settled q.marks c.stats s channel rows mail inbox now until at f
-    (subst (λ m. HasJoined q.queue.requests q.queue.settled q.marks c.stats s channel rows m) (sym same) h.joined) in
-    let chosen : choice s channel rows (mail ++ take n inbox) ≡ Some command = ap (choice s channel rows) same ∙ sym is in (
+    fit-rest q.queue.requests q.queue.drain_decided q.marks c.stats s channel steps mail inbox now until at f
+    (subst (λ m. HasJoined q.queue.requests q.queue.drain_decided q.marks c.stats s channel steps m) (sym same) h.joined) in
+    let chosen : choice s channel steps (mail ++ take n inbox) ≡ Some command = ap (choice s channel steps) same ∙ sym is in (
       left.1 ∙ chosen,
-      subst (λ o. IsFit s channel (rows ++ o ∷ []) mail inbox (now + 1) until) chosen
-          (subst (λ m. IsFit s channel (rows ++ choice s channel rows (mail ++ take n inbox) ∷ []) m inbox (now + 1) until) same
-          (subst (λ k. IsFit s channel (rows ++ choice s channel rows (mail ++ take n inbox) ∷ []) (mail ++ take n inbox) (drop k inbox) (now + 1) until) none left.0)),
+      subst (λ o. IsFit s channel (steps ++ o ∷ []) mail inbox (now + 1) until) chosen
+          (subst (λ m. IsFit s channel (steps ++ choice s channel steps (mail ++ take n inbox) ∷ []) m inbox (now + 1) until) same
+          (subst (λ k. IsFit s channel (steps ++ choice s channel steps (mail ++ take n inbox) ∷ []) (mail ++ take n inbox) (drop k inbox) (now + 1) until) none left.0)),
     )
 
 -- what is left where a command is issued in a cycle, and none before that
-pub acts : (c d : Channel) (s : Config) (channel : ℕ) (rows : List (Option Command)) (mail inbox : List Message) (now until n end cycle : ℕ) (command : Command) → Goes s channel rows mail inbox now until n end
-    → IsNextIn s channel rows (mail ++ take n inbox) end cycle command
-    → IsInCycle c s channel (rows ++ replicate (cycle - length rows) None) (mail ++ take n inbox)
-    → StandsFor d s channel ((rows ++ replicate (cycle - length rows) None) ++ Some command ∷ []) (mail ++ take n inbox)
-    → HasRun d s channel rows mail inbox now (cycle + 1) until n (issued_in channel cycle (Some command)) (messages_at s channel cycle (Some command))
-acts c d s channel rows mail inbox now until n end cycle command h i in_cycle stands =
+pub acts : (c d : Channel) (s : Config) (channel : ℕ) (steps : List (Option Command)) (mail inbox : List Message) (now until n end cycle : ℕ) (command : Command) → Goes s channel steps mail inbox now until n end
+    → IsNextIn s channel steps (mail ++ take n inbox) end cycle command
+    → IsInCycle c s channel (steps ++ replicate (cycle - length steps) None) (mail ++ take n inbox)
+    → StandsFor d s channel ((steps ++ replicate (cycle - length steps) None) ++ Some command ∷ []) (mail ++ take n inbox)
+    → HasRun d s channel steps mail inbox now (cycle + 1) until n (issued_in channel cycle (Some command)) (messages_at s channel cycle (Some command))
+acts c d s channel steps mail inbox now until n end cycle command h i in_cycle stands =
     let at = h.at in
     let from = i.from_now in
     let before = i.before_end in
-    let k = cycle - length rows in
+    let k = cycle - length steps in
     let o = Some command in
     let all = mail ++ inbox in
     let there = mail ++ take n inbox in
     let rest = drop n inbox in
-    let then = rows ++ replicate k None in
-    let passed = goes-idle s channel rows mail inbox now until n end cycle h (omega arith) (omega arith) i.idle in
-    let len : length then ≡ cycle = omega (arith, length-idle rows k) in
-    let f = fit-taken s channel rows mail inbox now until n h.fit in
+    let then = steps ++ replicate k None in
+    let passed = goes-idle s channel steps mail inbox now until n end cycle h (omega arith) (omega arith) i.idle in
+    let len : length then ≡ cycle = omega (arith, length-idle steps k) in
+    let f = fit-taken s channel steps mail inbox now until n h.fit in
     let act = act-fit c s channel then there rest cycle until command in_cycle len passed.1 (arrive-from (cycle + 1) until rest f.by_age (let e = h.end_is in omega arith)) i.command_is in
     let next : cycle + 1 - now ≡ (cycle - now) + 1 = omega arith in
-    let rows_are : channel_run s channel rows all (cycle + 1 - now) ≡ then ++ o ∷ [] =
-    ap (channel_run s channel rows all) next
-    ∙ channel_run-one s channel rows all (cycle - now)
+    let rows_are : channel_run s channel steps all (cycle + 1 - now) ≡ then ++ o ∷ [] =
+    ap (channel_run s channel steps all) next
+    ∙ channel_run-one s channel steps all (cycle - now)
     ∙ ap (λ r. r ++ choice s channel r all ∷ []) passed.0
     ∙ ap (λ x. then ++ x ∷ []) (ap (choice s channel then) (whole mail inbox n) ∙ act.0) in
     record {
       stands = subst (λ r. StandsFor d s channel r there) (sym rows_are) stands;
       fit = subst (λ r. IsFit s channel r there rest (cycle + 1) until) (sym rows_are) act.1;
-      some = goes-some s channel rows mail inbox now until n end h;
+      some = goes-some s channel steps mail inbox now until n end h;
       commands_are =
           ap (issued_commands channel) rows_are ∙ issued_commands-push channel then o
-          ∙ ap₂ (λ x j. x ++ issued_in channel j o) (idle-issued channel rows k) len;
+          ∙ ap₂ (λ x j. x ++ issued_in channel j o) (idle-issued channel steps k) len;
       messages_are =
           ap (channel_messages s channel) rows_are ∙ channel_messages-push s channel then o
-          ∙ ap₂ (λ x j. x ++ messages_at s channel j o) (idle-messages s channel rows k) len;
+          ∙ ap₂ (λ x j. x ++ messages_at s channel j o) (idle-messages s channel steps k) len;
     }
 
 -- a channel that has taken in what arrives in a cycle is on such a way
-pub goes : (d : Channel) (s : Config) (channel : ℕ) (rows : List (Option Command)) (mail inbox : List Message) (now until n end : ℕ) → IsInCycle d s channel rows (mail ++ take n inbox) → length rows ≡ now
-    → IsFit s channel rows mail inbox now until → now < until → n ≡ length (take_while (λ (m : Message). eqb m.arrival now) inbox) → end ≡ first_arrival (rest_of inbox n) until
-    → Goes s channel rows mail inbox now until n end
-goes d s channel rows mail inbox now until n end h at f l e then =
+pub goes : (d : Channel) (s : Config) (channel : ℕ) (steps : List (Option Command)) (mail inbox : List Message) (now until n end : ℕ) → IsInCycle d s channel steps (mail ++ take n inbox) → length steps ≡ now
+    → IsFit s channel steps mail inbox now until → now < until → n ≡ length (take_while (λ (m : Message). eqb m.arrival now) inbox) → end ≡ first_arrival (rest_of inbox n) until
+    → Goes s channel steps mail inbox now until n end
+goes d s channel steps mail inbox now until n end h at f l e then =
     record {
       at = at;
       fit = f;

@@ -15,7 +15,7 @@ use Rattle.sim_base.specs.Rules.{rank_of, bank_of, row_after, open_row}
 use Rattle.sim_base.specs.Scheduling.{choice, lowest_due, due, is_column_command}
 use Rattle.sim_base.specs.declared.command.Command.{Command}
 use Rattle.sim_base.specs.declared.command.Command.TheVariants.{Act, Rd, Wr, Pre, Prea, Ref}
-use Rattle.sim_base.specs.declared.command.CommandRow.{CommandRow}
+use Rattle.sim_base.specs.declared.command.IssuedCommand.{IssuedCommand}
 use Rattle.sim_base.specs.declared.message.Message.{Message}
 use Rattle.sim_base.specs.declared.message.Request.{Request}
 use Rattle.sim_base.specs.declared.place.BankId.{BankId}
@@ -29,10 +29,10 @@ use Rattle.statistics.proofs.ChannelBounds.{channel_stats-fit}
 use Rattle.statistics.proofs.ChannelSteps.{issued_now, issued_commands-push}
 use Rattle.statistics.proofs.Lists.{length-push_suc}
 use Rattle.queue_columns.specs.Columns.{bank_number}
-use Rattle.heads.specs.declared.heads.Heads.{Heads}
-use Rattle.heads.specs.Heads.{bank_at}
-use Rattle.heads.specs.Stands.{bank_count, IsAmong, StandsFor as HeadsStandFor}
-use Rattle.heads.proofs.Stood.{same_rows}
+use Rattle.bank_candidates.specs.declared.all_banks.BankCandidates.{BankCandidates}
+use Rattle.bank_candidates.specs.Candidates.{bank_at}
+use Rattle.bank_candidates.specs.Stands.{bank_count, IsAmong, StandsFor as CandidatesStandFor}
+use Rattle.bank_candidates.proofs.Stood.{same_rows}
 use Rattle.fr_fcfs.specs.Choices.{Serves, IsFor, choice_in}
 use Rattle.fr_fcfs.specs.declared.choice.Choice.{Choice}
 use Rattle.channel_step.specs.Past.{Differ, is_named}
@@ -41,9 +41,9 @@ use Rattle.channel_step.specs.Stands.{marks_of, Recalls}
 use Rattle.channel_step.specs.Queued.{Queued, marked_at, after, after_command, requests_left, moves_unmarked}
 use Rattle.channel_step.specs.Counted.{cycle_with_hit}
 use Rattle.channel_step.specs.Owed.{RefIsOwed}
-use Rattle.channel_step.specs.Channels.{HeadsStand, StandsFor, IsInCycle, seen_of}
+use Rattle.channel_step.specs.Channels.{CandidatesStand, StandsFor, IsInCycle, seen_of}
 use Rattle.channel_step.specs.declared.counting.Seen.{Seen}
-use Rattle.channel_step.proofs.Deciding.{settled-drains}
+use Rattle.channel_step.proofs.Deciding.{drain_decided-drains}
 use Rattle.channel_step.proofs.Foreseen.{foreseen-unknown}
 use Rattle.channel_step.specs.declared.ahead.Ahead.TheVariants.{Unknown}
 use Rattle.channel_step.specs.declared.channel.Channel.{Channel}
@@ -54,7 +54,7 @@ use Rattle.channel_step.proofs.Chosen.{chosen-rank, chosen-bank, NamesBank, chos
 use Rattle.channel_step.proofs.Places.{queue-ranks, in-banks, queue-in_banks, below-count}
 
 -- the command of a cycle as a row
-abbrev pub row_of : ℕ → ℕ → Command → CommandRow
+abbrev pub row_of : ℕ → ℕ → Command → IssuedCommand
 row_of channel now command = record { cycle = now; channel = channel; command = command }
 
 some_below : {X : Type 0} (xs : List X) (i : ℕ) (x : X) → slice_get xs i ≡ Some x → i < length xs
@@ -74,7 +74,7 @@ slot-below queue choice h slot e =
     some_below queue slot there.0 there.1
 
 -- what is left of the queue, and the marks, after a command
-abbrev pub Leaves : Queued → List CommandRow → ℕ → ℕ → Command → Option ℕ → Type 0
+abbrev pub Leaves : Queued → List IssuedCommand → ℕ → ℕ → Command → Option ℕ → Type 0
 Leaves w history channel now command slot =
     (after w command slot ≡ record { queue = record w.queue { requests = queue_after (Some command) w.queue.requests }; marks = marks_after history channel now (Some command) w.queue.requests })
     × (moves_hit history (Some command) ≡ moves_unmarked w slot)
@@ -83,14 +83,14 @@ Leaves w history channel now command slot =
 kept : (w : Queued) (requests : List Request) (marks : List Bool) → w.queue.requests ≡ requests → w.marks ≡ marks → w ≡ record { queue = record w.queue { requests = requests }; marks = marks }
 kept w requests marks e f = λ i. record { queue = record w.queue { requests = e i }; marks = f i }
 
-leaves-quiet : (w : Queued) (history : List CommandRow) (channel now : ℕ) (command : Command) → w.marks ≡ marks_of history w.queue.requests → moves_none command ≡ true → opens_none command ≡ true
+leaves-quiet : (w : Queued) (history : List IssuedCommand) (channel now : ℕ) (command : Command) → w.marks ≡ marks_of history w.queue.requests → moves_none command ≡ true → opens_none command ≡ true
     → w ≡ record { queue = record w.queue { requests = unserved_by command w.queue.requests }; marks = marks_of (history ++ row_of channel now command ∷ []) (unserved_by command w.queue.requests) }
 leaves-quiet w history channel now command m n o =
     let same : w.queue.requests ≡ unserved_by command w.queue.requests = sym (served-none w.queue.requests command n) in
     kept w (unserved_by command w.queue.requests) _ same
     (m ∙ sym (marks-no_act history (row_of channel now command) w.queue.requests o) ∙ ap (marks_of (history ++ row_of channel now command ∷ [])) same)
 
-leaves-none : (w : Queued) (history : List CommandRow) (channel now : ℕ) (command : Command) → Differ w.queue.requests → w.marks ≡ marks_of history w.queue.requests
+leaves-none : (w : Queued) (history : List IssuedCommand) (channel now : ℕ) (command : Command) → Differ w.queue.requests → w.marks ≡ marks_of history w.queue.requests
     → is_column_command command ≡ false → Leaves w history channel now command None
 leaves-none w history channel now (Act bank row source) d m h =
     let act = Act bank row source in
@@ -106,7 +106,7 @@ leaves-none w history channel now (Pre bank source) d m h = (leaves-quiet w hist
 leaves-none w history channel now (Prea rank) d m h = (leaves-quiet w history channel now (Prea rank) m refl refl, refl)
 leaves-none w history channel now (Ref rank) d m h = (leaves-quiet w history channel now (Ref rank) m refl refl, refl)
 
-leaves-slot : (w : Queued) (history : List CommandRow) (channel now : ℕ) (command : Command) (slot : ℕ) → Differ w.queue.requests → w.marks ≡ marks_of history w.queue.requests
+leaves-slot : (w : Queued) (history : List IssuedCommand) (channel now : ℕ) (command : Command) (slot : ℕ) → Differ w.queue.requests → w.marks ≡ marks_of history w.queue.requests
     → Serves w.queue.requests command slot → Leaves w history channel now command (Some slot)
 leaves-slot w history channel now command slot d m (r, there, is) =
     let rest : remove w.queue.requests slot ≡ unserved_by command w.queue.requests =
@@ -122,7 +122,7 @@ leaves-slot w history channel now command slot d m (r, there, is) =
     ∙ ap not (sym (ap (λ x. get_or x slot true) m ∙ map_at (is_named history) w.queue.requests slot r true there)) in
     ((λ i. record { queue = record w.queue { requests = rest i }; marks = marks i }), hit)
 
-pub leaves : (w : Queued) (history : List CommandRow) (channel now : ℕ) (choice : Choice) → Differ w.queue.requests → w.marks ≡ marks_of history w.queue.requests
+pub leaves : (w : Queued) (history : List IssuedCommand) (channel now : ℕ) (choice : Choice) → Differ w.queue.requests → w.marks ≡ marks_of history w.queue.requests
     → IsFor w.queue.requests choice → Leaves w history channel now choice.command choice.slot
 leaves w history channel now choice d m h = by choice.slot h
   where
@@ -131,34 +131,34 @@ leaves w history channel now choice d m h = by choice.slot h
     by (Some slot) k = leaves-slot w history channel now choice.command slot d m k
 
 -- what a cycle counts
-abbrev pub counted : Channel → Config → List CommandRow → ℕ → Option Command → Bool → ChannelStats
+abbrev pub counted : Channel → Config → List IssuedCommand → ℕ → Option Command → Bool → ChannelStats
 counted c s history now o hit =
-    channel_joined c.stats (cycle_with_hit s (length c.waiting.queue.requests) (is_some (lowest_due s history now)) c.waiting.queue.settled o hit)
+    channel_joined c.stats (cycle_with_hit s (length c.marked_queue.queue.requests) (is_some (lowest_due s history now)) c.marked_queue.queue.drain_decided o hit)
 
-counted-is : (c : Channel) (s : Config) (history : List CommandRow) (now : ℕ) (o : Option Command) (hit : Bool) → moves_hit history o ≡ hit
+counted-is : (c : Channel) (s : Config) (history : List IssuedCommand) (now : ℕ) (o : Option Command) (hit : Bool) → moves_hit history o ≡ hit
     → counted c s history now o hit
-    ≡ channel_joined c.stats (channel_cycle_with s history (length c.waiting.queue.requests) (is_some (lowest_due s history now)) c.waiting.queue.settled o)
+    ≡ channel_joined c.stats (channel_cycle_with s history (length c.marked_queue.queue.requests) (is_some (lowest_due s history now)) c.marked_queue.queue.drain_decided o)
 unfolding channel_cycle_with
 counted-is c s history now o hit e = ap (counted c s history now o) (sym e)
 
 -- it fits, since a cycle and the greatest length of the queue do
-pub counted-fits : (c : Channel) (s : Config) (channel : ℕ) (rows : List (Option Command)) (mail : List Message) (o : Option Command) (hit : Bool) → IsInCycle c s channel rows mail
-    → length rows < 2 ^ 62 → o ≡ choice s channel rows mail → moves_hit (issued_commands channel rows) o ≡ hit
-    → ChannelFits (counted c s (issued_commands channel rows) (length rows) o hit)
+pub counted-fits : (c : Channel) (s : Config) (channel : ℕ) (steps : List (Option Command)) (mail : List Message) (o : Option Command) (hit : Bool) → IsInCycle c s channel steps mail
+    → length steps < 2 ^ 62 → o ≡ choice s channel steps mail → moves_hit (issued_commands channel steps) o ≡ hit
+    → ChannelFits (counted c s (issued_commands channel steps) (length steps) o hit)
 unfolding channel_stats channel_cycle_with
-counted-fits c s channel rows mail o hit h early e f =
-    let history = issued_commands channel rows in
-    let next = choice s channel rows mail in
-    let is : counted c s history (length rows) o hit ≡ channel_stats s channel (rows ++ next ∷ []) mail =
-    counted-is c s history (length rows) o hit f
-    ∙ ap (λ x. channel_joined c.stats (channel_cycle_with s history (length c.waiting.queue.requests) (is_some (lowest_due s history (length rows))) c.waiting.queue.settled x)) e
-    ∙ (recalled _ _ _ _ s channel rows mail h.joined).stats_are in
-    let longest : queued_max channel (rows ++ next ∷ []) mail ≡ max c.stats.queued_max (length c.waiting.queue.requests) = ap (λ (x : ChannelStats). x.queued_max) (sym is) in
-    let most : length c.waiting.queue.requests ≤ queue_room s = h.made_for.within in
+counted-fits c s channel steps mail o hit h early e f =
+    let history = issued_commands channel steps in
+    let next = choice s channel steps mail in
+    let is : counted c s history (length steps) o hit ≡ channel_stats s channel (steps ++ next ∷ []) mail =
+    counted-is c s history (length steps) o hit f
+    ∙ ap (λ x. channel_joined c.stats (channel_cycle_with s history (length c.marked_queue.queue.requests) (is_some (lowest_due s history (length steps))) c.marked_queue.queue.drain_decided x)) e
+    ∙ (recalled _ _ _ _ s channel steps mail h.joined).stats_are in
+    let longest : queued_max channel (steps ++ next ∷ []) mail ≡ max c.stats.queued_max (length c.marked_queue.queue.requests) = ap (λ (x : ChannelStats). x.queued_max) (sym is) in
+    let most : length c.marked_queue.queue.requests ≤ queue_room s = h.made_for.within in
     let before : c.stats.queued_max ≤ queue_room s = h.made_for.longest in
     let room : queue_room s ≤ 8192 = s.credits_fit in
     subst ChannelFits (sym is)
-    (channel_stats-fit s channel (rows ++ next ∷ []) mail (omega (arith, length-push_suc rows next)) (omega arith))
+    (channel_stats-fit s channel (steps ++ next ∷ []) mail (omega (arith, length-push_suc steps next)) (omega arith))
 
 length-filter-le : {X : Type 0} (p : X → Bool) (xs : List X) → length (filter p xs) ≤ length xs
 length-filter-le p [] = omega arith
@@ -173,29 +173,29 @@ after-le None queue = omega arith
 after-le (Some command) queue = length-filter-le _ queue
 
 -- the queue and the marks after what a channel does in a cycle
-abbrev pub left_after : Queued → List CommandRow → ℕ → ℕ → Option Command → Queued
+abbrev pub left_after : Queued → List IssuedCommand → ℕ → ℕ → Option Command → Queued
 left_after w history channel now o = record { queue = record w.queue { requests = queue_after o w.queue.requests }; marks = marks_after history channel now o w.queue.requests }
 
 -- what a channel stands for after a cycle in which it did this
-stands-after : (c : Channel) (s : Config) (channel : ℕ) (rows : List (Option Command)) (mail : List Message) (o : Option Command) (w : Queued) (heads : Heads) (banks : Banks) (refresh : RefreshCounts) (stats : ChannelStats)
-    → IsInCycle c s channel rows mail → o ≡ choice s channel rows mail
-    → w ≡ left_after c.waiting (issued_commands channel rows) channel (length rows) o → bank_count heads ≡ bank_count c.heads
-    → HeadsStand heads w.queue.requests (issued_commands channel rows ++ issued_now channel (length rows) o)
-    → BanksStandFor banks s (issued_commands channel rows ++ issued_now channel (length rows) o)
-    → RefreshesStandFor refresh s (issued_commands channel rows ++ issued_now channel (length rows) o)
-    → stats ≡ channel_joined c.stats (channel_cycle_with s (issued_commands channel rows) (length c.waiting.queue.requests) (is_some (lowest_due s (issued_commands channel rows) (length rows))) c.waiting.queue.settled o)
-    → StandsFor (record c { cycle = c.cycle + 1; waiting = w; heads = heads; banks = banks; refresh = refresh; ahead = Unknown; stats = stats }) s channel (rows ++ o ∷ []) mail
+stands-after : (c : Channel) (s : Config) (channel : ℕ) (steps : List (Option Command)) (mail : List Message) (o : Option Command) (w : Queued) (bank_candidates : BankCandidates) (banks : Banks) (refresh : RefreshCounts) (stats : ChannelStats)
+    → IsInCycle c s channel steps mail → o ≡ choice s channel steps mail
+    → w ≡ left_after c.marked_queue (issued_commands channel steps) channel (length steps) o → bank_count bank_candidates ≡ bank_count c.bank_candidates
+    → CandidatesStand bank_candidates w.queue.requests (issued_commands channel steps ++ issued_now channel (length steps) o)
+    → BanksStandFor banks s (issued_commands channel steps ++ issued_now channel (length steps) o)
+    → RefreshesStandFor refresh s (issued_commands channel steps ++ issued_now channel (length steps) o)
+    → stats ≡ channel_joined c.stats (channel_cycle_with s (issued_commands channel steps) (length c.marked_queue.queue.requests) (is_some (lowest_due s (issued_commands channel steps) (length steps))) c.marked_queue.queue.drain_decided o)
+    → StandsFor (record c { cycle = c.cycle + 1; marked_queue = w; bank_candidates = bank_candidates; banks = banks; refresh = refresh; ahead = Unknown; stats = stats }) s channel (steps ++ o ∷ []) mail
 unfolding channel_cycle_with
-stands-after c s channel rows mail o w heads banks refresh stats h e x count hs b r t =
-    let history = issued_commands channel rows in
-    let queue = c.waiting.queue.requests in
-    let drained = c.waiting.queue.settled in
-    let due = is_some (lowest_due s history (length rows)) in
-    let P : Option Command → Type 0 = λ z. Recalls (queue_after z queue) drained (marks_after history channel (length rows) z queue) (channel_joined c.stats (channel_cycle_with s history (length queue) due drained z)) s channel (rows ++ z ∷ []) mail in
-    let base : P (choice s channel rows mail) = recalled _ _ _ _ s channel rows mail h.joined in
+stands-after c s channel steps mail o w bank_candidates banks refresh stats h e x count hs b r t =
+    let history = issued_commands channel steps in
+    let queue = c.marked_queue.queue.requests in
+    let drained = c.marked_queue.queue.drain_decided in
+    let due = is_some (lowest_due s history (length steps)) in
+    let P : Option Command → Type 0 = λ z. Recalls (queue_after z queue) drained (marks_after history channel (length steps) z queue) (channel_joined c.stats (channel_cycle_with s history (length queue) due drained z)) s channel (steps ++ z ∷ []) mail in
+    let base : P (choice s channel steps mail) = recalled _ _ _ _ s channel steps mail h.joined in
     let got : P o = subst P (sym e) base in
-    let Q : ChannelStats → Type 0 = λ z. Recalls (queue_after o queue) drained (marks_after history channel (length rows) o queue) z s channel (rows ++ o ∷ []) mail in
-    let R : Queued → Type 0 = λ z. Recalls z.queue.requests z.queue.settled z.marks stats s channel (rows ++ o ∷ []) mail in
+    let Q : ChannelStats → Type 0 = λ z. Recalls (queue_after o queue) drained (marks_after history channel (length steps) o queue) z s channel (steps ++ o ∷ []) mail in
+    let R : Queued → Type 0 = λ z. Recalls z.queue.requests z.queue.drain_decided z.marks stats s channel (steps ++ o ∷ []) mail in
     let fewer : length w.queue.requests ≡ length (queue_after o queue) = ap (λ (z : Queued). length z.queue.requests) x in
     let some : length queue ≤ queue_room s = h.made_for.within in
     let before : c.stats.queued_max ≤ queue_room s = h.made_for.longest in
@@ -211,83 +211,83 @@ stands-after c s channel rows mail o w heads banks refresh stats h e x count hs 
         within = omega (arith, after-le o queue);
         longest = omega arith;
       };
-      cycle_is = ap (λ k. k + 1) h.cycle_is ∙ add-one (length rows) ∙ sym (length-push_suc rows o);
+      cycle_is = ap (λ k. k + 1) h.cycle_is ∙ add-one (length steps) ∙ sym (length-push_suc steps o);
       recalls = subst R (sym x) (subst Q (sym t) got);
-      heads_stand = subst (HeadsStand heads w.queue.requests) (sym (issued_commands-push channel rows o)) hs;
-      banks_stand = subst (BanksStandFor banks s) (sym (issued_commands-push channel rows o)) b;
-      refreshes_stand = subst (RefreshesStandFor refresh s) (sym (issued_commands-push channel rows o)) r;
-      foresees = foreseen-unknown (choice_in s (issued_commands channel (rows ++ o ∷ [])) w.queue) w.queue.requests (c.cycle + 1);
+      candidates_stand = subst (CandidatesStand bank_candidates w.queue.requests) (sym (issued_commands-push channel steps o)) hs;
+      banks_stand = subst (BanksStandFor banks s) (sym (issued_commands-push channel steps o)) b;
+      refreshes_stand = subst (RefreshesStandFor refresh s) (sym (issued_commands-push channel steps o)) r;
+      foresees = foreseen-unknown (choice_in s (issued_commands channel (steps ++ o ∷ [])) w.queue) w.queue.requests (c.cycle + 1);
     }
 
-open_row-more : (bank : BankId) (history : List CommandRow) (i : CommandRow) → open_row bank (history ++ i ∷ []) ≡ row_after bank (open_row bank history) i.command
+open_row-more : (bank : BankId) (history : List IssuedCommand) (i : IssuedCommand) → open_row bank (history ++ i ∷ []) ≡ row_after bank (open_row bank history) i.command
 unfolding open_row
-open_row-more bank history i = fold-append (λ row (j : CommandRow). row_after bank row j.command) None history (i ∷ [])
+open_row-more bank history i = fold-append (λ row (j : IssuedCommand). row_after bank row j.command) None history (i ∷ [])
 
 -- what it stands for when it has issued a command
-pub issued-stands : (c : Channel) (s : Config) (channel : ℕ) (rows : List (Option Command)) (mail : List Message) (now : ℕ) (chosen : Choice) (w : Queued) (heads : Heads) (banks : Banks) (refresh : RefreshCounts) (stats : ChannelStats)
-    → IsInCycle c s channel rows mail → length rows ≡ now → Some chosen.command ≡ choice s channel rows mail → IsFor c.waiting.queue.requests chosen
-    → w ≡ after c.waiting chosen.command chosen.slot → bank_count heads ≡ bank_count c.heads
-    → HeadsStandFor heads w.queue.requests (λ bank. row_after (bank_at bank) (open_row (bank_at bank) (issued_commands channel rows)) chosen.command)
-    → BanksStandFor banks s (issued_commands channel rows ++ row_of channel now chosen.command ∷ [])
-    → RefreshesStandFor refresh s (issued_commands channel rows ++ row_of channel now chosen.command ∷ [])
-    → stats ≡ counted c s (issued_commands channel rows) (length rows) (Some chosen.command) (moves_unmarked c.waiting chosen.slot)
-    → StandsFor (record c { cycle = c.cycle + 1; waiting = w; heads = heads; banks = banks; refresh = refresh; ahead = Unknown; stats = stats }) s channel (rows ++ Some chosen.command ∷ []) mail
-issued-stands c s channel rows mail now chosen w heads banks refresh stats h at e f x count hs b r t =
-    let history = issued_commands channel rows in
-    let left = leaves c.waiting history channel (length rows) chosen (joined-differ _ _ _ _ s channel rows mail h.joined) h.joined.marks_are f in
-    stands-after c s channel rows mail (Some chosen.command) w heads banks refresh stats h e (x ∙ left.0) count
-    (same_rows heads w.queue.requests (λ bank. row_after (bank_at bank) (open_row (bank_at bank) history) chosen.command)
-    (λ bank. open_row (bank_at bank) (history ++ row_of channel (length rows) chosen.command ∷ [])) hs
-    (λ bank there. sym (open_row-more (bank_at bank) history (row_of channel (length rows) chosen.command))))
+pub issued-stands : (c : Channel) (s : Config) (channel : ℕ) (steps : List (Option Command)) (mail : List Message) (now : ℕ) (chosen : Choice) (w : Queued) (bank_candidates : BankCandidates) (banks : Banks) (refresh : RefreshCounts) (stats : ChannelStats)
+    → IsInCycle c s channel steps mail → length steps ≡ now → Some chosen.command ≡ choice s channel steps mail → IsFor c.marked_queue.queue.requests chosen
+    → w ≡ after c.marked_queue chosen.command chosen.slot → bank_count bank_candidates ≡ bank_count c.bank_candidates
+    → CandidatesStandFor bank_candidates w.queue.requests (λ bank. row_after (bank_at bank) (open_row (bank_at bank) (issued_commands channel steps)) chosen.command)
+    → BanksStandFor banks s (issued_commands channel steps ++ row_of channel now chosen.command ∷ [])
+    → RefreshesStandFor refresh s (issued_commands channel steps ++ row_of channel now chosen.command ∷ [])
+    → stats ≡ counted c s (issued_commands channel steps) (length steps) (Some chosen.command) (moves_unmarked c.marked_queue chosen.slot)
+    → StandsFor (record c { cycle = c.cycle + 1; marked_queue = w; bank_candidates = bank_candidates; banks = banks; refresh = refresh; ahead = Unknown; stats = stats }) s channel (steps ++ Some chosen.command ∷ []) mail
+issued-stands c s channel steps mail now chosen w bank_candidates banks refresh stats h at e f x count hs b r t =
+    let history = issued_commands channel steps in
+    let left = leaves c.marked_queue history channel (length steps) chosen (joined-differ _ _ _ _ s channel steps mail h.joined) h.joined.marks_are f in
+    stands-after c s channel steps mail (Some chosen.command) w bank_candidates banks refresh stats h e (x ∙ left.0) count
+    (same_rows bank_candidates w.queue.requests (λ bank. row_after (bank_at bank) (open_row (bank_at bank) history) chosen.command)
+    (λ bank. open_row (bank_at bank) (history ++ row_of channel (length steps) chosen.command ∷ [])) hs
+    (λ bank there. sym (open_row-more (bank_at bank) history (row_of channel (length steps) chosen.command))))
     (subst (λ k. BanksStandFor banks s (history ++ row_of channel k chosen.command ∷ [])) (sym at) b)
     (subst (λ k. RefreshesStandFor refresh s (history ++ row_of channel k chosen.command ∷ [])) (sym at) r)
-    (t ∙ counted-is c s history (length rows) (Some chosen.command) (moves_unmarked c.waiting chosen.slot) left.1)
+    (t ∙ counted-is c s history (length steps) (Some chosen.command) (moves_unmarked c.marked_queue chosen.slot) left.1)
 
 -- each command was issued before the next cycle
-issued-from : (channel from : ℕ) (rows : List (Option Command))
-    → Each (λ (i : CommandRow). i.cycle < from + length rows) (filter_map (λ (e : ℕ × Option Command). issued_at channel e.0 e.1) (enumerate_from from rows))
+issued-from : (channel from : ℕ) (steps : List (Option Command))
+    → Each (λ (i : IssuedCommand). i.cycle < from + length steps) (filter_map (λ (e : ℕ × Option Command). issued_at channel e.0 e.1) (enumerate_from from steps))
 issued-from channel from [] = tt
-issued-from channel from (o ∷ rows) = by o (Each-weaker (λ (i : CommandRow). i.cycle < from + 1 + length rows) (λ (i : CommandRow). i.cycle < from + suc (length rows)) (λ i l. omega arith) _ (issued-from channel (from + 1) rows))
+issued-from channel from (o ∷ steps) = by o (Each-weaker (λ (i : IssuedCommand). i.cycle < from + 1 + length steps) (λ (i : IssuedCommand). i.cycle < from + suc (length steps)) (λ i l. omega arith) _ (issued-from channel (from + 1) steps))
   where
-    by : (o : Option Command) → Each (λ (i : CommandRow). i.cycle < from + suc (length rows)) (filter_map (λ (e : ℕ × Option Command). issued_at channel e.0 e.1) (enumerate_from (from + 1) rows))
-        → Each (λ (i : CommandRow). i.cycle < from + suc (length rows)) (cons_option (issued_at channel from o) (filter_map (λ (e : ℕ × Option Command). issued_at channel e.0 e.1) (enumerate_from (from + 1) rows)))
+    by : (o : Option Command) → Each (λ (i : IssuedCommand). i.cycle < from + suc (length steps)) (filter_map (λ (e : ℕ × Option Command). issued_at channel e.0 e.1) (enumerate_from (from + 1) steps))
+        → Each (λ (i : IssuedCommand). i.cycle < from + suc (length steps)) (cons_option (issued_at channel from o) (filter_map (λ (e : ℕ × Option Command). issued_at channel e.0 e.1) (enumerate_from (from + 1) steps)))
     by None rest = rest
     by (Some command) rest = (omega arith, rest)
 
-pub issued-before : (channel now : ℕ) (rows : List (Option Command)) → length rows ≡ now → All (λ (i : CommandRow). i.cycle < now) (issued_commands channel rows)
+pub issued-before : (channel now : ℕ) (steps : List (Option Command)) → length steps ≡ now → All (λ (i : IssuedCommand). i.cycle < now) (issued_commands channel steps)
 unfolding issued_commands
-issued-before channel now rows at =
-    All-from_recursion (λ (i : CommandRow). i.cycle < now) _
-    (Each-weaker (λ (i : CommandRow). i.cycle < 0 + length rows) (λ (i : CommandRow). i.cycle < now) (λ i l. omega arith) _ (issued-from channel 0 rows))
+issued-before channel now steps at =
+    All-from_recursion (λ (i : IssuedCommand). i.cycle < now) _
+    (Each-weaker (λ (i : IssuedCommand). i.cycle < 0 + length steps) (λ (i : IssuedCommand). i.cycle < now) (λ i l. omega arith) _ (issued-from channel 0 steps))
 
 IfSome-at : {X : Type 0} (P : X → Type 0) (o : Option X) (x : X) → Some x ≡ o → IfSome o P → P x
 IfSome-at P o x e h = subst (λ z. IfSome z P) (sym e) h
 
 -- what is chosen in a cycle speaks of a rank that there is
-pub command-rank : (c : Channel) (s : Config) (channel : ℕ) (rows : List (Option Command)) (mail : List Message) (command : Command) → IsInCycle c s channel rows mail
-    → Some command ≡ choice s channel rows mail → rank_of command < rank_count c.banks
-command-rank c s channel rows mail command h e =
-    let history = issued_commands channel rows in
-    let queue = c.waiting.queue.requests in
+pub command-rank : (c : Channel) (s : Config) (channel : ℕ) (steps : List (Option Command)) (mail : List Message) (command : Command) → IsInCycle c s channel steps mail
+    → Some command ≡ choice s channel steps mail → rank_of command < rank_count c.banks
+command-rank c s channel steps mail command h e =
+    let history = issued_commands channel steps in
+    let queue = c.marked_queue.queue.requests in
     let below : rank_of command < s.ranks =
-    IfSome-at (λ x. rank_of x < s.ranks) _ command (e ∙ joined-choice _ _ _ _ s channel rows mail h.joined)
-    (chosen-rank s history (length rows) c.waiting.queue.settled queue (queue-ranks s channel history mail (length rows + 1) queue h.joined.requests h.joined.queue_is)) in
+    IfSome-at (λ x. rank_of x < s.ranks) _ command (e ∙ joined-choice _ _ _ _ s channel steps mail h.joined)
+    (chosen-rank s history (length steps) c.marked_queue.queue.drain_decided queue (queue-ranks s channel history mail (length steps + 1) queue h.joined.requests h.joined.queue_is)) in
     omega (arith, h.banks_stand.ranks)
 
 -- and if it is a REF, that is due
-pub command-owed : (c : Channel) (s : Config) (channel : ℕ) (rows : List (Option Command)) (mail : List Message) (command : Command) (now : ℕ) → IsInCycle c s channel rows mail
-    → length rows ≡ now → Some command ≡ choice s channel rows mail → RefIsOwed c.refresh now command
-command-owed c s channel rows mail command now h at e =
-    let history = issued_commands channel rows in
+pub command-owed : (c : Channel) (s : Config) (channel : ℕ) (steps : List (Option Command)) (mail : List Message) (command : Command) (now : ℕ) → IsInCycle c s channel steps mail
+    → length steps ≡ now → Some command ≡ choice s channel steps mail → RefIsOwed c.refresh now command
+command-owed c s channel steps mail command now h at e =
+    let history = issued_commands channel steps in
     by command
-    (IfSome-at (RefIsDue s history (length rows)) _ command (e ∙ joined-choice _ _ _ _ s channel rows mail h.joined)
-    (chosen-ref_is_due s history (length rows) c.waiting.queue.settled c.waiting.queue.requests))
+    (IfSome-at (RefIsDue s history (length steps)) _ command (e ∙ joined-choice _ _ _ _ s channel steps mail h.joined)
+    (chosen-ref_is_due s history (length steps) c.marked_queue.queue.drain_decided c.marked_queue.queue.requests))
   where
-    by : (x : Command) → RefIsDue s (issued_commands channel rows) (length rows) x → RefIsOwed c.refresh now x
+    by : (x : Command) → RefIsDue s (issued_commands channel steps) (length steps) x → RefIsOwed c.refresh now x
     by (Ref rank) k =
         let ranks : c.refresh.ranks ≡ s.ranks = h.refreshes_stand.ranks_are in
         let below : rank < c.refresh.ranks = omega (arith, k.0) in
-        let same : due s rank (issued_commands channel rows) (length rows) ≡ owed c.refresh rank (length rows) = due_from_owed c.refresh s rank (issued_commands channel rows) (length rows) h.refreshes_stand below in
+        let same : due s rank (issued_commands channel steps) (length steps) ≡ owed c.refresh rank (length steps) = due_from_owed c.refresh s rank (issued_commands channel steps) (length steps) h.refreshes_stand below in
         (below, subst (λ t. 0 < owed c.refresh rank t) at (omega (arith, k.1)))
     by (Act bank row source) k = tt
     by (Rd bank row column source) k = tt
@@ -296,26 +296,26 @@ command-owed c s channel rows mail command now h at e =
     by (Prea rank) k = tt
 
 -- what is counted of a cycle, by what is seen in it
-pub seen-counted : (c : Channel) (s : Config) (channel : ℕ) (rows : List (Option Command)) (mail : List Message) (now : ℕ) (seen : Seen) (o : Option Command) (hit : Bool) → IsInCycle c s channel rows mail
-    → length rows ≡ now → seen ≡ seen_of c now
-    → channel_joined c.stats (cycle_with_hit c.config seen.queued seen.refreshing seen.draining o hit) ≡ counted c s (issued_commands channel rows) (length rows) o hit
-seen-counted c s channel rows mail now seen o hit h at e =
-    let history = issued_commands channel rows in
-    let refreshing : is_some (lowest_owed c.refresh now) ≡ is_some (lowest_due s history (length rows)) =
+pub seen-counted : (c : Channel) (s : Config) (channel : ℕ) (steps : List (Option Command)) (mail : List Message) (now : ℕ) (seen : Seen) (o : Option Command) (hit : Bool) → IsInCycle c s channel steps mail
+    → length steps ≡ now → seen ≡ seen_of c now
+    → channel_joined c.stats (cycle_with_hit c.config seen.queued seen.refreshing seen.draining o hit) ≡ counted c s (issued_commands channel steps) (length steps) o hit
+seen-counted c s channel steps mail now seen o hit h at e =
+    let history = issued_commands channel steps in
+    let refreshing : is_some (lowest_owed c.refresh now) ≡ is_some (lowest_due s history (length steps)) =
     ap is_some (sym (lowest_due_from_owed c.refresh s history now h.refreshes_stand) ∙ ap (lowest_due s history) (sym at)) in
     ap (λ (x : Seen). channel_joined c.stats (cycle_with_hit c.config x.queued x.refreshing x.draining o hit)) e
-    ∙ ap₂ (λ x y. channel_joined c.stats (cycle_with_hit c.config (length c.waiting.queue.requests) x y o hit)) refreshing (settled-drains c s channel rows mail h)
-    ∙ ap (λ x. channel_joined c.stats (cycle_with_hit x (length c.waiting.queue.requests) (is_some (lowest_due s history (length rows))) c.waiting.queue.settled o hit)) h.made_for.config_is
+    ∙ ap₂ (λ x y. channel_joined c.stats (cycle_with_hit c.config (length c.marked_queue.queue.requests) x y o hit)) refreshing (drain_decided-drains c s channel steps mail h)
+    ∙ ap (λ x. channel_joined c.stats (cycle_with_hit x (length c.marked_queue.queue.requests) (is_some (lowest_due s history (length steps))) c.marked_queue.queue.drain_decided o hit)) h.made_for.config_is
 
 -- the same channel
-pub cycle-same : (c d : Channel) (s : Config) (channel : ℕ) (rows : List (Option Command)) (mail : List Message) → c ≡ d → IsInCycle d s channel rows mail → IsInCycle c s channel rows mail
-cycle-same c d s channel rows mail e h = subst (λ x. IsInCycle x s channel rows mail) (sym e) h
+pub cycle-same : (c d : Channel) (s : Config) (channel : ℕ) (steps : List (Option Command)) (mail : List Message) → c ≡ d → IsInCycle d s channel steps mail → IsInCycle c s channel steps mail
+cycle-same c d s channel steps mail e h = subst (λ x. IsInCycle x s channel steps mail) (sym e) h
 
 -- whether the data that it moves is a row hit
-pub leaves-hit : (c : Channel) (s : Config) (channel : ℕ) (rows : List (Option Command)) (mail : List Message) (chosen : Choice) → IsInCycle c s channel rows mail
-    → IsFor c.waiting.queue.requests chosen → moves_hit (issued_commands channel rows) (Some chosen.command) ≡ moves_unmarked c.waiting chosen.slot
-leaves-hit c s channel rows mail chosen h f =
-    (leaves c.waiting (issued_commands channel rows) channel (length rows) chosen (joined-differ _ _ _ _ s channel rows mail h.joined) h.joined.marks_are f).1
+pub leaves-hit : (c : Channel) (s : Config) (channel : ℕ) (steps : List (Option Command)) (mail : List Message) (chosen : Choice) → IsInCycle c s channel steps mail
+    → IsFor c.marked_queue.queue.requests chosen → moves_hit (issued_commands channel steps) (Some chosen.command) ≡ moves_unmarked c.marked_queue chosen.slot
+leaves-hit c s channel steps mail chosen h f =
+    (leaves c.marked_queue (issued_commands channel steps) channel (length steps) chosen (joined-differ _ _ _ _ s channel steps mail h.joined) h.joined.marks_are f).1
 
 -- the requests that a command leaves
 after-left : (w : Queued) (command : Command) → (after_command w command).queue.requests ≡ w.queue.requests
@@ -330,32 +330,32 @@ pub left-is : (w : Queued) (command : Command) (slot : Option ℕ) → (after w 
 left-is w command None = after-left w command
 left-is w command (Some slot) = refl
 
--- what is chosen in a cycle names a bank that has heads, if it names one
-pub command-among : (c : Channel) (s : Config) (channel : ℕ) (rows : List (Option Command)) (mail : List Message) (command : Command) → IsInCycle c s channel rows mail
-    → Some command ≡ choice s channel rows mail → ForSome (bank_of command) (IsAmong c.heads)
-command-among c s channel rows mail command h e =
-    let history = issued_commands channel rows in
-    let queue = c.waiting.queue.requests in
+-- what is chosen in a cycle names a bank that has candidates, if it names one
+pub command-among : (c : Channel) (s : Config) (channel : ℕ) (steps : List (Option Command)) (mail : List Message) (command : Command) → IsInCycle c s channel steps mail
+    → Some command ≡ choice s channel steps mail → ForSome (bank_of command) (IsAmong c.bank_candidates)
+command-among c s channel steps mail command h e =
+    let history = issued_commands channel steps in
+    let queue = c.marked_queue.queue.requests in
     let named =
-    IfSome-at (NamesBank s) _ command (e ∙ joined-choice _ _ _ _ s channel rows mail h.joined)
-    (chosen-bank s history (length rows) c.waiting.queue.settled queue (in-banks s channel history mail (length rows + 1) queue h.joined.requests h.joined.queue_is)) in
+    IfSome-at (NamesBank s) _ command (e ∙ joined-choice _ _ _ _ s channel steps mail h.joined)
+    (chosen-bank s history (length steps) c.marked_queue.queue.drain_decided queue (in-banks s channel history mail (length steps + 1) queue h.joined.requests h.joined.queue_is)) in
     λ b is.
     let inside = subst (λ o. IfSome o (λ x. (x.rank < s.ranks) × (x.group < 4) × (x.bank < 4))) is named in
     let count = h.made_for.banks_are in
     record { number = omega arith; group = inside.1; bank = inside.2 }
 
--- the request that is served asks for a bank that has heads
-pub served-among : (c : Channel) (s : Config) (channel : ℕ) (rows : List (Option Command)) (mail : List Message) (slot : Option ℕ) (o : Option Request) → IsInCycle c s channel rows mail
-    → o ≡ option_and_then (slice_get c.waiting.queue.requests) slot → IfSome o (λ r. bank_number r.place < bank_count c.heads)
-served-among c s channel rows mail slot o h is =
-    subst (λ z. IfSome z (λ r. bank_number r.place < bank_count c.heads)) (sym is) (at slot)
+-- the request that is served asks for a bank that has candidates
+pub served-among : (c : Channel) (s : Config) (channel : ℕ) (steps : List (Option Command)) (mail : List Message) (slot : Option ℕ) (o : Option Request) → IsInCycle c s channel steps mail
+    → o ≡ option_and_then (slice_get c.marked_queue.queue.requests) slot → IfSome o (λ r. bank_number r.place < bank_count c.bank_candidates)
+served-among c s channel steps mail slot o h is =
+    subst (λ z. IfSome z (λ r. bank_number r.place < bank_count c.bank_candidates)) (sym is) (at slot)
   where
-    got : (xs : List Request) (k : ℕ) → All (λ r. bank_number r.place < bank_count c.heads) xs → IfSome (slice_get xs k) (λ r. bank_number r.place < bank_count c.heads)
+    got : (xs : List Request) (k : ℕ) → All (λ r. bank_number r.place < bank_count c.bank_candidates) xs → IfSome (slice_get xs k) (λ r. bank_number r.place < bank_count c.bank_candidates)
     got [] k all = tt
     got (x ∷ xs) zero all = all 0 x (omega arith)
     got (x ∷ xs) (suc k) all = got xs k (λ j d within. all (suc j) d (omega arith))
 
-    at : (k : Option ℕ) → IfSome (option_and_then (slice_get c.waiting.queue.requests) k) (λ r. bank_number r.place < bank_count c.heads)
+    at : (k : Option ℕ) → IfSome (option_and_then (slice_get c.marked_queue.queue.requests) k) (λ r. bank_number r.place < bank_count c.bank_candidates)
     at None = tt
-    at (Some k) = got c.waiting.queue.requests k (below-count s.ranks (bank_count c.heads) c.waiting.queue.requests h.made_for.banks_are
-        (queue-in_banks s channel s.ranks (issued_commands channel rows) mail (length rows + 1) c.waiting.queue.requests refl h.joined.requests h.joined.queue_is))
+    at (Some k) = got c.marked_queue.queue.requests k (below-count s.ranks (bank_count c.bank_candidates) c.marked_queue.queue.requests h.made_for.banks_are
+        (queue-in_banks s channel s.ranks (issued_commands channel steps) mail (length steps + 1) c.marked_queue.queue.requests refl h.joined.requests h.joined.queue_is))

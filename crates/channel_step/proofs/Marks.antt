@@ -11,7 +11,7 @@ use Rattle.sim_base.specs.Places.{bank_in}
 use Rattle.sim_base.specs.Scheduling.{is_source, source_of, serves, column_command}
 use Rattle.sim_base.specs.declared.command.Command.{Command}
 use Rattle.sim_base.specs.declared.command.Command.TheVariants.{Act, Rd, Wr, Pre, Prea, Ref}
-use Rattle.sim_base.specs.declared.command.CommandRow.{CommandRow}
+use Rattle.sim_base.specs.declared.command.IssuedCommand.{IssuedCommand}
 use Rattle.sim_base.specs.declared.command.Source.{Source}
 use Rattle.sim_base.specs.declared.message.Request.{Request}
 use Rattle.sim_base.specs.declared.place.BankId.{BankId}
@@ -21,7 +21,7 @@ use Rattle.channel_step.specs.Queued.{marked_at}
 use Rattle.channel_step.proofs.Requests.{unserved_by, filter-each, filter-agree, unserved-remove}
 
 -- the marks of some requests
-abbrev pub marks : List CommandRow → List Request → List Bool
+abbrev pub marks : List IssuedCommand → List Request → List Bool
 marks history requests = map (is_named history) requests
 
 pub map-agree : {X Y : Type 0} (f g : X → Y) (xs : List X) → Each (λ x. f x ≡ g x) xs → map f xs ≡ map g xs
@@ -43,11 +43,11 @@ act-named r (Prea rank) h = refl
 act-named r (Ref rank) h = refl
 
 -- what no command names has no mark
-pub unnamed-no_mark : (history : List CommandRow) (r : Request) → IsUnnamed history r → is_named history r ≡ false
+pub unnamed-no_mark : (history : List IssuedCommand) (r : Request) → IsUnnamed history r → is_named history r ≡ false
 unnamed-no_mark [] r h = refl
 unnamed-no_mark (i ∷ history) r h = ap₂ (λ a b. a || b) (act-named r i.command h.0) (unnamed-no_mark history r h.1)
 
-pub unnamed-marks : (history : List CommandRow) (rs : List Request) → Each (IsUnnamed history) rs → marks history rs ≡ map (λ r. false) rs
+pub unnamed-marks : (history : List IssuedCommand) (rs : List Request) → Each (IsUnnamed history) rs → marks history rs ≡ map (λ r. false) rs
 unnamed-marks history rs h = map-agree (is_named history) (λ r. false) rs (Each-weaker (IsUnnamed history) _ (unnamed-no_mark history) rs h)
 
 or-false : (x : Bool) → (x || false) ≡ x
@@ -59,9 +59,9 @@ or-true true = refl
 or-true false = refl
 
 -- one command more may name it
-pub named-command : (history : List CommandRow) (i : CommandRow) (r : Request) → is_named (history ++ i ∷ []) r ≡ (is_named history r || is_act_for (source_of r) i.command)
+pub named-command : (history : List IssuedCommand) (i : IssuedCommand) (r : Request) → is_named (history ++ i ∷ []) r ≡ (is_named history r || is_act_for (source_of r) i.command)
 named-command history i r =
-    list_any-append (λ (j : CommandRow). is_act_for (source_of r) j.command) history (i ∷ [])
+    list_any-append (λ (j : IssuedCommand). is_act_for (source_of r) j.command) history (i ∷ [])
     ∙ ap (λ b. is_named history r || b) (or-false (is_act_for (source_of r) i.command))
 
 -- a command that opens no row
@@ -86,7 +86,7 @@ each-all P h [] = tt
 each-all P h (x ∷ xs) = (h x, each-all P h xs)
 
 -- it leaves the marks as they are
-pub marks-no_act : (history : List CommandRow) (i : CommandRow) (rs : List Request) → opens_none i.command ≡ true → marks (history ++ i ∷ []) rs ≡ marks history rs
+pub marks-no_act : (history : List IssuedCommand) (i : IssuedCommand) (rs : List Request) → opens_none i.command ≡ true → marks (history ++ i ∷ []) rs ≡ marks history rs
 marks-no_act history i rs h =
     map-agree (is_named (history ++ i ∷ [])) (is_named history) rs
     (each-all _ (λ r. named-command history i r ∙ ap (λ b. is_named history r || b) (no_act (source_of r) i.command h) ∙ or-false (is_named history r)) rs)
@@ -116,7 +116,7 @@ mark-first f (x ∷ xs) source d = by (is_source x source) refl (mark-first f xs
         ∙ ap (λ k. slice_set (f x ∷ map f xs) k true) (next (position_or_len (λ r. is_source r source) xs)))
 
 -- an ACT adds the mark of the request of its entry
-pub marks-act : (history : List CommandRow) (i : CommandRow) (rs : List Request) (bank : BankId) (row : ℕ) (source : Source) → Differ rs → i.command ≡ Act bank row source
+pub marks-act : (history : List IssuedCommand) (i : IssuedCommand) (rs : List Request) (bank : BankId) (row : ℕ) (source : Source) → Differ rs → i.command ≡ Act bank row source
     → marks (history ++ i ∷ []) rs ≡ marked_at (marks history rs) rs source
 marks-act history i rs bank row source d e =
     map-agree (is_named (history ++ i ∷ [])) (λ r. is_named history r || is_source r source) rs
@@ -157,7 +157,7 @@ pub served-none : (rs : List Request) (command : Command) → moves_none command
 served-none rs command h = filter-each (λ q. not (serves q command)) rs (each-all _ (λ q. ap not (serves_none q command h)) rs)
 
 -- data that is moved is a row hit where its request has no mark
-pub hit-mark : (history : List CommandRow) (r : Request) → is_hit history (column_command r) ≡ not (is_named history r)
+pub hit-mark : (history : List IssuedCommand) (r : Request) → is_hit history (column_command r) ≡ not (is_named history r)
 hit-mark history r =
     cond_both r.write (Wr (bank_in r.place) r.place.row r.place.column (source_of r)) (Rd (bank_in r.place) r.place.row r.place.column (source_of r))
     (λ c. is_hit history c ≡ not (is_named history r)) (λ e. refl) (λ e. refl)

@@ -8,8 +8,8 @@ use Rattle.sim_base.proofs.Ordered.{Each-weaker}
 use Rattle.sim_base.specs.declared.config.Config.{Config}
 use Rattle.sim_base.specs.Fields.{is_field}
 use Rattle.sim_base.specs.Places.{field_size, digit_of, field_of, place_of}
-use Rattle.sim_base.specs.Scheduling.{is_waiting, waiting}
-use Rattle.sim_base.specs.declared.command.CommandRow.{CommandRow}
+use Rattle.sim_base.specs.Scheduling.{is_queued, queued_requests}
+use Rattle.sim_base.specs.declared.command.IssuedCommand.{IssuedCommand}
 use Rattle.sim_base.specs.declared.message.Message.{Message}
 use Rattle.sim_base.specs.declared.message.Request.{Request}
 use Rattle.sim_base.specs.declared.place.Place.{Place}
@@ -47,25 +47,25 @@ request-in_banks s channel m r h =
     subst (λ (p : Place). (p.rank < s.ranks) × (p.group < 4) × (p.bank < 4)) (sym h.place) (place-in_banks s r.address)
 
 -- the requests that wait ask for banks that there are
-pub waiting-in_banks : (s : Config) (channel : ℕ) (history : List CommandRow) (mail : List Message) (until : ℕ) → Each (CarriesRequest s channel) mail
-    → Each (InBanks s) (waiting history mail until)
-unfolding waiting
-waiting-in_banks s channel history mail until h =
-    Each-filter (InBanks s) (is_waiting history until) (requests_of mail)
+pub queued_requests-in_banks : (s : Config) (channel : ℕ) (history : List IssuedCommand) (mail : List Message) (until : ℕ) → Each (CarriesRequest s channel) mail
+    → Each (InBanks s) (queued_requests history mail until)
+unfolding queued_requests
+queued_requests-in_banks s channel history mail until h =
+    Each-filter (InBanks s) (is_queued history until) (requests_of mail)
     (carried s channel (InBanks s) mail h (Each-all _ (λ m r i. request-in_banks s channel m r i) mail))
 
-pub queue-in_banks : (s : Config) (channel ranks : ℕ) (history : List CommandRow) (mail : List Message) (until : ℕ) (queue : List Request) → ranks ≡ s.ranks
-    → Each (CarriesRequest s channel) mail → queue ≡ waiting history mail until → All (IsInBanks ranks) queue
+pub queue-in_banks : (s : Config) (channel ranks : ℕ) (history : List IssuedCommand) (mail : List Message) (until : ℕ) (queue : List Request) → ranks ≡ s.ranks
+    → Each (CarriesRequest s channel) mail → queue ≡ queued_requests history mail until → All (IsInBanks ranks) queue
 queue-in_banks s channel ranks history mail until queue e h is =
     All-from_recursion (IsInBanks ranks) queue
     (subst (Each (IsInBanks ranks)) (sym is)
-    (Each-weaker (InBanks s) (IsInBanks ranks) (λ r b. record { rank = omega arith; group = b.1; bank = b.2 }) (waiting history mail until) (waiting-in_banks s channel history mail until h)))
+    (Each-weaker (InBanks s) (IsInBanks ranks) (λ r b. record { rank = omega arith; group = b.1; bank = b.2 }) (queued_requests history mail until) (queued_requests-in_banks s channel history mail until h)))
 
-pub queue-ranks : (s : Config) (channel : ℕ) (history : List CommandRow) (mail : List Message) (until : ℕ) (queue : List Request)
-    → Each (CarriesRequest s channel) mail → queue ≡ waiting history mail until → Each (λ (r : Request). r.place.rank < s.ranks) queue
+pub queue-ranks : (s : Config) (channel : ℕ) (history : List IssuedCommand) (mail : List Message) (until : ℕ) (queue : List Request)
+    → Each (CarriesRequest s channel) mail → queue ≡ queued_requests history mail until → Each (λ (r : Request). r.place.rank < s.ranks) queue
 queue-ranks s channel history mail until queue h is =
     subst (Each (λ (r : Request). r.place.rank < s.ranks)) (sym is)
-    (Each-weaker (InBanks s) (λ (r : Request). r.place.rank < s.ranks) (λ r b. b.0) (waiting history mail until) (waiting-in_banks s channel history mail until h))
+    (Each-weaker (InBanks s) (λ (r : Request). r.place.rank < s.ranks) (λ r b. b.0) (queued_requests history mail until) (queued_requests-in_banks s channel history mail until h))
 
 -- the numbers of the banks that these requests ask for
 pub below-count : (ranks count : ℕ) (queue : List Request) → count ≡ 16 * ranks → All (IsInBanks ranks) queue → All (λ r. bank_number r.place < count) queue
@@ -73,6 +73,6 @@ below-count ranks count queue is places =
     All-weaker (IsInBanks ranks) (λ (r : Request). bank_number r.place < count)
     (λ r placed. let rank = placed.rank in let group = placed.group in let bank = placed.bank in omega arith) queue places
 
-pub in-banks : (s : Config) (channel : ℕ) (history : List CommandRow) (mail : List Message) (until : ℕ) (queue : List Request)
-    → Each (CarriesRequest s channel) mail → queue ≡ waiting history mail until → Each (InBanks s) queue
-in-banks s channel history mail until queue h is = subst (Each (InBanks s)) (sym is) (waiting-in_banks s channel history mail until h)
+pub in-banks : (s : Config) (channel : ℕ) (history : List IssuedCommand) (mail : List Message) (until : ℕ) (queue : List Request)
+    → Each (CarriesRequest s channel) mail → queue ≡ queued_requests history mail until → Each (InBanks s) queue
+in-banks s channel history mail until queue h is = subst (Each (InBanks s)) (sym is) (queued_requests-in_banks s channel history mail until h)

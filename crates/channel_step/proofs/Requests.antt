@@ -11,10 +11,10 @@ use Rattle.sim_base.proofs.Ordered.{Each-weaker}
 use Rattle.sim_base.proofs.Each.{Each-append}
 use Rattle.sim_base.proofs.Same.{Stamped}
 use Rattle.sim_base.specs.declared.config.Config.{Config}
-use Rattle.sim_base.specs.Scheduling.{request_in, is_source, source_of, serves, is_served, is_waiting, waiting}
+use Rattle.sim_base.specs.Scheduling.{request_in, is_source, source_of, serves, is_served, is_queued, queued_requests}
 use Rattle.sim_base.specs.declared.command.Command.{Command}
 use Rattle.sim_base.specs.declared.command.Command.TheVariants.{Act, Rd, Wr, Pre, Prea, Ref}
-use Rattle.sim_base.specs.declared.command.CommandRow.{CommandRow}
+use Rattle.sim_base.specs.declared.command.IssuedCommand.{IssuedCommand}
 use Rattle.sim_base.specs.declared.message.Message.{Message}
 use Rattle.sim_base.specs.declared.message.Request.{Request}
 use Rattle.channel_step.specs.Past.{requests_of, IsRequestOf, IsRequestIn, CarriesRequest, IsOther, Differ}
@@ -67,23 +67,23 @@ carries-stamped s channel mail h = Each-weaker (CarriesRequest s channel) Stampe
     by m (Some r) i = i.arrival
 
 -- the requests of which no data was moved
-abbrev pub unserved : List CommandRow → List Request → List Request
+abbrev pub unserved : List IssuedCommand → List Request → List Request
 unserved history rs = filter (λ r. not (is_served history r)) rs
 
 -- where all requests have arrived, those wait of which no data was moved
-pub waiting-unserved : (history : List CommandRow) (mail : List Message) (until : ℕ) → Each (ArrivedBefore until) (requests_of mail)
-    → waiting history mail until ≡ unserved history (requests_of mail)
-unfolding waiting
-waiting-unserved history mail until h =
-    filter-agree (is_waiting history until) (λ r. not (is_served history r)) (requests_of mail)
+pub queued_requests-unserved : (history : List IssuedCommand) (mail : List Message) (until : ℕ) → Each (ArrivedBefore until) (requests_of mail)
+    → queued_requests history mail until ≡ unserved history (requests_of mail)
+unfolding queued_requests
+queued_requests-unserved history mail until h =
+    filter-agree (is_queued history until) (λ r. not (is_served history r)) (requests_of mail)
     (Each-weaker (ArrivedBefore until) _ (λ r l. ap (λ b. b && not (is_served history r)) (lt-ltb r.arrival until l)) (requests_of mail) h)
 
 -- no time has to pass for what has arrived
-pub waiting-until : (history : List CommandRow) (mail : List Message) (until later : ℕ) → until ≤ later → Each (ArrivedBefore until) (requests_of mail)
-    → waiting history mail later ≡ waiting history mail until
-waiting-until history mail until later l h =
-    waiting-unserved history mail later (Each-weaker (ArrivedBefore until) (ArrivedBefore later) (λ r k. omega arith) (requests_of mail) h)
-    ∙ sym (waiting-unserved history mail until h)
+pub queued_requests-until : (history : List IssuedCommand) (mail : List Message) (until later : ℕ) → until ≤ later → Each (ArrivedBefore until) (requests_of mail)
+    → queued_requests history mail later ≡ queued_requests history mail until
+queued_requests-until history mail until later l h =
+    queued_requests-unserved history mail later (Each-weaker (ArrivedBefore until) (ArrivedBefore later) (λ r k. omega arith) (requests_of mail) h)
+    ∙ sym (queued_requests-unserved history mail until h)
 
 pub requests-append : (mail more : List Message) → requests_of (mail ++ more) ≡ requests_of mail ++ requests_of more
 requests-append mail more = filter_map-append (λ (m : Message). request_in m.load) mail more
@@ -97,23 +97,23 @@ serves-named r (Prea rank) h = refl
 serves-named r (Ref rank) h = refl
 
 -- what no command names is not served
-pub unnamed-unserved : (history : List CommandRow) (r : Request) → IsUnnamed history r → is_served history r ≡ false
+pub unnamed-unserved : (history : List IssuedCommand) (r : Request) → IsUnnamed history r → is_served history r ≡ false
 unfolding is_served
 unnamed-unserved [] r h = refl
 unnamed-unserved (i ∷ history) r h = ap₂ (λ a b. a || b) (serves-named r i.command h.0) (unnamed-unserved history r h.1)
 
 -- the queue with the requests that arrive in a cycle, which no command has named yet
-pub waiting-arrivals : (history : List CommandRow) (mail new : List Message) (now : ℕ) → Each (ArrivedBefore now) (requests_of mail)
+pub queued_requests-arrivals : (history : List IssuedCommand) (mail new : List Message) (now : ℕ) → Each (ArrivedBefore now) (requests_of mail)
     → Each (ArrivedBefore (now + 1)) (requests_of new) → Each (IsUnnamed history) (requests_of new)
-    → waiting history (mail ++ new) (now + 1) ≡ waiting history mail now ++ requests_of new
-waiting-arrivals history mail new now h k u =
-    waiting-unserved history (mail ++ new) (now + 1)
+    → queued_requests history (mail ++ new) (now + 1) ≡ queued_requests history mail now ++ requests_of new
+queued_requests-arrivals history mail new now h k u =
+    queued_requests-unserved history (mail ++ new) (now + 1)
     (subst (Each (ArrivedBefore (now + 1))) (sym (requests-append mail new))
     (Each-append (ArrivedBefore (now + 1)) (requests_of mail) (requests_of new)
     (Each-weaker (ArrivedBefore now) (ArrivedBefore (now + 1)) (λ r l. omega arith) (requests_of mail) h) k))
     ∙ ap (unserved history) (requests-append mail new)
     ∙ filter-append (λ r. not (is_served history r)) (requests_of mail) (requests_of new)
-    ∙ ap₂ (λ xs ys. xs ++ ys) (sym (waiting-unserved history mail now h))
+    ∙ ap₂ (λ xs ys. xs ++ ys) (sym (queued_requests-unserved history mail now h))
     (filter-each (λ r. not (is_served history r)) (requests_of new)
     (Each-weaker (IsUnnamed history) _ (λ r i. ap not (unnamed-unserved history r i)) (requests_of new) u))
 
@@ -128,12 +128,12 @@ one_more true false true = refl
 one_more true false false = refl
 
 -- after one command more those wait that it does not serve
-pub waiting-command : (history : List CommandRow) (i : CommandRow) (mail : List Message) (until : ℕ)
-    → waiting (history ++ i ∷ []) mail until ≡ unserved_by i.command (waiting history mail until)
-unfolding waiting is_served
-waiting-command history i mail until =
-    filter-both (λ r. not (serves r i.command)) (is_waiting history until) (is_waiting (history ++ i ∷ []) until)
-    (λ r. ap (λ b. ltb r.arrival until && not b) (list_any-append (λ (j : CommandRow). serves r j.command) history (i ∷ [])) ∙ one_more (ltb r.arrival until) (is_served history r) (serves r i.command))
+pub queued_requests-command : (history : List IssuedCommand) (i : IssuedCommand) (mail : List Message) (until : ℕ)
+    → queued_requests (history ++ i ∷ []) mail until ≡ unserved_by i.command (queued_requests history mail until)
+unfolding queued_requests is_served
+queued_requests-command history i mail until =
+    filter-both (λ r. not (serves r i.command)) (is_queued history until) (is_queued (history ++ i ∷ []) until)
+    (λ r. ap (λ b. ltb r.arrival until && not b) (list_any-append (λ (j : IssuedCommand). serves r j.command) history (i ∷ [])) ∙ one_more (ltb r.arrival until) (is_served history r) (serves r i.command))
     (requests_of mail)
 
 same_source : (a b : Request) → is_source a (source_of b) ≡ false → is_source b (source_of a) ≡ false

@@ -7,7 +7,7 @@ use Rattle.sim_base.specs.declared.config.Config.{Config}
 use Rattle.sim_base.specs.History.{issued_commands, channel_messages}
 use Rattle.sim_base.specs.Machine.{channel_run}
 use Rattle.sim_base.specs.declared.command.Command.{Command}
-use Rattle.sim_base.specs.declared.command.CommandRow.{CommandRow}
+use Rattle.sim_base.specs.declared.command.IssuedCommand.{IssuedCommand}
 use Rattle.sim_base.specs.declared.message.Message.{Message}
 use Rattle.channel_step.specs.Fit.{IsFit}
 use Rattle.channel_step.specs.Channels.{StandsFor}
@@ -15,24 +15,24 @@ use Rattle.channel_step.specs.Runs.{HasRun, HasTurned, CanRun}
 use Rattle.channel_step.specs.declared.channel.Channel.{Channel}
 use Rattle.channel_step.proofs.Spans.{length-channel_run, channel_run-more}
 
-pub run-length : (s : Config) (channel : ℕ) (rows : List (Option Command)) (mail : List Message) (from now : ℕ) → length rows ≡ from → from ≤ now
-    → length (channel_run s channel rows mail (now - from)) ≡ now
-run-length s channel rows mail from now at l = omega (arith, length-channel_run s channel rows mail (now - from))
+pub run-length : (s : Config) (channel : ℕ) (steps : List (Option Command)) (mail : List Message) (from now : ℕ) → length steps ≡ from → from ≤ now
+    → length (channel_run s channel steps mail (now - from)) ≡ now
+run-length s channel steps mail from now at l = omega (arith, length-channel_run s channel steps mail (now - from))
 
 -- no cycle is over yet
-pub run-begins : (c : Channel) (s : Config) (channel : ℕ) (rows : List (Option Command)) (mail inbox : List Message) (from until : ℕ) → StandsFor c s channel rows mail
-    → IsFit s channel rows mail inbox from until → HasRun c s channel rows mail inbox from from until 0 [] []
+pub run-begins : (c : Channel) (s : Config) (channel : ℕ) (steps : List (Option Command)) (mail inbox : List Message) (from until : ℕ) → StandsFor c s channel steps mail
+    → IsFit s channel steps mail inbox from until → HasRun c s channel steps mail inbox from from until 0 [] []
 unfolding channel_run
-run-begins c s channel rows mail inbox from until h f =
+run-begins c s channel steps mail inbox from until h f =
     let none : from - from ≡ 0 = omega arith in
-    let here : channel_run s channel rows (mail ++ inbox) (from - from) ≡ rows = ap (channel_run s channel rows (mail ++ inbox)) none in
+    let here : channel_run s channel steps (mail ++ inbox) (from - from) ≡ steps = ap (channel_run s channel steps (mail ++ inbox)) none in
     let before : mail ++ [] ≡ mail = append-nil mail in
     record {
-      stands = subst (λ r. StandsFor c s channel r (mail ++ [])) (sym here) (subst (StandsFor c s channel rows) (sym before) h);
-      fit = subst (λ r. IsFit s channel r (mail ++ []) inbox from until) (sym here) (subst (λ m. IsFit s channel rows m inbox from until) (sym before) f);
+      stands = subst (λ r. StandsFor c s channel r (mail ++ [])) (sym here) (subst (StandsFor c s channel steps) (sym before) h);
+      fit = subst (λ r. IsFit s channel r (mail ++ []) inbox from until) (sym here) (subst (λ m. IsFit s channel steps m inbox from until) (sym before) f);
       some = omega arith;
-      commands_are = ap (issued_commands channel) here ∙ sym (append-nil (issued_commands channel rows));
-      messages_are = ap (channel_messages s channel) here ∙ sym (append-nil (channel_messages s channel rows));
+      commands_are = ap (issued_commands channel) here ∙ sym (append-nil (issued_commands channel steps));
+      messages_are = ap (channel_messages s channel) here ∙ sym (append-nil (channel_messages s channel steps));
     }
 
 none_left : (until : ℕ) (ms : List Message) → Each (λ (m : Message). (until ≤ m.arrival) × (m.arrival < until)) ms → ms ≡ []
@@ -40,56 +40,56 @@ none_left until [] h = refl
 none_left until (m ∷ ms) h = let a = h.0.0 in let b = h.0.1 in absurd (omega arith)
 
 -- all cycles are over, and all messages have arrived
-pub run-ends : (c : Channel) (s : Config) (channel : ℕ) (rows : List (Option Command)) (mail inbox : List Message) (from until arrived : ℕ) (commands : List CommandRow) (messages : List Message)
-    → HasRun c s channel rows mail inbox from until until arrived commands messages → StandsFor c s channel (channel_run s channel rows (mail ++ inbox) (until - from)) (mail ++ inbox)
-run-ends c s channel rows mail inbox from until arrived commands messages h =
+pub run-ends : (c : Channel) (s : Config) (channel : ℕ) (steps : List (Option Command)) (mail inbox : List Message) (from until arrived : ℕ) (commands : List IssuedCommand) (messages : List Message)
+    → HasRun c s channel steps mail inbox from until until arrived commands messages → StandsFor c s channel (channel_run s channel steps (mail ++ inbox) (until - from)) (mail ++ inbox)
+run-ends c s channel steps mail inbox from until arrived commands messages h =
     let rest : drop arrived inbox ≡ [] = none_left until (drop arrived inbox) h.fit.in_span in
     let all : take arrived inbox ≡ inbox = sym (append-nil (take arrived inbox)) ∙ ap (λ x. take arrived inbox ++ x) (sym rest) ∙ take-append-drop arrived inbox in
-    subst (λ m. StandsFor c s channel (channel_run s channel rows (mail ++ inbox) (until - from)) (mail ++ m)) all h.stands
+    subst (λ m. StandsFor c s channel (channel_run s channel steps (mail ++ inbox) (until - from)) (mail ++ m)) all h.stands
 
 -- the messages that are left
 abbrev pub rest_of : List Message → ℕ → List Message
 rest_of inbox arrived = take (length inbox - arrived) (drop arrived inbox)
 
 -- what is left is fit for the next cycle
-pub run-fit : (c : Channel) (s : Config) (channel : ℕ) (rows : List (Option Command)) (mail inbox : List Message) (from now until arrived : ℕ) (commands : List CommandRow) (messages : List Message)
-    → HasRun c s channel rows mail inbox from now until arrived commands messages
-    → IsFit s channel (channel_run s channel rows (mail ++ inbox) (now - from)) (mail ++ take arrived inbox) (rest_of inbox arrived) now until
-run-fit c s channel rows mail inbox from now until arrived commands messages h =
-    subst (λ i. IsFit s channel (channel_run s channel rows (mail ++ inbox) (now - from)) (mail ++ take arrived inbox) i now until) (sym (take_rest inbox arrived)) h.fit
+pub run-fit : (c : Channel) (s : Config) (channel : ℕ) (steps : List (Option Command)) (mail inbox : List Message) (from now until arrived : ℕ) (commands : List IssuedCommand) (messages : List Message)
+    → HasRun c s channel steps mail inbox from now until arrived commands messages
+    → IsFit s channel (channel_run s channel steps (mail ++ inbox) (now - from)) (mail ++ take arrived inbox) (rest_of inbox arrived) now until
+run-fit c s channel steps mail inbox from now until arrived commands messages h =
+    subst (λ i. IsFit s channel (channel_run s channel steps (mail ++ inbox) (now - from)) (mail ++ take arrived inbox) i now until) (sym (take_rest inbox arrived)) h.fit
 
 -- the channel may go on
-pub run-can_go_on : (c : Channel) (s : Config) (channel : ℕ) (rows : List (Option Command)) (mail inbox : List Message) (from now until arrived : ℕ) (commands : List CommandRow) (messages : List Message)
-    → length rows ≡ from → from ≤ now → HasRun c s channel rows mail inbox from now until arrived commands messages → CanRun c (rest_of inbox arrived) now until
-run-can_go_on c s channel rows mail inbox from now until arrived commands messages at l h =
+pub run-can_go_on : (c : Channel) (s : Config) (channel : ℕ) (steps : List (Option Command)) (mail inbox : List Message) (from now until arrived : ℕ) (commands : List IssuedCommand) (messages : List Message)
+    → length steps ≡ from → from ≤ now → HasRun c s channel steps mail inbox from now until arrived commands messages → CanRun c (rest_of inbox arrived) now until
+run-can_go_on c s channel steps mail inbox from now until arrived commands messages at l h =
     record {
       s = s;
       channel = channel;
-      rows = channel_run s channel rows (mail ++ inbox) (now - from);
+      steps = channel_run s channel steps (mail ++ inbox) (now - from);
       mail = mail ++ take arrived inbox;
       stands = h.stands;
-      at = run-length s channel rows (mail ++ inbox) from now at l;
-      fit = run-fit c s channel rows mail inbox from now until arrived commands messages h;
+      at = run-length s channel steps (mail ++ inbox) from now at l;
+      fit = run-fit c s channel steps mail inbox from now until arrived commands messages h;
     }
 
 -- when it has gone on, with what is added
-pub run-turned : (c d : Channel) (s : Config) (channel : ℕ) (rows : List (Option Command)) (mail inbox : List Message) (from now until arrived n last : ℕ)
-    (commands more_commands : List CommandRow) (messages more_messages : List Message) → length rows ≡ from → from ≤ now → now ≤ last
-    → HasRun c s channel rows mail inbox from now until arrived commands messages
-    → HasTurned d s channel (channel_run s channel rows (mail ++ inbox) (now - from)) (mail ++ take arrived inbox) (rest_of inbox arrived) now (last + 1) until n
+pub run-turned : (c d : Channel) (s : Config) (channel : ℕ) (steps : List (Option Command)) (mail inbox : List Message) (from now until arrived n last : ℕ)
+    (commands more_commands : List IssuedCommand) (messages more_messages : List Message) → length steps ≡ from → from ≤ now → now ≤ last
+    → HasRun c s channel steps mail inbox from now until arrived commands messages
+    → HasTurned d s channel (channel_run s channel steps (mail ++ inbox) (now - from)) (mail ++ take arrived inbox) (rest_of inbox arrived) now (last + 1) until n
     commands more_commands messages more_messages
-    → HasRun d s channel rows mail inbox from (last + 1) until (arrived + n) more_commands more_messages
-run-turned c d s channel rows mail inbox from now until arrived n last commands more_commands messages more_messages at l m h turned =
+    → HasRun d s channel steps mail inbox from (last + 1) until (arrived + n) more_commands more_messages
+run-turned c d s channel steps mail inbox from now until arrived n last commands more_commands messages more_messages at l m h turned =
     let k = turned.has_run in
     let all = mail ++ inbox in
     let there = mail ++ take arrived inbox in
-    let before = channel_run s channel rows all (now - from) in
+    let before = channel_run s channel steps all (now - from) in
     let rest : rest_of inbox arrived ≡ drop arrived inbox = take_rest inbox arrived in
     let whole : there ++ rest_of inbox arrived ≡ all =
     append_assoc mail (take arrived inbox) (rest_of inbox arrived) ∙ ap (λ x. mail ++ (take arrived inbox ++ x)) rest ∙ ap (λ x. mail ++ x) (take-append-drop arrived inbox) in
     let then : last + 1 - from ≡ (now - from) + (last + 1 - now) = omega arith in
-    let rows_are : channel_run s channel rows all (last + 1 - from) ≡ channel_run s channel before (there ++ rest_of inbox arrived) (last + 1 - now) =
-    ap (channel_run s channel rows all) then ∙ channel_run-more s channel rows all (now - from) (last + 1 - now) ∙ ap (λ x. channel_run s channel before x (last + 1 - now)) (sym whole) in
+    let rows_are : channel_run s channel steps all (last + 1 - from) ≡ channel_run s channel before (there ++ rest_of inbox arrived) (last + 1 - now) =
+    ap (channel_run s channel steps all) then ∙ channel_run-more s channel steps all (now - from) (last + 1 - now) ∙ ap (λ x. channel_run s channel before x (last + 1 - now)) (sym whole) in
     let arrived_are : mail ++ take (arrived + n) inbox ≡ there ++ take n (rest_of inbox arrived) =
     ap (λ x. mail ++ x) (take-add arrived n inbox) ∙ sym (append_assoc mail (take arrived inbox) (take n (drop arrived inbox))) ∙ ap (λ x. there ++ take n x) (sym rest) in
     let left : drop (arrived + n) inbox ≡ drop n (rest_of inbox arrived) = sym (drop-drop n arrived inbox) ∙ ap (drop n) (sym rest) in
@@ -104,39 +104,39 @@ run-turned c d s channel rows mail inbox from now until arrived n last commands 
       commands_are =
           ap (issued_commands channel) rows_are ∙ k.commands_are
           ∙ ap (λ x. x ++ turned.issued) h.commands_are
-          ∙ append_assoc (issued_commands channel rows) commands turned.issued
-          ∙ ap (λ x. issued_commands channel rows ++ x) (sym turned.commands_are);
+          ∙ append_assoc (issued_commands channel steps) commands turned.issued
+          ∙ ap (λ x. issued_commands channel steps ++ x) (sym turned.commands_are);
       messages_are =
           ap (channel_messages s channel) rows_are ∙ k.messages_are
           ∙ ap (λ x. x ++ turned.sent) h.messages_are
-          ∙ append_assoc (channel_messages s channel rows) messages turned.sent
-          ∙ ap (λ x. channel_messages s channel rows ++ x) (sym turned.messages_are);
+          ∙ append_assoc (channel_messages s channel steps) messages turned.sent
+          ∙ ap (λ x. channel_messages s channel steps ++ x) (sym turned.messages_are);
     }
 
 -- no cycle is over yet, and nothing was added to the lists
-pub turned-none : (c : Channel) (s : Config) (channel : ℕ) (rows : List (Option Command)) (mail inbox : List Message) (from until : ℕ) (commands : List CommandRow) (messages : List Message)
-    → StandsFor c s channel rows mail → IsFit s channel rows mail inbox from until → HasTurned c s channel rows mail inbox from from until 0 commands commands messages messages
-turned-none c s channel rows mail inbox from until commands messages h f =
+pub turned-none : (c : Channel) (s : Config) (channel : ℕ) (steps : List (Option Command)) (mail inbox : List Message) (from until : ℕ) (commands : List IssuedCommand) (messages : List Message)
+    → StandsFor c s channel steps mail → IsFit s channel steps mail inbox from until → HasTurned c s channel steps mail inbox from from until 0 commands commands messages messages
+turned-none c s channel steps mail inbox from until commands messages h f =
     record {
       issued = [];
       sent = [];
-      has_run = run-begins c s channel rows mail inbox from until h f;
+      has_run = run-begins c s channel steps mail inbox from until h f;
       commands_are = sym (append-nil commands);
       messages_are = sym (append-nil messages);
     }
 
 -- one turn more
-pub turned-more : (c d : Channel) (s : Config) (channel : ℕ) (rows : List (Option Command)) (mail inbox : List Message) (from now until arrived n last : ℕ)
-    (commands more_commands most_commands : List CommandRow) (messages more_messages most_messages : List Message) → length rows ≡ from → from ≤ now → now ≤ last
-    → HasTurned c s channel rows mail inbox from now until arrived commands more_commands messages more_messages
-    → HasTurned d s channel (channel_run s channel rows (mail ++ inbox) (now - from)) (mail ++ take arrived inbox) (rest_of inbox arrived) now (last + 1) until n
+pub turned-more : (c d : Channel) (s : Config) (channel : ℕ) (steps : List (Option Command)) (mail inbox : List Message) (from now until arrived n last : ℕ)
+    (commands more_commands most_commands : List IssuedCommand) (messages more_messages most_messages : List Message) → length steps ≡ from → from ≤ now → now ≤ last
+    → HasTurned c s channel steps mail inbox from now until arrived commands more_commands messages more_messages
+    → HasTurned d s channel (channel_run s channel steps (mail ++ inbox) (now - from)) (mail ++ take arrived inbox) (rest_of inbox arrived) now (last + 1) until n
     more_commands most_commands more_messages most_messages
-    → HasTurned d s channel rows mail inbox from (last + 1) until (arrived + n) commands most_commands messages most_messages
-turned-more c d s channel rows mail inbox from now until arrived n last commands more_commands most_commands messages more_messages most_messages at l m h turned =
+    → HasTurned d s channel steps mail inbox from (last + 1) until (arrived + n) commands most_commands messages most_messages
+turned-more c d s channel steps mail inbox from now until arrived n last commands more_commands most_commands messages more_messages most_messages at l m h turned =
     record {
       issued = h.issued ++ turned.issued;
       sent = h.sent ++ turned.sent;
-      has_run = run-turned c d s channel rows mail inbox from now until arrived n last h.issued (h.issued ++ turned.issued) h.sent (h.sent ++ turned.sent) at l m h.has_run
+      has_run = run-turned c d s channel steps mail inbox from now until arrived n last h.issued (h.issued ++ turned.issued) h.sent (h.sent ++ turned.sent) at l m h.has_run
           (record { issued = turned.issued; sent = turned.sent; has_run = turned.has_run; commands_are = refl; messages_are = refl });
       commands_are = turned.commands_are ∙ ap (λ x. x ++ turned.issued) h.commands_are ∙ append_assoc commands h.issued turned.issued;
       messages_are = turned.messages_are ∙ ap (λ x. x ++ turned.sent) h.messages_are ∙ append_assoc messages h.sent turned.sent;

@@ -8,7 +8,7 @@ use Rattle.sim_base.proofs.Ordered.{Each-weaker}
 use Rattle.sim_base.specs.declared.config.Config.{Config}
 use Rattle.sim_base.specs.Counts.{queued_max}
 use Rattle.sim_base.specs.History.{issued_commands}
-use Rattle.sim_base.specs.Scheduling.{waiting, drains_before, drains, lowest_due}
+use Rattle.sim_base.specs.Scheduling.{queued_requests, drains_before, drains, lowest_due}
 use Rattle.sim_base.specs.declared.command.Command.{Command}
 use Rattle.sim_base.specs.declared.message.Message.{Message}
 use Rattle.statistics.specs.Channels.{channel_stats, channel_cycle, channel_cycle_with, channel_joined, channel_times, channel_stretch, ChannelFits}
@@ -24,24 +24,24 @@ use Rattle.channel_step.specs.Past.{requests_of}
 use Rattle.channel_step.specs.Stands.{marks_of}
 use Rattle.channel_step.specs.Counted.{cycle_with_hit}
 use Rattle.channel_step.specs.Fit.{queue_room}
-use Rattle.channel_step.specs.Queued.{settled}
+use Rattle.channel_step.specs.Queued.{drain_decided}
 use Rattle.fr_fcfs.specs.Choices.{choice_in}
-use Rattle.channel_step.specs.Channels.{HeadsStand, IsForeseen, StandsFor, IsInCycle, passed}
+use Rattle.channel_step.specs.Channels.{CandidatesStand, IsForeseen, StandsFor, IsInCycle, passed}
 use Rattle.channel_step.specs.declared.channel.Channel.{Channel}
-use Rattle.channel_step.proofs.Requests.{ArrivedBefore, requests-arrived, waiting-until}
+use Rattle.channel_step.proofs.Requests.{ArrivedBefore, requests-arrived, queued_requests-until}
 use Rattle.channel_step.proofs.Spans.{drains_before-row}
-use Rattle.channel_step.proofs.Stretches.{idle-push, length-idle, idle-issued, idle-waiting, idle-drains, idle-cycle}
+use Rattle.channel_step.proofs.Stretches.{idle-push, length-idle, idle-issued, idle-queued_requests, idle-drains, idle-cycle}
 use Rattle.channel_step.proofs.Cycle.{cycle-with}
-use Rattle.channel_step.proofs.Foreseen.{foreseen-later, foreseen-settled}
-use Rattle.channel_step.proofs.Deciding.{settled-drains}
+use Rattle.channel_step.proofs.Foreseen.{foreseen-later, foreseen-drain_decided}
+use Rattle.channel_step.proofs.Deciding.{drain_decided-drains}
 use Rattle.channel_step.proofs.Starting.{at-drains}
 
--- the next cycle, when it is settled whether the channel drains its writes in it
-pub settled-in_cycle : (c : Channel) (s : Config) (channel : ℕ) (rows : List (Option Command)) (mail : List Message) → StandsFor c s channel rows mail
-    → IsInCycle (record c { waiting = record c.waiting { queue = settled c.waiting.queue } }) s channel rows mail
-settled-in_cycle c s channel rows mail h =
+-- the next cycle, when it is decided whether the channel drains its writes in it
+pub drain_decided-in_cycle : (c : Channel) (s : Config) (channel : ℕ) (steps : List (Option Command)) (mail : List Message) → StandsFor c s channel steps mail
+    → IsInCycle (record c { marked_queue = record c.marked_queue { queue = drain_decided c.marked_queue.queue } }) s channel steps mail
+drain_decided-in_cycle c s channel steps mail h =
     let r = h.recalls in
-    let before : Each (ArrivedBefore (length rows)) (requests_of mail) = requests-arrived s channel (length rows) mail r.past.requests r.past.arrived in
+    let before : Each (ArrivedBefore (length steps)) (requests_of mail) = requests-arrived s channel (length steps) mail r.past.requests r.past.arrived in
     record {
       made_for = record {
         config_is = h.made_for.config_is;
@@ -56,104 +56,104 @@ settled-in_cycle c s channel rows mail h =
       cycle_is = h.cycle_is;
       joined = record {
         requests = r.past.requests;
-        arrived = Each-weaker (λ (m : Message). m.arrival < length rows) (λ (m : Message). m.arrival < length rows + 1) (λ m l. omega arith) mail r.past.arrived;
+        arrived = Each-weaker (λ (m : Message). m.arrival < length steps) (λ (m : Message). m.arrival < length steps + 1) (λ m l. omega arith) mail r.past.arrived;
         differ = r.past.differ;
-        queue_is = r.queue_is ∙ sym (waiting-until (issued_commands channel rows) mail (length rows) (length rows + 1) (omega arith) before);
-        drained_is = at-drains c s channel rows mail h;
+        queue_is = r.queue_is ∙ sym (queued_requests-until (issued_commands channel steps) mail (length steps) (length steps + 1) (omega arith) before);
+        drained_is = at-drains c s channel steps mail h;
         marks_are = r.marks_are;
         stats_are = r.stats_are;
       };
-      heads_stand = h.heads_stand;
+      candidates_stand = h.candidates_stand;
       banks_stand = h.banks_stand;
       refreshes_stand = h.refreshes_stand;
-      foresees = foreseen-settled s (issued_commands channel rows) c.waiting.queue c.cycle c.ahead h.foresees;
+      foresees = foreseen-drain_decided s (issued_commands channel steps) c.marked_queue.queue c.cycle c.ahead h.foresees;
     }
 
--- the same, as it is told what is settled
-pub settled_stands : (c d : Channel) (s : Config) (channel : ℕ) (rows : List (Option Command)) (mail : List Message)
-    → d ≡ record c { waiting = record { queue = settled c.waiting.queue; marks = c.waiting.marks } } → StandsFor c s channel rows mail → IsInCycle d s channel rows mail
-settled_stands c d s channel rows mail e h = subst (λ x. IsInCycle x s channel rows mail) (sym e) (settled-in_cycle c s channel rows mail h)
+-- the same, as it is told what is decided
+pub settled_stands : (c d : Channel) (s : Config) (channel : ℕ) (steps : List (Option Command)) (mail : List Message)
+    → d ≡ record c { marked_queue = record { queue = drain_decided c.marked_queue.queue; marks = c.marked_queue.marks } } → StandsFor c s channel steps mail → IsInCycle d s channel steps mail
+settled_stands c d s channel steps mail e h = subst (λ x. IsInCycle x s channel steps mail) (sym e) (drain_decided-in_cycle c s channel steps mail h)
 
--- the statistics of rows and of idle cycles after them
-idle-stretch : (s : Config) (channel : ℕ) (mail : List Message) (n : ℕ) (rows : List (Option Command))
-    → channel_stats s channel (rows ++ replicate n None) mail ≡ channel_joined (channel_stats s channel rows mail) (channel_stretch s channel rows mail (replicate n None))
+-- the statistics of steps and of idle cycles after them
+idle-stretch : (s : Config) (channel : ℕ) (mail : List Message) (n : ℕ) (steps : List (Option Command))
+    → channel_stats s channel (steps ++ replicate n None) mail ≡ channel_joined (channel_stats s channel steps mail) (channel_stretch s channel steps mail (replicate n None))
 unfolding channel_stretch
-idle-stretch s channel mail zero rows = ap (λ x. channel_stats s channel x mail) (append-nil rows) ∙ sym (channel_joined-none (channel_stats s channel rows mail))
-idle-stretch s channel mail (suc n) rows =
-    let next = rows ++ None ∷ [] in
-    ap (λ x. channel_stats s channel x mail) (sym (append_assoc rows (None ∷ []) (replicate n None)))
+idle-stretch s channel mail zero steps = ap (λ x. channel_stats s channel x mail) (append-nil steps) ∙ sym (channel_joined-none (channel_stats s channel steps mail))
+idle-stretch s channel mail (suc n) steps =
+    let next = steps ++ None ∷ [] in
+    ap (λ x. channel_stats s channel x mail) (sym (append_assoc steps (None ∷ []) (replicate n None)))
     ∙ idle-stretch s channel mail n next
-    ∙ ap (λ x. channel_joined x (channel_stretch s channel next mail (replicate n None))) (channel_stats-push s channel rows None mail refl)
-    ∙ channel_joined-assoc (channel_stats s channel rows mail) (channel_cycle s channel rows mail None) (channel_stretch s channel next mail (replicate n None))
+    ∙ ap (λ x. channel_joined x (channel_stretch s channel next mail (replicate n None))) (channel_stats-push s channel steps None mail refl)
+    ∙ channel_joined-assoc (channel_stats s channel steps mail) (channel_cycle s channel steps mail None) (channel_stretch s channel next mail (replicate n None))
 
 -- a refresh is due in each of the next n cycles, or in none
 abbrev pub IsDueThroughout : Config → ℕ → List (Option Command) → ℕ → Bool → Type 0
-IsDueThroughout s channel rows n due = (k : ℕ) → k < n → is_some (lowest_due s (issued_commands channel rows) (length rows + k)) ≡ due
+IsDueThroughout s channel steps n due = (k : ℕ) → k < n → is_some (lowest_due s (issued_commands channel steps) (length steps + k)) ≡ due
 
 -- what each of them counts
-idle-counts : (s : Config) (channel : ℕ) (rows : List (Option Command)) (mail : List Message) (n : ℕ) (due : Bool) → Each (ArrivedBefore (length rows + 1)) (requests_of mail)
-    → IsDueThroughout s channel rows n due → (k : ℕ) → k < n
-    → channel_cycle s channel (rows ++ replicate k None) mail None
-    ≡ cycle_with_hit s (length (waiting (issued_commands channel rows) mail (length rows + 1))) due (drains s channel rows mail (length rows)) None false
+idle-counts : (s : Config) (channel : ℕ) (steps : List (Option Command)) (mail : List Message) (n : ℕ) (due : Bool) → Each (ArrivedBefore (length steps + 1)) (requests_of mail)
+    → IsDueThroughout s channel steps n due → (k : ℕ) → k < n
+    → channel_cycle s channel (steps ++ replicate k None) mail None
+    ≡ cycle_with_hit s (length (queued_requests (issued_commands channel steps) mail (length steps + 1))) due (drains s channel steps mail (length steps)) None false
 unfolding channel_cycle_with
-idle-counts s channel rows mail n due h alike k l =
-    let history = issued_commands channel rows in
-    let first : is_some (lowest_due s history (length rows)) ≡ due = ap (λ t. is_some (lowest_due s history t)) (sym (add-zero (length rows))) ∙ alike 0 (omega arith) in
-    idle-cycle s channel rows mail h n k l (λ j m. alike j m ∙ sym first)
-    ∙ cycle-with s channel rows mail None
-    ∙ ap (λ b. cycle_with_hit s (length (waiting history mail (length rows + 1))) b (drains s channel rows mail (length rows)) None false) first
+idle-counts s channel steps mail n due h alike k l =
+    let history = issued_commands channel steps in
+    let first : is_some (lowest_due s history (length steps)) ≡ due = ap (λ t. is_some (lowest_due s history t)) (sym (add-zero (length steps))) ∙ alike 0 (omega arith) in
+    idle-cycle s channel steps mail h n k l (λ j m. alike j m ∙ sym first)
+    ∙ cycle-with s channel steps mail None
+    ∙ ap (λ b. cycle_with_hit s (length (queued_requests history mail (length steps + 1))) b (drains s channel steps mail (length steps)) None false) first
 
 -- the statistics after them
-pub idle-stats : (s : Config) (channel : ℕ) (rows : List (Option Command)) (mail : List Message) (n : ℕ) (due : Bool) → Each (ArrivedBefore (length rows + 1)) (requests_of mail)
-    → IsDueThroughout s channel rows n due
-    → channel_stats s channel (rows ++ replicate n None) mail
-    ≡ channel_joined (channel_stats s channel rows mail)
-    (channel_times n (cycle_with_hit s (length (waiting (issued_commands channel rows) mail (length rows + 1))) due (drains s channel rows mail (length rows)) None false))
-idle-stats s channel rows mail n due h alike =
-    idle-stretch s channel mail n rows
-    ∙ ap (channel_joined (channel_stats s channel rows mail)) (channel_stretch-replicate s channel mail None _ n rows (idle-counts s channel rows mail n due h alike))
+pub idle-stats : (s : Config) (channel : ℕ) (steps : List (Option Command)) (mail : List Message) (n : ℕ) (due : Bool) → Each (ArrivedBefore (length steps + 1)) (requests_of mail)
+    → IsDueThroughout s channel steps n due
+    → channel_stats s channel (steps ++ replicate n None) mail
+    ≡ channel_joined (channel_stats s channel steps mail)
+    (channel_times n (cycle_with_hit s (length (queued_requests (issued_commands channel steps) mail (length steps + 1))) due (drains s channel steps mail (length steps)) None false))
+idle-stats s channel steps mail n due h alike =
+    idle-stretch s channel mail n steps
+    ∙ ap (channel_joined (channel_stats s channel steps mail)) (channel_stretch-replicate s channel mail None _ n steps (idle-counts s channel steps mail n due h alike))
 
 -- what a channel counts in them
 abbrev pub passed_by : Channel → Config → ℕ → Bool → ChannelStats
-passed_by c s n due = channel_joined c.stats (channel_times n (cycle_with_hit s (length c.waiting.queue.requests) due c.waiting.queue.settled None false))
+passed_by c s n due = channel_joined c.stats (channel_times n (cycle_with_hit s (length c.marked_queue.queue.requests) due c.marked_queue.queue.drain_decided None false))
 
-passed-stats : (c : Channel) (s : Config) (channel : ℕ) (rows : List (Option Command)) (mail : List Message) (n : ℕ) (due : Bool) → IsInCycle c s channel rows mail
-    → Each (ArrivedBefore (length rows + 1)) (requests_of mail) → IsDueThroughout s channel rows n due → passed_by c s n due ≡ channel_stats s channel (rows ++ replicate n None) mail
-passed-stats c s channel rows mail n due h before alike =
+passed-stats : (c : Channel) (s : Config) (channel : ℕ) (steps : List (Option Command)) (mail : List Message) (n : ℕ) (due : Bool) → IsInCycle c s channel steps mail
+    → Each (ArrivedBefore (length steps + 1)) (requests_of mail) → IsDueThroughout s channel steps n due → passed_by c s n due ≡ channel_stats s channel (steps ++ replicate n None) mail
+passed-stats c s channel steps mail n due h before alike =
     let j = h.joined in
     ap₂ (λ q d. channel_joined c.stats (channel_times n (cycle_with_hit s (length q) due d None false))) j.queue_is j.drained_is
-    ∙ ap (λ x. channel_joined x (channel_times n (cycle_with_hit s (length (waiting (issued_commands channel rows) mail (length rows + 1))) due (drains s channel rows mail (length rows)) None false))) j.stats_are
-    ∙ sym (idle-stats s channel rows mail n due before alike)
+    ∙ ap (λ x. channel_joined x (channel_times n (cycle_with_hit s (length (queued_requests (issued_commands channel steps) mail (length steps + 1))) due (drains s channel steps mail (length steps)) None false))) j.stats_are
+    ∙ sym (idle-stats s channel steps mail n due before alike)
 
 times-longest : (a b m n : ℕ) (none : Bool) → a ≤ m → b ≤ m → max a (cond none 0 b) ≤ m
 times-longest a b m n true h k = omega arith
 times-longest a b m n false h k = omega arith
 
-passed-longest : (c : Channel) (s : Config) (channel : ℕ) (rows : List (Option Command)) (mail : List Message) (n : ℕ) (due : Bool) → IsInCycle c s channel rows mail
+passed-longest : (c : Channel) (s : Config) (channel : ℕ) (steps : List (Option Command)) (mail : List Message) (n : ℕ) (due : Bool) → IsInCycle c s channel steps mail
     → (passed_by c s n due).queued_max ≤ queue_room s
-passed-longest c s channel rows mail n due h = times-longest c.stats.queued_max (length c.waiting.queue.requests) (queue_room s) n (eqb n 0) h.made_for.longest h.made_for.within
+passed-longest c s channel steps mail n due h = times-longest c.stats.queued_max (length c.marked_queue.queue.requests) (queue_room s) n (eqb n 0) h.made_for.longest h.made_for.within
 
 -- the statistics after them fit
-pub passed-fits : (c : Channel) (s : Config) (channel : ℕ) (rows : List (Option Command)) (mail : List Message) (n : ℕ) (due : Bool) → IsInCycle c s channel rows mail
-    → Each (ArrivedBefore (length rows + 1)) (requests_of mail) → IsDueThroughout s channel rows n due → length rows + n ≤ 2 ^ 62 → ChannelFits (passed_by c s n due)
+pub passed-fits : (c : Channel) (s : Config) (channel : ℕ) (steps : List (Option Command)) (mail : List Message) (n : ℕ) (due : Bool) → IsInCycle c s channel steps mail
+    → Each (ArrivedBefore (length steps + 1)) (requests_of mail) → IsDueThroughout s channel steps n due → length steps + n ≤ 2 ^ 62 → ChannelFits (passed_by c s n due)
 unfolding channel_stats
-passed-fits c s channel rows mail n due h before alike early =
-    let more = rows ++ replicate n None in
-    let is : passed_by c s n due ≡ channel_stats s channel more mail = passed-stats c s channel rows mail n due h before alike in
+passed-fits c s channel steps mail n due h before alike early =
+    let more = steps ++ replicate n None in
+    let is : passed_by c s n due ≡ channel_stats s channel more mail = passed-stats c s channel steps mail n due h before alike in
     let longest : queued_max channel more mail ≡ (passed_by c s n due).queued_max = ap (λ (x : ChannelStats). x.queued_max) (sym is) in
-    let most = passed-longest c s channel rows mail n due h in
+    let most = passed-longest c s channel steps mail n due h in
     let room : queue_room s ≤ 8192 = s.credits_fit in
-    subst ChannelFits (sym is) (channel_stats-fit s channel more mail (omega (arith, length-idle rows n)) (omega arith))
+    subst ChannelFits (sym is) (channel_stats-fit s channel more mail (omega (arith, length-idle steps n)) (omega arith))
 
 -- after them the channel is in a cycle that is as the first
-pub passed-in_cycle : (c : Channel) (s : Config) (channel : ℕ) (rows : List (Option Command)) (mail : List Message) (n : ℕ) (due : Bool) (until : ℕ) → IsInCycle c s channel rows mail
-    → Each (ArrivedBefore (length rows + 1)) (requests_of mail) → IsDueThroughout s channel rows n due → until ≡ length rows + n
-    → IsInCycle (record c { cycle = until; stats = passed_by c s n due }) s channel (rows ++ replicate n None) mail
-passed-in_cycle c s channel rows mail n due until h before alike e =
-    let more = rows ++ replicate n None in
+pub passed-in_cycle : (c : Channel) (s : Config) (channel : ℕ) (steps : List (Option Command)) (mail : List Message) (n : ℕ) (due : Bool) (until : ℕ) → IsInCycle c s channel steps mail
+    → Each (ArrivedBefore (length steps + 1)) (requests_of mail) → IsDueThroughout s channel steps n due → until ≡ length steps + n
+    → IsInCycle (record c { cycle = until; stats = passed_by c s n due }) s channel (steps ++ replicate n None) mail
+passed-in_cycle c s channel steps mail n due until h before alike e =
+    let more = steps ++ replicate n None in
     let j = h.joined in
-    let len = length-idle rows n in
-    let history : issued_commands channel more ≡ issued_commands channel rows = idle-issued channel rows n in
+    let len = length-idle steps n in
+    let history : issued_commands channel more ≡ issued_commands channel steps = idle-issued channel steps n in
     record {
       made_for = record {
         config_is = h.made_for.config_is;
@@ -163,40 +163,40 @@ passed-in_cycle c s channel rows mail n due until h before alike e =
         room_is = h.made_for.room_is;
         banks_are = h.made_for.banks_are;
         within = h.made_for.within;
-        longest = passed-longest c s channel rows mail n due h;
+        longest = passed-longest c s channel steps mail n due h;
       };
       cycle_is = e ∙ sym len;
       joined = record {
         requests = j.requests;
-        arrived = Each-weaker (λ (m : Message). m.arrival < length rows + 1) (λ (m : Message). m.arrival < length more + 1) (λ m l. omega arith) mail j.arrived;
+        arrived = Each-weaker (λ (m : Message). m.arrival < length steps + 1) (λ (m : Message). m.arrival < length more + 1) (λ m l. omega arith) mail j.arrived;
         differ = j.differ;
         queue_is =
             j.queue_is
-            ∙ sym (idle-waiting channel rows mail before n (length more + 1) (omega arith));
-        drained_is = j.drained_is ∙ sym (idle-drains s channel rows mail before n);
-        marks_are = j.marks_are ∙ ap (λ x. marks_of x c.waiting.queue.requests) (sym history);
-        stats_are = passed-stats c s channel rows mail n due h before alike;
+            ∙ sym (idle-queued_requests channel steps mail before n (length more + 1) (omega arith));
+        drained_is = j.drained_is ∙ sym (idle-drains s channel steps mail before n);
+        marks_are = j.marks_are ∙ ap (λ x. marks_of x c.marked_queue.queue.requests) (sym history);
+        stats_are = passed-stats c s channel steps mail n due h before alike;
       };
-      heads_stand = subst (HeadsStand c.heads c.waiting.queue.requests) (sym history) h.heads_stand;
+      candidates_stand = subst (CandidatesStand c.bank_candidates c.marked_queue.queue.requests) (sym history) h.candidates_stand;
       banks_stand = subst (BanksStandFor c.banks s) (sym history) h.banks_stand;
       refreshes_stand = subst (RefreshesStandFor c.refresh s) (sym history) h.refreshes_stand;
       foresees =
-          subst (λ x. IsForeseen (choice_in s x c.waiting.queue) c.waiting.queue.requests until c.ahead) (sym history)
-          (foreseen-later (choice_in s (issued_commands channel rows) c.waiting.queue) c.waiting.queue.requests c.cycle until c.ahead (omega (arith, h.cycle_is)) h.foresees);
+          subst (λ x. IsForeseen (choice_in s x c.marked_queue.queue) c.marked_queue.queue.requests until c.ahead) (sym history)
+          (foreseen-later (choice_in s (issued_commands channel steps) c.marked_queue.queue) c.marked_queue.queue.requests c.cycle until c.ahead (omega (arith, h.cycle_is)) h.foresees);
     }
 
 -- when at least one cycle was passed it stands after them
-skipped-stands : (c : Channel) (s : Config) (channel : ℕ) (rows : List (Option Command)) (mail : List Message) (n : ℕ) → IsInCycle c s channel (rows ++ replicate n None) mail
-    → Each (λ (m : Message). m.arrival < length rows + 1) mail → Each (ArrivedBefore (length rows + 1)) (requests_of mail) → 0 < n → StandsFor c s channel (rows ++ replicate n None) mail
-skipped-stands c s channel rows mail zero h arrived before some = absurd (omega arith)
-skipped-stands c s channel rows mail (suc k) h arrived before some =
-    let last = rows ++ replicate k None in
-    let more = rows ++ replicate (suc k) None in
+skipped-stands : (c : Channel) (s : Config) (channel : ℕ) (steps : List (Option Command)) (mail : List Message) (n : ℕ) → IsInCycle c s channel (steps ++ replicate n None) mail
+    → Each (λ (m : Message). m.arrival < length steps + 1) mail → Each (ArrivedBefore (length steps + 1)) (requests_of mail) → 0 < n → StandsFor c s channel (steps ++ replicate n None) mail
+skipped-stands c s channel steps mail zero h arrived before some = absurd (omega arith)
+skipped-stands c s channel steps mail (suc k) h arrived before some =
+    let last = steps ++ replicate k None in
+    let more = steps ++ replicate (suc k) None in
     let j = h.joined in
-    let len = length-idle rows (suc k) in
-    let push : more ≡ last ++ None ∷ [] = idle-push rows k in
+    let len = length-idle steps (suc k) in
+    let push : more ≡ last ++ None ∷ [] = idle-push steps k in
     let drained : drains s channel more mail (length more) ≡ drains_before s channel more mail (length more) =
-    idle-drains s channel rows mail before (suc k) ∙ sym (idle-drains s channel rows mail before k)
+    idle-drains s channel steps mail before (suc k) ∙ sym (idle-drains s channel steps mail before k)
     ∙ sym (ap (λ x. drains_before s channel x mail (length x)) push ∙ drains_before-row s channel last None mail) in
     record {
       made_for = h.made_for;
@@ -204,17 +204,17 @@ skipped-stands c s channel rows mail (suc k) h arrived before some =
       recalls = record {
         past = record {
           requests = j.requests;
-          arrived = Each-weaker (λ (m : Message). m.arrival < length rows + 1) (λ (m : Message). m.arrival < length more) (λ m l. omega arith) mail arrived;
+          arrived = Each-weaker (λ (m : Message). m.arrival < length steps + 1) (λ (m : Message). m.arrival < length more) (λ m l. omega arith) mail arrived;
           differ = j.differ;
         };
         queue_is = j.queue_is
-            ∙ idle-waiting channel rows mail before (suc k) (length more + 1) (omega arith)
-            ∙ sym (idle-waiting channel rows mail before (suc k) (length more) (omega arith));
+            ∙ idle-queued_requests channel steps mail before (suc k) (length more + 1) (omega arith)
+            ∙ sym (idle-queued_requests channel steps mail before (suc k) (length more) (omega arith));
         drained_is = j.drained_is ∙ drained;
         marks_are = j.marks_are;
         stats_are = j.stats_are;
       };
-      heads_stand = h.heads_stand;
+      candidates_stand = h.candidates_stand;
       banks_stand = h.banks_stand;
       refreshes_stand = h.refreshes_stand;
       foresees = h.foresees;
@@ -225,151 +225,151 @@ abbrev pub IsDueIn : RefreshCounts → ℕ → ℕ → ℕ → Type 0
 IsDueIn counts now until due = (cycle : ℕ) → now ≤ cycle → cycle < until → is_some (lowest_owed counts cycle) ≡ nat_le due cycle
 
 -- either none of the next n cycles is before that, or each is
-alike : (c : Channel) (s : Config) (channel : ℕ) (rows : List (Option Command)) (mail : List Message) (until due n : ℕ) → IsInCycle c s channel rows mail
+alike : (c : Channel) (s : Config) (channel : ℕ) (steps : List (Option Command)) (mail : List Message) (until due n : ℕ) → IsInCycle c s channel steps mail
     → IsDueIn c.refresh c.cycle until due → c.cycle + n ≤ until → ((k : ℕ) → k < n → nat_le due (c.cycle + k) ≡ nat_le due c.cycle)
-    → IsDueThroughout s channel rows n (is_some (lowest_owed c.refresh c.cycle))
-alike c s channel rows mail until due n h dues l same k m =
-    ap is_some (lowest_due_from_owed c.refresh s (issued_commands channel rows) (length rows + k) h.refreshes_stand)
+    → IsDueThroughout s channel steps n (is_some (lowest_owed c.refresh c.cycle))
+alike c s channel steps mail until due n h dues l same k m =
+    ap is_some (lowest_due_from_owed c.refresh s (issued_commands channel steps) (length steps + k) h.refreshes_stand)
     ∙ ap (λ t. is_some (lowest_owed c.refresh (t + k))) (sym h.cycle_is)
     ∙ dues (c.cycle + k) (omega arith) (omega arith)
     ∙ same k m
     ∙ sym (dues c.cycle (omega arith) (omega arith))
 
 -- what is counted, by what is seen
-passed-is : (c : Channel) (s : Config) (channel : ℕ) (rows : List (Option Command)) (mail : List Message) (until : ℕ) → IsInCycle c s channel rows mail
+passed-is : (c : Channel) (s : Config) (channel : ℕ) (steps : List (Option Command)) (mail : List Message) (until : ℕ) → IsInCycle c s channel steps mail
     → passed c until ≡ passed_by c s (until - c.cycle) (is_some (lowest_owed c.refresh c.cycle))
-passed-is c s channel rows mail until h =
-    ap₂ (λ x d. channel_joined c.stats (channel_times (until - c.cycle) (cycle_with_hit x (length c.waiting.queue.requests) (is_some (lowest_owed c.refresh c.cycle)) d None false)))
-    h.made_for.config_is (settled-drains c s channel rows mail h)
+passed-is c s channel steps mail until h =
+    ap₂ (λ x d. channel_joined c.stats (channel_times (until - c.cycle) (cycle_with_hit x (length c.marked_queue.queue.requests) (is_some (lowest_owed c.refresh c.cycle)) d None false)))
+    h.made_for.config_is (drain_decided-drains c s channel steps mail h)
 
-pass-fits : (c : Channel) (s : Config) (channel : ℕ) (rows : List (Option Command)) (mail : List Message) (until : ℕ) → IsInCycle c s channel rows mail
-    → Each (ArrivedBefore (length rows + 1)) (requests_of mail) → IsDueThroughout s channel rows (until - c.cycle) (is_some (lowest_owed c.refresh c.cycle)) → c.cycle ≤ until → until ≤ 2 ^ 62
+pass-fits : (c : Channel) (s : Config) (channel : ℕ) (steps : List (Option Command)) (mail : List Message) (until : ℕ) → IsInCycle c s channel steps mail
+    → Each (ArrivedBefore (length steps + 1)) (requests_of mail) → IsDueThroughout s channel steps (until - c.cycle) (is_some (lowest_owed c.refresh c.cycle)) → c.cycle ≤ until → until ≤ 2 ^ 62
     → ChannelFits (passed c until)
-pass-fits c s channel rows mail until h before due l early =
-    subst ChannelFits (sym (passed-is c s channel rows mail until h))
-    (passed-fits c s channel rows mail (until - c.cycle) _ h before due (omega (arith, h.cycle_is)))
+pass-fits c s channel steps mail until h before due l early =
+    subst ChannelFits (sym (passed-is c s channel steps mail until h))
+    (passed-fits c s channel steps mail (until - c.cycle) _ h before due (omega (arith, h.cycle_is)))
 
-pass-in_cycle : (c : Channel) (s : Config) (channel : ℕ) (rows : List (Option Command)) (mail : List Message) (until : ℕ) → IsInCycle c s channel rows mail
-    → Each (ArrivedBefore (length rows + 1)) (requests_of mail) → IsDueThroughout s channel rows (until - c.cycle) (is_some (lowest_owed c.refresh c.cycle)) → c.cycle ≤ until
-    → IsInCycle (record c { cycle = until; stats = passed c until }) s channel (rows ++ replicate (until - c.cycle) None) mail
-pass-in_cycle c s channel rows mail until h before due l =
-    subst (λ x. IsInCycle (record c { cycle = until; stats = x }) s channel (rows ++ replicate (until - c.cycle) None) mail) (sym (passed-is c s channel rows mail until h))
-    (passed-in_cycle c s channel rows mail (until - c.cycle) _ until h before due (omega (arith, h.cycle_is)))
+pass-in_cycle : (c : Channel) (s : Config) (channel : ℕ) (steps : List (Option Command)) (mail : List Message) (until : ℕ) → IsInCycle c s channel steps mail
+    → Each (ArrivedBefore (length steps + 1)) (requests_of mail) → IsDueThroughout s channel steps (until - c.cycle) (is_some (lowest_owed c.refresh c.cycle)) → c.cycle ≤ until
+    → IsInCycle (record c { cycle = until; stats = passed c until }) s channel (steps ++ replicate (until - c.cycle) None) mail
+pass-in_cycle c s channel steps mail until h before due l =
+    subst (λ x. IsInCycle (record c { cycle = until; stats = x }) s channel (steps ++ replicate (until - c.cycle) None) mail) (sym (passed-is c s channel steps mail until h))
+    (passed-in_cycle c s channel steps mail (until - c.cycle) _ until h before due (omega (arith, h.cycle_is)))
 
 -- the channel in the first of the cycles that it skips with a refresh that is due, and at the end of them
 abbrev pub passed_to : Channel → ℕ → Channel
 passed_to c until = record c { cycle = until; stats = passed c until }
 
 -- what is known where a channel passes over cycles
-pub record Skips (c : Channel) (s : Config) (channel : ℕ) (rows : List (Option Command)) (mail : List Message) (until due : ℕ) : Type 0 where
-  pub in_cycle : IsInCycle c s channel rows mail
+pub record Skips (c : Channel) (s : Config) (channel : ℕ) (steps : List (Option Command)) (mail : List Message) (until due : ℕ) : Type 0 where
+  pub in_cycle : IsInCycle c s channel steps mail
   pub from_now : c.cycle ≤ due
   pub within : due ≤ until
   pub early : until ≤ 2 ^ 62
   pub dues : IsDueIn c.refresh c.cycle until due
 
 -- all requests are there from the first of them on
-pub there-before : (c : Channel) (s : Config) (channel : ℕ) (rows : List (Option Command)) (mail : List Message) → IsInCycle c s channel rows mail → Each (ArrivedBefore (length rows + 1)) (requests_of mail)
-there-before c s channel rows mail h = requests-arrived s channel (length rows + 1) mail h.joined.requests h.joined.arrived
+pub there-before : (c : Channel) (s : Config) (channel : ℕ) (steps : List (Option Command)) (mail : List Message) → IsInCycle c s channel steps mail → Each (ArrivedBefore (length steps + 1)) (requests_of mail)
+there-before c s channel steps mail h = requests-arrived s channel (length steps + 1) mail h.joined.requests h.joined.arrived
 
-skips-alike : (c : Channel) (s : Config) (channel : ℕ) (rows : List (Option Command)) (mail : List Message) (until due : ℕ) → Skips c s channel rows mail until due
-    → IsDueThroughout s channel rows (due - c.cycle) (is_some (lowest_owed c.refresh c.cycle))
-skips-alike c s channel rows mail until due h =
+skips-alike : (c : Channel) (s : Config) (channel : ℕ) (steps : List (Option Command)) (mail : List Message) (until due : ℕ) → Skips c s channel steps mail until due
+    → IsDueThroughout s channel steps (due - c.cycle) (is_some (lowest_owed c.refresh c.cycle))
+skips-alike c s channel steps mail until due h =
     let from_now = h.from_now in
     let within = h.within in
-    alike c s channel rows mail until due (due - c.cycle) h.in_cycle h.dues (omega arith)
+    alike c s channel steps mail until due (due - c.cycle) h.in_cycle h.dues (omega arith)
     (λ k l. lt-leb due (c.cycle + k) (omega arith) ∙ sym (lt-leb due c.cycle (omega arith)))
 
-pub skips-first_fits : (c : Channel) (s : Config) (channel : ℕ) (rows : List (Option Command)) (mail : List Message) (until due : ℕ) → Skips c s channel rows mail until due
+pub skips-first_fits : (c : Channel) (s : Config) (channel : ℕ) (steps : List (Option Command)) (mail : List Message) (until due : ℕ) → Skips c s channel steps mail until due
     → ChannelFits (passed c due)
-skips-first_fits c s channel rows mail until due h =
+skips-first_fits c s channel steps mail until due h =
     let within = h.within in
     let early = h.early in
-    pass-fits c s channel rows mail due h.in_cycle (there-before c s channel rows mail h.in_cycle) (skips-alike c s channel rows mail until due h) h.from_now (omega arith)
+    pass-fits c s channel steps mail due h.in_cycle (there-before c s channel steps mail h.in_cycle) (skips-alike c s channel steps mail until due h) h.from_now (omega arith)
 
-pub skips-second : (c : Channel) (s : Config) (channel : ℕ) (rows : List (Option Command)) (mail : List Message) (until due : ℕ) → Skips c s channel rows mail until due
-    → IsInCycle (passed_to c due) s channel (rows ++ replicate (due - c.cycle) None) mail
-skips-second c s channel rows mail until due h =
-    pass-in_cycle c s channel rows mail due h.in_cycle (there-before c s channel rows mail h.in_cycle) (skips-alike c s channel rows mail until due h) h.from_now
+pub skips-second : (c : Channel) (s : Config) (channel : ℕ) (steps : List (Option Command)) (mail : List Message) (until due : ℕ) → Skips c s channel steps mail until due
+    → IsInCycle (passed_to c due) s channel (steps ++ replicate (due - c.cycle) None) mail
+skips-second c s channel steps mail until due h =
+    pass-in_cycle c s channel steps mail due h.in_cycle (there-before c s channel steps mail h.in_cycle) (skips-alike c s channel steps mail until due h) h.from_now
 
-skips-alike_second : (c : Channel) (s : Config) (channel : ℕ) (rows : List (Option Command)) (mail : List Message) (until due : ℕ) → Skips c s channel rows mail until due
-    → IsDueThroughout s channel (rows ++ replicate (due - c.cycle) None) (until - due) (is_some (lowest_owed c.refresh due))
-skips-alike_second c s channel rows mail until due h =
+skips-alike_second : (c : Channel) (s : Config) (channel : ℕ) (steps : List (Option Command)) (mail : List Message) (until due : ℕ) → Skips c s channel steps mail until due
+    → IsDueThroughout s channel (steps ++ replicate (due - c.cycle) None) (until - due) (is_some (lowest_owed c.refresh due))
+skips-alike_second c s channel steps mail until due h =
     let from_now = h.from_now in
     let within = h.within in
-    alike (passed_to c due) s channel (rows ++ replicate (due - c.cycle) None) mail until due (until - due) (skips-second c s channel rows mail until due h)
+    alike (passed_to c due) s channel (steps ++ replicate (due - c.cycle) None) mail until due (until - due) (skips-second c s channel steps mail until due h)
     (λ cycle l m. h.dues cycle (omega arith) m) (omega arith)
     (λ k l. le-leb due (due + k) (omega arith) ∙ sym (le-leb due due (omega arith)))
 
-pub skips-second_fits : (c : Channel) (s : Config) (channel : ℕ) (rows : List (Option Command)) (mail : List Message) (until due : ℕ) → Skips c s channel rows mail until due
+pub skips-second_fits : (c : Channel) (s : Config) (channel : ℕ) (steps : List (Option Command)) (mail : List Message) (until due : ℕ) → Skips c s channel steps mail until due
     → ChannelFits (passed (passed_to c due) until)
-skips-second_fits c s channel rows mail until due h =
+skips-second_fits c s channel steps mail until due h =
     let d = passed_to c due in
-    let second = skips-second c s channel rows mail until due h in
-    pass-fits d s channel (rows ++ replicate (due - c.cycle) None) mail until second (there-before d s channel (rows ++ replicate (due - c.cycle) None) mail second)
-    (skips-alike_second c s channel rows mail until due h) h.within h.early
+    let second = skips-second c s channel steps mail until due h in
+    pass-fits d s channel (steps ++ replicate (due - c.cycle) None) mail until second (there-before d s channel (steps ++ replicate (due - c.cycle) None) mail second)
+    (skips-alike_second c s channel steps mail until due h) h.within h.early
 
 -- the channel after the cycles that it passes over
-pub skips-in_cycle : (c : Channel) (s : Config) (channel : ℕ) (rows : List (Option Command)) (mail : List Message) (until due : ℕ) → Skips c s channel rows mail until due
-    → IsInCycle (passed_to (passed_to c due) until) s channel (rows ++ replicate (until - length rows) None) mail
-skips-in_cycle c s channel rows mail until due h =
+pub skips-in_cycle : (c : Channel) (s : Config) (channel : ℕ) (steps : List (Option Command)) (mail : List Message) (until due : ℕ) → Skips c s channel steps mail until due
+    → IsInCycle (passed_to (passed_to c due) until) s channel (steps ++ replicate (until - length steps) None) mail
+skips-in_cycle c s channel steps mail until due h =
     let d = passed_to (passed_to c due) until in
     let n = due - c.cycle in
     let m = until - due in
     let from_now = h.from_now in
     let within = h.within in
     let is = h.in_cycle.cycle_is in
-    let second = skips-second c s channel rows mail until due h in
-    let whole : (rows ++ replicate n None) ++ replicate m None ≡ rows ++ replicate (until - length rows) None =
-    append_assoc rows (replicate n None) (replicate m None)
-    ∙ ap (λ x. rows ++ x) (replicate-append-replicate {A = Option Command} n m None)
-    ∙ ap (λ k. rows ++ replicate k None) (let e : n + m ≡ until - length rows = omega arith in e) in
+    let second = skips-second c s channel steps mail until due h in
+    let whole : (steps ++ replicate n None) ++ replicate m None ≡ steps ++ replicate (until - length steps) None =
+    append_assoc steps (replicate n None) (replicate m None)
+    ∙ ap (λ x. steps ++ x) (replicate-append-replicate {A = Option Command} n m None)
+    ∙ ap (λ k. steps ++ replicate k None) (let e : n + m ≡ until - length steps = omega arith in e) in
     subst (λ r. IsInCycle d s channel r mail) whole
-    (pass-in_cycle (passed_to c due) s channel (rows ++ replicate n None) mail until second
-    (there-before (passed_to c due) s channel (rows ++ replicate n None) mail second) (skips-alike_second c s channel rows mail until due h) within)
+    (pass-in_cycle (passed_to c due) s channel (steps ++ replicate n None) mail until second
+    (there-before (passed_to c due) s channel (steps ++ replicate n None) mail second) (skips-alike_second c s channel steps mail until due h) within)
 
 -- the same where a refresh is due in none of them
-pub skips-not_due : (c : Channel) (s : Config) (channel : ℕ) (rows : List (Option Command)) (mail : List Message) (until due : ℕ) → Skips c s channel rows mail until due → until ≤ due
-    → IsInCycle (passed_to c due) s channel (rows ++ replicate (until - length rows) None) mail
-skips-not_due c s channel rows mail until due h l =
+pub skips-not_due : (c : Channel) (s : Config) (channel : ℕ) (steps : List (Option Command)) (mail : List Message) (until due : ℕ) → Skips c s channel steps mail until due → until ≤ due
+    → IsInCycle (passed_to c due) s channel (steps ++ replicate (until - length steps) None) mail
+skips-not_due c s channel steps mail until due h l =
     let within = h.within in
     let is = h.in_cycle.cycle_is in
-    subst (λ n. IsInCycle (passed_to c due) s channel (rows ++ replicate n None) mail) (let e : due - c.cycle ≡ until - length rows = omega arith in e) (skips-second c s channel rows mail until due h)
+    subst (λ n. IsInCycle (passed_to c due) s channel (steps ++ replicate n None) mail) (let e : due - c.cycle ≡ until - length steps = omega arith in e) (skips-second c s channel steps mail until due h)
 
 -- and where one is due in each
-skips-alike_due : (c : Channel) (s : Config) (channel : ℕ) (rows : List (Option Command)) (mail : List Message) (until due : ℕ) → Skips c s channel rows mail until due → due ≤ c.cycle
-    → IsDueThroughout s channel rows (until - c.cycle) (is_some (lowest_owed c.refresh c.cycle))
-skips-alike_due c s channel rows mail until due h l =
+skips-alike_due : (c : Channel) (s : Config) (channel : ℕ) (steps : List (Option Command)) (mail : List Message) (until due : ℕ) → Skips c s channel steps mail until due → due ≤ c.cycle
+    → IsDueThroughout s channel steps (until - c.cycle) (is_some (lowest_owed c.refresh c.cycle))
+skips-alike_due c s channel steps mail until due h l =
     let within = h.within in
     let from_now = h.from_now in
-    alike c s channel rows mail until due (until - c.cycle) h.in_cycle h.dues (omega arith)
+    alike c s channel steps mail until due (until - c.cycle) h.in_cycle h.dues (omega arith)
     (λ k m. le-leb due (c.cycle + k) (omega arith) ∙ sym (le-leb due c.cycle (omega arith)))
 
-pub skips-due : (c : Channel) (s : Config) (channel : ℕ) (rows : List (Option Command)) (mail : List Message) (until due : ℕ) → Skips c s channel rows mail until due → due ≤ c.cycle
-    → IsInCycle (passed_to c until) s channel (rows ++ replicate (until - length rows) None) mail
-skips-due c s channel rows mail until due h l =
+pub skips-due : (c : Channel) (s : Config) (channel : ℕ) (steps : List (Option Command)) (mail : List Message) (until due : ℕ) → Skips c s channel steps mail until due → due ≤ c.cycle
+    → IsInCycle (passed_to c until) s channel (steps ++ replicate (until - length steps) None) mail
+skips-due c s channel steps mail until due h l =
     let within = h.within in
     let from_now = h.from_now in
     let is = h.in_cycle.cycle_is in
-    subst (λ n. IsInCycle (passed_to c until) s channel (rows ++ replicate n None) mail) (let e : until - c.cycle ≡ until - length rows = omega arith in e)
-    (pass-in_cycle c s channel rows mail until h.in_cycle (there-before c s channel rows mail h.in_cycle) (skips-alike_due c s channel rows mail until due h l) (omega arith))
+    subst (λ n. IsInCycle (passed_to c until) s channel (steps ++ replicate n None) mail) (let e : until - c.cycle ≡ until - length steps = omega arith in e)
+    (pass-in_cycle c s channel steps mail until h.in_cycle (there-before c s channel steps mail h.in_cycle) (skips-alike_due c s channel steps mail until due h l) (omega arith))
 
-pub skips-due_fits : (c : Channel) (s : Config) (channel : ℕ) (rows : List (Option Command)) (mail : List Message) (until due : ℕ) → Skips c s channel rows mail until due → due ≤ c.cycle
+pub skips-due_fits : (c : Channel) (s : Config) (channel : ℕ) (steps : List (Option Command)) (mail : List Message) (until due : ℕ) → Skips c s channel steps mail until due → due ≤ c.cycle
     → ChannelFits (passed c until)
-skips-due_fits c s channel rows mail until due h l =
+skips-due_fits c s channel steps mail until due h l =
     let within = h.within in
     let from_now = h.from_now in
-    pass-fits c s channel rows mail until h.in_cycle (there-before c s channel rows mail h.in_cycle) (skips-alike_due c s channel rows mail until due h l) (omega arith) h.early
+    pass-fits c s channel steps mail until h.in_cycle (there-before c s channel steps mail h.in_cycle) (skips-alike_due c s channel steps mail until due h l) (omega arith) h.early
 
 -- and where there are none
-pub waited-none : (c : Channel) (s : Config) (channel : ℕ) (rows : List (Option Command)) (mail : List Message) (until : ℕ) → c.cycle ≡ until → IsInCycle c s channel rows mail
-    → IsInCycle c s channel (rows ++ replicate (until - length rows) None) mail
-waited-none c s channel rows mail until at h =
+pub waited-none : (c : Channel) (s : Config) (channel : ℕ) (steps : List (Option Command)) (mail : List Message) (until : ℕ) → c.cycle ≡ until → IsInCycle c s channel steps mail
+    → IsInCycle c s channel (steps ++ replicate (until - length steps) None) mail
+waited-none c s channel steps mail until at h =
     let is = h.cycle_is in
-    let none : until - length rows ≡ 0 = omega arith in
-    subst (λ r. IsInCycle c s channel r mail) (sym (ap (λ n. rows ++ replicate n None) none ∙ append-nil rows)) h
+    let none : until - length steps ≡ 0 = omega arith in
+    subst (λ r. IsInCycle c s channel r mail) (sym (ap (λ n. steps ++ replicate n None) none ∙ append-nil steps)) h
 
 -- the channel stands after them, where there are some
-pub waited-stands : (c d : Channel) (s : Config) (channel : ℕ) (rows : List (Option Command)) (mail : List Message) (n : ℕ) → IsInCycle c s channel rows mail
-    → IsInCycle d s channel (rows ++ replicate n None) mail → 0 < n → StandsFor d s channel (rows ++ replicate n None) mail
-waited-stands c d s channel rows mail n h k some = skipped-stands d s channel rows mail n k h.joined.arrived (there-before c s channel rows mail h) some
+pub waited-stands : (c d : Channel) (s : Config) (channel : ℕ) (steps : List (Option Command)) (mail : List Message) (n : ℕ) → IsInCycle c s channel steps mail
+    → IsInCycle d s channel (steps ++ replicate n None) mail → 0 < n → StandsFor d s channel (steps ++ replicate n None) mail
+waited-stands c d s channel steps mail n h k some = skipped-stands d s channel steps mail n k h.joined.arrived (there-before c s channel steps mail h) some

@@ -6,7 +6,7 @@ use Rattle.sim_base.proofs.Ordered.{Each-weaker}
 use Rattle.sim_base.specs.declared.config.Config.{Config}
 use Rattle.sim_base.specs.Counts.{issued_of_kind, hits, queue_lengths, queued, queued_max, idle, refreshing, draining}
 use Rattle.sim_base.specs.History.{issued_commands}
-use Rattle.sim_base.specs.Scheduling.{waiting, drains_with, drains_before, drains, candidates, choice_between, choice, lowest_due}
+use Rattle.sim_base.specs.Scheduling.{queued_requests, drains_with, drains_before, drains, candidates, choice_between, choice, lowest_due}
 use Rattle.sim_base.specs.declared.command.Command.{Command}
 use Rattle.sim_base.specs.declared.message.Message.{Message}
 use Rattle.bank_ready.specs.Stands.{rank_count, StandsFor as BanksStandFor}
@@ -16,7 +16,7 @@ use Rattle.channel_step.specs.Fit.{queue_room}
 use Rattle.channel_step.specs.Queued.{Queued, no_requests}
 use Rattle.statistics.specs.Channels.{channel_none, channel_stats, draining_of}
 use Rattle.sim_base.specs.Rules.{open_row}
-use Rattle.heads.specs.Stands.{bank_count, StandsFor as HeadsStandFor}
+use Rattle.bank_candidates.specs.Stands.{bank_count, StandsFor as CandidatesStandFor}
 use Rattle.queue.specs.View.{QueueView, is_draining, drains_by}
 use Rattle.queue_columns.specs.Columns.{write_count}
 use Rattle.fr_fcfs.specs.Requests.{IsInBanks}
@@ -24,11 +24,11 @@ use Rattle.fr_fcfs.specs.Choices.{StandFor, choice_in}
 use Rattle.fr_fcfs.specs.Cycles.{IsFirstCycle}
 use Rattle.channel_step.specs.Past.{requests_of}
 use Rattle.channel_step.specs.Stands.{Recalls}
-use Rattle.channel_step.specs.Channels.{HeadsStand, IsForeseen, StandsFor}
+use Rattle.channel_step.specs.Channels.{CandidatesStand, IsForeseen, StandsFor}
 use Rattle.channel_step.specs.Runs.{StandsAt}
 use Rattle.channel_step.specs.declared.ahead.Ahead.TheVariants.{Unknown}
 use Rattle.channel_step.specs.declared.channel.Channel.{Channel}
-use Rattle.channel_step.proofs.Requests.{ArrivedBefore, requests-arrived, waiting-until}
+use Rattle.channel_step.proofs.Requests.{ArrivedBefore, requests-arrived, queued_requests-until}
 use Rattle.channel_step.proofs.Spans.{drains-next}
 use Rattle.channel_step.proofs.Stretches.{idle-choice}
 use Rattle.channel_step.proofs.Places.{queue-in_banks}
@@ -36,7 +36,7 @@ use Rattle.channel_step.proofs.Foreseen.{foreseen-unknown}
 
 -- there is no past yet
 pub recalls-none : (s : Config) (channel : ℕ) → Recalls [] false [] (record channel_none { draining = draining_of s 0 }) s channel [] []
-unfolding waiting issued_commands drains_before channel_stats issued_of_kind hits queue_lengths queued queued_max idle refreshing draining
+unfolding queued_requests issued_commands drains_before channel_stats issued_of_kind hits queue_lengths queued queued_max idle refreshing draining
 recalls-none s channel = record {
   past = record { requests = tt; arrived = tt; differ = tt };
   queue_is = refl;
@@ -45,17 +45,17 @@ recalls-none s channel = record {
   stats_are = refl;
 }
 
-pub at-in_banks : (c : Channel) (from : ℕ) (queue : QueueView) → StandsAt c from → queue ≡ c.waiting.queue → All (IsInBanks (rank_count c.banks)) queue.requests
+pub at-in_banks : (c : Channel) (from : ℕ) (queue : QueueView) → StandsAt c from → queue ≡ c.marked_queue.queue → All (IsInBanks (rank_count c.banks)) queue.requests
 at-in_banks c from queue h e =
     let i = h.stands in
-    queue-in_banks h.s h.channel (rank_count c.banks) (issued_commands h.channel h.rows) h.mail (length h.rows) queue.requests
+    queue-in_banks h.s h.channel (rank_count c.banks) (issued_commands h.channel h.steps) h.mail (length h.steps) queue.requests
     i.banks_stand.ranks i.recalls.past.requests (ap (λ (q : QueueView). q.requests) e ∙ i.recalls.queue_is)
 
-pub at-stand : (c : Channel) (s : Config) (channel : ℕ) (rows : List (Option Command)) (mail : List Message) (queue : QueueView) → StandsFor c s channel rows mail → queue ≡ c.waiting.queue
-    → StandFor c.heads c.banks c.refresh queue c.config.groups s (issued_commands channel rows)
-at-stand c s channel rows mail queue h e =
+pub at-stand : (c : Channel) (s : Config) (channel : ℕ) (steps : List (Option Command)) (mail : List Message) (queue : QueueView) → StandsFor c s channel steps mail → queue ≡ c.marked_queue.queue
+    → StandFor c.bank_candidates c.banks c.refresh queue c.config.groups s (issued_commands channel steps)
+at-stand c s channel steps mail queue h e =
     record {
-      heads_stand = subst (λ (q : QueueView). HeadsStand c.heads q.requests (issued_commands channel rows)) (sym e) h.heads_stand;
+      candidates_stand = subst (λ (q : QueueView). CandidatesStand c.bank_candidates q.requests (issued_commands channel steps)) (sym e) h.candidates_stand;
       banks_stand = h.banks_stand;
       refreshes_stand = h.refreshes_stand;
       groups_are = ap (λ (x : Config). x.groups) (sym h.made_for.config_is);
@@ -63,30 +63,30 @@ at-stand c s channel rows mail queue h e =
     }
 
 -- whether the channel would drain its writes in the next cycle
-pub at-drains : (c : Channel) (s : Config) (channel : ℕ) (rows : List (Option Command)) (mail : List Message) → StandsFor c s channel rows mail
-    → is_draining c.waiting.queue ≡ drains s channel rows mail (length rows)
-at-drains c s channel rows mail h =
+pub at-drains : (c : Channel) (s : Config) (channel : ℕ) (steps : List (Option Command)) (mail : List Message) → StandsFor c s channel steps mail
+    → is_draining c.marked_queue.queue ≡ drains s channel steps mail (length steps)
+at-drains c s channel steps mail h =
     let r = h.recalls in
-    let before : Each (ArrivedBefore (length rows)) (requests_of mail) = requests-arrived s channel (length rows) mail r.past.requests r.past.arrived in
-    ap₂ (λ high low. drains_by high low c.waiting.queue.settled (write_count c.waiting.queue.requests)) h.made_for.high_is h.made_for.low_is
+    let before : Each (ArrivedBefore (length steps)) (requests_of mail) = requests-arrived s channel (length steps) mail r.past.requests r.past.arrived in
+    ap₂ (λ high low. drains_by high low c.marked_queue.queue.drain_decided (write_count c.marked_queue.queue.requests)) h.made_for.high_is h.made_for.low_is
     ∙ ap₂ (λ d q. drains_with s d (write_count q)) r.drained_is
-    (r.queue_is ∙ sym (waiting-until (issued_commands channel rows) mail (length rows) (length rows + 1) (omega arith) before))
-    ∙ sym (drains-next s channel rows mail)
+    (r.queue_is ∙ sym (queued_requests-until (issued_commands channel steps) mail (length steps) (length steps + 1) (omega arith) before))
+    ∙ sym (drains-next s channel steps mail)
 
 -- what would be chosen in a later cycle, if nothing is issued and nothing arrives before it
-at-choice : (c : Channel) (s : Config) (channel : ℕ) (rows : List (Option Command)) (mail : List Message) (from cycle : ℕ) (queue : QueueView) → StandsFor c s channel rows mail → length rows ≡ from → from ≤ cycle
-    → queue ≡ c.waiting.queue → choice_in s (issued_commands channel rows) queue cycle ≡ choice s channel (rows ++ replicate (cycle - from) None) mail
-at-choice c s channel rows mail from cycle queue h at l e =
+at-choice : (c : Channel) (s : Config) (channel : ℕ) (steps : List (Option Command)) (mail : List Message) (from cycle : ℕ) (queue : QueueView) → StandsFor c s channel steps mail → length steps ≡ from → from ≤ cycle
+    → queue ≡ c.marked_queue.queue → choice_in s (issued_commands channel steps) queue cycle ≡ choice s channel (steps ++ replicate (cycle - from) None) mail
+at-choice c s channel steps mail from cycle queue h at l e =
     let r = h.recalls in
-    let history = issued_commands channel rows in
-    let before : Each (ArrivedBefore (length rows)) (requests_of mail) = requests-arrived s channel (length rows) mail r.past.requests r.past.arrived in
-    let soon : Each (ArrivedBefore (length rows + 1)) (requests_of mail) =
-    Each-weaker (ArrivedBefore (length rows)) (ArrivedBefore (length rows + 1)) (λ r l. omega arith) (requests_of mail) before in
-    let there : c.waiting.queue.requests ≡ waiting history mail (length rows + 1) = r.queue_is ∙ sym (waiting-until history mail (length rows) (length rows + 1) (omega arith) before) in
-    let then : cycle ≡ length rows + (cycle - from) = omega arith in
+    let history = issued_commands channel steps in
+    let before : Each (ArrivedBefore (length steps)) (requests_of mail) = requests-arrived s channel (length steps) mail r.past.requests r.past.arrived in
+    let soon : Each (ArrivedBefore (length steps + 1)) (requests_of mail) =
+    Each-weaker (ArrivedBefore (length steps)) (ArrivedBefore (length steps + 1)) (λ r l. omega arith) (requests_of mail) before in
+    let there : c.marked_queue.queue.requests ≡ queued_requests history mail (length steps + 1) = r.queue_is ∙ sym (queued_requests-until history mail (length steps) (length steps + 1) (omega arith) before) in
+    let then : cycle ≡ length steps + (cycle - from) = omega arith in
     ap₂ (λ t (q : QueueView). choice_between s history t (candidates s (is_draining q) q.requests) (lowest_due s history t)) then e
-    ∙ ap₂ (λ d q. choice_between s history (length rows + (cycle - from)) (candidates s d q) (lowest_due s history (length rows + (cycle - from)))) (at-drains c s channel rows mail h) there
-    ∙ sym (idle-choice s channel rows mail soon (cycle - from))
+    ∙ ap₂ (λ d q. choice_between s history (length steps + (cycle - from)) (candidates s d q) (lowest_due s history (length steps + (cycle - from)))) (at-drains c s channel steps mail h) there
+    ∙ sym (idle-choice s channel steps mail soon (cycle - from))
 
 first-agree : (p q : ℕ → Bool) (now : ℕ) → ((cycle : ℕ) → now ≤ cycle → p cycle ≡ q cycle) → (o : Option ℕ) → IsFirstCycle p now o → IsFirstCycle q now o
 first-agree p q now same None h = λ cycle l. sym (same cycle l) ∙ h cycle l
@@ -97,38 +97,38 @@ first-agree p q now same (Some first) h =
       not_before = λ cycle l e. sym (same cycle l) ∙ h.not_before cycle l e;
     }
 
-pub at-first : (c : Channel) (s : Config) (channel : ℕ) (rows : List (Option Command)) (mail : List Message) (from : ℕ) (queue : QueueView) (o : Option ℕ) → StandsFor c s channel rows mail → length rows ≡ from
-    → queue ≡ c.waiting.queue → IsFirstCycle (λ cycle. is_some (choice_in s (issued_commands channel rows) queue cycle)) from o
-    → IsFirstCycle (λ cycle. is_some (choice s channel (rows ++ replicate (cycle - from) None) mail)) from o
-at-first c s channel rows mail from queue o h at e f =
-    first-agree _ _ from (λ cycle l. ap is_some (at-choice c s channel rows mail from cycle queue h at l e)) o f
+pub at-first : (c : Channel) (s : Config) (channel : ℕ) (steps : List (Option Command)) (mail : List Message) (from : ℕ) (queue : QueueView) (o : Option ℕ) → StandsFor c s channel steps mail → length steps ≡ from
+    → queue ≡ c.marked_queue.queue → IsFirstCycle (λ cycle. is_some (choice_in s (issued_commands channel steps) queue cycle)) from o
+    → IsFirstCycle (λ cycle. is_some (choice s channel (steps ++ replicate (cycle - from) None) mail)) from o
+at-first c s channel steps mail from queue o h at e f =
+    first-agree _ _ from (λ cycle l. ap is_some (at-choice c s channel steps mail from cycle queue h at l e)) o f
 
-pub start-stands : (c : Channel) (s : Config) (number : ℕ) → c.config ≡ s → c.number ≡ number → c.cycle ≡ 0 → c.waiting ≡ no_requests (queue_room s) s.write_high s.write_low
-    → BanksStandFor c.banks s [] → RefreshesStandFor c.refresh s [] → c.stats ≡ record channel_none { draining = draining_of s 0 } → bank_count c.heads ≡ 16 * s.ranks
-    → HeadsStandFor c.heads [] (λ bank. None) → c.ahead ≡ Unknown → StandsFor c s number [] []
+pub start-stands : (c : Channel) (s : Config) (number : ℕ) → c.config ≡ s → c.number ≡ number → c.cycle ≡ 0 → c.marked_queue ≡ no_requests (queue_room s) s.write_high s.write_low
+    → BanksStandFor c.banks s [] → RefreshesStandFor c.refresh s [] → c.stats ≡ record channel_none { draining = draining_of s 0 } → bank_count c.bank_candidates ≡ 16 * s.ranks
+    → CandidatesStandFor c.bank_candidates [] (λ bank. None) → c.ahead ≡ Unknown → StandsFor c s number [] []
 unfolding issued_commands open_row
-start-stands c s number config is cycle waiting banks refresh stats count heads ahead =
-    let R : Queued → ChannelStats → Type 0 = λ w t. Recalls w.queue.requests w.queue.settled w.marks t s number [] [] in
+start-stands c s number config is cycle queued_requests banks refresh stats count bank_candidates ahead =
+    let R : Queued → ChannelStats → Type 0 = λ w t. Recalls w.queue.requests w.queue.drain_decided w.marks t s number [] [] in
     let base : R (no_requests (queue_room s) s.write_high s.write_low) (record channel_none { draining = draining_of s 0 }) = recalls-none s number in
-    let none : length c.waiting.queue.requests ≡ 0 = ap (λ (w : Queued). length w.queue.requests) waiting in
+    let none : length c.marked_queue.queue.requests ≡ 0 = ap (λ (w : Queued). length w.queue.requests) queued_requests in
     let zero_yet : c.stats.queued_max ≡ 0 = ap (λ (t : ChannelStats). t.queued_max) stats in
     record {
       made_for = record {
         config_is = config;
         number_is = is;
-        high_is = ap (λ (w : Queued). w.queue.high) waiting;
-        low_is = ap (λ (w : Queued). w.queue.low) waiting;
-        room_is = ap (λ (w : Queued). w.queue.room) waiting;
+        high_is = ap (λ (w : Queued). w.queue.high) queued_requests;
+        low_is = ap (λ (w : Queued). w.queue.low) queued_requests;
+        room_is = ap (λ (w : Queued). w.queue.room) queued_requests;
         banks_are = count;
         within = omega arith;
         longest = omega arith;
       };
       cycle_is = cycle;
-      recalls = subst (λ w. R w c.stats) (sym waiting) (subst (R (no_requests (queue_room s) s.write_high s.write_low)) (sym stats) base);
-      heads_stand = subst (λ (w : Queued). HeadsStandFor c.heads w.queue.requests (λ bank. None)) (sym waiting) heads;
+      recalls = subst (λ w. R w c.stats) (sym queued_requests) (subst (R (no_requests (queue_room s) s.write_high s.write_low)) (sym stats) base);
+      candidates_stand = subst (λ (w : Queued). CandidatesStandFor c.bank_candidates w.queue.requests (λ bank. None)) (sym queued_requests) bank_candidates;
       banks_stand = banks;
       refreshes_stand = refresh;
       foresees =
-          subst (IsForeseen (choice_in s [] c.waiting.queue) c.waiting.queue.requests c.cycle) (sym ahead)
-          (foreseen-unknown (choice_in s [] c.waiting.queue) c.waiting.queue.requests c.cycle);
+          subst (IsForeseen (choice_in s [] c.marked_queue.queue) c.marked_queue.queue.requests c.cycle) (sym ahead)
+          (foreseen-unknown (choice_in s [] c.marked_queue.queue) c.marked_queue.queue.requests c.cycle);
     }

@@ -9,48 +9,48 @@ use Rattle.sim_base.specs.declared.config.Config.{Config}
 use Rattle.sim_base.specs.Counts.{has_refresh_due, queue_length}
 use Rattle.sim_base.specs.History.{issued_commands, channel_messages}
 use Rattle.sim_base.specs.Machine.{channel_run}
-use Rattle.sim_base.specs.Scheduling.{waiting, drains_with, drains_before, drains, candidates, lowest_due, choice_between, choice}
+use Rattle.sim_base.specs.Scheduling.{queued_requests, drains_with, drains_before, drains, candidates, lowest_due, choice_between, choice}
 use Rattle.sim_base.specs.declared.command.Command.{Command}
 use Rattle.sim_base.specs.declared.message.Message.{Message}
 use Rattle.statistics.proofs.ChannelSteps.{issued_commands-push}
 use Rattle.statistics.specs.Channels.{channel_cycle_with, channel_cycle}
-use Rattle.channel_step.proofs.Requests.{ArrivedBefore, waiting-until}
+use Rattle.channel_step.proofs.Requests.{ArrivedBefore, queued_requests-until}
 use Rattle.channel_step.proofs.Spans.{queue-next, drains-next, drains_before-row, choice-next}
 use Rattle.channel_step.specs.Past.{requests_of}
 use Rattle.channel_step.specs.Fit.{IsIdle}
 
--- the rows of some idle cycles, and one more
-pub idle-push : (rows : List (Option Command)) (n : ℕ) → rows ++ replicate (suc n) None ≡ (rows ++ replicate n None) ++ None ∷ []
-idle-push rows n =
-    ap (λ x. rows ++ x) (ap (λ k. replicate k None) (sym (add-one n)) ∙ sym (replicate_more {X = Option Command} n None))
-    ∙ sym (append_assoc rows (replicate n None) (None ∷ []))
+-- the steps of some idle cycles, and one more
+pub idle-push : (steps : List (Option Command)) (n : ℕ) → steps ++ replicate (suc n) None ≡ (steps ++ replicate n None) ++ None ∷ []
+idle-push steps n =
+    ap (λ x. steps ++ x) (ap (λ k. replicate k None) (sym (add-one n)) ∙ sym (replicate_more {X = Option Command} n None))
+    ∙ sym (append_assoc steps (replicate n None) (None ∷ []))
 
-pub length-idle : (rows : List (Option Command)) (n : ℕ) → length (rows ++ replicate n None) ≡ length rows + n
-length-idle rows n = length-append rows (replicate n None) ∙ ap (λ k. length rows + k) (length-replicate {A = Option Command} n None)
+pub length-idle : (steps : List (Option Command)) (n : ℕ) → length (steps ++ replicate n None) ≡ length steps + n
+length-idle steps n = length-append steps (replicate n None) ∙ ap (λ k. length steps + k) (length-replicate {A = Option Command} n None)
 
 -- idle cycles issue nothing
-pub idle-issued : (channel : ℕ) (rows : List (Option Command)) (n : ℕ) → issued_commands channel (rows ++ replicate n None) ≡ issued_commands channel rows
-idle-issued channel rows zero = ap (issued_commands channel) (append-nil rows)
-idle-issued channel rows (suc n) =
-    ap (issued_commands channel) (idle-push rows n)
-    ∙ issued_commands-push channel (rows ++ replicate n None) None
+pub idle-issued : (channel : ℕ) (steps : List (Option Command)) (n : ℕ) → issued_commands channel (steps ++ replicate n None) ≡ issued_commands channel steps
+idle-issued channel steps zero = ap (issued_commands channel) (append-nil steps)
+idle-issued channel steps (suc n) =
+    ap (issued_commands channel) (idle-push steps n)
+    ∙ issued_commands-push channel (steps ++ replicate n None) None
     ∙ append-nil _
-    ∙ idle-issued channel rows n
+    ∙ idle-issued channel steps n
 
 -- and send nothing
-pub idle-messages : (s : Config) (channel : ℕ) (rows : List (Option Command)) (n : ℕ) → channel_messages s channel (rows ++ replicate n None) ≡ channel_messages s channel rows
-idle-messages s channel rows zero = ap (channel_messages s channel) (append-nil rows)
-idle-messages s channel rows (suc n) =
-    ap (channel_messages s channel) (idle-push rows n)
-    ∙ channel_messages-push s channel (rows ++ replicate n None) None
+pub idle-messages : (s : Config) (channel : ℕ) (steps : List (Option Command)) (n : ℕ) → channel_messages s channel (steps ++ replicate n None) ≡ channel_messages s channel steps
+idle-messages s channel steps zero = ap (channel_messages s channel) (append-nil steps)
+idle-messages s channel steps (suc n) =
+    ap (channel_messages s channel) (idle-push steps n)
+    ∙ channel_messages-push s channel (steps ++ replicate n None) None
     ∙ append-nil _
-    ∙ idle-messages s channel rows n
+    ∙ idle-messages s channel steps n
 
 -- the same requests wait in each of them, since all have arrived
-pub idle-waiting : (channel : ℕ) (rows : List (Option Command)) (mail : List Message) → Each (ArrivedBefore (length rows + 1)) (requests_of mail) → (n later : ℕ) → length rows + 1 ≤ later
-    → waiting (issued_commands channel (rows ++ replicate n None)) mail later ≡ waiting (issued_commands channel rows) mail (length rows + 1)
-idle-waiting channel rows mail h n later l =
-    ap (λ x. waiting x mail later) (idle-issued channel rows n) ∙ waiting-until (issued_commands channel rows) mail (length rows + 1) later l h
+pub idle-queued_requests : (channel : ℕ) (steps : List (Option Command)) (mail : List Message) → Each (ArrivedBefore (length steps + 1)) (requests_of mail) → (n later : ℕ) → length steps + 1 ≤ later
+    → queued_requests (issued_commands channel (steps ++ replicate n None)) mail later ≡ queued_requests (issued_commands channel steps) mail (length steps + 1)
+idle-queued_requests channel steps mail h n later l =
+    ap (λ x. queued_requests x mail later) (idle-issued channel steps n) ∙ queued_requests-until (issued_commands channel steps) mail (length steps + 1) later l h
 
 pub settled_twice : (a b d : Bool) → (a || ((a || (d && b)) && b)) ≡ (a || (d && b))
 settled_twice true b d = refl
@@ -64,74 +64,74 @@ pub drains-twice : (s : Config) (draining : Bool) (writes : ℕ) → drains_with
 drains-twice s draining writes = settled_twice _ _ draining
 
 -- in each of them the channel drains as in the first
-pub idle-drains : (s : Config) (channel : ℕ) (rows : List (Option Command)) (mail : List Message) → Each (ArrivedBefore (length rows + 1)) (requests_of mail) → (n : ℕ)
-    → drains s channel (rows ++ replicate n None) mail (length (rows ++ replicate n None)) ≡ drains s channel rows mail (length rows)
-idle-drains s channel rows mail h zero = ap (λ x. drains s channel x mail (length x)) (append-nil rows)
-idle-drains s channel rows mail h (suc n) =
-    let before = rows ++ replicate n None in
-    let more = rows ++ replicate (suc n) None in
-    let same : waiting (issued_commands channel more) mail (length more + 1) ≡ waiting (issued_commands channel before) mail (length before + 1) =
-    idle-waiting channel rows mail h (suc n) (length more + 1) (omega (arith, length-idle rows (suc n)))
-    ∙ sym (idle-waiting channel rows mail h n (length before + 1) (omega (arith, length-idle rows n))) in
-    let settled : drains_before s channel more mail (length more) ≡ drains s channel before mail (length before) =
-    ap (λ x. drains_before s channel x mail (length x)) (idle-push rows n) ∙ drains_before-row s channel before None mail in
+pub idle-drains : (s : Config) (channel : ℕ) (steps : List (Option Command)) (mail : List Message) → Each (ArrivedBefore (length steps + 1)) (requests_of mail) → (n : ℕ)
+    → drains s channel (steps ++ replicate n None) mail (length (steps ++ replicate n None)) ≡ drains s channel steps mail (length steps)
+idle-drains s channel steps mail h zero = ap (λ x. drains s channel x mail (length x)) (append-nil steps)
+idle-drains s channel steps mail h (suc n) =
+    let before = steps ++ replicate n None in
+    let more = steps ++ replicate (suc n) None in
+    let same : queued_requests (issued_commands channel more) mail (length more + 1) ≡ queued_requests (issued_commands channel before) mail (length before + 1) =
+    idle-queued_requests channel steps mail h (suc n) (length more + 1) (omega (arith, length-idle steps (suc n)))
+    ∙ sym (idle-queued_requests channel steps mail h n (length before + 1) (omega (arith, length-idle steps n))) in
+    let drain_decided : drains_before s channel more mail (length more) ≡ drains s channel before mail (length before) =
+    ap (λ x. drains_before s channel x mail (length x)) (idle-push steps n) ∙ drains_before-row s channel before None mail in
     drains-next s channel more mail
-    ∙ ap₂ (λ d q. drains_with s d (count_by (λ r. r.write) q)) (settled ∙ drains-next s channel before mail) same
+    ∙ ap₂ (λ d q. drains_with s d (count_by (λ r. r.write) q)) (drain_decided ∙ drains-next s channel before mail) same
     ∙ drains-twice s _ _
     ∙ sym (drains-next s channel before mail)
-    ∙ idle-drains s channel rows mail h n
+    ∙ idle-drains s channel steps mail h n
 
 -- what the channel would choose in each of them
-pub idle-choice : (s : Config) (channel : ℕ) (rows : List (Option Command)) (mail : List Message) → Each (ArrivedBefore (length rows + 1)) (requests_of mail) → (n : ℕ)
-    → choice s channel (rows ++ replicate n None) mail
-    ≡ choice_between s (issued_commands channel rows) (length rows + n)
-    (candidates s (drains s channel rows mail (length rows)) (waiting (issued_commands channel rows) mail (length rows + 1)))
-    (lowest_due s (issued_commands channel rows) (length rows + n))
-idle-choice s channel rows mail h n =
-    let more = rows ++ replicate n None in
-    let queue = waiting (issued_commands channel rows) mail (length rows + 1) in
-    let draining = drains s channel rows mail (length rows) in
+pub idle-choice : (s : Config) (channel : ℕ) (steps : List (Option Command)) (mail : List Message) → Each (ArrivedBefore (length steps + 1)) (requests_of mail) → (n : ℕ)
+    → choice s channel (steps ++ replicate n None) mail
+    ≡ choice_between s (issued_commands channel steps) (length steps + n)
+    (candidates s (drains s channel steps mail (length steps)) (queued_requests (issued_commands channel steps) mail (length steps + 1)))
+    (lowest_due s (issued_commands channel steps) (length steps + n))
+idle-choice s channel steps mail h n =
+    let more = steps ++ replicate n None in
+    let queue = queued_requests (issued_commands channel steps) mail (length steps + 1) in
+    let draining = drains s channel steps mail (length steps) in
     choice-next s channel more mail queue draining
-    (idle-waiting channel rows mail h n (length more + 1) (omega (arith, length-idle rows n))) (idle-drains s channel rows mail h n)
-    ∙ ap₂ (λ x k. choice_between s x k (candidates s draining queue) (lowest_due s x k)) (idle-issued channel rows n) (length-idle rows n)
+    (idle-queued_requests channel steps mail h n (length more + 1) (omega (arith, length-idle steps n))) (idle-drains s channel steps mail h n)
+    ∙ ap₂ (λ x k. choice_between s x k (candidates s draining queue) (lowest_due s x k)) (idle-issued channel steps n) (length-idle steps n)
 
--- the rows that follow from idle cycles
-pub idle-run : (s : Config) (channel : ℕ) (rows : List (Option Command)) (mail : List Message) (n : ℕ) → IsIdle s channel rows mail n
-    → channel_run s channel rows mail n ≡ rows ++ replicate n None
+-- the steps that follow from idle cycles
+pub idle-run : (s : Config) (channel : ℕ) (steps : List (Option Command)) (mail : List Message) (n : ℕ) → IsIdle s channel steps mail n
+    → channel_run s channel steps mail n ≡ steps ++ replicate n None
 unfolding channel_run
-idle-run s channel rows mail zero h = sym (append-nil rows)
-idle-run s channel rows mail (suc n) h =
-    ap (λ before. before ++ choice s channel before mail ∷ []) (idle-run s channel rows mail n (λ k l. h k (omega arith)))
-    ∙ ap (λ o. (rows ++ replicate n None) ++ o ∷ []) (h n (omega arith))
-    ∙ sym (idle-push rows n)
+idle-run s channel steps mail zero h = sym (append-nil steps)
+idle-run s channel steps mail (suc n) h =
+    ap (λ before. before ++ choice s channel before mail ∷ []) (idle-run s channel steps mail n (λ k l. h k (omega arith)))
+    ∙ ap (λ o. (steps ++ replicate n None) ++ o ∷ []) (h n (omega arith))
+    ∙ sym (idle-push steps n)
 
 -- a refresh is due in each of these cycles, or in none
 abbrev pub IsDueAlike : Config → ℕ → List (Option Command) → ℕ → Type 0
-IsDueAlike s channel rows n =
-    (k : ℕ) → k < n → is_some (lowest_due s (issued_commands channel rows) (length rows + k)) ≡ is_some (lowest_due s (issued_commands channel rows) (length rows))
+IsDueAlike s channel steps n =
+    (k : ℕ) → k < n → is_some (lowest_due s (issued_commands channel steps) (length steps + k)) ≡ is_some (lowest_due s (issued_commands channel steps) (length steps))
 
-has_due-next : (s : Config) (channel : ℕ) (rows : List (Option Command)) → has_refresh_due s channel rows (length rows) ≡ is_some (lowest_due s (issued_commands channel rows) (length rows))
+has_due-next : (s : Config) (channel : ℕ) (steps : List (Option Command)) → has_refresh_due s channel steps (length steps) ≡ is_some (lowest_due s (issued_commands channel steps) (length steps))
 unfolding has_refresh_due
-has_due-next s channel rows = ap (λ x. is_some (lowest_due s (issued_commands channel x) (length rows))) (take-length rows)
+has_due-next s channel steps = ap (λ x. is_some (lowest_due s (issued_commands channel x) (length steps))) (take-length steps)
 
-idle-has_due : (s : Config) (channel : ℕ) (rows : List (Option Command)) (n k : ℕ) → k < n → IsDueAlike s channel rows n
-    → has_refresh_due s channel (rows ++ replicate k None) (length (rows ++ replicate k None)) ≡ has_refresh_due s channel rows (length rows)
-idle-has_due s channel rows n k l h =
-    has_due-next s channel (rows ++ replicate k None)
-    ∙ ap₂ (λ x i. is_some (lowest_due s x i)) (idle-issued channel rows k) (length-idle rows k)
+idle-has_due : (s : Config) (channel : ℕ) (steps : List (Option Command)) (n k : ℕ) → k < n → IsDueAlike s channel steps n
+    → has_refresh_due s channel (steps ++ replicate k None) (length (steps ++ replicate k None)) ≡ has_refresh_due s channel steps (length steps)
+idle-has_due s channel steps n k l h =
+    has_due-next s channel (steps ++ replicate k None)
+    ∙ ap₂ (λ x i. is_some (lowest_due s x i)) (idle-issued channel steps k) (length-idle steps k)
     ∙ h k l
-    ∙ sym (has_due-next s channel rows)
+    ∙ sym (has_due-next s channel steps)
 
 -- each of these cycles counts as much as the first
-pub idle-cycle : (s : Config) (channel : ℕ) (rows : List (Option Command)) (mail : List Message) → Each (ArrivedBefore (length rows + 1)) (requests_of mail)
-    → (n k : ℕ) → k < n → IsDueAlike s channel rows n
-    → channel_cycle s channel (rows ++ replicate k None) mail None ≡ channel_cycle s channel rows mail None
+pub idle-cycle : (s : Config) (channel : ℕ) (steps : List (Option Command)) (mail : List Message) → Each (ArrivedBefore (length steps + 1)) (requests_of mail)
+    → (n k : ℕ) → k < n → IsDueAlike s channel steps n
+    → channel_cycle s channel (steps ++ replicate k None) mail None ≡ channel_cycle s channel steps mail None
 unfolding channel_cycle queue_length
-idle-cycle s channel rows mail h n k l due =
-    let more = rows ++ replicate k None in
-    let q : length (waiting (issued_commands channel more) mail (length more + 1)) ≡ length (waiting (issued_commands channel rows) mail (length rows + 1)) =
-    ap length (idle-waiting channel rows mail h k (length more + 1) (omega (arith, length-idle rows k))) in
+idle-cycle s channel steps mail h n k l due =
+    let more = steps ++ replicate k None in
+    let q : length (queued_requests (issued_commands channel more) mail (length more + 1)) ≡ length (queued_requests (issued_commands channel steps) mail (length steps + 1)) =
+    ap length (idle-queued_requests channel steps mail h k (length more + 1) (omega (arith, length-idle steps k))) in
     ap₂ (λ x y. channel_cycle_with s x y (has_refresh_due s channel more (length more)) (drains s channel more mail (length more)) None)
-    (idle-issued channel rows k) (ap length (queue-next channel more mail) ∙ q ∙ sym (ap length (queue-next channel rows mail)))
-    ∙ ap₂ (λ x y. channel_cycle_with s (issued_commands channel rows) (queue_length channel rows mail (length rows)) x y None)
-    (idle-has_due s channel rows n k l due) (idle-drains s channel rows mail h k)
+    (idle-issued channel steps k) (ap length (queue-next channel more mail) ∙ q ∙ sym (ap length (queue-next channel steps mail)))
+    ∙ ap₂ (λ x y. channel_cycle_with s (issued_commands channel steps) (queue_length channel steps mail (length steps)) x y None)
+    (idle-has_due s channel steps n k l due) (idle-drains s channel steps mail h k)

@@ -1,12 +1,12 @@
 -- What a `Channel` stands for.
---     HeadsStand heads requests history      heads are those of these requests, after these commands
+--     CandidatesStand bank_candidates requests history      bank_candidates are those of these requests, after these commands
 --     IsMadeFor c s channel      the channel with a number, of a machine with a configuration
---     StandsFor c s channel rows mail      all that it keeps is what these rows, and the messages that arrived in them, make of it
+--     StandsFor c s channel steps mail      all that it keeps is what these steps, and the messages that arrived in them, make of it
 --     Foresees c s history      what a channel knows of its next command is so
 --     IsFound c s history now next      the next command from a cycle on, if there is one
 --     HasRank c rank, HasBank c bank      a channel of a machine with this rank, or with this bank
---     IsInCycle c s channel rows mail      the same in the cycle after these rows, when what arrives in it has joined the queue
---     IsNextBefore s channel rows mail end next      the next command before a cycle, and when it is issued, if there is one
+--     IsInCycle c s channel steps mail      the same in the cycle after these steps, when what arrives in it has joined the queue
+--     IsNextBefore s channel steps mail end next      the next command before a cycle, and when it is issued, if there is one
 --     CountsDrains c      cycles of draining are counted where the channel ever drains
 --     seen_of c now      what is seen of a channel in a cycle
 --     idle_cycle c now      the statistics of a cycle in which a channel issues nothing
@@ -17,15 +17,15 @@ use Rattle.sim_base.specs.History.{issued_commands}
 use Rattle.sim_base.specs.Rules.{open_row}
 use Rattle.sim_base.specs.Scheduling.{choice, column_command, is_column_command}
 use Rattle.sim_base.specs.declared.command.Command.{Command}
-use Rattle.sim_base.specs.declared.command.CommandRow.{CommandRow}
+use Rattle.sim_base.specs.declared.command.IssuedCommand.{IssuedCommand}
 use Rattle.sim_base.specs.declared.message.Request.{Request}
 use Rattle.sim_base.specs.declared.message.Message.{Message}
 use Rattle.sim_base.specs.declared.place.BankId.{BankId}
 use Rattle.bank_ready.specs.Stands.{StandsFor as BanksStandFor}
 use Rattle.refresh.specs.Refreshes.{lowest_owed, StandsFor as RefreshesStandFor}
-use Rattle.heads.specs.declared.heads.Heads.{Heads}
-use Rattle.heads.specs.Heads.{bank_at}
-use Rattle.heads.specs.Stands.{bank_count, StandsFor as HeadsStandFor}
+use Rattle.bank_candidates.specs.declared.all_banks.BankCandidates.{BankCandidates}
+use Rattle.bank_candidates.specs.Candidates.{bank_at}
+use Rattle.bank_candidates.specs.Stands.{bank_count, StandsFor as CandidatesStandFor}
 use Rattle.queue.specs.View.{is_draining}
 use Rattle.statistics.specs.Channels.{channel_joined, channel_times}
 use Rattle.statistics.specs.declared.channels.ChannelStats.{ChannelStats}
@@ -40,20 +40,20 @@ use Rattle.channel_step.specs.declared.ahead.Ahead.TheVariants.{Unknown, Known}
 use Rattle.channel_step.specs.declared.channel.Channel.{Channel}
 use Rattle.channel_step.specs.declared.counting.Seen.{Seen}
 
--- heads are those of these requests, where the rows are open that these commands opened
-abbrev pub HeadsStand : Heads → List Request → List CommandRow → Type 0
-HeadsStand heads requests history = HeadsStandFor heads requests (λ bank. open_row (bank_at bank) history)
+-- candidates are those of these requests, where the rows are open that these commands opened
+abbrev pub CandidatesStand : BankCandidates → List Request → List IssuedCommand → Type 0
+CandidatesStand bank_candidates requests history = CandidatesStandFor bank_candidates requests (λ bank. open_row (bank_at bank) history)
 
--- the channel with a number, of a machine with a configuration, has a place in its queue for each credit and heads for each bank,
+-- the channel with a number, of a machine with a configuration, has a place in its queue for each credit and candidates for each bank,
 -- and never had more requests in it
 pub record IsMadeFor (c : Channel) (s : Config) (channel : ℕ) : Type 0 where
   pub config_is : c.config ≡ s
   pub number_is : c.number ≡ channel
-  pub high_is : c.waiting.queue.high ≡ s.write_high
-  pub low_is : c.waiting.queue.low ≡ s.write_low
-  pub room_is : c.waiting.queue.room ≡ queue_room s
-  pub banks_are : bank_count c.heads ≡ 16 * s.ranks
-  pub within : length c.waiting.queue.requests ≤ queue_room s
+  pub high_is : c.marked_queue.queue.high ≡ s.write_high
+  pub low_is : c.marked_queue.queue.low ≡ s.write_low
+  pub room_is : c.marked_queue.queue.room ≡ queue_room s
+  pub banks_are : bank_count c.bank_candidates ≡ 16 * s.ranks
+  pub within : length c.marked_queue.queue.requests ≤ queue_room s
   pub longest : c.stats.queued_max ≤ queue_room s
 
 -- a command is issued in a cycle, which serves the request at its place, and none in the cycles before it from one on
@@ -81,84 +81,84 @@ pub record IsForeseen (commands : ℕ → Option Command) (requests : List Reque
   pub moves_none : (cycle : ℕ) (choice : Choice) → ahead ≡ Known (Some (cycle, choice)) → choice.slot ≡ None → is_column_command choice.command ≡ false
 
 -- what a channel knows of its next command is so after these commands, as long as nothing arrives
-abbrev pub Foresees : Channel → Config → List CommandRow → Type 0
-Foresees c s history = IsForeseen (choice_in s history c.waiting.queue) c.waiting.queue.requests c.cycle c.ahead
+abbrev pub Foresees : Channel → Config → List IssuedCommand → Type 0
+Foresees c s history = IsForeseen (choice_in s history c.marked_queue.queue) c.marked_queue.queue.requests c.cycle c.ahead
 
 -- the next command from a cycle on, with the place of the request that it serves, if there is one
-abbrev pub IsFound : Channel → Config → List CommandRow → ℕ → Option (ℕ × Choice) → Type 0
-IsFound c s history now next = IsNext (choice_in s history c.waiting.queue) now next × IfSome next (λ n. IsFor c.waiting.queue.requests n.1)
+abbrev pub IsFound : Channel → Config → List IssuedCommand → ℕ → Option (ℕ × Choice) → Type 0
+IsFound c s history now next = IsNext (choice_in s history c.marked_queue.queue) now next × IfSome next (λ n. IsFor c.marked_queue.queue.requests n.1)
 
--- All that a channel keeps between two cycles is what its rows so far, one a cycle, and the messages that arrived in them make of it.
-pub record StandsFor (c : Channel) (s : Config) (channel : ℕ) (rows : List (Option Command)) (mail : List Message) : Type 0 where
+-- All that a channel keeps between two cycles is what its steps so far, one a cycle, and the messages that arrived in them make of it.
+pub record StandsFor (c : Channel) (s : Config) (channel : ℕ) (steps : List (Option Command)) (mail : List Message) : Type 0 where
   pub made_for : IsMadeFor c s channel
-  pub cycle_is : c.cycle ≡ length rows
-  pub recalls : Recalls c.waiting.queue.requests c.waiting.queue.settled c.waiting.marks c.stats s channel rows mail
-  pub heads_stand : HeadsStand c.heads c.waiting.queue.requests (issued_commands channel rows)
-  pub banks_stand : BanksStandFor c.banks s (issued_commands channel rows)
-  pub refreshes_stand : RefreshesStandFor c.refresh s (issued_commands channel rows)
-  pub foresees : Foresees c s (issued_commands channel rows)
+  pub cycle_is : c.cycle ≡ length steps
+  pub recalls : Recalls c.marked_queue.queue.requests c.marked_queue.queue.drain_decided c.marked_queue.marks c.stats s channel steps mail
+  pub candidates_stand : CandidatesStand c.bank_candidates c.marked_queue.queue.requests (issued_commands channel steps)
+  pub banks_stand : BanksStandFor c.banks s (issued_commands channel steps)
+  pub refreshes_stand : RefreshesStandFor c.refresh s (issued_commands channel steps)
+  pub foresees : Foresees c s (issued_commands channel steps)
 
 -- a channel stands for a past of a machine with this rank
 pub record HasRank (c : Channel) (rank : ℕ) : Type 0 where
   pub s : Config
   pub channel : ℕ
-  pub rows : List (Option Command)
+  pub steps : List (Option Command)
   pub mail : List Message
-  pub stands : StandsFor c s channel rows mail
+  pub stands : StandsFor c s channel steps mail
   pub rank_in : rank < s.ranks
 
 -- a channel stands for a past of a machine with this bank
 pub record HasBank (c : Channel) (bank : BankId) : Type 0 where
   pub s : Config
   pub channel : ℕ
-  pub rows : List (Option Command)
+  pub steps : List (Option Command)
   pub mail : List Message
-  pub stands : StandsFor c s channel rows mail
+  pub stands : StandsFor c s channel steps mail
   pub rank_in : bank.rank < s.ranks
   pub group_in : bank.group < s.groups
   pub bank_in : bank.bank < 4
 
--- The same in the cycle after these rows, when what arrives in it has joined the queue.
-pub record IsInCycle (c : Channel) (s : Config) (channel : ℕ) (rows : List (Option Command)) (mail : List Message) : Type 0 where
+-- The same in the cycle after these steps, when what arrives in it has joined the queue.
+pub record IsInCycle (c : Channel) (s : Config) (channel : ℕ) (steps : List (Option Command)) (mail : List Message) : Type 0 where
   pub made_for : IsMadeFor c s channel
-  pub cycle_is : c.cycle ≡ length rows
-  pub joined : HasJoined c.waiting.queue.requests c.waiting.queue.settled c.waiting.marks c.stats s channel rows mail
-  pub heads_stand : HeadsStand c.heads c.waiting.queue.requests (issued_commands channel rows)
-  pub banks_stand : BanksStandFor c.banks s (issued_commands channel rows)
-  pub refreshes_stand : RefreshesStandFor c.refresh s (issued_commands channel rows)
-  pub foresees : Foresees c s (issued_commands channel rows)
+  pub cycle_is : c.cycle ≡ length steps
+  pub joined : HasJoined c.marked_queue.queue.requests c.marked_queue.queue.drain_decided c.marked_queue.marks c.stats s channel steps mail
+  pub candidates_stand : CandidatesStand c.bank_candidates c.marked_queue.queue.requests (issued_commands channel steps)
+  pub banks_stand : BanksStandFor c.banks s (issued_commands channel steps)
+  pub refreshes_stand : RefreshesStandFor c.refresh s (issued_commands channel steps)
+  pub foresees : Foresees c s (issued_commands channel steps)
 
--- a channel is in a cycle, after some rows
+-- a channel is in a cycle, after some steps
 pub record IsInSomeCycle (c : Channel) (now : ℕ) : Type 0 where
   pub s : Config
   pub channel : ℕ
-  pub rows : List (Option Command)
+  pub steps : List (Option Command)
   pub mail : List Message
-  pub is_in : IsInCycle c s channel rows mail
-  pub at : length rows ≡ now
+  pub is_in : IsInCycle c s channel steps mail
+  pub at : length steps ≡ now
 
--- a channel is in a cycle, after some rows, and does this in it
+-- a channel is in a cycle, after some steps, and does this in it
 pub record IsChosen (c : Channel) (now : ℕ) (command : Command) : Type 0 where
   pub s : Config
   pub channel : ℕ
-  pub rows : List (Option Command)
+  pub steps : List (Option Command)
   pub mail : List Message
-  pub is_in : IsInCycle c s channel rows mail
-  pub at : length rows ≡ now
-  pub chosen : Some command ≡ choice s channel rows mail
+  pub is_in : IsInCycle c s channel steps mail
+  pub at : length steps ≡ now
+  pub chosen : Some command ≡ choice s channel steps mail
 
--- The next command that is issued after these rows, if nothing arrives any more: it is what the channel does in this cycle, which
+-- The next command that is issued after these steps, if nothing arrives any more: it is what the channel does in this cycle, which
 -- is before another one, and none is issued in the cycles before it.
-pub record IsNextIn (s : Config) (channel : ℕ) (rows : List (Option Command)) (mail : List Message) (end cycle : ℕ) (command : Command) : Type 0 where
-  pub from_now : length rows ≤ cycle
+pub record IsNextIn (s : Config) (channel : ℕ) (steps : List (Option Command)) (mail : List Message) (end cycle : ℕ) (command : Command) : Type 0 where
+  pub from_now : length steps ≤ cycle
   pub before_end : cycle < end
-  pub idle : IsIdle s channel rows mail (cycle - length rows)
-  pub command_is : Some command ≡ choice s channel (rows ++ replicate (cycle - length rows) None) mail
+  pub idle : IsIdle s channel steps mail (cycle - length steps)
+  pub command_is : Some command ≡ choice s channel (steps ++ replicate (cycle - length steps) None) mail
 
 -- the same, where there may be none before that cycle
 abbrev pub IsNextBefore : Config → ℕ → List (Option Command) → List Message → ℕ → Option (ℕ × Choice) → Type 0
-IsNextBefore s channel rows mail end (Some next) = IsNextIn s channel rows mail end next.0 next.1.command
-IsNextBefore s channel rows mail end None = IsIdle s channel rows mail (end - length rows)
+IsNextBefore s channel steps mail end (Some next) = IsNextIn s channel steps mail end next.0 next.1.command
+IsNextBefore s channel steps mail end None = IsIdle s channel steps mail (end - length steps)
 
 -- cycles of draining are counted just where the channel ever drains its writes
 abbrev pub CountsDrains : Channel → Type 0
@@ -166,7 +166,7 @@ CountsDrains c = is_some c.stats.draining ≡ nat_lt 0 c.config.write_high
 
 -- what is seen of a channel in a cycle, before it issues a command
 abbrev pub seen_of : Channel → ℕ → Seen
-seen_of c now = record { queued = length c.waiting.queue.requests; refreshing = is_some (lowest_owed c.refresh now); draining = is_draining c.waiting.queue }
+seen_of c now = record { queued = length c.marked_queue.queue.requests; refreshing = is_some (lowest_owed c.refresh now); draining = is_draining c.marked_queue.queue }
 
 -- the statistics of a cycle in which a channel issues nothing
 abbrev pub idle_cycle : Channel → ℕ → ChannelStats

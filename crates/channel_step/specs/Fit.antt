@@ -1,8 +1,8 @@
 -- What may arrive at a channel that is run alone over a span of cycles, and what lets cycles be skipped.
 --     queue_room s      the places of a channel's queue
 --     is_named_by command r      a command stands in the name of a request
---     IsFit s channel rows mail inbox from until      messages that may arrive in a span
---     IsIdle s channel rows mail n      a channel issues nothing in the n cycles after these rows, if nothing arrives in them
+--     IsFit s channel steps mail inbox from until      messages that may arrive in a span
+--     IsIdle s channel steps mail n      a channel issues nothing in the n cycles after these steps, if nothing arrives in them
 use Rattle.std.specs.Prelude.{◌≡◌, ℕ, ◌+◌, ◌*◌, ◌<◌, ◌≤◌, Bool, true, false, List, [], ◌∷◌, ◌++◌, replicate, Option, None}
 use Rattle.std.specs.List.{AllByRecursion as Each}
 use Rattle.sim_base.specs.declared.config.Config.{Config}
@@ -11,7 +11,7 @@ use Rattle.sim_base.specs.History.{issued_commands, is_before}
 use Rattle.sim_base.specs.Machine.{channel_run}
 use Rattle.sim_base.specs.Scheduling.{is_source, choice}
 use Rattle.sim_base.specs.declared.command.Command.{Command}
-use Rattle.sim_base.specs.declared.command.CommandRow.{CommandRow}
+use Rattle.sim_base.specs.declared.command.IssuedCommand.{IssuedCommand}
 use Rattle.sim_base.specs.declared.command.Source.{Source}
 use Rattle.sim_base.specs.declared.message.Message.{Message}
 use Rattle.sim_base.specs.declared.message.Request.{Request}
@@ -32,29 +32,29 @@ abbrev pub is_named_by : Command → Request → Bool
 is_named_by command r = is_of (source_in command) r
 
 -- no command stands in the name of a request
-abbrev pub IsUnnamed : List CommandRow → Request → Type 0
-IsUnnamed history r = Each (λ (i : CommandRow). is_named_by i.command r ≡ false) history
+abbrev pub IsUnnamed : List IssuedCommand → Request → Type 0
+IsUnnamed history r = Each (λ (i : IssuedCommand). is_named_by i.command r ≡ false) history
 
 -- each message arrives before those that follow it, or with them on a lower link: so at most one arrives on a link in a cycle
 abbrev pub ComeByAge : List Message → Type 0
 ComeByAge [] = Unit {0}
 ComeByAge (m ∷ ms) = Each (λ (n : Message). is_before m n ≡ true) ms × ComeByAge ms
 
--- Messages that may arrive at a channel in a span of cycles, after these rows and this mail.
+-- Messages that may arrive at a channel in a span of cycles, after these steps and this mail.
 --     requests, by_age      each carries a request for the channel, and they come by arrival and then by link
 --     in_span      they arrive in the span
 --     differ      no two requests are of one entry, those that arrived before the span among them
 --     unnamed      no earlier command stands in the name of one, since none is issued for what has not arrived
 --     room      in the run that follows from them the queue has a place for each
-pub record IsFit (s : Config) (channel : ℕ) (rows : List (Option Command)) (mail inbox : List Message) (from until : ℕ) : Type 0 where
+pub record IsFit (s : Config) (channel : ℕ) (steps : List (Option Command)) (mail inbox : List Message) (from until : ℕ) : Type 0 where
   pub requests : Each (CarriesRequest s channel) inbox
   pub by_age : ComeByAge inbox
   pub in_span : Each (λ (m : Message). (from ≤ m.arrival) × (m.arrival < until)) inbox
   pub differ : Differ (requests_of (mail ++ inbox))
-  pub unnamed : Each (IsUnnamed (issued_commands channel rows)) (requests_of inbox)
+  pub unnamed : Each (IsUnnamed (issued_commands channel steps)) (requests_of inbox)
   pub room : (n : ℕ) → from + n < until
-      → queue_length channel (channel_run s channel rows (mail ++ inbox) n) (mail ++ inbox) (from + n) ≤ queue_room s
+      → queue_length channel (channel_run s channel steps (mail ++ inbox) n) (mail ++ inbox) (from + n) ≤ queue_room s
 
--- A channel issues nothing in the n cycles after these rows, if nothing arrives in them.
+-- A channel issues nothing in the n cycles after these steps, if nothing arrives in them.
 abbrev pub IsIdle : Config → ℕ → List (Option Command) → List Message → ℕ → Type 0
-IsIdle s channel rows mail n = (k : ℕ) → k < n → choice s channel (rows ++ replicate k None) mail ≡ None
+IsIdle s channel steps mail n = (k : ℕ) → k < n → choice s channel (steps ++ replicate k None) mail ≡ None

@@ -3,7 +3,7 @@
 --     CarriesRequest s channel m      a message carries a request for this channel, as a core of the machine sends it
 --     Differ requests      no two of them are of one entry
 --     is_named history r      an ACT was issued in the name of a request
---     IsPast s channel rows mail      rows of a channel, one a cycle, and the messages that arrived in those cycles
+--     IsPast s channel steps mail      steps of a channel, one a cycle, and the messages that arrived in those cycles
 use Rattle.std.specs.Prelude.{◌≡◌, ℕ, ◌<◌, Bool, false, List, [], ◌∷◌, length, filter_map, Option, Some, None}
 use Rattle.std.specs.List.{list_any, AllByRecursion as Each}
 use Rattle.sim_base.specs.declared.config.Config.{Config}
@@ -12,7 +12,7 @@ use Rattle.sim_base.specs.Counts.{is_act_for}
 use Rattle.sim_base.specs.Places.{place_of}
 use Rattle.sim_base.specs.Scheduling.{request_in, is_source, source_of}
 use Rattle.sim_base.specs.declared.command.Command.{Command}
-use Rattle.sim_base.specs.declared.command.CommandRow.{CommandRow}
+use Rattle.sim_base.specs.declared.command.IssuedCommand.{IssuedCommand}
 use Rattle.sim_base.specs.declared.message.Message.{Message}
 use Rattle.sim_base.specs.declared.message.Request.{Request}
 
@@ -49,12 +49,12 @@ Differ [] = Unit {0}
 Differ (r ∷ rs) = Each (IsOther r) rs × Differ rs
 
 -- an ACT was issued in the name of a request, so that its data is no row hit
-abbrev pub is_named : List CommandRow → Request → Bool
+abbrev pub is_named : List IssuedCommand → Request → Bool
 is_named history r = list_any (λ i. is_act_for (source_of r) i.command) history
 
--- The rows of a channel, one a cycle, and the messages that arrived in those cycles: each carries a request, and no two requests
+-- The steps of a channel, one a cycle, and the messages that arrived in those cycles: each carries a request, and no two requests
 -- are of one entry.
-pub record IsPast (s : Config) (channel : ℕ) (rows : List (Option Command)) (mail : List Message) : Type 0 where
+pub record IsPast (s : Config) (channel : ℕ) (steps : List (Option Command)) (mail : List Message) : Type 0 where
   pub requests : Each (CarriesRequest s channel) mail
-  pub arrived : Each (λ (m : Message). m.arrival < length rows) mail
+  pub arrived : Each (λ (m : Message). m.arrival < length steps) mail
   pub differ : Differ (requests_of mail)

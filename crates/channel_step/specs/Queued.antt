@@ -1,7 +1,7 @@
 -- The requests that wait at a channel, each with a mark: whether an ACT was issued for it.
---     Queued      what a `Waiting` stands for
+--     Queued      what a `MarkedQueue` stands for
 --     no_requests room high low      no request waits
---     with_arrivals w new      these requests join, and it is settled whether the channel drains its writes
+--     with_arrivals w new      these requests join, and it is drain_decided whether the channel drains its writes
 --     without w slot      one is served
 --     marked_at marks requests source, with_mark w source      the request of an entry gets its mark
 --     requests_left requests slot      the requests that are left
@@ -22,23 +22,23 @@ pub record Queued : Type 0 where
 
 -- no request waits yet, where there is room for so many, and a drain begins and ends with so many writes
 abbrev pub no_requests : ℕ → ℕ → ℕ → Queued
-no_requests room high low = record { queue = record { room = room; high = high; low = low; requests = []; settled = false }; marks = [] }
+no_requests room high low = record { queue = record { room = room; high = high; low = low; requests = []; drain_decided = false }; marks = [] }
 
 -- these requests come to a queue
 abbrev pub with_requests : QueueView → List Request → QueueView
 with_requests queue new = record queue { requests = queue.requests ++ new }
 
--- the same, and it is settled whether it drains
-abbrev pub settled : QueueView → QueueView
-settled queue = record queue { settled = is_draining queue }
+-- the same, and it is decided whether it drains
+abbrev pub drain_decided : QueueView → QueueView
+drain_decided queue = record queue { drain_decided = is_draining queue }
 
 -- these requests join, with no mark yet
 abbrev pub joined_with : Queued → List Request → Queued
 joined_with w new = record { queue = with_requests w.queue new; marks = w.marks ++ map (λ r. false) new }
 
--- the same, and it is settled whether the channel drains its writes
+-- the same, and it is decided whether the channel drains its writes
 abbrev pub with_arrivals : Queued → List Request → Queued
-with_arrivals w new = record { queue = settled (with_requests w.queue new); marks = w.marks ++ map (λ r. false) new }
+with_arrivals w new = record { queue = drain_decided (with_requests w.queue new); marks = w.marks ++ map (λ r. false) new }
 
 -- the request at a place is served
 abbrev pub without : Queued → ℕ → Queued

@@ -1,9 +1,9 @@
 -- What a channel does over a span of cycles.
---     issued_in channel now o      the command of a cycle as a list of rows
+--     issued_in channel now o      the command of a cycle as a list of steps
 --     first_arrival inbox until      when the first of these messages arrives
---     HasRun c s channel rows mail inbox from now until arrived commands messages      what the cycles so far leave
---     HasTurned c s channel rows mail inbox now then until arrived commands commands_then messages messages_then      what one turn leaves
---     IsDone c s channel rows mail inbox from until commands commands_then messages messages_then      what all cycles of a span leave
+--     HasRun c s channel steps mail inbox from now until arrived commands messages      what the cycles so far leave
+--     HasTurned c s channel steps mail inbox now then until arrived commands commands_then messages messages_then      what one turn leaves
+--     IsDone c s channel steps mail inbox from until commands commands_then messages messages_then      what all cycles of a span leave
 --     CanRun c inbox from until      a channel stands for a past after which messages are fit for a span
 --     CanStep c inbox now      they are fit for a span that begins with this cycle
 --     StandsAt c from      a channel stands for some past at a cycle
@@ -14,14 +14,14 @@ use Rattle.sim_base.specs.declared.config.Config.{Config}
 use Rattle.sim_base.specs.History.{issued_at, issued_commands, channel_messages}
 use Rattle.sim_base.specs.Machine.{channel_run}
 use Rattle.sim_base.specs.declared.command.Command.{Command}
-use Rattle.sim_base.specs.declared.command.CommandRow.{CommandRow}
+use Rattle.sim_base.specs.declared.command.IssuedCommand.{IssuedCommand}
 use Rattle.sim_base.specs.declared.message.Message.{Message}
 use Rattle.channel_step.specs.Fit.{IsFit, IsIdle}
 use Rattle.channel_step.specs.Channels.{StandsFor}
 use Rattle.channel_step.specs.declared.channel.Channel.{Channel}
 
--- the command of a cycle as a list of rows
-abbrev pub issued_in : ℕ → ℕ → Option Command → List CommandRow
+-- the command of a cycle as a list of steps
+abbrev pub issued_in : ℕ → ℕ → Option Command → List IssuedCommand
 issued_in channel now o = cons_option (issued_at channel now o) []
 
 -- when the first of these messages arrives, and a cycle where there is none
@@ -29,32 +29,32 @@ abbrev pub first_arrival : List Message → ℕ → ℕ
 first_arrival [] until = until
 first_arrival (m ∷ ms) until = m.arrival
 
--- After the cycles from one on and before another a channel stands for the rows of its run and for the messages that arrived in
+-- After the cycles from one on and before another a channel stands for the steps of its run and for the messages that arrived in
 -- them; the others are fit for the rest of the span; and these commands and messages are those that came more.
-pub record HasRun (c : Channel) (s : Config) (channel : ℕ) (rows : List (Option Command)) (mail inbox : List Message) (from now until arrived : ℕ) (commands : List CommandRow) (messages : List Message) : Type 0 where
-  pub stands : StandsFor c s channel (channel_run s channel rows (mail ++ inbox) (now - from)) (mail ++ take arrived inbox)
-  pub fit : IsFit s channel (channel_run s channel rows (mail ++ inbox) (now - from)) (mail ++ take arrived inbox) (drop arrived inbox) now until
+pub record HasRun (c : Channel) (s : Config) (channel : ℕ) (steps : List (Option Command)) (mail inbox : List Message) (from now until arrived : ℕ) (commands : List IssuedCommand) (messages : List Message) : Type 0 where
+  pub stands : StandsFor c s channel (channel_run s channel steps (mail ++ inbox) (now - from)) (mail ++ take arrived inbox)
+  pub fit : IsFit s channel (channel_run s channel steps (mail ++ inbox) (now - from)) (mail ++ take arrived inbox) (drop arrived inbox) now until
   pub some : arrived ≤ length inbox
-  pub commands_are : issued_commands channel (channel_run s channel rows (mail ++ inbox) (now - from)) ≡ issued_commands channel rows ++ commands
-  pub messages_are : channel_messages s channel (channel_run s channel rows (mail ++ inbox) (now - from)) ≡ channel_messages s channel rows ++ messages
+  pub commands_are : issued_commands channel (channel_run s channel steps (mail ++ inbox) (now - from)) ≡ issued_commands channel steps ++ commands
+  pub messages_are : channel_messages s channel (channel_run s channel steps (mail ++ inbox) (now - from)) ≡ channel_messages s channel steps ++ messages
 
 -- After some more cycles, from one on and before another, the same holds, and what came more was added to these commands and
 -- messages.
-pub record HasTurned (c : Channel) (s : Config) (channel : ℕ) (rows : List (Option Command)) (mail inbox : List Message) (now then until arrived : ℕ) (commands commands_then : List CommandRow) (messages messages_then : List Message) : Type 0 where
-  pub issued : List CommandRow
+pub record HasTurned (c : Channel) (s : Config) (channel : ℕ) (steps : List (Option Command)) (mail inbox : List Message) (now then until arrived : ℕ) (commands commands_then : List IssuedCommand) (messages messages_then : List Message) : Type 0 where
+  pub issued : List IssuedCommand
   pub sent : List Message
-  pub has_run : HasRun c s channel rows mail inbox now then until arrived issued sent
+  pub has_run : HasRun c s channel steps mail inbox now then until arrived issued sent
   pub commands_are : commands_then ≡ commands ++ issued
   pub messages_are : messages_then ≡ messages ++ sent
 
--- After a span a channel stands for the rows of its run over it and for all messages that were sent to it. The commands and
--- messages of the longer rows beyond those of the earlier ones were put behind what two lists held.
-pub record IsDone (c : Channel) (s : Config) (channel : ℕ) (rows : List (Option Command)) (mail inbox : List Message) (from until : ℕ) (commands commands_then : List CommandRow) (messages messages_then : List Message) : Type 0 where
-  pub issued : List CommandRow
+-- After a span a channel stands for the steps of its run over it and for all messages that were sent to it. The commands and
+-- messages of the longer steps beyond those of the earlier ones were put behind what two lists held.
+pub record IsDone (c : Channel) (s : Config) (channel : ℕ) (steps : List (Option Command)) (mail inbox : List Message) (from until : ℕ) (commands commands_then : List IssuedCommand) (messages messages_then : List Message) : Type 0 where
+  pub issued : List IssuedCommand
   pub sent : List Message
-  pub stands : StandsFor c s channel (channel_run s channel rows (mail ++ inbox) (until - from)) (mail ++ inbox)
-  pub commands_are : issued_commands channel (channel_run s channel rows (mail ++ inbox) (until - from)) ≡ issued_commands channel rows ++ issued
-  pub messages_are : channel_messages s channel (channel_run s channel rows (mail ++ inbox) (until - from)) ≡ channel_messages s channel rows ++ sent
+  pub stands : StandsFor c s channel (channel_run s channel steps (mail ++ inbox) (until - from)) (mail ++ inbox)
+  pub commands_are : issued_commands channel (channel_run s channel steps (mail ++ inbox) (until - from)) ≡ issued_commands channel steps ++ issued
+  pub messages_are : channel_messages s channel (channel_run s channel steps (mail ++ inbox) (until - from)) ≡ channel_messages s channel steps ++ sent
   pub commands_behind : commands_then ≡ commands ++ issued
   pub messages_behind : messages_then ≡ messages ++ sent
 
@@ -62,11 +62,11 @@ pub record IsDone (c : Channel) (s : Config) (channel : ℕ) (rows : List (Optio
 pub record CanRun (c : Channel) (inbox : List Message) (from until : ℕ) : Type 0 where
   pub s : Config
   pub channel : ℕ
-  pub rows : List (Option Command)
+  pub steps : List (Option Command)
   pub mail : List Message
-  pub stands : StandsFor c s channel rows mail
-  pub at : length rows ≡ from
-  pub fit : IsFit s channel rows mail inbox from until
+  pub stands : StandsFor c s channel steps mail
+  pub at : length steps ≡ from
+  pub fit : IsFit s channel steps mail inbox from until
 
 -- the same for some span that begins with this cycle
 pub record CanStep (c : Channel) (inbox : List Message) (now : ℕ) : Type 0 where
@@ -78,18 +78,18 @@ pub record CanStep (c : Channel) (inbox : List Message) (now : ℕ) : Type 0 whe
 pub record StandsAt (c : Channel) (from : ℕ) : Type 0 where
   pub s : Config
   pub channel : ℕ
-  pub rows : List (Option Command)
+  pub steps : List (Option Command)
   pub mail : List Message
-  pub stands : StandsFor c s channel rows mail
-  pub at : length rows ≡ from
+  pub stands : StandsFor c s channel steps mail
+  pub at : length steps ≡ from
 
 -- A channel stands for a past that ends before this cycle or with it, and issues nothing in the cycles between, if nothing
 -- arrives in them.
 pub record CanSkip (c : Channel) (until : ℕ) : Type 0 where
   pub s : Config
   pub channel : ℕ
-  pub rows : List (Option Command)
+  pub steps : List (Option Command)
   pub mail : List Message
-  pub stands : StandsFor c s channel rows mail
-  pub not_past : length rows ≤ until
-  pub idle : IsIdle s channel rows mail (until - length rows)
+  pub stands : StandsFor c s channel steps mail
+  pub not_past : length steps ≤ until
+  pub idle : IsIdle s channel steps mail (until - length steps)

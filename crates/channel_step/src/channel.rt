@@ -3,15 +3,15 @@
 ghost use Rattle.std.specs.Prelude.{◌≡◌, true, ℕ, ◌+◌, ◌-◌, ◌*◌, ◌<◌, ◌≤◌, ◌^◌, ◌==◌, take, take_while, ◌++◌, List, All, [], ◌∷◌, length, Option, Some, None, replicate, is_some, nat_le, IfSome, IfOk, OnOk};
 ghost use Rattle.sim_base.specs.History.{issued_commands};
 ghost use Rattle.sim_base.specs.Rules.{open_row};
-ghost use Rattle.sim_base.specs.Scheduling.{choice, due, waiting};
+ghost use Rattle.sim_base.specs.Scheduling.{choice, due, queued_requests};
 ghost use Rattle.sim_base.specs.declared.config.Config.{Config};
 ghost use Rattle.sim_base.specs.declared.command.Command.{Command};
-ghost use Rattle.sim_base.specs.declared.command.CommandRow.{CommandRow};
+ghost use Rattle.sim_base.specs.declared.command.IssuedCommand.{IssuedCommand};
 ghost use Rattle.sim_base.specs.declared.message.Message.{Message};
 ghost use Rattle.sim_base.specs.declared.message.Request.{Request};
 ghost use Rattle.refresh.specs.Refreshes.{lowest_owed};
 ghost use Rattle.bank_ready.specs.Stands.{rank_count, StandsFor as BanksStandFor};
-ghost use Rattle.heads.specs.Stands.{bank_count};
+ghost use Rattle.bank_candidates.specs.Stands.{bank_count};
 ghost use Rattle.queue.specs.View.{QueueView, is_draining};
 ghost use Rattle.fr_fcfs.specs.Choices.{IsFor, StandFor, choice_in};
 ghost use Rattle.fr_fcfs.specs.Requests.{IsInBanks};
@@ -19,20 +19,20 @@ ghost use Rattle.fr_fcfs.specs.Cycles.{IsFirstCycle};
 ghost use Rattle.statistics.specs.Channels.{channel_stats, channel_joined, ChannelFits};
 ghost use Rattle.channel_step.specs.Counted.{cycle_with_hit};
 ghost use Rattle.channel_step.specs.declared.ahead.Ahead.TheVariants.{Unknown, Known};
-ghost use Rattle.channel_step.specs.Channels.{HeadsStand, StandsFor, IsAhead, IsFound, HasRank, HasBank, IsInCycle, IsInSomeCycle, IsChosen, IsNextBefore, CountsDrains, seen_of, passed};
+ghost use Rattle.channel_step.specs.Channels.{CandidatesStand, StandsFor, IsAhead, IsFound, HasRank, HasBank, IsInCycle, IsInSomeCycle, IsChosen, IsNextBefore, CountsDrains, seen_of, passed};
 ghost use Rattle.channel_step.specs.Fit.{queue_room, IsFit, IsIdle};
 ghost use Rattle.channel_step.specs.Runs.{CanStep, CanRun, CanSkip, HasTurned, IsDone, StandsAt, first_arrival};
 
 use crate::ahead::Ahead;
 use crate::counting::{Seen, drained};
-use crate::noting::{likely_places, note_heads, note_refresh};
-use crate::sending::tell;
-use crate::waiting::Waiting;
+use crate::marked_queue::MarkedQueue;
+use crate::noting::{likely_places, note_candidates, note_refresh};
+use crate::sending::issue;
+use bank_candidates::BankCandidates;
 use bank_ready::banks::Banks;
 use command_table::list::CommandList;
 use fr_fcfs::arrivals::stays;
 use fr_fcfs::choice::{Choice, next};
-use heads::Heads;
 use refresh::Refresh;
 use sim_base::command::Command;
 use sim_base::config::Config;
@@ -48,11 +48,11 @@ pub struct Channel {
     number: ChannelId,
     /// The cycle that it stands at: so many are over.
     cycle: Cycle,
-    waiting: Waiting,
+    marked_queue: MarkedQueue,
     banks: Banks,
     refresh: Refresh,
     stats: ChannelStats,
-    heads: Heads,
+    bank_candidates: BankCandidates,
     /// What it issues next, if nothing arrives.
     ahead: Ahead,
 }
@@ -76,35 +76,35 @@ impl Channel {
             config: config.copy(alloc)?,
             number,
             cycle: 0,
-            waiting: Waiting::with_room(alloc, room, config.write_high, config.write_low)?,
+            marked_queue: MarkedQueue::with_room(alloc, room, config.write_high, config.write_low)?,
             banks: Banks::new(alloc, config)?,
             refresh: Refresh::new(config.timing.n_refi, config.ranks),
             stats,
-            heads: Heads::with_room(alloc, banks_of(config))?,
+            bank_candidates: BankCandidates::with_room(alloc, banks_of(config))?,
             ahead: Ahead::Unknown,
         })
     }
 
     /// The statistics of the cycles so far.
     pub fn stats(&self) -> ChannelStats
-        ensures { (s : Config) (channel : ℕ) (rows : List (Option Command)) (mail : List Message)
-            → StandsFor self.now s channel rows mail → result ≡ channel_stats s channel rows mail }
+        ensures { (s : Config) (channel : ℕ) (steps : List (Option Command)) (mail : List Message)
+            → StandsFor self.now s channel steps mail → result ≡ channel_stats s channel steps mail }
     {
         self.stats
     }
 
     /// The requests that wait, by age.
     pub fn requests(&self) -> &[Request]
-        ensures { (s : Config) (channel : ℕ) (rows : List (Option Command)) (mail : List Message)
-            → StandsFor self.now s channel rows mail → result.now ≡ waiting (issued_commands channel rows) mail (length rows) }
+        ensures { (s : Config) (channel : ℕ) (steps : List (Option Command)) (mail : List Message)
+            → StandsFor self.now s channel steps mail → result.now ≡ queued_requests (issued_commands channel steps) mail (length steps) }
     {
-        self.waiting.queue().requests()
+        self.marked_queue.queue().requests()
     }
 
     /// The cycle where the channel stands: how many cycles are over.
     pub fn now(&self) -> Cycle
-        ensures { (s : Config) (channel : ℕ) (rows : List (Option Command)) (mail : List Message)
-            → StandsFor self.now s channel rows mail → result ≡ length rows }
+        ensures { (s : Config) (channel : ℕ) (steps : List (Option Command)) (mail : List Message)
+            → StandsFor self.now s channel steps mail → result ≡ length steps }
     {
         self.cycle
     }
@@ -112,8 +112,8 @@ impl Channel {
     /// How many refreshes of a rank of the machine are due at the cycle where the channel stands.
     pub fn due(&self, rank: u32) -> u64
         requires { HasRank self.now rank }
-        ensures { (s : Config) (channel : ℕ) (rows : List (Option Command)) (mail : List Message)
-            → StandsFor self.now s channel rows mail → result ≡ due s rank (issued_commands channel rows) (length rows) }
+        ensures { (s : Config) (channel : ℕ) (steps : List (Option Command)) (mail : List Message)
+            → StandsFor self.now s channel steps mail → result ≡ due s rank (issued_commands channel steps) (length steps) }
     {
         self.refresh.due(self.cycle, rank)
     }
@@ -121,10 +121,10 @@ impl Channel {
     /// The row that is open in a bank of the machine at the cycle where the channel stands, if one is.
     pub fn open_row(&self, bank: BankId) -> Option<u32>
         requires { HasBank self.now bank }
-        ensures { (s : Config) (channel : ℕ) (rows : List (Option Command)) (mail : List Message)
-            → StandsFor self.now s channel rows mail → result ≡ open_row bank (issued_commands channel rows) }
+        ensures { (s : Config) (channel : ℕ) (steps : List (Option Command)) (mail : List Message)
+            → StandsFor self.now s channel steps mail → result ≡ open_row bank (issued_commands channel steps) }
     {
-        self.heads.open_row(bank)
+        self.bank_candidates.open_row(bank)
     }
 
     /// The first cycle from `from` on, where the channel stands, in which it issues a command, if nothing arrives; None where
@@ -132,9 +132,9 @@ impl Channel {
     pub fn next_act(&mut self, from: Cycle) -> Option<Cycle>
         requires { StandsAt self.old from }
         ensures same { self.new ≡ self.old }
-        ensures first { (s : Config) (channel : ℕ) (rows : List (Option Command)) (mail : List Message)
-            → StandsFor self.old s channel rows mail → length rows ≡ from
-            → IsFirstCycle (λ cycle. is_some (choice s channel (rows ++ replicate (cycle - from) None) mail)) from result }
+        ensures first { (s : Config) (channel : ℕ) (steps : List (Option Command)) (mail : List Message)
+            → StandsFor self.old s channel steps mail → length steps ≡ from
+            → IsFirstCycle (λ cycle. is_some (choice s channel (steps ++ replicate (cycle - from) None) mail)) from result }
     {
         match self.find(from) {
             Some((cycle, _)) => Some(cycle),
@@ -146,19 +146,19 @@ impl Channel {
     /// only where it is not known.
     #[inline(always)]
     fn find(&self, now: Cycle) -> Option<(Cycle, Choice)>
-        requires places { All (IsInBanks (rank_count self.now.banks)) self.now.waiting.queue.requests }
-        requires banks { bank_count self.now.heads ≡ 16 * rank_count self.now.banks }
+        requires places { All (IsInBanks (rank_count self.now.banks)) self.now.marked_queue.queue.requests }
+        requires banks { bank_count self.now.bank_candidates ≡ 16 * rank_count self.now.banks }
         requires ranks { self.now.refresh.ranks ≤ rank_count self.now.banks }
         requires groups { self.now.config.groups ≤ 4 }
-        ensures { (s : Config) (history : List CommandRow) → StandFor self.now.heads self.now.banks self.now.refresh self.now.waiting.queue self.now.config.groups s history
-            → IsAhead (choice_in s history self.now.waiting.queue) self.now.waiting.queue.requests self.now.cycle self.now.ahead → self.now.cycle ≤ now → IsFound self.now s history now result }
+        ensures { (s : Config) (history : List IssuedCommand) → StandFor self.now.bank_candidates self.now.banks self.now.refresh self.now.marked_queue.queue self.now.config.groups s history
+            → IsAhead (choice_in s history self.now.marked_queue.queue) self.now.marked_queue.queue.requests self.now.cycle self.now.ahead → self.now.cycle ≤ now → IsFound self.now s history now result }
     {
         match self.ahead {
             Ahead::Known(None) => None,
             Ahead::Known(Some((cycle, choice))) if now <= cycle => Some((cycle, choice)),
             _ => next(
-                self.waiting.queue(),
-                &self.heads,
+                self.marked_queue.queue(),
+                &self.bank_candidates,
                 &self.banks,
                 &self.refresh,
                 self.config.groups,
@@ -183,12 +183,12 @@ impl Channel {
     /// it is not, what was found is kept.
     fn look(&mut self, now: Cycle, end: Cycle) -> Option<(Cycle, Choice)>
         requires { IsInSomeCycle self.old now }
-        ensures same_queue { self.new.waiting ≡ self.old.waiting }
-        ensures in_cycle { (s : Config) (channel : ℕ) (rows : List (Option Command)) (mail : List Message)
-            → IsInCycle self.old s channel rows mail → IsInCycle self.new s channel rows mail }
-        ensures next { (s : Config) (channel : ℕ) (rows : List (Option Command)) (mail : List Message)
-            → IsInCycle self.old s channel rows mail → length rows ≡ now → IsNextBefore s channel rows mail end result }
-        ensures place { IfSome result (λ next. IsFor self.old.waiting.queue.requests next.1) }
+        ensures same_queue { self.new.marked_queue ≡ self.old.marked_queue }
+        ensures in_cycle { (s : Config) (channel : ℕ) (steps : List (Option Command)) (mail : List Message)
+            → IsInCycle self.old s channel steps mail → IsInCycle self.new s channel steps mail }
+        ensures next { (s : Config) (channel : ℕ) (steps : List (Option Command)) (mail : List Message)
+            → IsInCycle self.old s channel steps mail → length steps ≡ now → IsNextBefore s channel steps mail end result }
+        ensures place { IfSome result (λ next. IsFor self.old.marked_queue.queue.requests next.1) }
     {
         if self.waits_until(end) {
             return None;
@@ -205,12 +205,12 @@ impl Channel {
 
     /// What is seen of the channel before it issues a command, where it is known whether a refresh is due.
     fn seen(&self, refreshing: bool) -> Seen
-        ensures { result ≡ record { queued = length self.now.waiting.queue.requests; refreshing = refreshing; draining = is_draining self.now.waiting.queue } }
+        ensures { result ≡ record { queued = length self.now.marked_queue.queue.requests; refreshing = refreshing; draining = is_draining self.now.marked_queue.queue } }
     {
         Seen {
-            queued: self.waiting.queue().len(),
+            queued: self.marked_queue.queue().len(),
             refreshing,
-            draining: self.waiting.queue().draining(),
+            draining: self.marked_queue.queue().draining(),
         }
     }
 
@@ -272,12 +272,12 @@ impl Channel {
         self.refresh.is_due_by(self.cycle)
     }
 
-    /// Settles whether the channel drains its writes in the next cycle, where nothing arrives in it.
-    fn settle(&mut self)
-        ensures { (s : Config) (channel : ℕ) (rows : List (Option Command)) (mail : List Message)
-            → StandsFor self.old s channel rows mail → IsInCycle self.new s channel rows mail }
+    /// Decides whether the channel drains its writes in the next cycle, where nothing arrives in it.
+    fn decide_drain(&mut self)
+        ensures { (s : Config) (channel : ℕ) (steps : List (Option Command)) (mail : List Message)
+            → StandsFor self.old s channel steps mail → IsInCycle self.new s channel steps mail }
     {
-        self.waiting.settle();
+        self.marked_queue.decide_drain();
     }
 
     /// Counts the cycles from this one on and before `until`, at most 2^62, in which nothing is issued, and nothing arrives but in
@@ -286,9 +286,9 @@ impl Channel {
         requires in_cycle { IsInSomeCycle self.old self.old.cycle }
         requires span { self.old.cycle ≤ until }
         requires until { until ≤ 2 ^ 62 }
-        ensures same_queue { self.new.waiting ≡ self.old.waiting }
-        ensures in_cycle { (s : Config) (channel : ℕ) (rows : List (Option Command)) (mail : List Message)
-            → IsInCycle self.old s channel rows mail → IsInCycle self.new s channel (rows ++ replicate (until - length rows) None) mail }
+        ensures same_queue { self.new.marked_queue ≡ self.old.marked_queue }
+        ensures in_cycle { (s : Config) (channel : ℕ) (steps : List (Option Command)) (mail : List Message)
+            → IsInCycle self.old s channel steps mail → IsInCycle self.new s channel (steps ++ replicate (until - length steps) None) mail }
     {
         if self.cycle == until {
             return;
@@ -307,12 +307,12 @@ impl Channel {
     pub fn skip(&mut self, until: Cycle)
         requires idle { CanSkip self.old until }
         requires until { until ≤ 2 ^ 62 }
-        ensures { (s : Config) (channel : ℕ) (rows : List (Option Command)) (mail : List Message)
-            → StandsFor self.old s channel rows mail → IsIdle s channel rows mail (until - length rows)
-            → StandsFor self.new s channel (rows ++ replicate (until - length rows) None) mail }
+        ensures { (s : Config) (channel : ℕ) (steps : List (Option Command)) (mail : List Message)
+            → StandsFor self.old s channel steps mail → IsIdle s channel steps mail (until - length steps)
+            → StandsFor self.new s channel (steps ++ replicate (until - length steps) None) mail }
     {
         if self.cycle < until {
-            self.settle();
+            self.decide_drain();
             self.wait(until);
         }
     }
@@ -321,15 +321,20 @@ impl Channel {
     fn perform(&mut self, chosen: &Choice, seen: Seen, now: Cycle)
         requires chosen { IsChosen self.old now chosen.now.command }
         requires now { now < 2 ^ 62 }
-        requires slot { IsFor self.old.waiting.queue.requests chosen.now }
+        requires slot { IsFor self.old.marked_queue.queue.requests chosen.now }
         requires seen { seen ≡ seen_of self.old now }
-        ensures { (s : Config) (channel : ℕ) (rows : List (Option Command)) (mail : List Message)
-            → IsInCycle self.old s channel rows mail → length rows ≡ now → Some chosen.now.command ≡ choice s channel rows mail
-            → StandsFor self.new s channel (rows ++ Some chosen.now.command ∷ []) mail }
+        ensures { (s : Config) (channel : ℕ) (steps : List (Option Command)) (mail : List Message)
+            → IsInCycle self.old s channel steps mail → length steps ≡ now → Some chosen.now.command ≡ choice s channel steps mail
+            → StandsFor self.new s channel (steps ++ Some chosen.now.command ∷ []) mail }
     {
-        let likely = likely_places(&self.heads, chosen.command);
-        let taken = self.waiting.take(chosen, likely);
-        note_heads(&mut self.heads, self.waiting.queue(), chosen, taken.served);
+        let likely = likely_places(&self.bank_candidates, chosen.command);
+        let taken = self.marked_queue.take(chosen, likely);
+        note_candidates(
+            &mut self.bank_candidates,
+            self.marked_queue.queue(),
+            chosen,
+            taken.served,
+        );
         self.banks.note(chosen.command, now);
         note_refresh(&mut self.refresh, chosen.command, now);
         self.count(seen, &chosen.command, taken.hit);
@@ -338,17 +343,17 @@ impl Channel {
     /// Whether what was found is known to be the next command still, now that the requests from a place on have arrived.
     #[inline(always)]
     fn keeps_found(&self, found: Option<(Cycle, Choice)>, older: usize) -> bool
-        requires places { All (IsInBanks (rank_count self.now.banks)) self.now.waiting.queue.requests }
-        requires banks { bank_count self.now.heads ≡ 16 * rank_count self.now.banks }
-        ensures { (s : Config) (history : List CommandRow) (earlier : QueueView) → result ≡ true → BanksStandFor self.now.banks s history
-            → HeadsStand self.now.heads self.now.waiting.queue.requests history → s.write_high ≡ self.now.waiting.queue.high → earlier.requests ≡ take older self.now.waiting.queue.requests
+        requires places { All (IsInBanks (rank_count self.now.banks)) self.now.marked_queue.queue.requests }
+        requires banks { bank_count self.now.bank_candidates ≡ 16 * rank_count self.now.banks }
+        ensures { (s : Config) (history : List IssuedCommand) (earlier : QueueView) → result ≡ true → BanksStandFor self.now.banks s history
+            → CandidatesStand self.now.bank_candidates self.now.marked_queue.queue.requests history → s.write_high ≡ self.now.marked_queue.queue.high → earlier.requests ≡ take older self.now.marked_queue.queue.requests
             → IsAhead (choice_in s history earlier) earlier.requests self.now.cycle (Known found)
-            → IsAhead (choice_in s history self.now.waiting.queue) self.now.waiting.queue.requests self.now.cycle (Known found) }
+            → IsAhead (choice_in s history self.now.marked_queue.queue) self.now.marked_queue.queue.requests self.now.cycle (Known found) }
     {
         match found {
             Some((cycle, choice)) => stays(
-                self.waiting.queue(),
-                &self.heads,
+                self.marked_queue.queue(),
+                &self.bank_candidates,
                 &self.banks,
                 older,
                 cycle,
@@ -361,12 +366,12 @@ impl Channel {
     /// The same of what is known of the next command.
     #[inline(always)]
     fn keeps(&self, older: usize) -> bool
-        requires places { All (IsInBanks (rank_count self.now.banks)) self.now.waiting.queue.requests }
-        requires banks { bank_count self.now.heads ≡ 16 * rank_count self.now.banks }
-        ensures { (s : Config) (history : List CommandRow) (earlier : QueueView) → result ≡ true → BanksStandFor self.now.banks s history
-            → HeadsStand self.now.heads self.now.waiting.queue.requests history → s.write_high ≡ self.now.waiting.queue.high → earlier.requests ≡ take older self.now.waiting.queue.requests
+        requires places { All (IsInBanks (rank_count self.now.banks)) self.now.marked_queue.queue.requests }
+        requires banks { bank_count self.now.bank_candidates ≡ 16 * rank_count self.now.banks }
+        ensures { (s : Config) (history : List IssuedCommand) (earlier : QueueView) → result ≡ true → BanksStandFor self.now.banks s history
+            → CandidatesStand self.now.bank_candidates self.now.marked_queue.queue.requests history → s.write_high ≡ self.now.marked_queue.queue.high → earlier.requests ≡ take older self.now.marked_queue.queue.requests
             → IsAhead (choice_in s history earlier) earlier.requests self.now.cycle self.now.ahead
-            → IsAhead (choice_in s history self.now.waiting.queue) self.now.waiting.queue.requests self.now.cycle self.now.ahead }
+            → IsAhead (choice_in s history self.now.marked_queue.queue) self.now.marked_queue.queue.requests self.now.cycle self.now.ahead }
     {
         match self.ahead {
             Ahead::Known(found) => self.keeps_found(found, older),
@@ -377,36 +382,37 @@ impl Channel {
     /// Forgets the command that was found, where one of the requests from a place on, which have arrived, may go before it.
     #[inline(always)]
     fn reconsider(&mut self, older: usize)
-        requires places { All (IsInBanks (rank_count self.old.banks)) self.old.waiting.queue.requests }
-        requires banks { bank_count self.old.heads ≡ 16 * rank_count self.old.banks }
+        requires places { All (IsInBanks (rank_count self.old.banks)) self.old.marked_queue.queue.requests }
+        requires banks { bank_count self.old.bank_candidates ≡ 16 * rank_count self.old.banks }
         ensures rest { self.new ≡ record self.old { ahead = self.new.ahead } }
-        ensures ahead { (s : Config) (history : List CommandRow) (earlier : QueueView) → BanksStandFor self.old.banks s history
-            → HeadsStand self.old.heads self.old.waiting.queue.requests history → s.write_high ≡ self.old.waiting.queue.high → earlier.requests ≡ take older self.old.waiting.queue.requests
+        ensures ahead { (s : Config) (history : List IssuedCommand) (earlier : QueueView) → BanksStandFor self.old.banks s history
+            → CandidatesStand self.old.bank_candidates self.old.marked_queue.queue.requests history → s.write_high ≡ self.old.marked_queue.queue.high → earlier.requests ≡ take older self.old.marked_queue.queue.requests
             → IsAhead (choice_in s history earlier) earlier.requests self.old.cycle self.old.ahead
-            → IsAhead (choice_in s history self.old.waiting.queue) self.old.waiting.queue.requests self.old.cycle self.new.ahead }
+            → IsAhead (choice_in s history self.old.marked_queue.queue) self.old.marked_queue.queue.requests self.old.cycle self.new.ahead }
     {
         if !self.keeps(older) {
             self.ahead = Ahead::Unknown;
         }
     }
 
-    /// Takes in those of these messages that arrive in a cycle, and settles whether the channel drains its writes in it. Tells how
+    /// Takes in those of these messages that arrive in a cycle, and decides whether the channel drains its writes in it. Tells how
     /// many.
     fn arrive(&mut self, inbox: &[Message], now: Cycle) -> Result<usize, AllocError>
         requires { CanStep self.old inbox.now now }
         ensures some { IfOk result (λ due. due ≡ length (take_while (λ m. m.arrival == now) inbox.now)) }
-        ensures in_cycle { (s : Config) (channel : ℕ) (rows : List (Option Command)) (mail : List Message) (until : ℕ)
-            → StandsFor self.old s channel rows mail → length rows ≡ now → now < until → IsFit s channel rows mail inbox.now now until
-            → IfOk result (λ due. IsInCycle self.new s channel rows (mail ++ take due inbox.now)) }
+        ensures in_cycle { (s : Config) (channel : ℕ) (steps : List (Option Command)) (mail : List Message) (until : ℕ)
+            → StandsFor self.old s channel steps mail → length steps ≡ now → now < until → IsFit s channel steps mail inbox.now now until
+            → IfOk result (λ due. IsInCycle self.new s channel steps (mail ++ take due inbox.now)) }
     {
         let due = due_count(inbox, now);
         if due == 0 {
-            self.settle();
+            self.decide_drain();
             return Ok(0);
         }
-        let older = self.waiting.queue().len();
-        self.waiting.admit(&inbox[..due])?;
-        self.heads.arrived(older, &self.waiting.queue().columns());
+        let older = self.marked_queue.queue().len();
+        self.marked_queue.admit(&inbox[..due])?;
+        self.bank_candidates
+            .on_arrival(older, &self.marked_queue.queue().columns());
         self.reconsider(older);
         Ok(due)
     }
@@ -429,9 +435,9 @@ impl Channel {
         ensures some { IfOk result (λ turn. turn.arrived ≤ length inbox.now) }
         ensures from_now { IfOk result (λ turn. now ≤ turn.last) }
         ensures within { IfOk result (λ turn. turn.last < until) }
-        ensures done { (s : Config) (channel : ℕ) (rows : List (Option Command)) (mail : List Message)
-            → StandsFor self.old s channel rows mail → length rows ≡ now → IsFit s channel rows mail inbox.now now until
-            → IfOk result (λ turn. HasTurned self.new s channel rows mail inbox.now now (turn.last + 1) until turn.arrived
+        ensures done { (s : Config) (channel : ℕ) (steps : List (Option Command)) (mail : List Message)
+            → StandsFor self.old s channel steps mail → length steps ≡ now → IsFit s channel steps mail inbox.now now until
+            → IfOk result (λ turn. HasTurned self.new s channel steps mail inbox.now now (turn.last + 1) until turn.arrived
             commands.old commands.new messages.old.items messages.new.items) }
     {
         let arrived = self.arrive(inbox, now)?;
@@ -441,7 +447,7 @@ impl Channel {
                 self.wait(cycle);
                 let seen = self.seen(self.refreshing());
                 self.perform(&chosen, seen, cycle);
-                tell(
+                issue(
                     &self.config,
                     self.number,
                     cycle,
@@ -480,9 +486,9 @@ impl Channel {
         requires can_run { CanRun self.old inbox.now from until }
         requires span { from ≤ until }
         requires until { until ≤ 2 ^ 62 }
-        ensures { (s : Config) (channel : ℕ) (rows : List (Option Command)) (mail : List Message)
-            → StandsFor self.old s channel rows mail → length rows ≡ from → IsFit s channel rows mail inbox.now from until
-            → OnOk result (IsDone self.new s channel rows mail inbox.now from until commands.old commands.new messages.old.items messages.new.items) }
+        ensures { (s : Config) (channel : ℕ) (steps : List (Option Command)) (mail : List Message)
+            → StandsFor self.old s channel steps mail → length steps ≡ from → IsFit s channel steps mail inbox.now from until
+            → OnOk result (IsDone self.new s channel steps mail inbox.now from until commands.old commands.new messages.old.items messages.new.items) }
     {
         let mut arrived = 0;
         let mut now = from;

@@ -4,6 +4,6 @@
 mod ahead;
 pub mod channel;
 mod counting;
+mod marked_queue;
 mod noting;
 mod sending;
-mod waiting;

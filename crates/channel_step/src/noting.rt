@@ -4,18 +4,18 @@ ghost use Rattle.std.specs.Prelude.{◌≡◌, ℕ, ◌<◌, ◌^◌, ◌++◌, 
 ghost use Rattle.std.specs.Option.{ForSome};
 ghost use Rattle.sim_base.specs.Rules.{rank_of, bank_of, row_after};
 ghost use Rattle.sim_base.specs.declared.config.Config.{Config};
-ghost use Rattle.sim_base.specs.declared.command.CommandRow.{CommandRow};
+ghost use Rattle.sim_base.specs.declared.command.IssuedCommand.{IssuedCommand};
 ghost use Rattle.sim_base.specs.declared.message.Request.{Request};
 ghost use Rattle.bank_ready.specs.Stands.{rank_count, StandsFor as BanksStandFor};
 ghost use Rattle.refresh.specs.Refreshes.{StandsFor as RefreshesStandFor};
 ghost use Rattle.queue_columns.specs.Columns.{bank_number};
-ghost use Rattle.heads.specs.Heads.{bank_at};
-ghost use Rattle.heads.specs.Stands.{bank_count, IsAmong, StandsFor as HeadsStandFor};
+ghost use Rattle.bank_candidates.specs.Candidates.{bank_at};
+ghost use Rattle.bank_candidates.specs.Stands.{bank_count, IsAmong, StandsFor as CandidatesStandFor};
 ghost use Rattle.channel_step.specs.Queued.{requests_left};
 ghost use Rattle.channel_step.specs.Owed.{RefIsOwed};
 
+use bank_candidates::BankCandidates;
 use fr_fcfs::choice::Choice;
-use heads::Heads;
 use queue::Queue;
 use refresh::Refresh;
 use sim_base::command::Command;
@@ -26,7 +26,7 @@ use sim_base::message::{Cycle, Request};
 pub(crate) fn note_refresh(refresh: &mut Refresh, command: Command, now: Cycle)
     requires now { now < 2 ^ 62 }
     requires due { RefIsOwed refresh.old now command }
-    ensures { (s : Config) (history : List CommandRow) (i : CommandRow) → i.command ≡ command
+    ensures { (s : Config) (history : List IssuedCommand) (i : IssuedCommand) → i.command ≡ command
         → RefreshesStandFor refresh.old s history → RefreshesStandFor refresh.new s (history ++ i ∷ []) }
 {
     if let Command::Ref { rank } = command {
@@ -35,24 +35,32 @@ pub(crate) fn note_refresh(refresh: &mut Refresh, command: Command, now: Cycle)
 }
 
 /// The places where the request of an ACT likely waits: those of the oldest requests for its bank. Of another command it is none.
-pub(crate) fn likely_places(heads: &Heads, command: Command) -> [Option<usize>; 2] {
+pub(crate) fn likely_places(
+    bank_candidates: &BankCandidates,
+    command: Command,
+) -> [Option<usize>; 2] {
     if let Command::Act { bank, .. } = command {
         let number = (bank.rank as usize * 4 + bank.group as usize) * 4 + bank.bank as usize;
-        if number < heads.bank_count() {
-            let bank = heads.of_bank(number);
+        if number < bank_candidates.bank_count() {
+            let bank = bank_candidates.of_bank(number);
             return [bank.reads.oldest, bank.writes.oldest];
         }
     }
     [None, None]
 }
 
-/// Takes note in the heads of a request that has left its place in the queue, if one has.
-fn note_served(heads: &mut Heads, queue: &Queue, slot: Option<usize>, served: Option<Request>)
-    requires { IfSome served (λ r. bank_number r.place < bank_count heads.old) }
-    ensures banks { bank_count heads.new ≡ bank_count heads.old }
+/// Takes note in the candidates of a request that has left its place in the queue, if one has.
+fn note_served(
+    bank_candidates: &mut BankCandidates,
+    queue: &Queue,
+    slot: Option<usize>,
+    served: Option<Request>,
+)
+    requires { IfSome served (λ r. bank_number r.place < bank_count bank_candidates.old) }
+    ensures banks { bank_count bank_candidates.new ≡ bank_count bank_candidates.old }
     ensures stands { (earlier : List Request) (open_rows : ℕ → Option ℕ) → served ≡ option_and_then (slice_get earlier) slot
-        → ForSome slot (λ k. k < length earlier) → queue.now.requests ≡ requests_left earlier slot → HeadsStandFor heads.old earlier open_rows
-        → HeadsStandFor heads.new queue.now.requests open_rows }
+        → ForSome slot (λ k. k < length earlier) → queue.now.requests ≡ requests_left earlier slot → CandidatesStandFor bank_candidates.old earlier open_rows
+        → CandidatesStandFor bank_candidates.new queue.now.requests open_rows }
 {
     let Some(slot) = slot else {
         return;
@@ -60,18 +68,23 @@ fn note_served(heads: &mut Heads, queue: &Queue, slot: Option<usize>, served: Op
     let Some(request) = served else {
         return;
     };
-    heads.served(request, slot, &queue.columns());
+    bank_candidates.on_service(request, slot, &queue.columns());
 }
 
-/// Takes note of a choice in the heads, once the request that it serves, if it serves one, has left the queue.
-pub(crate) fn note_heads(heads: &mut Heads, queue: &Queue, choice: &Choice, served: Option<Request>)
-    requires bank { IfSome served (λ r. bank_number r.place < bank_count heads.old) }
-    requires among { ForSome (bank_of choice.now.command) (IsAmong heads.old) }
-    ensures banks { bank_count heads.new ≡ bank_count heads.old }
+/// Takes note of a choice in the candidates, once the request that it serves, if it serves one, has left the queue.
+pub(crate) fn note_candidates(
+    bank_candidates: &mut BankCandidates,
+    queue: &Queue,
+    choice: &Choice,
+    served: Option<Request>,
+)
+    requires bank { IfSome served (λ r. bank_number r.place < bank_count bank_candidates.old) }
+    requires among { ForSome (bank_of choice.now.command) (IsAmong bank_candidates.old) }
+    ensures banks { bank_count bank_candidates.new ≡ bank_count bank_candidates.old }
     ensures stands { (earlier : List Request) (open_rows : ℕ → Option ℕ) → served ≡ option_and_then (slice_get earlier) choice.now.slot
-        → ForSome choice.now.slot (λ k. k < length earlier) → queue.now.requests ≡ requests_left earlier choice.now.slot → HeadsStandFor heads.old earlier open_rows
-        → HeadsStandFor heads.new queue.now.requests (λ bank. row_after (bank_at bank) (open_rows bank) choice.now.command) }
+        → ForSome choice.now.slot (λ k. k < length earlier) → queue.now.requests ≡ requests_left earlier choice.now.slot → CandidatesStandFor bank_candidates.old earlier open_rows
+        → CandidatesStandFor bank_candidates.new queue.now.requests (λ bank. row_after (bank_at bank) (open_rows bank) choice.now.command) }
 {
-    note_served(heads, queue, choice.slot, served);
-    heads.noted(choice.command, &queue.columns());
+    note_served(bank_candidates, queue, choice.slot, served);
+    bank_candidates.on_command(choice.command, &queue.columns());
 }

@@ -6,7 +6,7 @@ ghost use Rattle.sim_base.specs.History.{reply, credit, messages_of, messages_at
 ghost use Rattle.channel_step.specs.Runs.{issued_in};
 
 use command_table::list::CommandList;
-use sim_base::command::{Command, CommandRow, Source};
+use sim_base::command::{Command, IssuedCommand, Source};
 use sim_base::config::Config;
 use sim_base::message::{ChannelId, Cycle, LinkId, Load, Message};
 use std::alloc::AllocError;
@@ -89,7 +89,7 @@ pub(crate) fn send(
 
 /// Adds a command that a channel issues in a cycle to its commands, and what it then sends to its messages. On an error some of
 /// it may be missing.
-pub(crate) fn tell(
+pub(crate) fn issue(
     config: &Config,
     channel: ChannelId,
     now: Cycle,
@@ -101,7 +101,7 @@ pub(crate) fn tell(
     ensures commands { IfOk result (λ u. commands.new ≡ commands.old ++ issued_in channel now (Some command.now)) }
     ensures messages { IfOk result (λ u. messages.new.items ≡ messages.old.items ++ messages_at config.now channel now (Some command.now)) }
 {
-    commands.push(CommandRow {
+    commands.push(IssuedCommand {
         cycle: now,
         channel,
         command: *command,

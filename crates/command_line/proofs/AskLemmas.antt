@@ -57,7 +57,7 @@ answered_from words (Some p) (Ok (Help t)) e ok err = absurd ok
 answered_from words (Some p) (Ok (Version t)) e ok err = absurd ok
 answered_from words o (Err fault) e ok err = subst (λ command. IsCommandFault command fault) e err
 
--- and an error is a call for help or for the version, want of memory, or else none that comes of words that are taken
+-- and an error is a call for help or for the version, out of memory, or else none that comes of words that are taken
 among_shown : (words : List Text) (e : Error) (k : ErrorKind) → HasKind (kinds_of_fault words) e → kind_of e ≡ k → (k ≡ OutOfMemory → ⊥) → IsAmong k (kinds_of_fault words)
 among_shown words e k (inl memory) is other = absurd (other (sym is ∙ memory))
 among_shown words e k (inr among) is other = subst (λ k. IsAmong k (kinds_of_fault words)) is among

@@ -121,7 +121,7 @@ IsShown (Help text) kind = kind ≡ DisplayHelp
 IsShown (Version text) kind = kind ≡ DisplayVersion
 IsShown _ kind = ⊥
 
--- help, or want of memory for its text
+-- help, or out of memory for its text
 abbrev pub IsHelpUnlessMemory : Result Ask Fault → Type 0
 IsHelpUnlessMemory (Ok ask) = IsHelp ask
 IsHelpUnlessMemory (Err fault) = fault ≡ Memory
@@ -131,7 +131,7 @@ abbrev pub IsVersionUnlessMemory : Result Ask Fault → Type 0
 IsVersionUnlessMemory (Ok ask) = IsVersion ask
 IsVersionUnlessMemory (Err fault) = fault ≡ Memory
 
--- an error that is no call for help or for the version, nor want of memory
+-- an error that is no call for help or for the version, nor out of memory
 pub record IsNoHelp (kind : ErrorKind) : Type 0 where
   pub no_help : kind ≢ DisplayHelp
   pub no_version : kind ≢ DisplayVersion
@@ -200,7 +200,7 @@ GivesAll (Some command) =
     ⊎ ((command.0 ≡ codes "map") × GivesMap command.1) ⊎ ((command.0 ≡ codes "show") × GivesShow command.1)
     ⊎ ((command.0 ≡ codes "page") × GivesPage command.1)
 
--- why a command is refused that has each argument: want of memory, or an address that is no number
+-- why a command is refused that has each argument: out of memory, or an address that is no number
 abbrev pub IsCommandFault : Option (Text × List Row) → Fault → Type 0
 IsCommandFault command Memory = ⊤
 IsCommandFault command CommandLine = HasBadAddress command

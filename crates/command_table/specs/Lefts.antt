@@ -3,21 +3,21 @@
 --     IsNextOf lists count place cycle      of the first so many lists, the one at this place begins in this cycle, and none sooner
 --     IsNext lists place      the same of all lists
 use Rattle.std.specs.Prelude.{◌≡◌, ℕ, ◌<◌, ◌≤◌, List, [], ◌∷◌, length, slice_index_or, Option, Some, None, IfSome}
-use Rattle.sim_base.specs.declared.command.CommandRow.{CommandRow}
+use Rattle.sim_base.specs.declared.command.IssuedCommand.{IssuedCommand}
 
 -- the cycle of the first row, if there is one
-abbrev pub first_cycle : List CommandRow → Option ℕ
+abbrev pub first_cycle : List IssuedCommand → Option ℕ
 first_cycle [] = None
 first_cycle (row ∷ rest) = Some row.cycle
 
 -- Of the first so many lists, the one at this place begins in this cycle. Those before it begin later, and those behind it no sooner.
-pub record IsNextOf (lists : List (List CommandRow)) (count place cycle : ℕ) : Type 0 where
+pub record IsNextOf (lists : List (List IssuedCommand)) (count place cycle : ℕ) : Type 0 where
   pub within : place < count
   pub starts : first_cycle (slice_index_or lists place []) ≡ Some cycle
   pub before : (k : ℕ) → k < place → IfSome (first_cycle (slice_index_or lists k [])) (λ first. cycle < first)
   pub behind : (k : ℕ) → place < k → k < count → IfSome (first_cycle (slice_index_or lists k [])) (λ first. cycle ≤ first)
 
 -- the same of all lists
-pub record IsNext (lists : List (List CommandRow)) (place : ℕ) : Type 0 where
+pub record IsNext (lists : List (List IssuedCommand)) (place : ℕ) : Type 0 where
   pub cycle : ℕ
   pub next : IsNextOf lists (length lists) place cycle

@@ -1,11 +1,11 @@
 -- What a list of commands holds, however it is kept.
 --     rows_of kept      its commands
 use Rattle.std.specs.Prelude.{List}
-use Rattle.sim_base.specs.declared.command.CommandRow.{CommandRow}
+use Rattle.sim_base.specs.declared.command.IssuedCommand.{IssuedCommand}
 use Rattle.command_table.specs.declared.list.Kept.{Kept}
 use Rattle.command_table.specs.declared.list.Kept.TheVariants.{Compact, Whole}
 
 -- the commands of a list, in few bytes or as they are
-abbrev pub rows_of : Kept → List CommandRow
+abbrev pub rows_of : Kept → List IssuedCommand
 rows_of (Compact rows) = rows.items
 rows_of (Whole rows) = rows.items

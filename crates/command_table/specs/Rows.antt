@@ -5,7 +5,7 @@
 use Rattle.std.specs.Prelude.{ℕ, ◌^◌, ◌<◌}
 use Rattle.sim_base.specs.declared.command.Command.{Command}
 use Rattle.sim_base.specs.declared.command.Command.TheVariants.{Act as ACT, Rd as RD, Wr as WR, Pre as PRE, Prea as PREA, Ref as REF}
-use Rattle.sim_base.specs.declared.command.CommandRow.{CommandRow}
+use Rattle.sim_base.specs.declared.command.IssuedCommand.{IssuedCommand}
 use Rattle.sim_base.specs.declared.command.Kind.{Kind}
 use Rattle.command_table.specs.declared.compact.Operands.{Operands}
 use Rattle.sim_base.specs.declared.command.Kind.TheVariants.{Act, Rd, Wr, Pre, Prea, Ref}
@@ -29,7 +29,7 @@ operands_in (PREA rank) = record { bank = record { rank = rank; group = 0; bank 
 operands_in (REF rank) = record { bank = record { rank = rank; group = 0; bank = 0 }; row = 0; column = 0; source = record { core = 0; entry = 0 } }
 
 -- its numbers are those of a usual machine and trace
-abbrev pub IsUsual : CommandRow → Type 0
+abbrev pub IsUsual : IssuedCommand → Type 0
 IsUsual row =
     let operands = operands_in row.command in
     (row.channel < 2 ^ 8) × (operands.bank.rank < 2 ^ 8) × (operands.bank.group < 2 ^ 8) × (operands.bank.bank < 2 ^ 8)

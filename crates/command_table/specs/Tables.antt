@@ -6,30 +6,30 @@
 --     table_of lists      the rows of some lists as one table: by cycle, and those of a cycle by their list
 use Rattle.std.specs.Prelude.{◌≡◌, ℕ, ◌≤◌, ◌==◌, nat_lt, List, [], ◌∷◌, filter, flat_map, if◌then◌else◌}
 use Rattle.std.specs.List.{AllPairs}
-use Rattle.sim_base.specs.declared.command.CommandRow.{CommandRow}
+use Rattle.sim_base.specs.declared.command.IssuedCommand.{IssuedCommand}
 
 -- no row is of an earlier cycle than one before it
-abbrev pub IsRising : List CommandRow → Type 0
+abbrev pub IsRising : List IssuedCommand → Type 0
 IsRising table = AllPairs (λ a b. a.cycle ≤ b.cycle) table
 
 -- the rows of one cycle
-abbrev pub rows_in : ℕ → List CommandRow → List CommandRow
+abbrev pub rows_in : ℕ → List IssuedCommand → List IssuedCommand
 rows_in cycle table = filter (λ row. row.cycle == cycle) table
 
 -- two tables have the same rows in each cycle, in the same order
-abbrev pub HaveSameCycles : List CommandRow → List CommandRow → Type 0
+abbrev pub HaveSameCycles : List IssuedCommand → List IssuedCommand → Type 0
 HaveSameCycles table other = (cycle : ℕ) → rows_in cycle table ≡ rows_in cycle other
 
 -- a row before the first one of a table that is of no earlier cycle
-unfoldable pub put : CommandRow → List CommandRow → List CommandRow
+unfoldable pub put : IssuedCommand → List IssuedCommand → List IssuedCommand
 put row [] = row ∷ []
 put row (first ∷ rest) = if nat_lt first.cycle row.cycle then first ∷ put row rest else row ∷ first ∷ rest
 
 -- rows by cycle, those of a cycle in the order in which they stand
-unfoldable pub by_cycle : List CommandRow → List CommandRow
+unfoldable pub by_cycle : List IssuedCommand → List IssuedCommand
 by_cycle [] = []
 by_cycle (row ∷ rows) = put row (by_cycle rows)
 
 -- the rows of some lists as one table: by cycle, and those of a cycle by their list
-abbrev pub table_of : List (List CommandRow) → List CommandRow
+abbrev pub table_of : List (List IssuedCommand) → List IssuedCommand
 table_of lists = by_cycle (flat_map (λ rows. rows) lists)

@@ -4,7 +4,7 @@ ghost use Rattle.std.specs.Prelude.{◌≡◌, ◌↔◌, IsSome, IfSome};
 ghost use Rattle.sim_base.specs.Rules.{kind_of};
 ghost use Rattle.command_table.specs.Rows.{command_of, operands_in, IsUsual};
 
-use sim_base::command::{Command, CommandRow, Kind, Source};
+use sim_base::command::{Command, IssuedCommand, Kind, Source};
 use sim_base::message::Cycle;
 use sim_base::place::BankId;
 use std::marker::Model;
@@ -27,7 +27,7 @@ pub(crate) struct Compact {
 }
 
 impl Model for Compact {
-    ghost use Rattle.sim_base.specs.declared.command.CommandRow.{CommandRow as Row};
+    ghost use Rattle.sim_base.specs.declared.command.IssuedCommand.{IssuedCommand as Row};
     ghost use Rattle.command_table.specs.Rows.{command_of};
 
     ghost Value = { Row };
@@ -128,7 +128,7 @@ fn command_with(kind: Kind, operands: Operands) -> Command
 impl Compact {
     /// A command, if its numbers are those of a usual machine and trace.
     #[inline(always)]
-    pub(crate) fn of(row: CommandRow) -> Option<Self>
+    pub(crate) fn of(row: IssuedCommand) -> Option<Self>
         ensures same { IfSome result (λ compact. compact ≡ row) }
         ensures usual { IsSome result ↔ IsUsual row }
     {
@@ -181,10 +181,10 @@ impl Compact {
 
     /// The command.
     #[inline(always)]
-    pub(crate) fn row(&self) -> CommandRow
+    pub(crate) fn row(&self) -> IssuedCommand
         ensures { result ≡ self.now }
     {
-        CommandRow {
+        IssuedCommand {
             cycle: self.cycle,
             channel: u32::from(self.channel),
             command: self.command(),

@@ -4,7 +4,7 @@ ghost use Rattle.std.specs.Prelude.{◌≡◌, ◌<◌, [], Some, None, IfSome, 
 ghost use Rattle.command_table.specs.Lefts.{first_cycle};
 
 use crate::list::CommandList;
-use sim_base::command::CommandRow;
+use sim_base::command::IssuedCommand;
 use sim_base::message::Cycle;
 use std::marker::Model;
 
@@ -18,7 +18,7 @@ pub(crate) struct Left<'a> {
 
 impl<'a> Model for Left<'a> {
     ghost use Rattle.std.specs.Prelude.{◌≡◌, List, Some, drop};
-    ghost use Rattle.sim_base.specs.declared.command.CommandRow.{CommandRow as Row};
+    ghost use Rattle.sim_base.specs.declared.command.IssuedCommand.{IssuedCommand as Row};
     ghost use Rattle.command_table.specs.Lefts.{first_cycle};
 
     ghost Value = { List Row };
@@ -49,7 +49,7 @@ impl<'a> Left<'a> {
 
     /// The first command that is left.
     #[inline(always)]
-    pub(crate) fn first(&self) -> Option<CommandRow>
+    pub(crate) fn first(&self) -> Option<IssuedCommand>
         ensures { result ≡ slice_get self.now 0 }
     {
         self.list.get(self.place)
@@ -61,6 +61,7 @@ impl<'a> Left<'a> {
         ensures some { IfSome result (λ rest. rest ≡ drop 1 self.now) }
         ensures none { result ≡ None → drop 1 self.now ≡ [] }
     {
+        // tells the proof that the list's length is a usize
         let _count = self.list.len();
         Left::of(self.list, self.place + 1)
     }

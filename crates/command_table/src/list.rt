@@ -4,7 +4,7 @@ ghost use Rattle.std.specs.Prelude.{◌≡◌, ◌++◌, ◌↔◌, [], ◌∷�
 ghost use Rattle.command_table.specs.Lists.{rows_of};
 
 use crate::compact::Compact;
-use sim_base::command::CommandRow;
+use sim_base::command::IssuedCommand;
 use std::alloc::{AllocError, Global};
 use std::marker::Model;
 
@@ -14,7 +14,7 @@ pub(crate) enum Kept {
     /// In few bytes.
     Compact(Vec<Compact>),
     /// As it is.
-    Whole(Vec<CommandRow>),
+    Whole(Vec<IssuedCommand>),
 }
 
 /// Commands in the order in which they were put in. Each takes 24 bytes, as long as the numbers of all are those of a usual machine and trace
@@ -26,7 +26,7 @@ pub struct CommandList {
 
 impl Model for CommandList {
     ghost use Rattle.std.specs.Prelude.{List};
-    ghost use Rattle.sim_base.specs.declared.command.CommandRow.{CommandRow as Row};
+    ghost use Rattle.sim_base.specs.declared.command.IssuedCommand.{IssuedCommand as Row};
     ghost use Rattle.command_table.specs.Lists.{rows_of};
 
     ghost Value = { List Row };
@@ -35,7 +35,7 @@ impl Model for CommandList {
 }
 
 /// Rows that are kept in few bytes, as they are.
-fn whole(alloc: Global, rows: &[Compact]) -> Result<Vec<CommandRow>, AllocError>
+fn whole(alloc: Global, rows: &[Compact]) -> Result<Vec<IssuedCommand>, AllocError>
     ensures { IfOk result (λ found. found.items ≡ rows.now) }
 {
     rows.iter().map(|row| row.row()).collect(alloc)
@@ -70,7 +70,7 @@ impl CommandList {
 
     /// The command at a place, if there is one.
     #[inline(always)]
-    pub fn get(&self, place: usize) -> Option<CommandRow>
+    pub fn get(&self, place: usize) -> Option<IssuedCommand>
         ensures { result ≡ slice_get self.now place }
     {
         match &self.kept {
@@ -81,7 +81,7 @@ impl CommandList {
 
     /// Keeps a command, and from it on each as it is.
     #[inline(never)]
-    fn push_whole(&mut self, row: CommandRow) -> Result<(), AllocError>
+    fn push_whole(&mut self, row: IssuedCommand) -> Result<(), AllocError>
         ensures ok { OnOk result (self.new ≡ self.old ++ row ∷ []) }
         ensures err { OnErr result (self.new ≡ self.old) }
     {
@@ -98,7 +98,7 @@ impl CommandList {
 
     /// Puts a command behind the others. Only memory can be refused; the list is then as it was.
     #[inline(always)]
-    pub fn push(&mut self, row: CommandRow) -> Result<(), AllocError>
+    pub fn push(&mut self, row: IssuedCommand) -> Result<(), AllocError>
         ensures ok { OnOk result (self.new ≡ self.old ++ row ∷ []) }
         ensures err { OnErr result (self.new ≡ self.old) }
     {
@@ -111,7 +111,7 @@ impl CommandList {
     }
 
     /// The commands as they are. Only memory can be refused.
-    pub fn to_vec(&self, alloc: Global) -> Result<Vec<CommandRow>, AllocError>
+    pub fn to_vec(&self, alloc: Global) -> Result<Vec<IssuedCommand>, AllocError>
         ensures { IfOk result (λ rows. rows.items ≡ self.now) }
     {
         match &self.kept {

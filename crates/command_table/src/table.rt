@@ -6,7 +6,7 @@ ghost use Rattle.command_table.specs.Lefts.{IsNext};
 
 use crate::left::Left;
 use crate::list::CommandList;
-use sim_base::command::CommandRow;
+use sim_base::command::IssuedCommand;
 use sim_base::message::Cycle;
 use std::alloc::{AllocError, Global};
 use std::marker::Model;
@@ -19,7 +19,7 @@ pub struct CommandTable {
 
 impl Model for CommandTable {
     ghost use Rattle.std.specs.Prelude.{List, All};
-    ghost use Rattle.sim_base.specs.declared.command.CommandRow.{CommandRow as Row};
+    ghost use Rattle.sim_base.specs.declared.command.IssuedCommand.{IssuedCommand as Row};
     ghost use Rattle.command_table.specs.Tables.{IsRising, table_of};
 
     ghost Value = { List Row };
@@ -37,7 +37,7 @@ pub struct Rows<'a> {
 
 impl<'a> Model for Rows<'a> {
     ghost use Rattle.std.specs.Prelude.{List, All};
-    ghost use Rattle.sim_base.specs.declared.command.CommandRow.{CommandRow as Row};
+    ghost use Rattle.sim_base.specs.declared.command.IssuedCommand.{IssuedCommand as Row};
     ghost use Rattle.command_table.specs.Tables.{IsRising, table_of};
 
     ghost Value = { List Row };
@@ -83,7 +83,7 @@ fn drop_first(lefts: &mut Vec<Left<'_>>, place: usize)
 impl<'a> Rows<'a> {
     /// Takes the next command, if one is left.
     #[inline(always)]
-    pub fn next(&mut self) -> Option<CommandRow>
+    pub fn next(&mut self) -> Option<IssuedCommand>
         ensures some { IfSome result (λ row. self.old ≡ row ∷ self.new) }
         ensures none { result ≡ None → self.old ≡ [] }
         ensures over { self.old ≡ [] → self.new ≡ [] }
@@ -110,7 +110,7 @@ fn lefts_of<'a>(alloc: Global, lists: &'a [CommandList]) -> Result<Vec<Left<'a>>
 }
 
 /// Rows in a list. Only memory can be refused.
-fn list_of(alloc: Global, rows: &[CommandRow]) -> Result<CommandList, AllocError>
+fn list_of(alloc: Global, rows: &[IssuedCommand]) -> Result<CommandList, AllocError>
     ensures { IfOk result (λ list. list ≡ rows.now) }
 {
     let mut list = CommandList::new(alloc);
@@ -130,7 +130,7 @@ impl CommandTable {
     }
 
     /// The table that has just these rows, of which none is of an earlier cycle than one before it. Only memory can be refused.
-    pub fn of_rows(alloc: Global, rows: &[CommandRow]) -> Result<Self, AllocError>
+    pub fn of_rows(alloc: Global, rows: &[IssuedCommand]) -> Result<Self, AllocError>
         requires rising { IsRising rows.now }
         ensures { IfOk result (λ table. table ≡ rows.now) }
     {
@@ -150,7 +150,7 @@ impl CommandTable {
     }
 
     /// The commands in a list, as they are. Only memory can be refused.
-    pub fn to_vec(&self, alloc: Global) -> Result<Vec<CommandRow>, AllocError>
+    pub fn to_vec(&self, alloc: Global) -> Result<Vec<IssuedCommand>, AllocError>
         ensures { IfOk result (λ rows. rows.items ≡ self.now) }
     {
         let mut left = self.rows(alloc)?;

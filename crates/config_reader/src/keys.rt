@@ -9,7 +9,7 @@ ghost use Rattle.sim_base.specs.Ranges.{Within};
 ghost use Rattle.config_reader.specs.Document.Keys.{data_at, integer_at, in_range, number_of, number_or, as_power, power_of, power_or, is_known, keys_are_known, known_of, count_of};
 
 use sim_base::fault::Fault;
-use sim_base::key::Key;
+use sim_base::key::{DOCUMENT_KEYS, Key};
 use toml::{Table, Value};
 
 /// What stands at a key.
@@ -113,53 +113,12 @@ pub(super) fn power_or(
     as_power(key, number_or(default, table, key, low, high)?)
 }
 
-/// The keys that a document may have.
-const KNOWN_KEYS: [Key; 37] = [
-    Key::Cores,
-    Key::Channels,
-    Key::Groups,
-    Key::Ranks,
-    Key::Columns,
-    Key::Rows,
-    Key::Fields,
-    Key::Window,
-    Key::Width,
-    Key::ReadCredits,
-    Key::WriteCredits,
-    Key::RequestLatency,
-    Key::ReplyLatency,
-    Key::CreditLatency,
-    Key::NRcd,
-    Key::NRp,
-    Key::NRas,
-    Key::NRc,
-    Key::NCl,
-    Key::NCwl,
-    Key::NCcdS,
-    Key::NCcdL,
-    Key::NRrdS,
-    Key::NRrdL,
-    Key::NFaw,
-    Key::NRtp,
-    Key::NWr,
-    Key::NWtrS,
-    Key::NWtrL,
-    Key::NRtw,
-    Key::NRfc,
-    Key::NRtrs,
-    Key::NRefi,
-    Key::WriteHigh,
-    Key::WriteLow,
-    Key::End,
-    Key::Link,
-];
-
 /// Whether a document may have a key of this name.
 #[tactic(auto, unfolding(crate::specs::Document::Keys::is_known))]
 fn is_known(name: &str) -> bool
     ensures { result ≡ is_known name.now }
 {
-    KNOWN_KEYS.iter().any(|key| key.name() == name)
+    DOCUMENT_KEYS.iter().any(|key| key.name() == name)
 }
 
 /// Whether a document may have each key of the table's map.

@@ -6,7 +6,7 @@ use Rattle.std.proofs.lemmas.Option.{get_or_from_slice_get}
 use Rattle.sim_base.specs.declared.config.Config.{Config}
 use Rattle.sim_base.specs.History.{core_messages}
 use Rattle.sim_base.specs.Machine.{core_run}
-use Rattle.sim_base.specs.declared.history.CoreRow.{CoreRow}
+use Rattle.sim_base.specs.declared.history.CoreStep.{CoreStep}
 use Rattle.sim_base.specs.declared.message.Message.{Message}
 use Rattle.sim_base.specs.declared.trace.Entry.{Entry}
 use Rattle.sim_base.proofs.Each.{Each-all, Each-append}
@@ -16,11 +16,11 @@ use Rattle.statistics.specs.declared.final_state.Credits.{Credits}
 use Rattle.core_window.specs.Fit.{IsDue, IsByArrival, Fit, MayRun, Runs}
 use Rattle.core_window.specs.Stands.{StandsFor}
 use Rattle.core_window.specs.Views.{CoreView}
-use Rattle.core_window.specs.declared.waiting.WaitingRead.{WaitingRead}
+use Rattle.core_window.specs.declared.outstanding.OutstandingRead.{OutstandingRead}
 use Rattle.core_window.proofs.Fitting.{fit-none}
 use Rattle.core_window.proofs.Running.{core_run-later}
-use Rattle.core_feed.specs.Past.{rows_by, IsFed, CameFit}
-use Rattle.core_feed.proofs.Feeding.{rows-later}
+use Rattle.core_feed.specs.Past.{steps_by, IsFed, CameFit}
+use Rattle.core_feed.proofs.Feeding.{steps-later}
 
 -- where an element stands in two lists joined: in the first, or in the second
 record InFirst (xs before after : List Message) (m : Message) : Type 0 where
@@ -58,7 +58,7 @@ ordered-append now (x ∷ xs) ys h k early late = (
 
 -- Messages that were fit up to a cycle, and messages that are fit from then on after those, are fit all together.
 pub fit-joined : (s : Config) (core : ℕ) (trace : List Entry) (mail inbox : List Message) (now until : ℕ) → Fit s core trace [] [] 0 now mail
-    → Fit s core trace (rows_by s core trace mail now) mail now until inbox → now ≤ until → Fit s core trace [] [] 0 until (mail ++ inbox)
+    → Fit s core trace (steps_by s core trace mail now) mail now until inbox → now ≤ until → Fit s core trace [] [] 0 until (mail ++ inbox)
 fit-joined s core trace mail inbox now until past next l =
     record {
       from_then = Each-all (λ (m : Message). 0 ≤ m.arrival) (λ m. omega arith) (mail ++ inbox);
@@ -81,9 +81,9 @@ fit-joined s core trace mail inbox now until past next l =
     later before after m k =
         let late : now ≤ m.arrival = each-here (λ n. now ≤ n.arrival) k.rest after m (subst (Each (λ (n : Message). now ≤ n.arrival)) k.is_split next.from_then) in
         let all : m.arrival ≡ m.arrival - 0 = omega arith in
-        let rows = rows-later s core trace mail inbox now m.arrival next.from_then late ∙ ap (rows_by s core trace (mail ++ inbox)) all in
+        let steps = steps-later s core trace mail inbox now m.arrival next.from_then late ∙ ap (steps_by s core trace (mail ++ inbox)) all in
         subst (λ b. Due (mail ++ inbox) (m.arrival - 0) b m) (sym k.is_before)
-        (subst (λ r. IsDue s core trace r (mail ++ k.rest) m) rows (next.due k.rest after m k.is_split))
+        (subst (λ r. IsDue s core trace r (mail ++ k.rest) m) steps (next.due k.rest after m k.is_split))
 
 -- no messages came to a core that has done nothing
 pub came-none : (s : Config) (core : ℕ) (mail : List Message) (view : CoreView) → mail ≡ [] → CameFit s core mail view
@@ -91,7 +91,7 @@ came-none s core mail view e = subst (λ m. CameFit s core m view) (sym e) (fit-
 
 -- after a span of cycles
 pub came-more : (s : Config) (core : ℕ) (mail inbox kept : List Message) (until : ℕ) (a b : CoreView) → CameFit s core mail a
-    → Fit s core a.trace (rows_by s core a.trace mail a.now) mail a.now until inbox → a.now ≤ until → b.trace ≡ a.trace → b.now ≡ until → kept ≡ mail ++ inbox → CameFit s core kept b
+    → Fit s core a.trace (steps_by s core a.trace mail a.now) mail a.now until inbox → a.now ≤ until → b.trace ≡ a.trace → b.now ≡ until → kept ≡ mail ++ inbox → CameFit s core kept b
 came-more s core mail inbox kept until a b h fit l entries now all =
     subst (λ m. CameFit s core m b) (sym all)
     (subst (λ t. Fit s core t [] [] 0 b.now (mail ++ inbox)) (sym entries)
@@ -100,23 +100,23 @@ came-more s core mail inbox kept until a b h fit l entries now all =
 -- and after cycles in which none came
 pub came-later : (s : Config) (core : ℕ) (mail : List Message) (until : ℕ) (a b : CoreView) → CameFit s core mail a → a.now ≤ until → b.trace ≡ a.trace → b.now ≡ until → CameFit s core mail b
 came-later s core mail until a b h l entries now =
-    came-more s core mail [] mail until a b h (fit-none s core a.trace (rows_by s core a.trace mail a.now) mail a.now until) l entries now (sym (append-nil mail))
+    came-more s core mail [] mail until a b h (fit-none s core a.trace (steps_by s core a.trace mail a.now) mail a.now until) l entries now (sym (append-nil mail))
 
 -- two cores that stand for the same keep the same
-stands-same : (s : Config) (core : ℕ) (trace : List Entry) (rows : List CoreRow) (mail : List Message) (a b : CoreView) → StandsFor s core trace rows mail a → StandsFor s core trace rows mail b → b ≡ a
-stands-same s core trace rows mail a b h k =
+stands-same : (s : Config) (core : ℕ) (trace : List Entry) (steps : List CoreStep) (mail : List Message) (a b : CoreView) → StandsFor s core trace steps mail a → StandsFor s core trace steps mail b → b ≡ a
+stands-same s core trace steps mail a b h k =
     let config : b.config ≡ a.config = k.config ∙ sym h.config in
     let number : b.core ≡ a.core = k.number ∙ sym h.number in
     let entries : b.trace ≡ a.trace = k.entries ∙ sym h.entries in
     let now : b.now ≡ a.now = k.now ∙ sym h.now in
-    let waiting : b.waiting ≡ a.waiting = k.waiting ∙ sym h.waiting in
+    let outstanding : b.outstanding ≡ a.outstanding = k.outstanding ∙ sym h.outstanding in
     let credits : b.credits ≡ a.credits =
     same_lists b.credits a.credits (k.channels ∙ sym h.channels)
     (λ i d l. let within : i < s.channels = omega (arith, k.channels) in get_or_from_slice_get b.credits i _ d (k.credits i within) ∙ sym (get_or_from_slice_get a.credits i _ d (h.credits i within))) in
     let stats : b.stats ≡ a.stats = k.stats ∙ sym h.stats in
-    let made : Config → ℕ → List Entry → ℕ → List WaitingRead → List Credits → CoreStats → CoreView =
-    λ config core trace now waiting credits stats. record { config = config; core = core; trace = trace; now = now; waiting = waiting; credits = credits; stats = stats } in
-    let same : made b.config b.core b.trace b.now b.waiting b.credits b.stats ≡ made a.config a.core a.trace a.now a.waiting a.credits a.stats = cc in
+    let made : Config → ℕ → List Entry → ℕ → List OutstandingRead → List Credits → CoreStats → CoreView =
+    λ config core trace now outstanding credits stats. record { config = config; core = core; trace = trace; now = now; outstanding = outstanding; credits = credits; stats = stats } in
+    let same : made b.config b.core b.trace b.now b.outstanding b.credits b.stats ≡ made a.config a.core a.trace a.now a.outstanding a.credits a.stats = cc in
     same
 
 -- a core that has done nothing may run all these cycles in one span
@@ -127,7 +127,7 @@ may_replay s core trace mail inbox start view until entries all at came h =
       s = s;
       core = core;
       trace = view.trace;
-      rows = [];
+      steps = [];
       mail = [];
       stands = subst (λ t. StandsFor s core t [] [] start) entries h;
       fit = subst (λ ms. Fit s core view.trace [] [] 0 until ms) (sym all) (subst (λ n. Fit s core view.trace [] [] 0 n mail) (sym at) came);
@@ -136,7 +136,7 @@ may_replay s core trace mail inbox start view until entries all at came h =
 -- what it then keeps, and what it sent
 pub record Replays (s : Config) (core : ℕ) (mail : List Message) (view again : CoreView) (sent : List Message) : Type 0 where
   pub same : again ≡ view
-  pub sends : sent ≡ core_messages s core view.trace (rows_by s core view.trace mail view.now)
+  pub sends : sent ≡ core_messages s core view.trace (steps_by s core view.trace mail view.now)
 
 pub replays : (s : Config) (core : ℕ) (trace : List Entry) (mail inbox : List Message) (start view again : CoreView) (until : ℕ) (sent : List Message) → trace ≡ view.trace → inbox ≡ mail → until ≡ view.now
     → IsFed s core mail view → CameFit s core mail view → StandsFor s core trace [] [] start → Runs start 0 until inbox again sent → Replays s core mail view again sent
@@ -145,10 +145,10 @@ replays s core trace mail inbox start view again until sent entries all at fed c
     let may = may_replay s core trace mail inbox start view until entries all at came h in
     let r = runs s core view.trace [] [] may.stands may.fit in
     let cycles : until - 0 ≡ view.now = omega arith in
-    let rows : core_run s core view.trace [] inbox (until - 0) ≡ rows_by s core view.trace mail view.now = ap (core_run s core view.trace [] inbox) cycles ∙ ap (λ ms. rows_by s core view.trace ms view.now) all in
-    let stands : StandsFor s core view.trace (rows_by s core view.trace mail view.now) mail again =
-    subst (λ ms. StandsFor s core view.trace (rows_by s core view.trace mail view.now) ms again) all (subst (λ x. StandsFor s core view.trace x inbox again) rows r.0) in
+    let steps : core_run s core view.trace [] inbox (until - 0) ≡ steps_by s core view.trace mail view.now = ap (core_run s core view.trace [] inbox) cycles ∙ ap (λ ms. steps_by s core view.trace ms view.now) all in
+    let stands : StandsFor s core view.trace (steps_by s core view.trace mail view.now) mail again =
+    subst (λ ms. StandsFor s core view.trace (steps_by s core view.trace mail view.now) ms again) all (subst (λ x. StandsFor s core view.trace x inbox again) steps r.0) in
     record {
-      same = stands-same s core view.trace (rows_by s core view.trace mail view.now) mail view again fed stands;
-      sends = sym r.1 ∙ ap (core_messages s core view.trace) rows;
+      same = stands-same s core view.trace (steps_by s core view.trace mail view.now) mail view again fed stands;
+      sends = sym r.1 ∙ ap (core_messages s core view.trace) steps;
     }

@@ -13,7 +13,7 @@ use Rattle.statistics.specs.declared.final_state.Credits.{Credits}
 use Rattle.core_window.specs.Stands.{is_credit_from}
 use Rattle.core_window.specs.Turns.{credits_of_kind}
 use Rattle.core_window.specs.Views.{CoreView}
-use Rattle.core_window.specs.Waiting.{is_waiting}
+use Rattle.core_window.specs.Outstanding.{is_outstanding}
 
 -- a reply to this entry is among the messages
 abbrev pub has_reply : List Message → ℕ → Bool
@@ -21,7 +21,7 @@ has_reply messages entry = list_any (λ m. is_reply_to entry m.load) messages
 
 -- the Read waits, and none of the earlier messages is its reply
 abbrev pub is_reply_expected : CoreView → List Message → ℕ → Bool
-is_reply_expected view earlier entry = is_waiting view.waiting entry && not (has_reply earlier entry)
+is_reply_expected view earlier entry = is_outstanding view.outstanding entry && not (has_reply earlier entry)
 
 -- the credits that a core holds for a channel
 abbrev pub credits_at : CoreView → ℕ → Credits

@@ -52,7 +52,7 @@ pub struct FedCoreDone {
 }
 
 impl FedCore {
-    ghost use Rattle.core_feed.specs.Fed.{feed_of, rows_of, sent_by, after, MaySkipTo};
+    ghost use Rattle.core_feed.specs.Fed.{feed_of, steps_of, sent_by, after, MaySkipTo};
 
     /// A core that has done nothing yet, with its trace. Its number should be below the number of cores. Only memory can be refused.
     pub fn start(
@@ -148,7 +148,7 @@ impl FedCore {
         until: Cycle,
     ) -> Result<FedCoreDone, FeedFault>
         ensures unfit { (result ≡ Err FeedFault.Unfit) ↔ (may_go self.config self.id (view_of self.core) until inbox.now ≡ false) }
-        ensures fit { IfOk result (λ done. let f = feed_of self in Fit f.config f.core f.trace (rows_of f) f.mail f.now until inbox.now) }
+        ensures fit { IfOk result (λ done. let f = feed_of self in Fit f.config f.core f.trace (steps_of f) f.mail f.now until inbox.now) }
         ensures fed { IfOk result (λ done. feed_of done.core ≡ after (feed_of self) inbox.now until) }
         ensures runs { IfOk result (λ done. Runs (view_of self.core) (view_of self.core).now until inbox.now (view_of done.core.core) done.messages.items) }
         ensures sent { IfOk result (λ done. sent_by (feed_of done.core) ≡ sent_by (feed_of self) ++ done.messages.items) }
@@ -186,7 +186,7 @@ impl FedCore {
     /// The first cycle, from the one where the core stands, in which it retires or issues an entry, while no message comes; none,
     /// where it never does.
     pub fn next_act(&self) -> Option<Cycle>
-        ensures { let f = feed_of self.now in IsNextAct f.config f.core f.trace (rows_of f) f.mail result }
+        ensures { let f = feed_of self.now in IsNextAct f.config f.core f.trace (steps_of f) f.mail result }
     {
         self.core.next_act(self.core.now())
     }
@@ -248,7 +248,7 @@ impl FedCore {
 
     /// What statistics count of the cycles before the one where the core stands.
     pub fn stats(&self) -> CoreStats
-        ensures { let f = feed_of self.now in result ≡ core_stats f.config f.core f.trace (rows_of f) f.mail }
+        ensures { let f = feed_of self.now in result ≡ core_stats f.config f.core f.trace (steps_of f) f.mail }
     {
         self.core().stats()
     }

@@ -6,7 +6,7 @@ use Rattle.std.proofs.lemmas.Bool.{cases_lt, ne_eqb, eq-eqb}
 use Rattle.sim_base.specs.declared.config.Config.{Config}
 use Rattle.sim_base.specs.History.{retired_before, issued_before, core_messages}
 use Rattle.sim_base.specs.Windows.{lacks_credit}
-use Rattle.sim_base.specs.declared.history.CoreRow.{CoreRow}
+use Rattle.sim_base.specs.declared.history.CoreStep.{CoreStep}
 use Rattle.sim_base.specs.declared.message.Message.{Message}
 use Rattle.sim_base.specs.declared.trace.Entry.{Entry}
 use Rattle.sim_base.specs.declared.trace.Stop.{Stop}
@@ -17,8 +17,8 @@ use Rattle.core_window.specs.Stands.{IsPast}
 use Rattle.core_window.specs.Steady.{steady_view, IsSteady, IsFlow}
 use Rattle.core_window.specs.Turns.{IsAhead, IsLast, IsTurn}
 use Rattle.core_window.specs.Views.{CoreView}
-use Rattle.core_window.specs.Waiting.{reads_waiting}
-use Rattle.core_window.specs.declared.waiting.WaitingRead.{WaitingRead}
+use Rattle.core_window.specs.Outstanding.{outstanding_reads}
+use Rattle.core_window.specs.declared.outstanding.OutstandingRead.{OutstandingRead}
 use Rattle.core_window.proofs.Stopping.{is_last}
 use Rattle.core_window.proofs.Turning.{turn-from, issued_of, retired_of}
 
@@ -33,23 +33,23 @@ pub flow-free : (width window issued retired n : ℕ) → retired + width ≤ is
 flow-free width window issued retired n l room = record { retires = λ k b. omega arith; room = λ k b. omega arith }
 
 -- the first Read that waits is far behind
-pub flow-behind : (width window issued retired n : ℕ) (read : WaitingRead) (others : List WaitingRead) → retired + n * width ≤ read.entry → issued ≤ retired + window
+pub flow-behind : (width window issued retired n : ℕ) (read : OutstandingRead) (others : List OutstandingRead) → retired + n * width ≤ read.entry → issued ≤ retired + window
     → IsFlow width window issued retired (read ∷ others) width n
 flow-behind width window issued retired n read others l room =
     record { retires = λ k b. let h = more_times k n width b in omega arith; room = λ k b. omega arith }
 
 -- the first Read that waits is the next to retire
-pub flow-held : (width window issued retired n : ℕ) (read : WaitingRead) (others : List WaitingRead) → read.entry ≤ retired → issued + n * width ≤ retired + window
+pub flow-held : (width window issued retired n : ℕ) (read : OutstandingRead) (others : List OutstandingRead) → read.entry ≤ retired → issued + n * width ≤ retired + window
     → IsFlow width window issued retired (read ∷ others) 0 n
 flow-held width window issued retired n read others l room =
     record { retires = λ k b. omega arith; room = λ k b. let h = more_times k n width b in omega arith }
 
 -- what lets a core issue its width of Plain entries in a cycle
-record IsPlain (s : Config) (trace : List Entry) (issued retired : ℕ) (waiting : List WaitingRead) (r one two : ℕ) : Type 0 where
+record IsPlain (s : Config) (trace : List Entry) (issued retired : ℕ) (outstanding : List OutstandingRead) (r one two : ℕ) : Type 0 where
   ahead : IsAhead trace issued one two
   plain : issued + s.width ≤ one
   more : issued + s.width < length trace
-  retires : r ≡ min s.width (first_undone issued waiting - retired)
+  retires : r ≡ min s.width (first_undone issued outstanding - retired)
   room : issued + s.width ≤ retired + r + s.window
 
 two_from : (trace : List Entry) (number one two : ℕ) → IsAhead trace number one two → one ≤ two
@@ -67,11 +67,11 @@ cause-plain width window len number gone two l =
     let e2 : eqb width width ≡ true = eq-eqb _ _ refl in
     rw (e1, e2) refl
 
-plain-turn : (s : Config) (core : ℕ) (trace : List Entry) (rows : List CoreRow) (mail : List Message) (r one two : ℕ) → IsPast s core trace rows mail
-    → IsPlain s trace (issued_before rows) (retired_before rows) (reads_waiting trace rows mail) r one two
-    → IsTurn s core trace rows mail (record { retired = r; issued = s.width }) stop.Width None
-plain-turn s core trace rows mail r one two past h =
-    turn-from s core trace rows mail r one two lacks s.width stop.Width None past
+plain-turn : (s : Config) (core : ℕ) (trace : List Entry) (steps : List CoreStep) (mail : List Message) (r one two : ℕ) → IsPast s core trace steps mail
+    → IsPlain s trace (issued_before steps) (retired_before steps) (outstanding_reads trace steps mail) r one two
+    → IsTurn s core trace steps mail (record { retired = r; issued = s.width }) stop.Width None
+plain-turn s core trace steps mail r one two past h =
+    turn-from s core trace steps mail r one two lacks s.width stop.Width None past
     (record {
       retired = h.retires;
       ahead = h.ahead;
@@ -85,16 +85,16 @@ plain-turn s core trace rows mail r one two past h =
     })
   where
     sent : List Message
-    sent = core_messages s core trace rows
+    sent = core_messages s core trace steps
 
     now : ℕ
-    now = length rows
+    now = length steps
 
     first : ℕ
-    first = issued_before rows
+    first = issued_before steps
 
     before : ℕ
-    before = retired_before rows
+    before = retired_before steps
 
     lacks : Bool
     lacks = ltb one (length trace) && lacks_credit s core mail sent now (slice_get trace one)
@@ -113,25 +113,25 @@ ahead-later trace number later one two h l m =
       none = h.none;
     }
 
-plain-at : (s : Config) (core : ℕ) (trace : List Entry) (rows : List CoreRow) (mail : List Message) (v : CoreView) (r one two : ℕ) → StandsAt s core trace rows mail v
-    → IsPlain v.config v.trace v.stats.issued v.stats.retired v.waiting r one two → IsTurn s core trace rows mail (record { retired = r; issued = v.config.width }) stop.Width None
-plain-at s core trace rows mail v r one two h plain =
-    let P : Config → List Entry → ℕ → ℕ → List WaitingRead → Type 0 = λ x t n b w. IsPlain x t n b w r one two in
-    let f1 : P s v.trace v.stats.issued v.stats.retired v.waiting = subst (λ x. P x v.trace v.stats.issued v.stats.retired v.waiting) h.config plain in
-    let f2 : P s trace v.stats.issued v.stats.retired v.waiting = subst (λ x. P s x v.stats.issued v.stats.retired v.waiting) h.entries f1 in
-    let f3 : P s trace (issued_before rows) v.stats.retired v.waiting = subst (λ x. P s trace x v.stats.retired v.waiting) (issued_of s core trace rows mail v h) f2 in
-    let f4 : P s trace (issued_before rows) (retired_before rows) v.waiting = subst (λ x. P s trace (issued_before rows) x v.waiting) (retired_of s core trace rows mail v h) f3 in
-    let f5 : P s trace (issued_before rows) (retired_before rows) (reads_waiting trace rows mail) = subst (λ x. P s trace (issued_before rows) (retired_before rows) x) h.waiting f4 in
-    subst (λ (x : Config). IsTurn s core trace rows mail (record { retired = r; issued = x.width }) stop.Width None) (sym h.config)
-    (plain-turn s core trace rows mail r one two h.past f5)
+plain-at : (s : Config) (core : ℕ) (trace : List Entry) (steps : List CoreStep) (mail : List Message) (v : CoreView) (r one two : ℕ) → StandsAt s core trace steps mail v
+    → IsPlain v.config v.trace v.stats.issued v.stats.retired v.outstanding r one two → IsTurn s core trace steps mail (record { retired = r; issued = v.config.width }) stop.Width None
+plain-at s core trace steps mail v r one two h plain =
+    let P : Config → List Entry → ℕ → ℕ → List OutstandingRead → Type 0 = λ x t n b w. IsPlain x t n b w r one two in
+    let f1 : P s v.trace v.stats.issued v.stats.retired v.outstanding = subst (λ x. P x v.trace v.stats.issued v.stats.retired v.outstanding) h.config plain in
+    let f2 : P s trace v.stats.issued v.stats.retired v.outstanding = subst (λ x. P s x v.stats.issued v.stats.retired v.outstanding) h.entries f1 in
+    let f3 : P s trace (issued_before steps) v.stats.retired v.outstanding = subst (λ x. P s trace x v.stats.retired v.outstanding) (issued_of s core trace steps mail v h) f2 in
+    let f4 : P s trace (issued_before steps) (retired_before steps) v.outstanding = subst (λ x. P s trace (issued_before steps) x v.outstanding) (retired_of s core trace steps mail v h) f3 in
+    let f5 : P s trace (issued_before steps) (retired_before steps) (outstanding_reads trace steps mail) = subst (λ x. P s trace (issued_before steps) (retired_before steps) x) h.outstanding f4 in
+    subst (λ (x : Config). IsTurn s core trace steps mail (record { retired = r; issued = x.width }) stop.Width None) (sym h.config)
+    (plain-turn s core trace steps mail r one two h.past f5)
 
 least-le : (a b r : ℕ) → r ≡ min a b → r ≤ a
 least-le a b r e = omega arith
 
-unfinished : (width window issued retired len r n : ℕ) (waiting : List WaitingRead) → IsFlow width window issued retired waiting r n → retired ≤ issued → issued + n * width < len
+unfinished : (width window issued retired len r n : ℕ) (outstanding : List OutstandingRead) → IsFlow width window issued retired outstanding r n → retired ≤ issued → issued + n * width < len
     → (n * r ≡ 0) ⊎ (retired + n * r < len)
-unfinished width window issued retired len r zero waiting h l m = inl (omega arith)
-unfinished width window issued retired len r (suc n) waiting h l m =
+unfinished width window issued retired len r zero outstanding h l m = inl (omega arith)
+unfinished width window issued retired len r (suc n) outstanding h l m =
     let few : r ≤ width = least-le width _ r (h.retires 0 (omega arith)) in
     let most : suc n * r ≤ suc n * width = mul-le-mul_left (suc n) few in
     inr (omega arith)
@@ -139,13 +139,13 @@ unfinished width window issued retired len r (suc n) waiting h l m =
 -- a stretch of Plain entries
 pub flow-steady : (a : CoreView) (one two r n : ℕ) → IsAhead a.trace a.stats.issued one two → a.stats.retired ≤ a.stats.issued
     → a.stats.issued + n * a.config.width ≤ one → a.stats.issued + n * a.config.width < length a.trace
-    → IsFlow a.config.width a.config.window a.stats.issued a.stats.retired a.waiting r n
+    → IsFlow a.config.width a.config.window a.stats.issued a.stats.retired a.outstanding r n
     → IsSteady a n (record { retired = r; issued = a.config.width }) stop.Width
 flow-steady a one two r n ahead l plain more flow =
     record {
-      turns = λ k b s core trace rows mail h.
+      turns = λ k b s core trace steps mail h.
           let up = more_times k n a.config.width b in
-          plain-at s core trace rows mail (steady_view a (record { retired = r; issued = a.config.width }) stop.Width k) r one two h
+          plain-at s core trace steps mail (steady_view a (record { retired = r; issued = a.config.width }) stop.Width k) r one two h
           (record {
             ahead = ahead-later a.trace a.stats.issued (a.stats.issued + k * a.config.width) one two ahead (omega arith) (omega arith);
             plain = omega arith;
@@ -153,19 +153,19 @@ flow-steady a one two r n ahead l plain more flow =
             retires = flow.retires k b;
             room = flow.room k b;
           });
-      unfinished = unfinished a.config.width a.config.window a.stats.issued a.stats.retired (length a.trace) r n a.waiting flow l more;
+      unfinished = unfinished a.config.width a.config.window a.stats.issued a.stats.retired (length a.trace) r n a.outstanding flow l more;
     }
 
-pub flow-none : (a : CoreView) (row : CoreRow) (why : Stop) → IsSteady a 0 row why
-flow-none a row why = record { turns = λ k l. absurd (omega arith); unfinished = inl (omega arith) }
+pub flow-none : (a : CoreView) (core_step : CoreStep) (why : Stop) → IsSteady a 0 core_step why
+flow-none a core_step why = record { turns = λ k l. absurd (omega arith); unfinished = inl (omega arith) }
 
 -- up to the next memory entry, and up to the last entry of the trace
-pub flow-here : (a : CoreView) (one two r n plain : ℕ) (waiting : List WaitingRead) → IsAhead a.trace a.stats.issued one two → a.stats.retired ≤ a.stats.issued → 0 < a.config.width
+pub flow-here : (a : CoreView) (one two r n plain : ℕ) (outstanding : List OutstandingRead) → IsAhead a.trace a.stats.issued one two → a.stats.retired ≤ a.stats.issued → 0 < a.config.width
     → n * a.config.width ≤ plain → plain ≡ min one (length a.trace - 1) - a.stats.issued
-    → waiting ≡ a.waiting → IsFlow a.config.width a.config.window a.stats.issued a.stats.retired waiting r n
+    → outstanding ≡ a.outstanding → IsFlow a.config.width a.config.window a.stats.issued a.stats.retired outstanding r n
     → IsSteady a n (record { retired = r; issued = a.config.width }) stop.Width
-flow-here a one two r zero plain waiting ahead l positive few is same flow = flow-none a (record { retired = r; issued = a.config.width }) stop.Width
-flow-here a one two r (suc n) plain waiting ahead l positive few is same flow =
+flow-here a one two r zero plain outstanding ahead l positive few is same flow = flow-none a (record { retired = r; issued = a.config.width }) stop.Width
+flow-here a one two r (suc n) plain outstanding ahead l positive few is same flow =
     let some : suc n * a.config.width ≡ n * a.config.width + a.config.width = grind arith in
     let from = ahead.first.is_from in
     flow-steady a one two r (suc n) ahead l (omega arith) (omega arith)

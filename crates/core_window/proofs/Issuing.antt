@@ -12,7 +12,7 @@ use Rattle.sim_base.specs.Counts.{is_read, replied_entry, is_unissued_after, iss
 use Rattle.sim_base.specs.History.{below, request, request_of, issued_before, requests_between, requests_in, core_messages}
 use Rattle.sim_base.specs.Places.{place_of}
 use Rattle.sim_base.specs.Windows.{is_reply_to, is_request_for}
-use Rattle.sim_base.specs.declared.history.CoreRow.{CoreRow}
+use Rattle.sim_base.specs.declared.history.CoreStep.{CoreStep}
 use Rattle.sim_base.specs.declared.message.Load.{Load}
 use Rattle.sim_base.specs.declared.message.Load.TheVariants as load
 use Rattle.sim_base.specs.declared.message.Message.{Message}
@@ -25,11 +25,11 @@ use Rattle.statistics.specs.Counts.{one_if}
 use Rattle.statistics.specs.declared.final_state.Credits.{Credits}
 use Rattle.statistics.proofs.CoreSteps.{issued_before-push, issued_before-take-le, issue_cycle-push}
 use Rattle.statistics.proofs.Lists.{length-push_suc, take-push}
-use Rattle.core_window.specs.declared.waiting.WaitingRead.{WaitingRead}
+use Rattle.core_window.specs.declared.outstanding.OutstandingRead.{OutstandingRead}
 use Rattle.core_window.specs.Inside.{credits_now}
 use Rattle.core_window.specs.Stands.{FollowsItsEntry, credits_had, credits_spent}
 use Rattle.core_window.specs.Turns.{IsAmong, IsIssued, reads_issued, requests_issued, less_credit, credit_after_entry, credit_after}
-use Rattle.core_window.specs.Waiting.{is_read_in, is_read_at, is_answered, waiting_read, reads_waiting}
+use Rattle.core_window.specs.Outstanding.{is_read_in, is_read_at, is_answered, outstanding_read, outstanding_reads}
 use Rattle.core_window.proofs.Ranges.{range-add, filter_map_range-more, filter_map_range-same, filter_map_range-none, prefix_len_range}
 use Rattle.core_window.proofs.Segments.{request_at, requests_between_none, requests_between_more, one_of_segment}
 use Rattle.std.proofs.lemmas.List.Folds.{length-prefix_len}
@@ -40,95 +40,95 @@ plain_others trace first m e h k l ne =
     ⊎_elim (λ b. h.is_plain_before (first + k) (omega arith) b) (λ a. h.is_plain_after (first + k) (omega arith) (omega arith)) (cases_lt (first + k) e.number)
 
 -- no reply came of an entry that was not issued
-unanswered : (rows : List CoreRow) (mail : List Message) → Each (FollowsItsEntry rows) mail → (entry : ℕ) → issued_before rows ≤ entry → is_answered mail entry ≡ false
+unanswered : (steps : List CoreStep) (mail : List Message) → Each (FollowsItsEntry steps) mail → (entry : ℕ) → issued_before steps ≤ entry → is_answered mail entry ≡ false
 unfolding is_answered
-unanswered rows [] h entry l = refl
-unanswered rows (m ∷ mail) h entry l = ap₂ (λ a b. a || b) (by m.load h.0) (unanswered rows mail h.1 entry l)
+unanswered steps [] h entry l = refl
+unanswered steps (m ∷ mail) h entry l = ap₂ (λ a b. a || b) (by m.load h.0) (unanswered steps mail h.1 entry l)
   where
-    by : (x : Load) → IfSome (replied_entry x) (λ e. e < issued_before (take m.arrival rows)) → is_reply_to entry x ≡ false
-    by (load.Reply e) k = ne_eqb entry e (λ same. omega (arith, issued_before-take-le rows m.arrival))
+    by : (x : Load) → IfSome (replied_entry x) (λ e. e < issued_before (take m.arrival steps)) → is_reply_to entry x ≡ false
+    by (load.Reply e) k = ne_eqb entry e (λ same. omega (arith, issued_before-take-le steps m.arrival))
     by (load.Request r) k = refl
     by (load.Credit w e) k = refl
 
-issue_cycle-prefix_len : (rows : List CoreRow) (entry : ℕ) → issue_cycle rows entry ≡ prefix_len (is_unissued_after rows entry) (below (length rows))
+issue_cycle-prefix_len : (steps : List CoreStep) (entry : ℕ) → issue_cycle steps entry ≡ prefix_len (is_unissued_after steps entry) (below (length steps))
 unfolding issue_cycle
-issue_cycle-prefix_len rows entry = length-prefix_len (is_unissued_after rows entry) (below (length rows))
+issue_cycle-prefix_len steps entry = length-prefix_len (is_unissued_after steps entry) (below (length steps))
 
 -- an entry that issues in the last cycle
-issue_cycle-last : (rows : List CoreRow) (row : CoreRow) (entry : ℕ) → issued_before rows ≤ entry → entry < issued_before rows + row.issued → issue_cycle (rows ++ row ∷ []) entry ≡ length rows
+issue_cycle-last : (steps : List CoreStep) (core_step : CoreStep) (entry : ℕ) → issued_before steps ≤ entry → entry < issued_before steps + core_step.issued → issue_cycle (steps ++ core_step ∷ []) entry ≡ length steps
 unfolding is_unissued_after
-issue_cycle-last rows row entry l b =
-    let after = rows ++ row ∷ [] in
-    let n = length rows in
+issue_cycle-last steps core_step entry l b =
+    let after = steps ++ core_step ∷ [] in
+    let n = length steps in
     let p = is_unissued_after after entry in
     let z : (k : ℕ) → 0 + k ≡ k = λ k. omega arith in
-    let all : take (n + 1) after ≡ after = ap (λ k. take k after) (sym (length-push_suc rows row ∙ sym (add-one n))) ∙ take-length after in
+    let all : take (n + 1) after ≡ after = ap (λ k. take k after) (sym (length-push_suc steps core_step ∙ sym (add-one n))) ∙ take-length after in
     issue_cycle-prefix_len after entry
-    ∙ ap (λ k. prefix_len p (below k)) (length-push_suc rows row)
+    ∙ ap (λ k. prefix_len p (below k)) (length-push_suc steps core_step)
     ∙ prefix_len_range p 0 (suc n) n (omega arith)
-    (λ k j. ap p (z k) ∙ le-leb (issued_before (take (k + 1) after)) entry (omega (arith, ap issued_before (take-push rows row (k + 1) (omega arith)), issued_before-take-le rows (k + 1))))
-    (ap p (z n) ∙ lt-leb (issued_before (take (n + 1) after)) entry (omega (arith, ap issued_before all, issued_before-push rows row)))
+    (λ k j. ap p (z k) ∙ le-leb (issued_before (take (k + 1) after)) entry (omega (arith, ap issued_before (take-push steps core_step (k + 1) (omega arith)), issued_before-take-le steps (k + 1))))
+    (ap p (z n) ∙ lt-leb (issued_before (take (n + 1) after)) entry (omega (arith, ap issued_before all, issued_before-push steps core_step)))
 
 -- an entry that was issued before waits as before
-waiting_read-kept : (trace : List Entry) (rows : List CoreRow) (row : CoreRow) (mail : List Message) (entry : ℕ) → entry < issued_before rows
-    → waiting_read trace (rows ++ row ∷ []) mail entry ≡ waiting_read trace rows mail entry
-unfolding waiting_read
-waiting_read-kept trace rows row mail entry l =
-    ap (λ n. cond (is_read_at trace entry && not (is_answered mail entry)) (Some (read_from entry n)) None) (issue_cycle-push rows row entry l)
+outstanding_read-kept : (trace : List Entry) (steps : List CoreStep) (core_step : CoreStep) (mail : List Message) (entry : ℕ) → entry < issued_before steps
+    → outstanding_read trace (steps ++ core_step ∷ []) mail entry ≡ outstanding_read trace steps mail entry
+unfolding outstanding_read
+outstanding_read-kept trace steps core_step mail entry l =
+    ap (λ n. cond (is_read_at trace entry && not (is_answered mail entry)) (Some (read_from entry n)) None) (issue_cycle-push steps core_step entry l)
   where
-    read_from : ℕ → ℕ → WaitingRead
+    read_from : ℕ → ℕ → OutstandingRead
     read_from entry n = record { entry = entry; issued = n }
 
-waiting_read-plain : (trace : List Entry) (rows : List CoreRow) (mail : List Message) (entry : ℕ) → slice_get trace entry ≡ Some Plain → waiting_read trace rows mail entry ≡ None
-unfolding waiting_read
-waiting_read-plain trace rows mail entry h = ap waits h
+outstanding_read-plain : (trace : List Entry) (steps : List CoreStep) (mail : List Message) (entry : ℕ) → slice_get trace entry ≡ Some Plain → outstanding_read trace steps mail entry ≡ None
+unfolding outstanding_read
+outstanding_read-plain trace steps mail entry h = ap waits h
   where
-    waits : Option Entry → Option WaitingRead
-    waits o = cond (is_read_in o && not (is_answered mail entry)) (Some (record { entry = entry; issued = issue_cycle rows entry })) None
+    waits : Option Entry → Option OutstandingRead
+    waits o = cond (is_read_in o && not (is_answered mail entry)) (Some (record { entry = entry; issued = issue_cycle steps entry })) None
 
-waiting_read-new : (trace : List Entry) (rows : List CoreRow) (row : CoreRow) (mail : List Message) (e : MemoryEntry) → Each (FollowsItsEntry rows) mail
-    → issued_before rows ≤ e.number → e.number < issued_before rows + row.issued → slice_get trace e.number ≡ Some e.entry
-    → option_to_list (waiting_read trace (rows ++ row ∷ []) mail e.number) ≡ reads_issued (Some e) (length rows)
-unfolding waiting_read
-waiting_read-new trace rows row mail e follows l b at =
-    ap₂ (λ o n. waits o (is_answered mail e.number) n) at (issue_cycle-last rows row e.number l b)
-    ∙ ap (λ a. waits (Some e.entry) a (length rows)) (unanswered rows mail follows e.number l)
+outstanding_read-new : (trace : List Entry) (steps : List CoreStep) (core_step : CoreStep) (mail : List Message) (e : MemoryEntry) → Each (FollowsItsEntry steps) mail
+    → issued_before steps ≤ e.number → e.number < issued_before steps + core_step.issued → slice_get trace e.number ≡ Some e.entry
+    → option_to_list (outstanding_read trace (steps ++ core_step ∷ []) mail e.number) ≡ reads_issued (Some e) (length steps)
+unfolding outstanding_read
+outstanding_read-new trace steps core_step mail e follows l b at =
+    ap₂ (λ o n. waits o (is_answered mail e.number) n) at (issue_cycle-last steps core_step e.number l b)
+    ∙ ap (λ a. waits (Some e.entry) a (length steps)) (unanswered steps mail follows e.number l)
     ∙ by (is_read e.entry)
   where
-    waits : Option Entry → Bool → ℕ → List WaitingRead
+    waits : Option Entry → Bool → ℕ → List OutstandingRead
     waits o a n = option_to_list (cond (is_read_in o && not a) (Some (record { entry = e.number; issued = n })) None)
 
-    by : (r : Bool) → option_to_list (cond {A = Option WaitingRead} (r && true) (Some (record { entry = e.number; issued = length rows })) None) ≡ cond r (record { entry = e.number; issued = length rows } ∷ []) []
+    by : (r : Bool) → option_to_list (cond {A = Option OutstandingRead} (r && true) (Some (record { entry = e.number; issued = length steps })) None) ≡ cond r (record { entry = e.number; issued = length steps } ∷ []) []
     by true = refl
     by false = refl
 
-waiting-new : (trace : List Entry) (rows : List CoreRow) (row : CoreRow) (mail : List Message) (memory : Option MemoryEntry) → Each (FollowsItsEntry rows) mail
-    → IsIssued trace (issued_before rows) row.issued memory
-    → filter_map (waiting_read trace (rows ++ row ∷ []) mail) (range_with_len (issued_before rows) row.issued) ≡ reads_issued memory (length rows)
-waiting-new trace rows row mail None follows h =
-    filter_map_range-none _ (issued_before rows) row.issued (λ k l. waiting_read-plain trace (rows ++ row ∷ []) mail _ (h _ (omega arith) (omega arith)))
-waiting-new trace rows row mail (Some e) follows h =
-    let f = waiting_read trace (rows ++ row ∷ []) mail in
-    let first = issued_before rows in
-    one_of_segment (λ k. filter_map f (range_with_len first k)) (λ k. option_to_list (f k)) first e.number refl (filter_map_range-more f first) h.is_from row.issued
-    (λ k l ne. ap option_to_list (waiting_read-plain trace (rows ++ row ∷ []) mail (first + k) (plain_others trace first row.issued e h k l ne)))
-    ∙ ap (λ b. cond b (option_to_list (f e.number)) []) (lt-ltb e.number (first + row.issued) h.is_below)
-    ∙ waiting_read-new trace rows row mail e follows h.is_from h.is_below h.is_at
+outstanding-new : (trace : List Entry) (steps : List CoreStep) (core_step : CoreStep) (mail : List Message) (memory : Option MemoryEntry) → Each (FollowsItsEntry steps) mail
+    → IsIssued trace (issued_before steps) core_step.issued memory
+    → filter_map (outstanding_read trace (steps ++ core_step ∷ []) mail) (range_with_len (issued_before steps) core_step.issued) ≡ reads_issued memory (length steps)
+outstanding-new trace steps core_step mail None follows h =
+    filter_map_range-none _ (issued_before steps) core_step.issued (λ k l. outstanding_read-plain trace (steps ++ core_step ∷ []) mail _ (h _ (omega arith) (omega arith)))
+outstanding-new trace steps core_step mail (Some e) follows h =
+    let f = outstanding_read trace (steps ++ core_step ∷ []) mail in
+    let first = issued_before steps in
+    one_of_segment (λ k. filter_map f (range_with_len first k)) (λ k. option_to_list (f k)) first e.number refl (filter_map_range-more f first) h.is_from core_step.issued
+    (λ k l ne. ap option_to_list (outstanding_read-plain trace (steps ++ core_step ∷ []) mail (first + k) (plain_others trace first core_step.issued e h k l ne)))
+    ∙ ap (λ b. cond b (option_to_list (f e.number)) []) (lt-ltb e.number (first + core_step.issued) h.is_below)
+    ∙ outstanding_read-new trace steps core_step mail e follows h.is_from h.is_below h.is_at
 
 -- a Read that issues begins to wait
-pub reads_waiting-push : (trace : List Entry) (rows : List CoreRow) (row : CoreRow) (mail : List Message) (memory : Option MemoryEntry) → Each (FollowsItsEntry rows) mail
-    → IsIssued trace (issued_before rows) row.issued memory
-    → reads_waiting trace (rows ++ row ∷ []) mail ≡ reads_waiting trace rows mail ++ reads_issued memory (length rows)
-unfolding reads_waiting
-reads_waiting-push trace rows row mail memory follows h =
-    let f = waiting_read trace (rows ++ row ∷ []) mail in
+pub outstanding_reads-push : (trace : List Entry) (steps : List CoreStep) (core_step : CoreStep) (mail : List Message) (memory : Option MemoryEntry) → Each (FollowsItsEntry steps) mail
+    → IsIssued trace (issued_before steps) core_step.issued memory
+    → outstanding_reads trace (steps ++ core_step ∷ []) mail ≡ outstanding_reads trace steps mail ++ reads_issued memory (length steps)
+unfolding outstanding_reads
+outstanding_reads-push trace steps core_step mail memory follows h =
+    let f = outstanding_read trace (steps ++ core_step ∷ []) mail in
     let z : (k : ℕ) → 0 + k ≡ k = λ k. omega arith in
-    ap (λ n. filter_map f (below n)) (issued_before-push rows row)
-    ∙ ap (filter_map f) (range-add 0 (issued_before rows) row.issued)
-    ∙ filter_map-append f (below (issued_before rows)) (range_with_len (0 + issued_before rows) row.issued)
+    ap (λ n. filter_map f (below n)) (issued_before-push steps core_step)
+    ∙ ap (filter_map f) (range-add 0 (issued_before steps) core_step.issued)
+    ∙ filter_map-append f (below (issued_before steps)) (range_with_len (0 + issued_before steps) core_step.issued)
     ∙ ap₂ (λ x y. x ++ y)
-    (filter_map_range-same f (waiting_read trace rows mail) 0 (issued_before rows) (λ k l. ap f (z k) ∙ waiting_read-kept trace rows row mail k l ∙ ap (waiting_read trace rows mail) (sym (z k))))
-    (ap (λ n. filter_map f (range_with_len n row.issued)) (z (issued_before rows)) ∙ waiting-new trace rows row mail memory follows h)
+    (filter_map_range-same f (outstanding_read trace steps mail) 0 (issued_before steps) (λ k l. ap f (z k) ∙ outstanding_read-kept trace steps core_step mail k l ∙ ap (outstanding_read trace steps mail) (sym (z k))))
+    (ap (λ n. filter_map f (range_with_len n core_step.issued)) (z (issued_before steps)) ∙ outstanding-new trace steps core_step mail memory follows h)
 
 requests-new : (s : Config) (core : ℕ) (trace : List Entry) (cycle first m : ℕ) (memory : Option MemoryEntry) → IsIssued trace first m memory
     → requests_between s core trace cycle first (first + m) ≡ requests_issued s core cycle memory
@@ -148,16 +148,16 @@ requests-new s core trace cycle first m (Some e) h =
     ∙ ap (λ o. option_to_list (option_and_then (request_of s core cycle e.number) o)) h.is_at
 
 -- the request of the memory entry that issues is sent
-pub messages-push : (s : Config) (core : ℕ) (trace : List Entry) (rows : List CoreRow) (row : CoreRow) (memory : Option MemoryEntry)
-    → IsIssued trace (issued_before rows) row.issued memory
-    → core_messages s core trace (rows ++ row ∷ []) ≡ core_messages s core trace rows ++ requests_issued s core (length rows) memory
+pub messages-push : (s : Config) (core : ℕ) (trace : List Entry) (steps : List CoreStep) (core_step : CoreStep) (memory : Option MemoryEntry)
+    → IsIssued trace (issued_before steps) core_step.issued memory
+    → core_messages s core trace (steps ++ core_step ∷ []) ≡ core_messages s core trace steps ++ requests_issued s core (length steps) memory
 unfolding requests_in
-messages-push s core trace rows row memory h =
-    let after = rows ++ row ∷ [] in
-    let all : take (length rows + 1) after ≡ after = ap (λ k. take k after) (sym (length-push_suc rows row ∙ sym (add-one (length rows)))) ∙ take-length after in
-    core_messages-push s core trace rows row
-    ∙ ap₂ (λ a b. core_messages s core trace rows ++ requests_between s core trace (length rows) (issued_before a) b) (take-append_seam rows (row ∷ [])) (ap issued_before all ∙ issued_before-push rows row)
-    ∙ ap (λ x. core_messages s core trace rows ++ x) (requests-new s core trace (length rows) (issued_before rows) row.issued memory h)
+messages-push s core trace steps core_step memory h =
+    let after = steps ++ core_step ∷ [] in
+    let all : take (length steps + 1) after ≡ after = ap (λ k. take k after) (sym (length-push_suc steps core_step ∙ sym (add-one (length steps)))) ∙ take-length after in
+    core_messages-push s core trace steps core_step
+    ∙ ap₂ (λ a b. core_messages s core trace steps ++ requests_between s core trace (length steps) (issued_before a) b) (take-append_seam steps (core_step ∷ [])) (ap issued_before all ∙ issued_before-push steps core_step)
+    ∙ ap (λ x. core_messages s core trace steps ++ x) (requests-new s core trace (length steps) (issued_before steps) core_step.issued memory h)
 
 -- whether a memory entry that issues spends a credit for a channel
 abbrev pub is_spending_entry : Config → ℕ → Bool → Entry → Bool
@@ -183,14 +183,14 @@ spent-memory : (s : Config) (core cycle channel : ℕ) (write : Bool) (memory : 
 spent-memory s core cycle channel write None = refl
 spent-memory s core cycle channel write (Some e) = spent-entry s core cycle e.number channel write e.entry
 
-pub spent-push : (s : Config) (core : ℕ) (trace : List Entry) (rows : List CoreRow) (row : CoreRow) (memory : Option MemoryEntry)
-    → IsIssued trace (issued_before rows) row.issued memory → (channel : ℕ) (write : Bool)
-    → credits_spent s core trace (rows ++ row ∷ []) channel write ≡ credits_spent s core trace rows channel write + one_if (is_spending s channel write memory)
-spent-push s core trace rows row memory h channel write =
+pub spent-push : (s : Config) (core : ℕ) (trace : List Entry) (steps : List CoreStep) (core_step : CoreStep) (memory : Option MemoryEntry)
+    → IsIssued trace (issued_before steps) core_step.issued memory → (channel : ℕ) (write : Bool)
+    → credits_spent s core trace (steps ++ core_step ∷ []) channel write ≡ credits_spent s core trace steps channel write + one_if (is_spending s channel write memory)
+spent-push s core trace steps core_step memory h channel write =
     let p = λ (m : Message). is_request_for channel write m.load in
-    ap (count_by p) (messages-push s core trace rows row memory h)
-    ∙ sum_by-append (λ m. one_if (p m)) (core_messages s core trace rows) (requests_issued s core (length rows) memory)
-    ∙ ap (λ n. credits_spent s core trace rows channel write + n) (spent-memory s core (length rows) channel write memory)
+    ap (count_by p) (messages-push s core trace steps core_step memory h)
+    ∙ sum_by-append (λ m. one_if (p m)) (core_messages s core trace steps) (requests_issued s core (length steps) memory)
+    ∙ ap (λ n. credits_spent s core trace steps channel write + n) (spent-memory s core (length steps) channel write memory)
 
 same_credits : (d c : Credits) → d.read ≡ c.read → d.write ≡ c.write → d ≡ c
 same_credits d c e f = let both : ℕ → ℕ → Credits = λ r w. record { read = r; write = w } in ap₂ both e f
@@ -226,16 +226,16 @@ after-entry s channel hr hw sr sw (Write address) c r w d r' w' = by (eqb (place
         same_credits _ _ e f
 
 -- the credits that are left
-pub credits-push : (s : Config) (core : ℕ) (trace : List Entry) (rows : List CoreRow) (row : CoreRow) (mail : List Message) (memory : Option MemoryEntry)
-    → IsIssued trace (issued_before rows) row.issued memory → (channel : ℕ)
-    → credits_now s core trace (rows ++ row ∷ []) mail channel ≡ credit_after s channel memory (credits_now s core trace rows mail channel)
-credits-push s core trace rows row mail None h channel =
-    let a = spent-push s core trace rows row None h channel false in
-    let b = spent-push s core trace rows row None h channel true in
-    let e : credits_had s core mail channel false - credits_spent s core trace (rows ++ row ∷ []) channel false ≡ credits_had s core mail channel false - credits_spent s core trace rows channel false = omega arith in
-    let f : credits_had s core mail channel true - credits_spent s core trace (rows ++ row ∷ []) channel true ≡ credits_had s core mail channel true - credits_spent s core trace rows channel true = omega arith in
+pub credits-push : (s : Config) (core : ℕ) (trace : List Entry) (steps : List CoreStep) (core_step : CoreStep) (mail : List Message) (memory : Option MemoryEntry)
+    → IsIssued trace (issued_before steps) core_step.issued memory → (channel : ℕ)
+    → credits_now s core trace (steps ++ core_step ∷ []) mail channel ≡ credit_after s channel memory (credits_now s core trace steps mail channel)
+credits-push s core trace steps core_step mail None h channel =
+    let a = spent-push s core trace steps core_step None h channel false in
+    let b = spent-push s core trace steps core_step None h channel true in
+    let e : credits_had s core mail channel false - credits_spent s core trace (steps ++ core_step ∷ []) channel false ≡ credits_had s core mail channel false - credits_spent s core trace steps channel false = omega arith in
+    let f : credits_had s core mail channel true - credits_spent s core trace (steps ++ core_step ∷ []) channel true ≡ credits_had s core mail channel true - credits_spent s core trace steps channel true = omega arith in
     same_credits _ _ e f
-credits-push s core trace rows row mail (Some m) h channel =
-    after-entry s channel _ _ _ _ m.entry (credits_now s core trace rows mail channel) refl refl (credits_now s core trace (rows ++ row ∷ []) mail channel)
-    (ap (λ n. credits_had s core mail channel false - n) (spent-push s core trace rows row (Some m) h channel false))
-    (ap (λ n. credits_had s core mail channel true - n) (spent-push s core trace rows row (Some m) h channel true))
+credits-push s core trace steps core_step mail (Some m) h channel =
+    after-entry s channel _ _ _ _ m.entry (credits_now s core trace steps mail channel) refl refl (credits_now s core trace (steps ++ core_step ∷ []) mail channel)
+    (ap (λ n. credits_had s core mail channel false - n) (spent-push s core trace steps core_step (Some m) h channel false))
+    (ap (λ n. credits_had s core mail channel true - n) (spent-push s core trace steps core_step (Some m) h channel true))

@@ -15,7 +15,7 @@ use Rattle.sim_base.specs.Config.{credit_link}
 use Rattle.sim_base.specs.Counts.{is_reply, replies, replied_entry, wait_of, issue_cycle}
 use Rattle.sim_base.specs.History.{below, issued_before}
 use Rattle.sim_base.specs.Windows.{is_reply_to, is_credit}
-use Rattle.sim_base.specs.declared.history.CoreRow.{CoreRow}
+use Rattle.sim_base.specs.declared.history.CoreStep.{CoreStep}
 use Rattle.sim_base.specs.declared.message.Load.TheVariants as load
 use Rattle.sim_base.specs.declared.message.Message.{Message}
 use Rattle.sim_base.specs.declared.trace.Entry.{Entry}
@@ -35,22 +35,22 @@ use Rattle.core_window.specs.Replies.{MayTakeReply, after_reply}
 use Rattle.core_window.specs.Stands.{IsPast, FollowsItsEntry, is_credit_from, credits_had, credits_spent}
 use Rattle.core_window.specs.Turns.{more_credit, credits_of_kind}
 use Rattle.core_window.specs.Views.{CoreView}
-use Rattle.core_window.specs.Waiting.{is_read_at, is_answered, waiting_read, reads_waiting, IsByNumber}
-use Rattle.core_window.specs.declared.waiting.WaitingRead.{WaitingRead}
+use Rattle.core_window.specs.Outstanding.{is_read_at, is_answered, outstanding_read, outstanding_reads, IsByNumber}
+use Rattle.core_window.specs.declared.outstanding.OutstandingRead.{OutstandingRead}
 use Rattle.core_window.proofs.Ranges.{filter_map_range-same}
 use Rattle.core_window.proofs.Stepping.{follows-read, replies-le}
 
 -- the room that the counts of replies have
-pub reply-room : (s : Config) (core : ℕ) (trace : List Entry) (rows : List CoreRow) (mail : List Message) (a : CoreView) (entry : ℕ) → StandsAt s core trace rows mail a → a.now < 2 ^ 62 → MayTakeReply a entry
+pub reply-room : (s : Config) (core : ℕ) (trace : List Entry) (steps : List CoreStep) (mail : List Message) (a : CoreView) (entry : ℕ) → StandsAt s core trace steps mail a → a.now < 2 ^ 62 → MayTakeReply a entry
 unfolding core_stats replies
-reply-room s core trace rows mail a entry h l =
-    let idle : CoreRow = record { retired = 0; issued = 0 } in
-    let after = rows ++ idle ∷ [] in
-    let p = replies-push rows idle mail in
-    let q = read_latency-push rows idle mail (follows-read rows idle mail h.past.arrived h.past.follows) in
+reply-room s core trace steps mail a entry h l =
+    let idle : CoreStep = record { retired = 0; issued = 0 } in
+    let after = steps ++ idle ∷ [] in
+    let p = replies-push steps idle mail in
+    let q = read_latency-push steps idle mail (follows-read steps idle mail h.past.arrived h.past.follows) in
     let most = replies-le (length after) mail in
     let few : length (replies after mail) ≤ 2 ^ 62 = omega (arith, h.past.answered, h.past.issued, h.past.fits) in
-    let n : length after ≡ suc (length rows) = length-push_suc rows idle in
+    let n : length after ≡ suc (length steps) = length-push_suc steps idle in
     let long : length after ≤ 2 ^ 62 = omega (arith, h.now) in
     let product : length (replies after mail) * length after ≤ 2 ^ 62 * 2 ^ 62 = mul-le _ _ (2 ^ 62) (2 ^ 62) few long in
     record {
@@ -83,95 +83,95 @@ filter-filter_map {X = X} q f g h (x ∷ xs) = by (f x) (filter-filter_map q f g
     by None r = r
     by (Some y) r = one y (q y) r
 
-reply_takes : (trace : List Entry) (rows : List CoreRow) (mail : List Message) (m : Message) (entry : ℕ) → m.load ≡ load.Reply entry → (k : ℕ)
-    → waiting_read trace rows (mail ++ m ∷ []) k ≡ keep_if (λ (r : WaitingRead). not (eqb r.entry entry)) (waiting_read trace rows mail k)
-unfolding waiting_read
-reply_takes trace rows mail m entry e k =
+reply_takes : (trace : List Entry) (steps : List CoreStep) (mail : List Message) (m : Message) (entry : ℕ) → m.load ≡ load.Reply entry → (k : ℕ)
+    → outstanding_read trace steps (mail ++ m ∷ []) k ≡ keep_if (λ (r : OutstandingRead). not (eqb r.entry entry)) (outstanding_read trace steps mail k)
+unfolding outstanding_read
+reply_takes trace steps mail m entry e k =
     ap (λ b. waits (is_read_at trace k && not b)) (answered-more mail m k ∙ ap (λ l. is_answered mail k || (is_reply_to k l || false)) e)
     ∙ by (is_read_at trace k) (is_answered mail k)
   where
-    read : WaitingRead
-    read = record { entry = k; issued = issue_cycle rows k }
+    read : OutstandingRead
+    read = record { entry = k; issued = issue_cycle steps k }
 
-    waits : Bool → Option WaitingRead
+    waits : Bool → Option OutstandingRead
     waits b = cond b (Some read) None
 
     last : (x : Bool) → waits (not (x || false)) ≡ cond (not x) (Some read) None
     last true = refl
     last false = refl
 
-    by : (b a : Bool) → waits (b && not (a || (eqb k entry || false))) ≡ keep_if (λ (r : WaitingRead). not (eqb r.entry entry)) (waits (b && not a))
+    by : (b a : Bool) → waits (b && not (a || (eqb k entry || false))) ≡ keep_if (λ (r : OutstandingRead). not (eqb r.entry entry)) (waits (b && not a))
     by false a = refl
     by true true = refl
     by true false = last (eqb k entry)
 
 -- the Reads that wait after a reply
-reads_waiting-reply : (trace : List Entry) (rows : List CoreRow) (mail : List Message) (m : Message) (entry : ℕ) → m.load ≡ load.Reply entry
-    → reads_waiting trace rows (mail ++ m ∷ []) ≡ filter (λ r. not (eqb r.entry entry)) (reads_waiting trace rows mail)
-unfolding reads_waiting
-reads_waiting-reply trace rows mail m entry e =
-    sym (filter-filter_map (λ (r : WaitingRead). not (eqb r.entry entry)) (waiting_read trace rows mail) (waiting_read trace rows (mail ++ m ∷ [])) (reply_takes trace rows mail m entry e) (below (issued_before rows)))
+outstanding_reads-reply : (trace : List Entry) (steps : List CoreStep) (mail : List Message) (m : Message) (entry : ℕ) → m.load ≡ load.Reply entry
+    → outstanding_reads trace steps (mail ++ m ∷ []) ≡ filter (λ r. not (eqb r.entry entry)) (outstanding_reads trace steps mail)
+unfolding outstanding_reads
+outstanding_reads-reply trace steps mail m entry e =
+    sym (filter-filter_map (λ (r : OutstandingRead). not (eqb r.entry entry)) (outstanding_read trace steps mail) (outstanding_read trace steps (mail ++ m ∷ [])) (reply_takes trace steps mail m entry e) (below (issued_before steps)))
 
-own : (trace : List Entry) (rows : List CoreRow) (mail : List Message) (k : ℕ) → IfSome (waiting_read trace rows mail k) (λ w. w.entry ≡ k)
-unfolding waiting_read
-own trace rows mail k = by (is_read_at trace k && not (is_answered mail k))
+own : (trace : List Entry) (steps : List CoreStep) (mail : List Message) (k : ℕ) → IfSome (outstanding_read trace steps mail k) (λ w. w.entry ≡ k)
+unfolding outstanding_read
+own trace steps mail k = by (is_read_at trace k && not (is_answered mail k))
   where
-    by : (b : Bool) → IfSome (cond {A = Option WaitingRead} b (Some (record { entry = k; issued = issue_cycle rows k })) None) (λ w. w.entry ≡ k)
+    by : (b : Bool) → IfSome (cond {A = Option OutstandingRead} b (Some (record { entry = k; issued = issue_cycle steps k })) None) (λ w. w.entry ≡ k)
     by true = refl
     by false = tt
 
--- numbers in a row that are kept stay in their order
-by_number : (f : ℕ → Option WaitingRead) → ((k : ℕ) → IfSome (f k) (λ w. w.entry ≡ k)) → (n a : ℕ)
-    → IsByNumber (filter_map f (range_with_len a n)) × Each (λ (w : WaitingRead). a ≤ w.entry) (filter_map f (range_with_len a n))
+-- numbers in a core_step that are kept stay in their order
+by_number : (f : ℕ → Option OutstandingRead) → ((k : ℕ) → IfSome (f k) (λ w. w.entry ≡ k)) → (n a : ℕ)
+    → IsByNumber (filter_map f (range_with_len a n)) × Each (λ (w : OutstandingRead). a ≤ w.entry) (filter_map f (range_with_len a n))
 by_number f h zero a = (tt, tt)
 by_number f h (suc n) a = by (f a) (h a) (by_number f h n (a + 1))
   where
-    others : List WaitingRead
+    others : List OutstandingRead
     others = filter_map f (range_with_len (a + 1) n)
 
-    by : (o : Option WaitingRead) → IfSome o (λ w. w.entry ≡ a) → IsByNumber others × Each (λ (w : WaitingRead). a + 1 ≤ w.entry) others
-        → IsByNumber (cons_option o others) × Each (λ (w : WaitingRead). a ≤ w.entry) (cons_option o others)
-    by None is r = (r.0, Each-weaker (λ (w : WaitingRead). a + 1 ≤ w.entry) (λ w. a ≤ w.entry) (λ w l. omega arith) others r.1)
+    by : (o : Option OutstandingRead) → IfSome o (λ w. w.entry ≡ a) → IsByNumber others × Each (λ (w : OutstandingRead). a + 1 ≤ w.entry) others
+        → IsByNumber (cons_option o others) × Each (λ (w : OutstandingRead). a ≤ w.entry) (cons_option o others)
+    by None is r = (r.0, Each-weaker (λ (w : OutstandingRead). a + 1 ≤ w.entry) (λ w. a ≤ w.entry) (λ w l. omega arith) others r.1)
     by (Some read) is r = (
-      (Each-weaker (λ (w : WaitingRead). a + 1 ≤ w.entry) (λ w. read.entry < w.entry) (λ w l. omega arith) others r.1, r.0),
-      (omega arith, Each-weaker (λ (w : WaitingRead). a + 1 ≤ w.entry) (λ w. a ≤ w.entry) (λ w l. omega arith) others r.1),
+      (Each-weaker (λ (w : OutstandingRead). a + 1 ≤ w.entry) (λ w. read.entry < w.entry) (λ w l. omega arith) others r.1, r.0),
+      (omega arith, Each-weaker (λ (w : OutstandingRead). a + 1 ≤ w.entry) (λ w. a ≤ w.entry) (λ w l. omega arith) others r.1),
     )
 
-pub waiting-by_number : (trace : List Entry) (rows : List CoreRow) (mail : List Message) → IsByNumber (reads_waiting trace rows mail)
-unfolding reads_waiting
-waiting-by_number trace rows mail = (by_number (waiting_read trace rows mail) (own trace rows mail) (issued_before rows) 0).0
+pub outstanding-by_number : (trace : List Entry) (steps : List CoreStep) (mail : List Message) → IsByNumber (outstanding_reads trace steps mail)
+unfolding outstanding_reads
+outstanding-by_number trace steps mail = (by_number (outstanding_read trace steps mail) (own trace steps mail) (issued_before steps) 0).0
 
-find_own : (f : ℕ → Option WaitingRead) → ((k : ℕ) → IfSome (f k) (λ w. w.entry ≡ k)) → (e : ℕ) (r : WaitingRead) → f e ≡ Some r → r.entry ≡ e
+find_own : (f : ℕ → Option OutstandingRead) → ((k : ℕ) → IfSome (f k) (λ w. w.entry ≡ k)) → (e : ℕ) (r : OutstandingRead) → f e ≡ Some r → r.entry ≡ e
     → (n a : ℕ) → a ≤ e → e < a + n → find (λ w. eqb w.entry e) (filter_map f (range_with_len a n)) ≡ Some r
 find_own f h e r is same zero a l b = absurd (omega arith)
 find_own f h e r is same (suc n) a l b =
     ⊎_elim
     (λ less. before (find_own f h e r is same n (a + 1) (omega arith) (omega arith)) less (f a) (h a))
     (λ most. let at : a ≡ e = omega arith in
-    ap (λ o. find (λ (w : WaitingRead). eqb w.entry e) (cons_option o (filter_map f (range_with_len (a + 1) n)))) (ap f at ∙ is)
-    ∙ ap (λ b. cond b (Some r) (find (λ (w : WaitingRead). eqb w.entry e) (filter_map f (range_with_len (a + 1) n)))) (eq-eqb r.entry e same))
+    ap (λ o. find (λ (w : OutstandingRead). eqb w.entry e) (cons_option o (filter_map f (range_with_len (a + 1) n)))) (ap f at ∙ is)
+    ∙ ap (λ b. cond b (Some r) (find (λ (w : OutstandingRead). eqb w.entry e) (filter_map f (range_with_len (a + 1) n)))) (eq-eqb r.entry e same))
     (cases_lt a e)
   where
-    before : find (λ (w : WaitingRead). eqb w.entry e) (filter_map f (range_with_len (a + 1) n)) ≡ Some r → a < e → (o : Option WaitingRead) → IfSome o (λ w. w.entry ≡ a)
-        → find (λ (w : WaitingRead). eqb w.entry e) (cons_option o (filter_map f (range_with_len (a + 1) n))) ≡ Some r
+    before : find (λ (w : OutstandingRead). eqb w.entry e) (filter_map f (range_with_len (a + 1) n)) ≡ Some r → a < e → (o : Option OutstandingRead) → IfSome o (λ w. w.entry ≡ a)
+        → find (λ (w : OutstandingRead). eqb w.entry e) (cons_option o (filter_map f (range_with_len (a + 1) n))) ≡ Some r
     before i less None own = i
     before i less (Some w) own =
-        ap (λ b. cond b (Some w) (find (λ (w : WaitingRead). eqb w.entry e) (filter_map f (range_with_len (a + 1) n)))) (ne_eqb w.entry e (λ same. omega arith)) ∙ i
+        ap (λ b. cond b (Some w) (find (λ (w : OutstandingRead). eqb w.entry e) (filter_map f (range_with_len (a + 1) n)))) (ne_eqb w.entry e (λ same. omega arith)) ∙ i
 
 -- an awaited reply is of a Read that waits
-awaited_waits : (trace : List Entry) (rows : List CoreRow) (mail : List Message) (entry : ℕ) → IsAwaited trace rows mail entry
-    → waiting_read trace rows mail entry ≡ Some (record { entry = entry; issued = issue_cycle rows entry })
-unfolding waiting_read
-awaited_waits trace rows mail entry h = ap₂ waits h.is_of_a_read h.is_first
+awaited_waits : (trace : List Entry) (steps : List CoreStep) (mail : List Message) (entry : ℕ) → IsAwaited trace steps mail entry
+    → outstanding_read trace steps mail entry ≡ Some (record { entry = entry; issued = issue_cycle steps entry })
+unfolding outstanding_read
+awaited_waits trace steps mail entry h = ap₂ waits h.is_of_a_read h.is_first
   where
-    waits : Bool → Bool → Option WaitingRead
-    waits b a = cond (b && not a) (Some (record { entry = entry; issued = issue_cycle rows entry })) None
+    waits : Bool → Bool → Option OutstandingRead
+    waits b a = cond (b && not a) (Some (record { entry = entry; issued = issue_cycle steps entry })) None
 
-pub awaited_found : (trace : List Entry) (rows : List CoreRow) (mail : List Message) (entry : ℕ) → IsAwaited trace rows mail entry
-    → find (λ r. eqb r.entry entry) (reads_waiting trace rows mail) ≡ Some (record { entry = entry; issued = issue_cycle rows entry })
-unfolding reads_waiting
-awaited_found trace rows mail entry h =
-    find_own (waiting_read trace rows mail) (own trace rows mail) entry _ (awaited_waits trace rows mail entry h) refl (issued_before rows) 0 (omega arith) (omega (arith, h.is_issued))
+pub awaited_found : (trace : List Entry) (steps : List CoreStep) (mail : List Message) (entry : ℕ) → IsAwaited trace steps mail entry
+    → find (λ r. eqb r.entry entry) (outstanding_reads trace steps mail) ≡ Some (record { entry = entry; issued = issue_cycle steps entry })
+unfolding outstanding_reads
+awaited_found trace steps mail entry h =
+    find_own (outstanding_read trace steps mail) (own trace steps mail) entry _ (awaited_waits trace steps mail entry h) refl (issued_before steps) 0 (omega arith) (omega (arith, h.is_issued))
 
 length-filter-le : {X : Type 0} (p : X → Bool) (xs : List X) → length (filter p xs) ≤ length xs
 length-filter-le p [] = omega arith
@@ -197,62 +197,62 @@ had-more s core mail m channel write =
 answered-kept : (mail : List Message) (m : Message) (entry : ℕ) → is_answered mail entry ≡ true → is_answered (mail ++ m ∷ []) entry ≡ true
 answered-kept mail m entry h = answered-more mail m entry ∙ ap (λ b. b || (is_reply_to entry m.load || false)) h
 
-past-receives : (s : Config) (core : ℕ) (trace : List Entry) (rows : List CoreRow) (mail : List Message) (m : Message) → IsPast s core trace rows mail → m.arrival ≡ length rows
-    → FollowsItsEntry rows m → length (filter is_reply (mail ++ m ∷ [])) + length (reads_waiting trace rows (mail ++ m ∷ [])) ≤ issued_before rows
-    → IsPast s core trace rows (mail ++ m ∷ [])
-past-receives s core trace rows mail m past now follows answered =
+past-receives : (s : Config) (core : ℕ) (trace : List Entry) (steps : List CoreStep) (mail : List Message) (m : Message) → IsPast s core trace steps mail → m.arrival ≡ length steps
+    → FollowsItsEntry steps m → length (filter is_reply (mail ++ m ∷ [])) + length (outstanding_reads trace steps (mail ++ m ∷ [])) ≤ issued_before steps
+    → IsPast s core trace steps (mail ++ m ∷ [])
+past-receives s core trace steps mail m past now follows answered =
     record {
       fits = past.fits;
       issued = past.issued;
       retired = past.retired;
       window = past.window;
-      arrived = Each-append (λ (x : Message). x.arrival ≤ length rows) mail (m ∷ []) past.arrived (omega arith, tt);
-      follows = Each-append (FollowsItsEntry rows) mail (m ∷ []) past.follows (follows, tt);
+      arrived = Each-append (λ (x : Message). x.arrival ≤ length steps) mail (m ∷ []) past.arrived (omega arith, tt);
+      follows = Each-append (FollowsItsEntry steps) mail (m ∷ []) past.follows (follows, tt);
       done = λ entry l read. answered-kept mail m entry (past.done entry l read);
       answered = answered;
       paid = λ channel write. omega (arith, past.paid channel write, had-more s core mail m channel write);
     }
 
 -- what comes in the cycle changes no statistics of those before it
-stats-receive : (s : Config) (core : ℕ) (trace : List Entry) (rows : List CoreRow) (mail : List Message) (m : Message) → m.arrival ≡ length rows
-    → core_stats s core trace rows (mail ++ m ∷ []) ≡ core_stats s core trace rows mail
-stats-receive s core trace rows mail m now = core_stats-later s core trace rows mail (m ∷ []) (omega arith, tt)
+stats-receive : (s : Config) (core : ℕ) (trace : List Entry) (steps : List CoreStep) (mail : List Message) (m : Message) → m.arrival ≡ length steps
+    → core_stats s core trace steps (mail ++ m ∷ []) ≡ core_stats s core trace steps mail
+stats-receive s core trace steps mail m now = core_stats-later s core trace steps mail (m ∷ []) (omega arith, tt)
 
-replies_in-more : (rows : List CoreRow) (mail : List Message) (m : Message) → m.arrival ≡ length rows
-    → replies_in (length rows) (mail ++ m ∷ []) ≡ replies_in (length rows) mail ++ cond (is_reply m) (m ∷ []) []
+replies_in-more : (steps : List CoreStep) (mail : List Message) (m : Message) → m.arrival ≡ length steps
+    → replies_in (length steps) (mail ++ m ∷ []) ≡ replies_in (length steps) mail ++ cond (is_reply m) (m ∷ []) []
 unfolding replies_in
-replies_in-more rows mail m now =
-    filter-append (is_reply_in (length rows)) mail (m ∷ [])
-    ∙ ap (λ b. filter (is_reply_in (length rows)) mail ++ cond (is_reply m && b) (m ∷ []) []) (eq-eqb m.arrival (length rows) now)
-    ∙ ap (λ b. filter (is_reply_in (length rows)) mail ++ cond b (m ∷ []) []) (and_true (is_reply m))
+replies_in-more steps mail m now =
+    filter-append (is_reply_in (length steps)) mail (m ∷ [])
+    ∙ ap (λ b. filter (is_reply_in (length steps)) mail ++ cond (is_reply m && b) (m ∷ []) []) (eq-eqb m.arrival (length steps) now)
+    ∙ ap (λ b. filter (is_reply_in (length steps)) mail ++ cond b (m ∷ []) []) (and_true (is_reply m))
   where
     and_true : (b : Bool) → (b && true) ≡ b
     and_true true = refl
     and_true false = refl
 
-reply_follows : (rows : List CoreRow) (m : Message) (entry : ℕ) → m.load ≡ load.Reply entry → m.arrival ≡ length rows → entry < issued_before rows → FollowsItsEntry rows m
-reply_follows rows m entry e now l =
-    subst (λ x. IfSome (replied_entry x) (λ k. k < issued_before (take m.arrival rows))) (sym e)
-    (subst (λ r. entry < issued_before r) (sym (ap (λ n. take n rows) now ∙ take-length rows)) l)
+reply_follows : (steps : List CoreStep) (m : Message) (entry : ℕ) → m.load ≡ load.Reply entry → m.arrival ≡ length steps → entry < issued_before steps → FollowsItsEntry steps m
+reply_follows steps m entry e now l =
+    subst (λ x. IfSome (replied_entry x) (λ k. k < issued_before (take m.arrival steps))) (sym e)
+    (subst (λ r. entry < issued_before r) (sym (ap (λ n. take n steps) now ∙ take-length steps)) l)
 
 -- the core after a reply
-pub reply-stands : (s : Config) (core : ℕ) (trace : List Entry) (rows : List CoreRow) (mail : List Message) (m : Message) (a b : CoreView) (entry : ℕ)
-    → StandsAt s core trace rows mail a → m.arrival ≡ length rows → m.load ≡ load.Reply entry → IsAwaited trace rows mail entry
-    → b ≡ after_reply a (record { entry = entry; issued = issue_cycle rows entry })
-    → StandsAt s core trace rows (mail ++ m ∷ []) b
+pub reply-stands : (s : Config) (core : ℕ) (trace : List Entry) (steps : List CoreStep) (mail : List Message) (m : Message) (a b : CoreView) (entry : ℕ)
+    → StandsAt s core trace steps mail a → m.arrival ≡ length steps → m.load ≡ load.Reply entry → IsAwaited trace steps mail entry
+    → b ≡ after_reply a (record { entry = entry; issued = issue_cycle steps entry })
+    → StandsAt s core trace steps (mail ++ m ∷ []) b
 unfolding core_stats waited
-reply-stands s core trace rows mail m a b entry h now is due e =
-    subst (StandsAt s core trace rows (mail ++ m ∷ [])) (sym e)
+reply-stands s core trace steps mail m a b entry h now is due e =
+    subst (StandsAt s core trace steps (mail ++ m ∷ [])) (sym e)
     (record {
       config = h.config;
       number = h.number;
       entries = h.entries;
       now = h.now;
-      waiting = ap (filter (λ (r : WaitingRead). not (eqb r.entry entry))) h.waiting ∙ sym (reads_waiting-reply trace rows mail m entry is);
+      outstanding = ap (filter (λ (r : OutstandingRead). not (eqb r.entry entry))) h.outstanding ∙ sym (outstanding_reads-reply trace steps mail m entry is);
       channels = h.channels;
       credits = λ channel l. h.credits channel l ∙ ap Some (same_credits channel (had-same channel));
       stats = stats;
-      past = past-receives s core trace rows mail m h.past now (reply_follows rows m entry is now due.is_issued) answered;
+      past = past-receives s core trace steps mail m h.past now (reply_follows steps m entry is now due.is_issued) answered;
     })
   where
     is_a_reply : is_reply m ≡ true
@@ -269,37 +269,37 @@ reply-stands s core trace rows mail m a b entry h now is due e =
         and_false false = refl
 
     same_credits : (channel : ℕ) → ((write : Bool) → credits_had s core mail channel write ≡ credits_had s core (mail ++ m ∷ []) channel write)
-        → credits_now s core trace rows mail channel ≡ credits_now s core trace rows (mail ++ m ∷ []) channel
+        → credits_now s core trace steps mail channel ≡ credits_now s core trace steps (mail ++ m ∷ []) channel
     same_credits channel g =
-        let both : ℕ → ℕ → Credits = λ r w. record { read = r - credits_spent s core trace rows channel false; write = w - credits_spent s core trace rows channel true } in
+        let both : ℕ → ℕ → Credits = λ r w. record { read = r - credits_spent s core trace steps channel false; write = w - credits_spent s core trace steps channel true } in
         ap₂ both (g false) (g true)
 
-    answered : length (filter is_reply (mail ++ m ∷ [])) + length (reads_waiting trace rows (mail ++ m ∷ [])) ≤ issued_before rows
+    answered : length (filter is_reply (mail ++ m ∷ [])) + length (outstanding_reads trace steps (mail ++ m ∷ [])) ≤ issued_before steps
     answered =
         let one : filter is_reply (mail ++ m ∷ []) ≡ filter is_reply mail ++ m ∷ [] = filter-append is_reply mail (m ∷ []) ∙ ap (λ b. filter is_reply mail ++ cond b (m ∷ []) []) is_a_reply in
         let n : length (filter is_reply (mail ++ m ∷ [])) ≡ suc (length (filter is_reply mail)) = ap length one ∙ length-push_suc (filter is_reply mail) m in
-        let w : length (reads_waiting trace rows (mail ++ m ∷ [])) ≡ length (filter (λ (r : WaitingRead). not (eqb r.entry entry)) (reads_waiting trace rows mail)) = ap length (reads_waiting-reply trace rows mail m entry is) in
-        let k = length-without (λ (r : WaitingRead). eqb r.entry entry) _ (reads_waiting trace rows mail) (awaited_found trace rows mail entry due) in
+        let w : length (outstanding_reads trace steps (mail ++ m ∷ [])) ≡ length (filter (λ (r : OutstandingRead). not (eqb r.entry entry)) (outstanding_reads trace steps mail)) = ap length (outstanding_reads-reply trace steps mail m entry is) in
+        let k = length-without (λ (r : OutstandingRead). eqb r.entry entry) _ (outstanding_reads trace steps mail) (awaited_found trace steps mail entry due) in
         omega (arith, h.past.answered)
 
-    arrived : replies_in (length rows) (mail ++ m ∷ []) ≡ replies_in (length rows) mail ++ m ∷ []
-    arrived = replies_in-more rows mail m now ∙ ap (λ b. replies_in (length rows) mail ++ cond b (m ∷ []) []) is_a_reply
+    arrived : replies_in (length steps) (mail ++ m ∷ []) ≡ replies_in (length steps) mail ++ m ∷ []
+    arrived = replies_in-more steps mail m now ∙ ap (λ b. replies_in (length steps) mail ++ cond b (m ∷ []) []) is_a_reply
 
-    stats : record a.stats { replies = a.stats.replies + 1; read_latency = a.stats.read_latency + (a.now - issue_cycle rows entry) }
-        ≡ core_joined (core_stats s core trace rows (mail ++ m ∷ [])) (core_arrived rows (mail ++ m ∷ []))
+    stats : record a.stats { replies = a.stats.replies + 1; read_latency = a.stats.read_latency + (a.now - issue_cycle steps entry) }
+        ≡ core_joined (core_stats s core trace steps (mail ++ m ∷ [])) (core_arrived steps (mail ++ m ∷ []))
     stats =
-        let wait = λ (x : Message). wait_of rows x.arrival (replied_entry x.load) in
-        let one : length (replies_in (length rows) (mail ++ m ∷ [])) ≡ length (replies_in (length rows) mail) + 1 = ap length arrived ∙ length-push_suc (replies_in (length rows) mail) m ∙ sym (add-one _) in
-        let sum : waited rows (replies_in (length rows) (mail ++ m ∷ [])) ≡ waited rows (replies_in (length rows) mail) + (a.now - issue_cycle rows entry) =
-        ap (sum_by wait) arrived ∙ sum_by_push wait (replies_in (length rows) mail) m
-        ∙ ap (λ n. sum_by wait (replies_in (length rows) mail) + n) (ap (λ x. wait_of rows m.arrival (replied_entry x)) is ∙ ap (λ n. n - issue_cycle rows entry) (now ∙ sym h.now)) in
+        let wait = λ (x : Message). wait_of steps x.arrival (replied_entry x.load) in
+        let one : length (replies_in (length steps) (mail ++ m ∷ [])) ≡ length (replies_in (length steps) mail) + 1 = ap length arrived ∙ length-push_suc (replies_in (length steps) mail) m ∙ sym (add-one _) in
+        let sum : waited steps (replies_in (length steps) (mail ++ m ∷ [])) ≡ waited steps (replies_in (length steps) mail) + (a.now - issue_cycle steps entry) =
+        ap (sum_by wait) arrived ∙ sum_by_push wait (replies_in (length steps) mail) m
+        ∙ ap (λ n. sum_by wait (replies_in (length steps) mail) + n) (ap (λ x. wait_of steps m.arrival (replied_entry x)) is ∙ ap (λ n. n - issue_cycle steps entry) (now ∙ sym h.now)) in
         let more : CoreStats → ℕ → ℕ → CoreStats = λ x r l. record x { replies = r; read_latency = l } in
-        let before = core_joined (core_stats s core trace rows mail) (core_arrived rows mail) in
-        let r1 : a.stats.replies + 1 ≡ (core_stats s core trace rows mail).replies + length (replies_in (length rows) (mail ++ m ∷ [])) = omega (arith, ap (λ (x : CoreStats). x.replies) h.stats) in
-        let r2 : a.stats.read_latency + (a.now - issue_cycle rows entry) ≡ (core_stats s core trace rows mail).read_latency + waited rows (replies_in (length rows) (mail ++ m ∷ [])) = omega (arith, ap (λ (x : CoreStats). x.read_latency) h.stats) in
-        ap (λ x. more x (a.stats.replies + 1) (a.stats.read_latency + (a.now - issue_cycle rows entry))) h.stats
+        let before = core_joined (core_stats s core trace steps mail) (core_arrived steps mail) in
+        let r1 : a.stats.replies + 1 ≡ (core_stats s core trace steps mail).replies + length (replies_in (length steps) (mail ++ m ∷ [])) = omega (arith, ap (λ (x : CoreStats). x.replies) h.stats) in
+        let r2 : a.stats.read_latency + (a.now - issue_cycle steps entry) ≡ (core_stats s core trace steps mail).read_latency + waited steps (replies_in (length steps) (mail ++ m ∷ [])) = omega (arith, ap (λ (x : CoreStats). x.read_latency) h.stats) in
+        ap (λ x. more x (a.stats.replies + 1) (a.stats.read_latency + (a.now - issue_cycle steps entry))) h.stats
         ∙ ap₂ (more before) r1 r2
-        ∙ ap (λ x. core_joined x (core_arrived rows (mail ++ m ∷ []))) (sym (stats-receive s core trace rows mail m now))
+        ∙ ap (λ x. core_joined x (core_arrived steps (mail ++ m ∷ []))) (sym (stats-receive s core trace steps mail m now))
 
 channel_of_link : (s : Config) (core channel : ℕ) → channel < s.channels → credit_link s core channel / 3 % s.channels ≡ channel
 channel_of_link s core channel l =
@@ -307,20 +307,20 @@ channel_of_link s core channel l =
     let f : (3 * x + 2) / 3 ≡ x = omega arith in
     ap (λ y. y % s.channels) f ∙ mod-mul-add core s.channels channel l
 
-same_waiting : (trace : List Entry) (rows : List CoreRow) (a b : List Message) → ((k : ℕ) → is_answered a k ≡ is_answered b k) → reads_waiting trace rows a ≡ reads_waiting trace rows b
-unfolding reads_waiting waiting_read
-same_waiting trace rows a b h =
-    filter_map_range-same (waiting_read trace rows a) (waiting_read trace rows b) 0 (issued_before rows)
+same_waiting : (trace : List Entry) (steps : List CoreStep) (a b : List Message) → ((k : ℕ) → is_answered a k ≡ is_answered b k) → outstanding_reads trace steps a ≡ outstanding_reads trace steps b
+unfolding outstanding_reads outstanding_read
+same_waiting trace steps a b h =
+    filter_map_range-same (outstanding_read trace steps a) (outstanding_read trace steps b) 0 (issued_before steps)
     (λ k l. ap (λ x. waits (0 + k) (is_read_at trace (0 + k) && not x)) (h (0 + k)))
   where
-    waits : ℕ → Bool → Option WaitingRead
-    waits k b = cond b (Some (record { entry = k; issued = issue_cycle rows k })) None
+    waits : ℕ → Bool → Option OutstandingRead
+    waits k b = cond b (Some (record { entry = k; issued = issue_cycle steps k })) None
 
 -- a credit that is owed has room
-owed_room : (s : Config) (core : ℕ) (trace : List Entry) (rows : List CoreRow) (mail : List Message) (link : ℕ) (write : Bool) (due : IsOwed s core trace rows mail link write)
-    → credits_of_kind write (credits_now s core trace rows mail due.channel) + 1 < 2 ^ 64
-owed_room s core trace rows mail link true due = omega (arith, due.has_room, s.core_in_range.write_credits_in.1)
-owed_room s core trace rows mail link false due = omega (arith, due.has_room, s.core_in_range.read_credits_in.1)
+owed_room : (s : Config) (core : ℕ) (trace : List Entry) (steps : List CoreStep) (mail : List Message) (link : ℕ) (write : Bool) (due : IsOwed s core trace steps mail link write)
+    → credits_of_kind write (credits_now s core trace steps mail due.channel) + 1 < 2 ^ 64
+owed_room s core trace steps mail link true due = omega (arith, due.has_room, s.core_in_range.write_credits_in.1)
+owed_room s core trace steps mail link false due = omega (arith, due.has_room, s.core_in_range.read_credits_in.1)
 
 same_pair : (d c : Credits) → d.read ≡ c.read → d.write ≡ c.write → d ≡ c
 same_pair d c e f = let both : ℕ → ℕ → Credits = λ r w. record { read = r; write = w } in ap₂ both e f
@@ -331,42 +331,42 @@ more-of true hr hw sr sw l k d e f = same_pair d _ (omega arith) (omega arith)
 more-of false hr hw sr sw l k d e f = same_pair d _ (omega arith) (omega arith)
 
 -- the core after a credit
-pub credit-stands : (s : Config) (core : ℕ) (trace : List Entry) (rows : List CoreRow) (mail : List Message) (m : Message) (a b : CoreView) (write : Bool) (entry : ℕ)
-    → StandsAt s core trace rows mail a → m.arrival ≡ length rows → m.load ≡ load.Credit write entry → IsOwed s core trace rows mail m.link write
+pub credit-stands : (s : Config) (core : ℕ) (trace : List Entry) (steps : List CoreStep) (mail : List Message) (m : Message) (a b : CoreView) (write : Bool) (entry : ℕ)
+    → StandsAt s core trace steps mail a → m.arrival ≡ length steps → m.load ≡ load.Credit write entry → IsOwed s core trace steps mail m.link write
     → b ≡ record a { credits = b.credits } → length b.credits ≡ length a.credits
     → ((channel : ℕ) (c : Credits) → slice_get a.credits channel ≡ Some c → (m.link / 3 % a.config.channels ≡ channel → credits_of_kind write c + 1 < 2 ^ 64)
     → slice_get b.credits channel ≡ Some (cond (eqb (m.link / 3 % a.config.channels) channel) (more_credit write c) c))
-    → StandsAt s core trace rows (mail ++ m ∷ []) b
+    → StandsAt s core trace steps (mail ++ m ∷ []) b
 unfolding core_stats
-credit-stands s core trace rows mail m a b write entry h now is due rest len each =
+credit-stands s core trace steps mail m a b write entry h now is due rest len each =
     record {
       config = ap (λ (x : CoreView). x.config) rest ∙ h.config;
       number = ap (λ (x : CoreView). x.core) rest ∙ h.number;
       entries = ap (λ (x : CoreView). x.trace) rest ∙ h.entries;
       now = ap (λ (x : CoreView). x.now) rest ∙ h.now;
-      waiting = ap (λ (x : CoreView). x.waiting) rest ∙ h.waiting ∙ sym waits;
+      outstanding = ap (λ (x : CoreView). x.outstanding) rest ∙ h.outstanding ∙ sym waits;
       channels = len ∙ h.channels;
-      credits = λ channel l. each channel (credits_now s core trace rows mail channel) (h.credits channel l) (λ e. room channel (sym at ∙ e))
-          ∙ ap Some (ap (λ n. cond (eqb n channel) (more_credit write (credits_now s core trace rows mail channel)) (credits_now s core trace rows mail channel)) at ∙ owed channel l);
+      credits = λ channel l. each channel (credits_now s core trace steps mail channel) (h.credits channel l) (λ e. room channel (sym at ∙ e))
+          ∙ ap Some (ap (λ n. cond (eqb n channel) (more_credit write (credits_now s core trace steps mail channel)) (credits_now s core trace steps mail channel)) at ∙ owed channel l);
       stats = ap (λ (x : CoreView). x.stats) rest ∙ h.stats ∙ stats;
-      past = past-receives s core trace rows mail m h.past now (subst (λ x. IfSome (replied_entry x) (λ k. k < issued_before (take m.arrival rows))) (sym is) tt) answered;
+      past = past-receives s core trace steps mail m h.past now (subst (λ x. IfSome (replied_entry x) (λ k. k < issued_before (take m.arrival steps))) (sym is) tt) answered;
     }
   where
     at : m.link / 3 % a.config.channels ≡ due.channel
     at = ap₂ (λ x (y : Config). x / 3 % y.channels) due.on_its_link h.config ∙ channel_of_link s core due.channel due.exists
 
-    room : (channel : ℕ) → due.channel ≡ channel → credits_of_kind write (credits_now s core trace rows mail channel) + 1 < 2 ^ 64
-    room channel e = subst (λ k. credits_of_kind write (credits_now s core trace rows mail k) + 1 < 2 ^ 64) e (owed_room s core trace rows mail m.link write due)
+    room : (channel : ℕ) → due.channel ≡ channel → credits_of_kind write (credits_now s core trace steps mail channel) + 1 < 2 ^ 64
+    room channel e = subst (λ k. credits_of_kind write (credits_now s core trace steps mail k) + 1 < 2 ^ 64) e (owed_room s core trace steps mail m.link write due)
 
-    owed : (channel : ℕ) → channel < s.channels → cond (eqb due.channel channel) (more_credit write (credits_now s core trace rows mail channel)) (credits_now s core trace rows mail channel) ≡ credits_now s core trace rows (mail ++ m ∷ []) channel
+    owed : (channel : ℕ) → channel < s.channels → cond (eqb due.channel channel) (more_credit write (credits_now s core trace steps mail channel)) (credits_now s core trace steps mail channel) ≡ credits_now s core trace steps (mail ++ m ∷ []) channel
     owed channel l =
         ⊎_elim
-        (λ same. ap (λ b. cond b (more_credit write (credits_now s core trace rows mail channel)) (credits_now s core trace rows mail channel)) (eq-eqb due.channel channel same)
-        ∙ sym (more-of write (credits_had s core mail channel false) (credits_had s core mail channel true) (credits_spent s core trace rows channel false) (credits_spent s core trace rows channel true)
-        (h.past.paid channel false) (h.past.paid channel true) (credits_now s core trace rows (mail ++ m ∷ []) channel)
-        (ap (λ n. n - credits_spent s core trace rows channel false) (had-more s core mail m channel false ∙ ap (λ n. credits_had s core mail channel false + n) (here channel same false)))
-        (ap (λ n. n - credits_spent s core trace rows channel true) (had-more s core mail m channel true ∙ ap (λ n. credits_had s core mail channel true + n) (here channel same true)))))
-        (λ other. ap (λ b. cond b (more_credit write (credits_now s core trace rows mail channel)) (credits_now s core trace rows mail channel)) (ne_eqb due.channel channel other)
+        (λ same. ap (λ b. cond b (more_credit write (credits_now s core trace steps mail channel)) (credits_now s core trace steps mail channel)) (eq-eqb due.channel channel same)
+        ∙ sym (more-of write (credits_had s core mail channel false) (credits_had s core mail channel true) (credits_spent s core trace steps channel false) (credits_spent s core trace steps channel true)
+        (h.past.paid channel false) (h.past.paid channel true) (credits_now s core trace steps (mail ++ m ∷ []) channel)
+        (ap (λ n. n - credits_spent s core trace steps channel false) (had-more s core mail m channel false ∙ ap (λ n. credits_had s core mail channel false + n) (here channel same false)))
+        (ap (λ n. n - credits_spent s core trace steps channel true) (had-more s core mail m channel true ∙ ap (λ n. credits_had s core mail channel true + n) (here channel same true)))))
+        (λ other. ap (λ b. cond b (more_credit write (credits_now s core trace steps mail channel)) (credits_now s core trace steps mail channel)) (ne_eqb due.channel channel other)
         ∙ keeps channel (elsewhere channel l other))
         (same_or_not due.channel channel)
       where
@@ -382,9 +382,9 @@ credit-stands s core trace rows mail m a b write entry h now is due rest len eac
             ap (λ b. one_if (b && is_credit w m.load)) (ne_eqb m.link (credit_link s core channel)
             (λ e. other (sym (channel_of_link s core due.channel due.exists) ∙ ap (λ n. n / 3 % s.channels) (sym due.on_its_link ∙ e) ∙ channel_of_link s core channel l)))
 
-        keeps : (channel : ℕ) → ((w : Bool) → one_if (is_credit_from (credit_link s core channel) w m) ≡ 0) → credits_now s core trace rows mail channel ≡ credits_now s core trace rows (mail ++ m ∷ []) channel
+        keeps : (channel : ℕ) → ((w : Bool) → one_if (is_credit_from (credit_link s core channel) w m) ≡ 0) → credits_now s core trace steps mail channel ≡ credits_now s core trace steps (mail ++ m ∷ []) channel
         keeps channel g =
-            let both : ℕ → ℕ → Credits = λ r w. record { read = r - credits_spent s core trace rows channel false; write = w - credits_spent s core trace rows channel true } in
+            let both : ℕ → ℕ → Credits = λ r w. record { read = r - credits_spent s core trace steps channel false; write = w - credits_spent s core trace steps channel true } in
             let e : credits_had s core mail channel false ≡ credits_had s core (mail ++ m ∷ []) channel false = omega (arith, had-more s core mail m channel false, g false) in
             let f : credits_had s core mail channel true ≡ credits_had s core (mail ++ m ∷ []) channel true = omega (arith, had-more s core mail m channel true, g true) in
             ap₂ both e f
@@ -395,20 +395,20 @@ credit-stands s core trace rows mail m a b write entry h now is due rest len eac
     same_answered : (k : ℕ) → is_answered (mail ++ m ∷ []) k ≡ is_answered mail k
     same_answered k = answered-more mail m k ∙ ap (λ x. is_answered mail k || (is_reply_to k x || false)) is ∙ or-false (is_answered mail k)
 
-    waits : reads_waiting trace rows (mail ++ m ∷ []) ≡ reads_waiting trace rows mail
-    waits = same_waiting trace rows (mail ++ m ∷ []) mail same_answered
+    waits : outstanding_reads trace steps (mail ++ m ∷ []) ≡ outstanding_reads trace steps mail
+    waits = same_waiting trace steps (mail ++ m ∷ []) mail same_answered
 
     same_replies : filter is_reply (mail ++ m ∷ []) ≡ filter is_reply mail
     same_replies = filter-append is_reply mail (m ∷ []) ∙ ap (λ b. filter is_reply mail ++ cond b (m ∷ []) []) not_a_reply ∙ append-nil (filter is_reply mail)
 
-    answered : length (filter is_reply (mail ++ m ∷ [])) + length (reads_waiting trace rows (mail ++ m ∷ [])) ≤ issued_before rows
+    answered : length (filter is_reply (mail ++ m ∷ [])) + length (outstanding_reads trace steps (mail ++ m ∷ [])) ≤ issued_before steps
     answered = omega (arith, ap length same_replies, ap length waits, h.past.answered)
 
-    arrived : replies_in (length rows) (mail ++ m ∷ []) ≡ replies_in (length rows) mail
-    arrived = replies_in-more rows mail m now ∙ ap (λ b. replies_in (length rows) mail ++ cond b (m ∷ []) []) not_a_reply ∙ append-nil (replies_in (length rows) mail)
+    arrived : replies_in (length steps) (mail ++ m ∷ []) ≡ replies_in (length steps) mail
+    arrived = replies_in-more steps mail m now ∙ ap (λ b. replies_in (length steps) mail ++ cond b (m ∷ []) []) not_a_reply ∙ append-nil (replies_in (length steps) mail)
 
-    stats : core_joined (core_stats s core trace rows mail) (core_arrived rows mail) ≡ core_joined (core_stats s core trace rows (mail ++ m ∷ [])) (core_arrived rows (mail ++ m ∷ []))
+    stats : core_joined (core_stats s core trace steps mail) (core_arrived steps mail) ≡ core_joined (core_stats s core trace steps (mail ++ m ∷ [])) (core_arrived steps (mail ++ m ∷ []))
     stats =
-        let with : CoreStats → List Message → CoreStats = λ x ms. record x { replies = x.replies + length ms; read_latency = x.read_latency + waited rows ms } in
-        let e : core_joined (core_stats s core trace rows mail) (core_arrived rows mail) ≡ core_joined (core_stats s core trace rows mail) (core_arrived rows (mail ++ m ∷ [])) = rw arrived refl in
-        e ∙ ap (λ x. core_joined x (core_arrived rows (mail ++ m ∷ []))) (sym (stats-receive s core trace rows mail m now))
+        let with : CoreStats → List Message → CoreStats = λ x ms. record x { replies = x.replies + length ms; read_latency = x.read_latency + waited steps ms } in
+        let e : core_joined (core_stats s core trace steps mail) (core_arrived steps mail) ≡ core_joined (core_stats s core trace steps mail) (core_arrived steps (mail ++ m ∷ [])) = rw arrived refl in
+        e ∙ ap (λ x. core_joined x (core_arrived steps (mail ++ m ∷ []))) (sym (stats-receive s core trace steps mail m now))

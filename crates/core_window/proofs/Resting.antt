@@ -7,7 +7,7 @@ use Rattle.sim_base.specs.declared.config.Config.{Config}
 use Rattle.sim_base.specs.History.{issued_before, retired_before}
 use Rattle.sim_base.specs.Machine.{core_run}
 use Rattle.sim_base.specs.Windows.{step, retires}
-use Rattle.sim_base.specs.declared.history.CoreRow.{CoreRow}
+use Rattle.sim_base.specs.declared.history.CoreStep.{CoreStep}
 use Rattle.sim_base.specs.declared.message.Message.{Message}
 use Rattle.sim_base.specs.declared.trace.Entry.{Entry}
 use Rattle.sim_base.specs.declared.trace.Stop.{Stop}
@@ -15,13 +15,13 @@ use Rattle.cpu_trace.specs.declared.entries.MemoryEntry.{MemoryEntry}
 use Rattle.statistics.specs.Cores.{core_joined, core_times, CoreFits}
 use Rattle.statistics.specs.declared.cores.CoreStats.{CoreStats}
 use Rattle.core_window.specs.Inside.{StandsAt, IsStanding, IsLike, Does}
-use Rattle.core_window.specs.Rests.{idle_row, Rests, IsFirstAct, IsAtRest, MayRest, MaySkip}
+use Rattle.core_window.specs.Rests.{idle_step, Rests, IsFirstAct, IsAtRest, MayRest, MaySkip}
 use Rattle.core_window.proofs.Stretching.{steady-none, steady-more, none_issues, idle-like}
 use Rattle.core_window.proofs.Turning.{like-self, issued_of, retired_of}
 use Rattle.core_window.proofs.Retiring.{retires-by}
 use Rattle.core_window.specs.Causes.{first_undone}
-use Rattle.core_window.specs.Waiting.{reads_waiting}
-use Rattle.core_window.specs.declared.waiting.WaitingRead.{WaitingRead}
+use Rattle.core_window.specs.Outstanding.{outstanding_reads}
+use Rattle.core_window.specs.declared.outstanding.OutstandingRead.{OutstandingRead}
 use Rattle.sim_base.proofs.Ordered.{Each-weaker}
 use Rattle.std.specs.List.{AllByRecursion as Each}
 use Rattle.core_window.specs.Stands.{StandsFor}
@@ -32,14 +32,14 @@ use Rattle.core_window.proofs.Running.{stands-at, stands-for, length-core_run}
 
 -- what is counted in a cycle in which a core does nothing
 abbrev pub idle_counts : Stop → ℕ → CoreStats
-idle_counts why now = cycle_counts idle_row why None 0 0 now
+idle_counts why now = cycle_counts idle_step why None 0 0 now
 
 -- a core after n such cycles
 abbrev pub idle_view : CoreView → Stop → ℕ → CoreView
 idle_view a why n = record a { now = a.now + n; stats = core_joined a.stats (core_times n (idle_counts why a.now)) }
 
-replicate-more : (n : ℕ) (x : CoreRow) (rows : List CoreRow) → (rows ++ replicate n x) ++ x ∷ [] ≡ rows ++ replicate (suc n) x
-replicate-more n x rows = append_assoc rows (replicate n x) (x ∷ []) ∙ ap (λ l. rows ++ l) (same n)
+replicate-more : (n : ℕ) (x : CoreStep) (steps : List CoreStep) → (steps ++ replicate n x) ++ x ∷ [] ≡ steps ++ replicate (suc n) x
+replicate-more n x steps = append_assoc steps (replicate n x) (x ∷ []) ∙ ap (λ l. steps ++ l) (same n)
   where
     same : (m : ℕ) → replicate m x ++ x ∷ [] ≡ replicate (suc m) x
     same zero = refl
@@ -48,128 +48,128 @@ replicate-more n x rows = append_assoc rows (replicate n x) (x ∷ []) ∙ ap (�
 -- a core whose turn is idle, whatever else it counted
 abbrev pub TurnsIdle : CoreView → Stop → Option MemoryEntry → Type 0
 TurnsIdle a why memory =
-    (v : CoreView) (s : Config) (core : ℕ) (trace : List Entry) (rows : List CoreRow) (mail : List Message)
-    → IsLike a v → StandsAt s core trace rows mail v → IsTurn s core trace rows mail idle_row why memory
+    (v : CoreView) (s : Config) (core : ℕ) (trace : List Entry) (steps : List CoreStep) (mail : List Message)
+    → IsLike a v → StandsAt s core trace steps mail v → IsTurn s core trace steps mail idle_step why memory
 
 -- in no cycle
-idle-none : (s : Config) (core : ℕ) (trace : List Entry) (rows : List CoreRow) (mail : List Message) (a : CoreView) (why : Stop) → StandsAt s core trace rows mail a
-    → StandsAt s core trace (rows ++ []) mail (idle_view a why 0)
-idle-none s core trace rows mail a why h =
-    subst (λ (v : CoreView). StandsAt s core trace (rows ++ []) mail v) (steady-none a idle_row why) (subst (λ r. StandsAt s core trace r mail a) (sym (append-nil rows)) h)
+idle-none : (s : Config) (core : ℕ) (trace : List Entry) (steps : List CoreStep) (mail : List Message) (a : CoreView) (why : Stop) → StandsAt s core trace steps mail a
+    → StandsAt s core trace (steps ++ []) mail (idle_view a why 0)
+idle-none s core trace steps mail a why h =
+    subst (λ (v : CoreView). StandsAt s core trace (steps ++ []) mail v) (steady-none a idle_step why) (subst (λ r. StandsAt s core trace r mail a) (sym (append-nil steps)) h)
 
-idle-stands : (s : Config) (core : ℕ) (trace : List Entry) (rows : List CoreRow) (mail : List Message) (a : CoreView) (why : Stop) (memory : Option MemoryEntry)
-    → TurnsIdle a why memory → StandsAt s core trace rows mail a → (n : ℕ) → StandsAt s core trace (rows ++ replicate n idle_row) mail (idle_view a why n) × Rests s core trace rows mail n
+idle-stands : (s : Config) (core : ℕ) (trace : List Entry) (steps : List CoreStep) (mail : List Message) (a : CoreView) (why : Stop) (memory : Option MemoryEntry)
+    → TurnsIdle a why memory → StandsAt s core trace steps mail a → (n : ℕ) → StandsAt s core trace (steps ++ replicate n idle_step) mail (idle_view a why n) × Rests s core trace steps mail n
 unfolding core_run
-idle-stands s core trace rows mail a why memory turn h zero = (idle-none s core trace rows mail a why h, sym (append-nil rows))
-idle-stands s core trace rows mail a why memory turn h (suc n) = by (idle-stands s core trace rows mail a why memory turn h n)
+idle-stands s core trace steps mail a why memory turn h zero = (idle-none s core trace steps mail a why h, sym (append-nil steps))
+idle-stands s core trace steps mail a why memory turn h (suc n) = by (idle-stands s core trace steps mail a why memory turn h n)
   where
-    by : StandsAt s core trace (rows ++ replicate n idle_row) mail (idle_view a why n) × Rests s core trace rows mail n
-        → StandsAt s core trace (rows ++ replicate (suc n) idle_row) mail (idle_view a why (suc n)) × Rests s core trace rows mail (suc n)
+    by : StandsAt s core trace (steps ++ replicate n idle_step) mail (idle_view a why n) × Rests s core trace steps mail n
+        → StandsAt s core trace (steps ++ replicate (suc n) idle_step) mail (idle_view a why (suc n)) × Rests s core trace steps mail (suc n)
     by d =
-        let before = rows ++ replicate n idle_row in
+        let before = steps ++ replicate n idle_step in
         let v = idle_view a why n in
-        let t : IsTurn s core trace before mail idle_row why memory = turn v s core trace before mail (idle-like a why n) d.0 in
+        let t : IsTurn s core trace before mail idle_step why memory = turn v s core trace before mail (idle-like a why n) d.0 in
         let none : memory ≡ None = none_issues trace (issued_before before) memory t.issues in
-        let t0 : IsTurn s core trace before mail idle_row why None = subst (IsTurn s core trace before mail idle_row why) none t in
-        let stands : StandsAt s core trace (before ++ idle_row ∷ []) mail (idle_view a why (suc n)) =
-        step-stands s core trace before mail v (idle_view a why (suc n)) idle_row why None d.0 t0
+        let t0 : IsTurn s core trace before mail idle_step why None = subst (IsTurn s core trace before mail idle_step why) none t in
+        let stands : StandsAt s core trace (before ++ idle_step ∷ []) mail (idle_view a why (suc n)) =
+        step-stands s core trace before mail v (idle_view a why (suc n)) idle_step why None d.0 t0
         (record {
           config = refl;
           number = refl;
           entries = refl;
           now = omega arith;
-          waiting = sym (append-nil a.waiting);
+          outstanding = sym (append-nil a.outstanding);
           channels = refl;
           credits = λ channel c e. e;
-          stats = sym (steady-more a.stats idle_row why n v.stats.retired (length a.trace) v.now (inl refl));
+          stats = sym (steady-more a.stats idle_step why n v.stats.retired (length a.trace) v.now (inl refl));
         }) in (
-          subst (λ r. StandsAt s core trace r mail (idle_view a why (suc n))) (replicate-more n idle_row rows) stands,
-          ap (λ r. r ++ (step s core trace r mail).0 ∷ []) d.1 ∙ ap (λ (x : CoreRow × Stop). before ++ x.0 ∷ []) t.does ∙ replicate-more n idle_row rows,
+          subst (λ r. StandsAt s core trace r mail (idle_view a why (suc n))) (replicate-more n idle_step steps) stands,
+          ap (λ r. r ++ (step s core trace r mail).0 ∷ []) d.1 ∙ ap (λ (x : CoreStep × Stop). before ++ x.0 ∷ []) t.does ∙ replicate-more n idle_step steps,
         )
 
 pub rest-standing : (a : CoreView) → MayRest a → IsStanding a
-rest-standing a may = record { s = may.s; core = may.core; trace = may.trace; rows = may.rows; mail = may.mail; stands = stands-at may.s may.core may.trace may.rows may.mail a may.stands }
+rest-standing a may = record { s = may.s; core = may.core; trace = may.trace; steps = may.steps; mail = may.mail; stands = stands-at may.s may.core may.trace may.steps may.mail a may.stands }
 
-pub row_is_idle : (row : CoreRow) → row.retired ≡ 0 → row.issued ≡ 0 → row ≡ idle_row
-row_is_idle row e f = let both : ℕ → ℕ → CoreRow = λ r i. record { retired = r; issued = i } in ap₂ both e f
+pub step_is_idle : (core_step : CoreStep) → core_step.retired ≡ 0 → core_step.issued ≡ 0 → core_step ≡ idle_step
+step_is_idle core_step e f = let both : ℕ → ℕ → CoreStep = λ r i. record { retired = r; issued = i } in ap₂ both e f
 
-does_row : (s : Config) (core : ℕ) (trace : List Entry) (rows : List CoreRow) (mail : List Message) (a : CoreView) (row : CoreRow) (why : Stop) (memory : Option MemoryEntry)
-    → Does a row why memory → StandsFor s core trace rows mail a → (step s core trace rows mail).0 ≡ row
-does_row s core trace rows mail a row why memory turn h =
-    ap (λ (x : CoreRow × Stop). x.0) (turn a s core trace rows mail (like-self a) (stands-at s core trace rows mail a h)).does
+does_step : (s : Config) (core : ℕ) (trace : List Entry) (steps : List CoreStep) (mail : List Message) (a : CoreView) (core_step : CoreStep) (why : Stop) (memory : Option MemoryEntry)
+    → Does a core_step why memory → StandsFor s core trace steps mail a → (step s core trace steps mail).0 ≡ core_step
+does_step s core trace steps mail a core_step why memory turn h =
+    ap (λ (x : CoreStep × Stop). x.0) (turn a s core trace steps mail (like-self a) (stands-at s core trace steps mail a h)).does
 
-pub at_rest : (s : Config) (core : ℕ) (trace : List Entry) (rows : List CoreRow) (mail : List Message) (a : CoreView) (row : CoreRow) (why : Stop) (memory : Option MemoryEntry)
-    → row ≡ idle_row → Does a row why memory → StandsFor s core trace rows mail a → IsAtRest s core trace rows mail
-at_rest s core trace rows mail a row why memory e turn h =
+pub at_rest : (s : Config) (core : ℕ) (trace : List Entry) (steps : List CoreStep) (mail : List Message) (a : CoreView) (core_step : CoreStep) (why : Stop) (memory : Option MemoryEntry)
+    → core_step ≡ idle_step → Does a core_step why memory → StandsFor s core trace steps mail a → IsAtRest s core trace steps mail
+at_rest s core trace steps mail a core_step why memory e turn h =
     record {
-      now = does_row s core trace rows mail a row why memory turn h ∙ e;
-      rests = λ n. (idle-stands s core trace rows mail a why memory (subst (λ r. Does a r why memory) e turn) (stands-at s core trace rows mail a h) n).1;
+      now = does_step s core trace steps mail a core_step why memory turn h ∙ e;
+      rests = λ n. (idle-stands s core trace steps mail a why memory (subst (λ r. Does a r why memory) e turn) (stands-at s core trace steps mail a h) n).1;
     }
 
-pub first_act : (s : Config) (core : ℕ) (trace : List Entry) (rows : List CoreRow) (mail : List Message) (a : CoreView) (row : CoreRow) (why : Stop) (memory : Option MemoryEntry) (from : ℕ)
-    → a.now ≡ from → (row ≡ idle_row → ⊥) → Does a row why memory → StandsFor s core trace rows mail a → IsFirstAct s core trace rows mail from
+pub first_act : (s : Config) (core : ℕ) (trace : List Entry) (steps : List CoreStep) (mail : List Message) (a : CoreView) (core_step : CoreStep) (why : Stop) (memory : Option MemoryEntry) (from : ℕ)
+    → a.now ≡ from → (core_step ≡ idle_step → ⊥) → Does a core_step why memory → StandsFor s core trace steps mail a → IsFirstAct s core trace steps mail from
 unfolding core_run
-first_act s core trace rows mail a row why memory from at acts turn h =
-    let z : from - length rows ≡ 0 = omega (arith, h.now) in
+first_act s core trace steps mail a core_step why memory from at acts turn h =
+    let z : from - length steps ≡ 0 = omega (arith, h.now) in
     record {
       since = omega (arith, h.now);
-      rests = λ n l. let none : n ≡ 0 = omega (arith, h.now) in subst (λ k. Rests s core trace rows mail k) (sym none) (sym (append-nil rows));
-      acts = λ e. acts (sym (does_row s core trace rows mail a row why memory turn h) ∙ ap (λ k. (step s core trace (core_run s core trace rows mail k) mail).0) (sym z) ∙ e);
+      rests = λ n l. let none : n ≡ 0 = omega (arith, h.now) in subst (λ k. Rests s core trace steps mail k) (sym none) (sym (append-nil steps));
+      acts = λ e. acts (sym (does_step s core trace steps mail a core_step why memory turn h) ∙ ap (λ k. (step s core trace (core_run s core trace steps mail k) mail).0) (sym z) ∙ e);
     }
 
 -- a core whose next entry is done retires it
-pub retires-first : (s : Config) (core : ℕ) (trace : List Entry) (rows : List CoreRow) (mail : List Message) (a : CoreView) (from : ℕ) → a.now ≡ from → 0 < a.config.width
-    → a.stats.retired < first_undone a.stats.issued a.waiting → StandsFor s core trace rows mail a → IsFirstAct s core trace rows mail from
+pub retires-first : (s : Config) (core : ℕ) (trace : List Entry) (steps : List CoreStep) (mail : List Message) (a : CoreView) (from : ℕ) → a.now ≡ from → 0 < a.config.width
+    → a.stats.retired < first_undone a.stats.issued a.outstanding → StandsFor s core trace steps mail a → IsFirstAct s core trace steps mail from
 unfolding core_run step
-retires-first s core trace rows mail a from at width done h =
-    let z : from - length rows ≡ 0 = omega (arith, h.now) in
-    let st : StandsAt s core trace rows mail a = stands-at s core trace rows mail a h in
-    let P : Config → ℕ → ℕ → List WaitingRead → Type 0 = λ x i r ws. (0 < x.width) × (r < first_undone i ws) in
-    let f1 : P s a.stats.issued a.stats.retired a.waiting = subst (λ x. P x a.stats.issued a.stats.retired a.waiting) h.config (width, done) in
-    let f2 : P s (issued_before rows) a.stats.retired a.waiting = subst (λ x. P s x a.stats.retired a.waiting) (issued_of s core trace rows mail a st) f1 in
-    let f3 : P s (issued_before rows) (retired_before rows) a.waiting = subst (λ x. P s (issued_before rows) x a.waiting) (retired_of s core trace rows mail a st) f2 in
-    let f4 : P s (issued_before rows) (retired_before rows) (reads_waiting trace rows mail) = subst (P s (issued_before rows) (retired_before rows)) h.waiting f3 in
+retires-first s core trace steps mail a from at width done h =
+    let z : from - length steps ≡ 0 = omega (arith, h.now) in
+    let st : StandsAt s core trace steps mail a = stands-at s core trace steps mail a h in
+    let P : Config → ℕ → ℕ → List OutstandingRead → Type 0 = λ x i r ws. (0 < x.width) × (r < first_undone i ws) in
+    let f1 : P s a.stats.issued a.stats.retired a.outstanding = subst (λ x. P x a.stats.issued a.stats.retired a.outstanding) h.config (width, done) in
+    let f2 : P s (issued_before steps) a.stats.retired a.outstanding = subst (λ x. P s x a.stats.retired a.outstanding) (issued_of s core trace steps mail a st) f1 in
+    let f3 : P s (issued_before steps) (retired_before steps) a.outstanding = subst (λ x. P s (issued_before steps) x a.outstanding) (retired_of s core trace steps mail a st) f2 in
+    let f4 : P s (issued_before steps) (retired_before steps) (outstanding_reads trace steps mail) = subst (P s (issued_before steps) (retired_before steps)) h.outstanding f3 in
     record {
       since = omega (arith, h.now);
-      rests = λ n l. let none : n ≡ 0 = omega (arith, h.now) in subst (λ k. Rests s core trace rows mail k) (sym none) (sym (append-nil rows));
+      rests = λ n l. let none : n ≡ 0 = omega (arith, h.now) in subst (λ k. Rests s core trace steps mail k) (sym none) (sym (append-nil steps));
       acts = λ e.
-          let idle : (step s core trace rows mail).0 ≡ idle_row = ap (λ k. (step s core trace (core_run s core trace rows mail k) mail).0) (sym z) ∙ e in
-          let none : retires s trace rows mail ≡ 0 = ap (λ (r : CoreRow). r.retired) idle in
-          omega (arith, f4.0, f4.1, none, retires-by s core trace rows mail h.past);
+          let idle : (step s core trace steps mail).0 ≡ idle_step = ap (λ k. (step s core trace (core_run s core trace steps mail k) mail).0) (sym z) ∙ e in
+          let none : retires s trace steps mail ≡ 0 = ap (λ (r : CoreStep). r.retired) idle in
+          omega (arith, f4.0, f4.1, none, retires-by s core trace steps mail h.past);
     }
 
-length-rested : (s : Config) (core : ℕ) (trace : List Entry) (rows : List CoreRow) (mail : List Message) (n : ℕ) → Rests s core trace rows mail n → length (rows ++ replicate n idle_row) ≡ length rows + n
-length-rested s core trace rows mail n h = ap length (sym h) ∙ length-core_run s core trace rows mail n
+length-rested : (s : Config) (core : ℕ) (trace : List Entry) (steps : List CoreStep) (mail : List Message) (n : ℕ) → Rests s core trace steps mail n → length (steps ++ replicate n idle_step) ≡ length steps + n
+length-rested s core trace steps mail n h = ap length (sym h) ∙ length-core_run s core trace steps mail n
 
-rested : (s : Config) (core : ℕ) (trace : List Entry) (rows : List CoreRow) (mail : List Message) (v : CoreView) (n : ℕ) → Each (λ (m : Message). m.arrival < length rows) mail
-    → StandsAt s core trace (rows ++ replicate n idle_row) mail v × Rests s core trace rows mail n → StandsFor s core trace (rows ++ replicate n idle_row) mail v × Rests s core trace rows mail n
-rested s core trace rows mail v n before d =
-    let len = length-rested s core trace rows mail n d.1 in (
-      stands-for s core trace (rows ++ replicate n idle_row) mail v d.0
-          (Each-weaker (λ (m : Message). m.arrival < length rows) (λ m. m.arrival < length (rows ++ replicate n idle_row)) (λ m k. omega arith) mail before),
+rested : (s : Config) (core : ℕ) (trace : List Entry) (steps : List CoreStep) (mail : List Message) (v : CoreView) (n : ℕ) → Each (λ (m : Message). m.arrival < length steps) mail
+    → StandsAt s core trace (steps ++ replicate n idle_step) mail v × Rests s core trace steps mail n → StandsFor s core trace (steps ++ replicate n idle_step) mail v × Rests s core trace steps mail n
+rested s core trace steps mail v n before d =
+    let len = length-rested s core trace steps mail n d.1 in (
+      stands-for s core trace (steps ++ replicate n idle_step) mail v d.0
+          (Each-weaker (λ (m : Message). m.arrival < length steps) (λ m. m.arrival < length (steps ++ replicate n idle_step)) (λ m k. omega arith) mail before),
       d.1,
     )
 
 -- a core that skips
-pub skipped : (a : CoreView) (until : ℕ) (row : CoreRow) (why : Stop) (memory : Option MemoryEntry) → MaySkip a until → Does a row why memory
-    → (s : Config) (core : ℕ) (trace : List Entry) (rows : List CoreRow) (mail : List Message) → StandsFor s core trace rows mail a
-    → StandsFor s core trace (rows ++ replicate (until - a.now) idle_row) mail (idle_view a why (until - a.now)) × Rests s core trace rows mail (until - a.now)
+pub skipped : (a : CoreView) (until : ℕ) (core_step : CoreStep) (why : Stop) (memory : Option MemoryEntry) → MaySkip a until → Does a core_step why memory
+    → (s : Config) (core : ℕ) (trace : List Entry) (steps : List CoreStep) (mail : List Message) → StandsFor s core trace steps mail a
+    → StandsFor s core trace (steps ++ replicate (until - a.now) idle_step) mail (idle_view a why (until - a.now)) × Rests s core trace steps mail (until - a.now)
 unfolding core_run
-skipped a until row why memory may turn s core trace rows mail h =
+skipped a until core_step why memory may turn s core trace steps mail h =
     ⊎_elim
     (λ less. let m = may.may in
-    let e : row ≡ idle_row = sym (does_row m.s m.core m.trace m.rows m.mail a row why memory turn m.stands) ∙ may.rests less in
-    rested s core trace rows mail (idle_view a why (until - a.now)) (until - a.now) h.before
-    (idle-stands s core trace rows mail a why memory (subst (λ r. Does a r why memory) e turn) (stands-at s core trace rows mail a h) (until - a.now)))
+    let e : core_step ≡ idle_step = sym (does_step m.s m.core m.trace m.steps m.mail a core_step why memory turn m.stands) ∙ may.rests less in
+    rested s core trace steps mail (idle_view a why (until - a.now)) (until - a.now) h.before
+    (idle-stands s core trace steps mail a why memory (subst (λ r. Does a r why memory) e turn) (stands-at s core trace steps mail a h) (until - a.now)))
     (λ most. let z : until - a.now ≡ 0 = omega arith in
-    subst (λ n. StandsFor s core trace (rows ++ replicate n idle_row) mail (idle_view a why n) × Rests s core trace rows mail n) (sym z)
-    (rested s core trace rows mail (idle_view a why 0) 0 h.before (idle-none s core trace rows mail a why (stands-at s core trace rows mail a h), sym (append-nil rows))))
+    subst (λ n. StandsFor s core trace (steps ++ replicate n idle_step) mail (idle_view a why n) × Rests s core trace steps mail n) (sym z)
+    (rested s core trace steps mail (idle_view a why 0) 0 h.before (idle-none s core trace steps mail a why (stands-at s core trace steps mail a h), sym (append-nil steps))))
     (cases_lt a.now until)
 
 -- its counts fit
-pub skip-fits : (a : CoreView) (until : ℕ) (row : CoreRow) (why : Stop) (memory : Option MemoryEntry) → MaySkip a until → Does a row why memory → until < 2 ^ 62
+pub skip-fits : (a : CoreView) (until : ℕ) (core_step : CoreStep) (why : Stop) (memory : Option MemoryEntry) → MaySkip a until → Does a core_step why memory → until < 2 ^ 62
     → CoreFits (core_joined a.stats (core_times (until - a.now) (idle_counts why a.now)))
-skip-fits a until row why memory may turn early =
+skip-fits a until core_step why memory may turn early =
     let m = may.may in
-    let d = (skipped a until row why memory may turn m.s m.core m.trace m.rows m.mail m.stands).0 in
-    subst CoreFits (sym d.stats) (past-fits m.s m.core m.trace (m.rows ++ replicate (until - a.now) idle_row) m.mail d.past d.past.fits (omega (arith, d.now, may.since)))
+    let d = (skipped a until core_step why memory may turn m.s m.core m.trace m.steps m.mail m.stands).0 in
+    subst CoreFits (sym d.stats) (past-fits m.s m.core m.trace (m.steps ++ replicate (until - a.now) idle_step) m.mail d.past d.past.fits (omega (arith, d.now, may.since)))

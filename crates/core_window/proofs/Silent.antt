@@ -8,14 +8,14 @@ use Rattle.sim_base.specs.declared.config.Config.{Config}
 use Rattle.sim_base.specs.History.{issued_before, core_messages}
 use Rattle.sim_base.specs.Machine.{core_run}
 use Rattle.sim_base.specs.Windows.{step}
-use Rattle.sim_base.specs.declared.history.CoreRow.{CoreRow}
+use Rattle.sim_base.specs.declared.history.CoreStep.{CoreStep}
 use Rattle.sim_base.specs.declared.message.Message.{Message}
 use Rattle.sim_base.specs.declared.trace.Entry.{Entry}
 use Rattle.cpu_trace.specs.NextMemory.{IsPlainBetween}
 use Rattle.statistics.proofs.CoreBounds.{first_stop-le_width, issues-le}
 use Rattle.statistics.proofs.CoreSteps.{issued_before-push}
 use Rattle.core_window.specs.Inside.{StandsAt}
-use Rattle.core_window.specs.Rests.{idle_row, IsAtRest}
+use Rattle.core_window.specs.Rests.{idle_step, IsAtRest}
 use Rattle.core_window.specs.Silence.{IsSilentUntil}
 use Rattle.core_window.specs.Stands.{StandsFor}
 use Rattle.core_window.specs.Turns.{IsSeen}
@@ -25,84 +25,84 @@ use Rattle.core_window.proofs.Running.{stands-at}
 use Rattle.core_window.proofs.Turning.{issued_of}
 
 -- a core issues its width of entries at most in a cycle
-width-most : (s : Config) (core : ℕ) (trace : List Entry) (rows : List CoreRow) (mail : List Message) → (step s core trace rows mail).0.issued ≤ s.width
+width-most : (s : Config) (core : ℕ) (trace : List Entry) (steps : List CoreStep) (mail : List Message) → (step s core trace steps mail).0.issued ≤ s.width
 unfolding step
-width-most s core trace rows mail = first_stop-le_width s core trace mail (core_messages s core trace rows) (length rows) (issued_before rows) _
+width-most s core trace steps mail = first_stop-le_width s core trace mail (core_messages s core trace steps) (length steps) (issued_before steps) _
 
 -- what it issued in n cycles
-issued-more : (s : Config) (core : ℕ) (trace : List Entry) (rows : List CoreRow) (mail : List Message) (n : ℕ) → issued_before rows ≤ issued_before (core_run s core trace rows mail n)
+issued-more : (s : Config) (core : ℕ) (trace : List Entry) (steps : List CoreStep) (mail : List Message) (n : ℕ) → issued_before steps ≤ issued_before (core_run s core trace steps mail n)
 unfolding core_run
-issued-more s core trace rows mail zero = omega arith
-issued-more s core trace rows mail (suc n) =
-    let before = core_run s core trace rows mail n in
-    omega (arith, issued-more s core trace rows mail n, issued_before-push before (step s core trace before mail).0)
+issued-more s core trace steps mail zero = omega arith
+issued-more s core trace steps mail (suc n) =
+    let before = core_run s core trace steps mail n in
+    omega (arith, issued-more s core trace steps mail n, issued_before-push before (step s core trace before mail).0)
 
-issued-most : (s : Config) (core : ℕ) (trace : List Entry) (rows : List CoreRow) (mail : List Message) (n : ℕ) → issued_before (core_run s core trace rows mail n) ≤ issued_before rows + n * s.width
+issued-most : (s : Config) (core : ℕ) (trace : List Entry) (steps : List CoreStep) (mail : List Message) (n : ℕ) → issued_before (core_run s core trace steps mail n) ≤ issued_before steps + n * s.width
 unfolding core_run
-issued-most s core trace rows mail zero = omega arith
-issued-most s core trace rows mail (suc n) =
-    let before = core_run s core trace rows mail n in
-    omega (arith, issued-most s core trace rows mail n, issued_before-push before (step s core trace before mail).0, width-most s core trace before mail)
+issued-most s core trace steps mail zero = omega arith
+issued-most s core trace steps mail (suc n) =
+    let before = core_run s core trace steps mail n in
+    omega (arith, issued-most s core trace steps mail n, issued_before-push before (step s core trace before mail).0, width-most s core trace before mail)
 
-issued-within : (s : Config) (core : ℕ) (trace : List Entry) (rows : List CoreRow) (mail : List Message) → issued_before rows ≤ length trace → (n : ℕ) → issued_before (core_run s core trace rows mail n) ≤ length trace
+issued-within : (s : Config) (core : ℕ) (trace : List Entry) (steps : List CoreStep) (mail : List Message) → issued_before steps ≤ length trace → (n : ℕ) → issued_before (core_run s core trace steps mail n) ≤ length trace
 unfolding core_run
-issued-within s core trace rows mail l zero = l
-issued-within s core trace rows mail l (suc n) =
-    let before = core_run s core trace rows mail n in
-    omega (arith, issues-le s core trace before mail (issued-within s core trace rows mail l n), issued_before-push before (step s core trace before mail).0)
+issued-within s core trace steps mail l zero = l
+issued-within s core trace steps mail l (suc n) =
+    let before = core_run s core trace steps mail n in
+    omega (arith, issues-le s core trace before mail (issued-within s core trace steps mail l n), issued_before-push before (step s core trace before mail).0)
 
 -- where none but Plain entries are issued, nothing is sent
-silent-by : (s : Config) (core : ℕ) (trace : List Entry) (rows : List CoreRow) (mail : List Message) (one n : ℕ) → IsPlainBetween trace (issued_before rows) one
-    → ((m : ℕ) → m ≤ n → issued_before (core_run s core trace rows mail m) ≤ one)
-    → core_messages s core trace (core_run s core trace rows mail n) ≡ core_messages s core trace rows
+silent-by : (s : Config) (core : ℕ) (trace : List Entry) (steps : List CoreStep) (mail : List Message) (one n : ℕ) → IsPlainBetween trace (issued_before steps) one
+    → ((m : ℕ) → m ≤ n → issued_before (core_run s core trace steps mail m) ≤ one)
+    → core_messages s core trace (core_run s core trace steps mail n) ≡ core_messages s core trace steps
 unfolding core_run
-silent-by s core trace rows mail one zero plain within = refl
-silent-by s core trace rows mail one (suc n) plain within =
-    let before = core_run s core trace rows mail n in
-    let row = (step s core trace before mail).0 in
-    let more = issued-more s core trace rows mail n in
-    let l : issued_before before + row.issued ≤ one = omega (arith, within (suc n) (omega arith), issued_before-push before row) in
-    messages-push s core trace before row None (λ k from to. plain k (omega arith) (omega arith))
+silent-by s core trace steps mail one zero plain within = refl
+silent-by s core trace steps mail one (suc n) plain within =
+    let before = core_run s core trace steps mail n in
+    let core_step = (step s core trace before mail).0 in
+    let more = issued-more s core trace steps mail n in
+    let l : issued_before before + core_step.issued ≤ one = omega (arith, within (suc n) (omega arith), issued_before-push before core_step) in
+    messages-push s core trace before core_step None (λ k from to. plain k (omega arith) (omega arith))
     ∙ append-nil (core_messages s core trace before)
-    ∙ silent-by s core trace rows mail one n plain (λ m k. within m (omega arith))
+    ∙ silent-by s core trace steps mail one n plain (λ m k. within m (omega arith))
 
-idle-issued : (rows : List CoreRow) (n : ℕ) → issued_before (rows ++ replicate n idle_row) ≡ issued_before rows
-idle-issued rows zero = ap issued_before (append-nil rows)
-idle-issued rows (suc n) =
-    ap issued_before (sym (append_assoc rows (idle_row ∷ []) (replicate n idle_row)))
-    ∙ idle-issued (rows ++ idle_row ∷ []) n
-    ∙ (let e = issued_before-push rows idle_row in let l : issued_before (rows ++ idle_row ∷ []) ≡ issued_before rows = omega (arith, e) in l)
+idle-issued : (steps : List CoreStep) (n : ℕ) → issued_before (steps ++ replicate n idle_step) ≡ issued_before steps
+idle-issued steps zero = ap issued_before (append-nil steps)
+idle-issued steps (suc n) =
+    ap issued_before (sym (append_assoc steps (idle_step ∷ []) (replicate n idle_step)))
+    ∙ idle-issued (steps ++ idle_step ∷ []) n
+    ∙ (let e = issued_before-push steps idle_step in let l : issued_before (steps ++ idle_step ∷ []) ≡ issued_before steps = omega (arith, e) in l)
 
 -- a core that rests sends nothing
-pub rest-silent : (s : Config) (core : ℕ) (trace : List Entry) (rows : List CoreRow) (mail : List Message) (until : ℕ) → IsAtRest s core trace rows mail → IsSilentUntil s core trace rows mail until
-rest-silent s core trace rows mail until h n l =
-    silent-by s core trace rows mail (issued_before rows) n (λ k from to. absurd (omega arith))
-    (λ m k. let e : issued_before (core_run s core trace rows mail m) ≡ issued_before rows = ap issued_before (h.rests m) ∙ idle-issued rows m in omega (arith, e))
+pub rest-silent : (s : Config) (core : ℕ) (trace : List Entry) (steps : List CoreStep) (mail : List Message) (until : ℕ) → IsAtRest s core trace steps mail → IsSilentUntil s core trace steps mail until
+rest-silent s core trace steps mail until h n l =
+    silent-by s core trace steps mail (issued_before steps) n (λ k from to. absurd (omega arith))
+    (λ m k. let e : issued_before (core_run s core trace steps mail m) ≡ issued_before steps = ap issued_before (h.rests m) ∙ idle-issued steps m in omega (arith, e))
 
 -- a core sends nothing in the cycles that it takes to issue the Plain entries before its next Read or Write, each cycle its width of them
 pub plain-silent : (a : CoreView) (one two cycles until : ℕ) (entry : Entry) → IsSeen a.trace a.stats.issued one two entry
     → (one < length a.trace → a.stats.issued + cycles * a.config.width ≤ one) → until ≤ a.now + cycles
-    → (s : Config) (core : ℕ) (trace : List Entry) (rows : List CoreRow) (mail : List Message) → StandsFor s core trace rows mail a → IsSilentUntil s core trace rows mail until
-plain-silent a one two cycles until entry seen few near s core trace rows mail h n l =
-    silent-by s core trace rows mail one n moved.0.ahead.first.is_plain_before (λ m k. bound m (omega (arith, here.now)))
+    → (s : Config) (core : ℕ) (trace : List Entry) (steps : List CoreStep) (mail : List Message) → StandsFor s core trace steps mail a → IsSilentUntil s core trace steps mail until
+plain-silent a one two cycles until entry seen few near s core trace steps mail h n l =
+    silent-by s core trace steps mail one n moved.0.ahead.first.is_plain_before (λ m k. bound m (omega (arith, here.now)))
   where
-    here : StandsAt s core trace rows mail a
-    here = stands-at s core trace rows mail a h
+    here : StandsAt s core trace steps mail a
+    here = stands-at s core trace steps mail a h
 
     Few : Config → List Entry → ℕ → Type 0
     Few c t i = IsSeen t i one two entry × (one < length t → i + cycles * c.width ≤ one)
 
-    moved : Few s trace (issued_before rows)
+    moved : Few s trace (issued_before steps)
     moved =
-        subst (λ i. Few s trace i) (issued_of s core trace rows mail a here)
+        subst (λ i. Few s trace i) (issued_of s core trace steps mail a here)
         (subst (λ t. Few s t a.stats.issued) here.entries (subst (λ c. Few c a.trace a.stats.issued) here.config (seen, few)))
 
-    more : (m : ℕ) → m ≤ cycles → issued_before rows + cycles * s.width ≤ one → issued_before (core_run s core trace rows mail m) ≤ issued_before rows + m * s.width → issued_before (core_run s core trace rows mail m) ≤ one
+    more : (m : ℕ) → m ≤ cycles → issued_before steps + cycles * s.width ≤ one → issued_before (core_run s core trace steps mail m) ≤ issued_before steps + m * s.width → issued_before (core_run s core trace steps mail m) ≤ one
     more m k less most = let e : m * s.width ≤ cycles * s.width = mul-le-mul_right s.width k in omega (arith, e, less, most)
 
-    bound : (m : ℕ) → m ≤ cycles → issued_before (core_run s core trace rows mail m) ≤ one
+    bound : (m : ℕ) → m ≤ cycles → issued_before (core_run s core trace steps mail m) ≤ one
     bound m k =
         ⊎_elim
-        (λ (inside : one < length trace). more m k (moved.1 inside) (issued-most s core trace rows mail m))
-        (λ (over : length trace ≤ one). omega (arith, over, issued-within s core trace rows mail here.past.issued m))
+        (λ (inside : one < length trace). more m k (moved.1 inside) (issued-most s core trace steps mail m))
+        (λ (over : length trace ≤ one). omega (arith, over, issued-within s core trace steps mail here.past.issued m))
         (cases_lt one (length trace))

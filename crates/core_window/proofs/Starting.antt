@@ -12,7 +12,7 @@ use Rattle.statistics.specs.Runs.{credits_of}
 use Rattle.statistics.specs.declared.final_state.Credits.{Credits}
 use Rattle.core_window.specs.Stands.{IsPast, StandsFor}
 use Rattle.core_window.specs.Views.{CoreView}
-use Rattle.core_window.specs.Waiting.{reads_waiting}
+use Rattle.core_window.specs.Outstanding.{outstanding_reads}
 
 length-same : {X : Type 0} (n : ℕ) (x : X) → length (replicate n x) ≡ n
 length-same zero x = refl
@@ -48,7 +48,7 @@ unfolding core_stats issued_before retired_before reads writes replies read_late
 stats-first s core trace = rw (none-first trace) refl
 
 past-first : (s : Config) (core : ℕ) (trace : List Entry) → length trace ≤ 2 ^ 62 → IsPast s core trace [] []
-unfolding issued_before retired_before reads_waiting core_messages
+unfolding issued_before retired_before outstanding_reads core_messages
 past-first s core trace l =
     record {
       fits = l;
@@ -62,16 +62,16 @@ past-first s core trace l =
       paid = λ channel write. omega arith;
     }
 
-pub start-stands : (s : Config) (core : ℕ) (trace : List Entry) (v : CoreView) → v.config ≡ s → v.core ≡ core → v.trace ≡ trace → v.now ≡ 0 → v.waiting ≡ []
+pub start-stands : (s : Config) (core : ℕ) (trace : List Entry) (v : CoreView) → v.config ≡ s → v.core ≡ core → v.trace ≡ trace → v.now ≡ 0 → v.outstanding ≡ []
     → v.credits ≡ replicate s.channels (first_credits s) → v.stats ≡ core_none → length trace ≤ 2 ^ 62 → StandsFor s core trace [] [] v
-unfolding reads_waiting issued_before
-start-stands s core trace v config number entries now waiting credits stats l =
+unfolding outstanding_reads issued_before
+start-stands s core trace v config number entries now outstanding credits stats l =
     record {
       config = config;
       number = number;
       entries = entries;
       now = now;
-      waiting = waiting;
+      outstanding = outstanding;
       channels = ap length credits ∙ length-same s.channels (first_credits s);
       credits = λ channel b. ap (λ (cs : List Credits). slice_get cs channel) credits ∙ slice_get-same s.channels (first_credits s) channel b ∙ ap Some (sym (credits-first s core trace channel));
       stats = stats ∙ sym (stats-first s core trace);

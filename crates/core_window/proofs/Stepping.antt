@@ -1,4 +1,4 @@
--- A core that stands for some rows stands, after what it does in a cycle, for one row more.
+-- A core that stands for some steps stands, after what it does in a cycle, for one core_step more.
 use Rattle.std.proofs.Common.{get_or, ◌≡◌, ℕ, ◌+◌, ◌-◌, ◌^◌, ◌<◌, ◌≤◌, min, Bool, true, false, cond, not, ◌&&◌, eqb, ltb, leb, List, [], ◌∷◌, ◌++◌, length, take, drop, Option, Some, None, refl, sym, ap, ap₂, subst, ◌∙◌, add-zero, zero-add, arith, ⊎_elim}
 use Rattle.std.specs.Prelude.{slice_get, count_by, filter}
 use Rattle.std.specs.Option.{IfSome, option_to_list}
@@ -15,7 +15,7 @@ use Rattle.sim_base.specs.History.{retired_before, issued_before, core_messages}
 use Rattle.sim_base.specs.Places.{place_of}
 use Rattle.sim_base.specs.Windows.{is_credit, is_credit_on, is_request_for, credit_cap, held, lacks_credit, is_done, is_done_as, is_replied, done_from, retires, step}
 use Rattle.sim_base.specs.Machine.{core_run}
-use Rattle.sim_base.specs.declared.history.CoreRow.{CoreRow}
+use Rattle.sim_base.specs.declared.history.CoreStep.{CoreStep}
 use Rattle.sim_base.specs.declared.message.Message.{Message}
 use Rattle.sim_base.specs.declared.trace.Entry.{Entry}
 use Rattle.sim_base.specs.declared.trace.Entry.TheVariants.{Plain, Read, Write}
@@ -34,9 +34,9 @@ use Rattle.core_window.specs.Inside.{credits_now, core_arrived, StandsAt, Sends,
 use Rattle.core_window.specs.Stands.{IsPast, FollowsItsEntry, is_credit_from, credits_had, credits_spent}
 use Rattle.core_window.specs.Turns.{IsIssued, IsTurn, reads_issued, requests_issued, credit_after, cycle_counts, is_read_among, is_write_among}
 use Rattle.core_window.specs.Views.{CoreView}
-use Rattle.core_window.specs.declared.waiting.WaitingRead.{WaitingRead}
-use Rattle.core_window.specs.Waiting.{is_read_in, is_read_at, is_answered, reads_waiting}
-use Rattle.core_window.proofs.Issuing.{plain_others, reads_waiting-push, messages-push, is_spending_entry, is_spending, spent-push, credits-push}
+use Rattle.core_window.specs.declared.outstanding.OutstandingRead.{OutstandingRead}
+use Rattle.core_window.specs.Outstanding.{is_read_in, is_read_at, is_answered, outstanding_reads}
+use Rattle.core_window.proofs.Issuing.{plain_others, outstanding_reads-push, messages-push, is_spending_entry, is_spending, spent-push, credits-push}
 use Rattle.core_window.proofs.Retiring.{replied-answered}
 use Rattle.core_window.proofs.Segments.{count_none, count_one}
 
@@ -58,44 +58,44 @@ writes-issued trace first m (Some e) h =
     ∙ ap (λ o. count_by is_write (option_to_list o)) h.is_at ∙ one_counted is_write e.entry
 
 -- a reply of the cycle or of one before it followed its entry
-pub follows-read : (rows : List CoreRow) (row : CoreRow) (mail : List Message) → Each (λ m. m.arrival ≤ length rows) mail → Each (FollowsItsEntry rows) mail → RepliesFollowReads (rows ++ row ∷ []) mail
-follows-read rows row [] a h = tt
-follows-read rows row (m ∷ mail) a h = (by (replied_entry m.load) h.0, follows-read rows row mail a.1 h.1)
+pub follows-read : (steps : List CoreStep) (core_step : CoreStep) (mail : List Message) → Each (λ m. m.arrival ≤ length steps) mail → Each (FollowsItsEntry steps) mail → RepliesFollowReads (steps ++ core_step ∷ []) mail
+follows-read steps core_step [] a h = tt
+follows-read steps core_step (m ∷ mail) a h = (by (replied_entry m.load) h.0, follows-read steps core_step mail a.1 h.1)
   where
-    by : (o : Option ℕ) → IfSome o (λ entry. entry < issued_before (take m.arrival rows))
-        → IfSome o (λ entry. m.arrival < length (rows ++ row ∷ []) → entry < issued_before (take m.arrival (rows ++ row ∷ [])))
+    by : (o : Option ℕ) → IfSome o (λ entry. entry < issued_before (take m.arrival steps))
+        → IfSome o (λ entry. m.arrival < length (steps ++ core_step ∷ []) → entry < issued_before (take m.arrival (steps ++ core_step ∷ [])))
     by None k = tt
-    by (Some entry) k = λ l. subst (λ n. entry < n) (sym (ap issued_before (take-push rows row m.arrival a.0))) k
+    by (Some entry) k = λ l. subst (λ n. entry < n) (sym (ap issued_before (take-push steps core_step m.arrival a.0))) k
 
-follows-entry : (rows : List CoreRow) (row : CoreRow) (mail : List Message) → Each (λ m. m.arrival ≤ length rows) mail → Each (FollowsItsEntry rows) mail → Each (FollowsItsEntry (rows ++ row ∷ [])) mail
-follows-entry rows row [] a h = tt
-follows-entry rows row (m ∷ mail) a h = (by (replied_entry m.load) h.0, follows-entry rows row mail a.1 h.1)
+follows-entry : (steps : List CoreStep) (core_step : CoreStep) (mail : List Message) → Each (λ m. m.arrival ≤ length steps) mail → Each (FollowsItsEntry steps) mail → Each (FollowsItsEntry (steps ++ core_step ∷ [])) mail
+follows-entry steps core_step [] a h = tt
+follows-entry steps core_step (m ∷ mail) a h = (by (replied_entry m.load) h.0, follows-entry steps core_step mail a.1 h.1)
   where
-    by : (o : Option ℕ) → IfSome o (λ entry. entry < issued_before (take m.arrival rows)) → IfSome o (λ entry. entry < issued_before (take m.arrival (rows ++ row ∷ [])))
+    by : (o : Option ℕ) → IfSome o (λ entry. entry < issued_before (take m.arrival steps)) → IfSome o (λ entry. entry < issued_before (take m.arrival (steps ++ core_step ∷ [])))
     by None k = tt
-    by (Some entry) k = subst (λ n. entry < n) (sym (ap issued_before (take-push rows row m.arrival a.0))) k
+    by (Some entry) k = subst (λ n. entry < n) (sym (ap issued_before (take-push steps core_step m.arrival a.0))) k
 
-arrived_counts : (rows : List CoreRow) (mail : List Message) (trace : List Entry) (row : CoreRow) (why : Stop) (memory : Option MemoryEntry)
-    → count_by is_read (issued_in trace rows row) ≡ one_if (is_read_among memory)
-    → count_by is_write (issued_in trace rows row) ≡ one_if (is_write_among memory)
-    → core_joined (core_arrived rows mail) (cycle_counts row why memory (retired_before rows) (length trace) (length rows)) ≡ core_cycle_with trace rows row why (replies_in (length rows) mail)
+arrived_counts : (steps : List CoreStep) (mail : List Message) (trace : List Entry) (core_step : CoreStep) (why : Stop) (memory : Option MemoryEntry)
+    → count_by is_read (issued_in trace steps core_step) ≡ one_if (is_read_among memory)
+    → count_by is_write (issued_in trace steps core_step) ≡ one_if (is_write_among memory)
+    → core_joined (core_arrived steps mail) (cycle_counts core_step why memory (retired_before steps) (length trace) (length steps)) ≡ core_cycle_with trace steps core_step why (replies_in (length steps) mail)
 unfolding core_cycle_with finish_in
-arrived_counts rows mail trace row why memory r w =
-    let n = option_or-none (cond (ltb (retired_before rows) (length trace) && leb (length trace) (retired_before rows + row.retired)) (Some (length rows)) None) in
+arrived_counts steps mail trace core_step why memory r w =
+    let n = option_or-none (cond (ltb (retired_before steps) (length trace) && leb (length trace) (retired_before steps + core_step.retired)) (Some (length steps)) None) in
     simp (zero-add, add-zero, r, w, n)
 
 -- the statistics with this cycle
-pub stats-push : (s : Config) (core : ℕ) (trace : List Entry) (rows : List CoreRow) (mail : List Message) (row : CoreRow) (why : Stop) (memory : Option MemoryEntry)
-    → IsPast s core trace rows mail → IsTurn s core trace rows mail row why memory
-    → core_joined (core_joined (core_stats s core trace rows mail) (core_arrived rows mail)) (cycle_counts row why memory (retired_before rows) (length trace) (length rows))
-    ≡ core_stats s core trace (rows ++ row ∷ []) mail
+pub stats-push : (s : Config) (core : ℕ) (trace : List Entry) (steps : List CoreStep) (mail : List Message) (core_step : CoreStep) (why : Stop) (memory : Option MemoryEntry)
+    → IsPast s core trace steps mail → IsTurn s core trace steps mail core_step why memory
+    → core_joined (core_joined (core_stats s core trace steps mail) (core_arrived steps mail)) (cycle_counts core_step why memory (retired_before steps) (length trace) (length steps))
+    ≡ core_stats s core trace (steps ++ core_step ∷ []) mail
 unfolding core_cycle
-stats-push s core trace rows mail row why memory past turn =
-    core_joined-assoc (core_stats s core trace rows mail) (core_arrived rows mail) (cycle_counts row why memory (retired_before rows) (length trace) (length rows))
-    ∙ ap (core_joined (core_stats s core trace rows mail))
-    (arrived_counts rows mail trace row why memory (reads-issued trace (issued_before rows) row.issued memory turn.issues) (writes-issued trace (issued_before rows) row.issued memory turn.issues)
-    ∙ ap (λ w. core_cycle_with trace rows row w (replies_in (length rows) mail)) (sym (ap (λ t. t.1) turn.does)))
-    ∙ sym (core_stats-push s core trace rows row mail (follows-read rows row mail past.arrived past.follows))
+stats-push s core trace steps mail core_step why memory past turn =
+    core_joined-assoc (core_stats s core trace steps mail) (core_arrived steps mail) (cycle_counts core_step why memory (retired_before steps) (length trace) (length steps))
+    ∙ ap (core_joined (core_stats s core trace steps mail))
+    (arrived_counts steps mail trace core_step why memory (reads-issued trace (issued_before steps) core_step.issued memory turn.issues) (writes-issued trace (issued_before steps) core_step.issued memory turn.issues)
+    ∙ ap (λ w. core_cycle_with trace steps core_step w (replies_in (length steps) mail)) (sym (ap (λ t. t.1) turn.does)))
+    ∙ sym (core_stats-push s core trace steps core_step mail (follows-read steps core_step mail past.arrived past.follows))
 
 -- all of the mail counts
 pub held-now : (s : Config) (core : ℕ) (mail sent : List Message) (channel : ℕ) (write : Bool) (now : ℕ) → Each (λ m. m.arrival ≤ now) mail
@@ -120,56 +120,56 @@ held-now s core mail sent channel write now h =
         ∙ sym (sum_by-cons (λ (x : Message). one_if (is_credit_from link write x)) m ms)
 
 -- a memory entry issues only with a credit
-paid-entry : (s : Config) (core : ℕ) (trace : List Entry) (rows : List CoreRow) (mail : List Message) (channel : ℕ) (write : Bool) (entry : Entry)
-    → Each (λ m. m.arrival ≤ length rows) mail → credits_spent s core trace rows channel write ≤ credits_had s core mail channel write
-    → lacks_credit s core mail (core_messages s core trace rows) (length rows) (Some entry) ≡ false
-    → credits_spent s core trace rows channel write + one_if (is_spending_entry s channel write entry) ≤ credits_had s core mail channel write
+paid-entry : (s : Config) (core : ℕ) (trace : List Entry) (steps : List CoreStep) (mail : List Message) (channel : ℕ) (write : Bool) (entry : Entry)
+    → Each (λ m. m.arrival ≤ length steps) mail → credits_spent s core trace steps channel write ≤ credits_had s core mail channel write
+    → lacks_credit s core mail (core_messages s core trace steps) (length steps) (Some entry) ≡ false
+    → credits_spent s core trace steps channel write + one_if (is_spending_entry s channel write entry) ≤ credits_had s core mail channel write
 unfolding lacks_credit
-paid-entry s core trace rows mail channel write Plain a h l = omega arith
-paid-entry s core trace rows mail channel write (Read address) a h l = by (eqb (place_of s address).channel channel) write refl refl
+paid-entry s core trace steps mail channel write Plain a h l = omega arith
+paid-entry s core trace steps mail channel write (Read address) a h l = by (eqb (place_of s address).channel channel) write refl refl
   where
     by : (b w : Bool) → eqb (place_of s address).channel channel ≡ b → write ≡ w
-        → credits_spent s core trace rows channel write + one_if (b && not w) ≤ credits_had s core mail channel write
+        → credits_spent s core trace steps channel write + one_if (b && not w) ≤ credits_had s core mail channel write
     by true true e f = omega arith
     by false w e f = omega arith
     by true false e f =
         let same : (place_of s address).channel ≡ channel = eqb-true _ _ e in
-        let some : held s core mail (core_messages s core trace rows) (place_of s address).channel false (length rows + 1) ≡ 0 → ⊥ = eqb-false _ _ l in
-        let k : held s core mail (core_messages s core trace rows) channel write (length rows + 1) ≡ held s core mail (core_messages s core trace rows) (place_of s address).channel false (length rows + 1) =
-        ap₂ (λ c w. held s core mail (core_messages s core trace rows) c w (length rows + 1)) (sym same) f in
-        let n = held-now s core mail (core_messages s core trace rows) channel write (length rows) a in
+        let some : held s core mail (core_messages s core trace steps) (place_of s address).channel false (length steps + 1) ≡ 0 → ⊥ = eqb-false _ _ l in
+        let k : held s core mail (core_messages s core trace steps) channel write (length steps + 1) ≡ held s core mail (core_messages s core trace steps) (place_of s address).channel false (length steps + 1) =
+        ap₂ (λ c w. held s core mail (core_messages s core trace steps) c w (length steps + 1)) (sym same) f in
+        let n = held-now s core mail (core_messages s core trace steps) channel write (length steps) a in
         omega arith
-paid-entry s core trace rows mail channel write (Write address) a h l = by (eqb (place_of s address).channel channel) write refl refl
+paid-entry s core trace steps mail channel write (Write address) a h l = by (eqb (place_of s address).channel channel) write refl refl
   where
     by : (b w : Bool) → eqb (place_of s address).channel channel ≡ b → write ≡ w
-        → credits_spent s core trace rows channel write + one_if (b && w) ≤ credits_had s core mail channel write
+        → credits_spent s core trace steps channel write + one_if (b && w) ≤ credits_had s core mail channel write
     by true false e f = omega arith
     by false w e f = omega arith
     by true true e f =
         let same : (place_of s address).channel ≡ channel = eqb-true _ _ e in
-        let some : held s core mail (core_messages s core trace rows) (place_of s address).channel true (length rows + 1) ≡ 0 → ⊥ = eqb-false _ _ l in
-        let k : held s core mail (core_messages s core trace rows) channel write (length rows + 1) ≡ held s core mail (core_messages s core trace rows) (place_of s address).channel true (length rows + 1) =
-        ap₂ (λ c w. held s core mail (core_messages s core trace rows) c w (length rows + 1)) (sym same) f in
-        let n = held-now s core mail (core_messages s core trace rows) channel write (length rows) a in
+        let some : held s core mail (core_messages s core trace steps) (place_of s address).channel true (length steps + 1) ≡ 0 → ⊥ = eqb-false _ _ l in
+        let k : held s core mail (core_messages s core trace steps) channel write (length steps + 1) ≡ held s core mail (core_messages s core trace steps) (place_of s address).channel true (length steps + 1) =
+        ap₂ (λ c w. held s core mail (core_messages s core trace steps) c w (length steps + 1)) (sym same) f in
+        let n = held-now s core mail (core_messages s core trace steps) channel write (length steps) a in
         omega arith
 
 -- an entry that retires is done
-retired_done : (s : Config) (trace : List Entry) (rows : List CoreRow) (mail : List Message) → Each (λ m. m.arrival ≤ length rows) mail
-    → (entry : ℕ) → retired_before rows ≤ entry → entry < retired_before rows + retires s trace rows mail → is_read_at trace entry ≡ true → is_answered mail entry ≡ true
+retired_done : (s : Config) (trace : List Entry) (steps : List CoreStep) (mail : List Message) → Each (λ m. m.arrival ≤ length steps) mail
+    → (entry : ℕ) → retired_before steps ≤ entry → entry < retired_before steps + retires s trace steps mail → is_read_at trace entry ≡ true → is_answered mail entry ≡ true
 unfolding retires done_from is_done
-retired_done s trace rows mail arrived entry l b read =
-    let first = retired_before rows in
-    let n = min s.width (issued_before rows - first) in
-    let p = is_done trace mail (length rows) in
+retired_done s trace steps mail arrived entry l b read =
+    let first = retired_before steps in
+    let n = min s.width (issued_before steps - first) in
+    let p = is_done trace mail (length steps) in
     let k = entry - first in
     let len = length-prefix_len p (range_with_len first n) in
     let most : prefix_len p (range_with_len first n) ≤ n = omega (arith, prefix_len-le-length p (range_with_len first n), length-range_with_len first n) in
     let here : first + k ≡ entry = omega arith in
     let at : get_or (range_with_len first n) k 0 ≡ entry = get_or-range_with_len first n k 0 (omega arith) ∙ here in
     let passes : p (get_or (range_with_len first n) k 0) ≡ true = prefix_len_passes p (range_with_len first n) k 0 (omega arith) in
-    sym (replied-answered mail (length rows) entry arrived) ∙ by (slice_get trace entry) read (ap p (sym at) ∙ passes)
+    sym (replied-answered mail (length steps) entry arrived) ∙ by (slice_get trace entry) read (ap p (sym at) ∙ passes)
   where
-    by : (o : Option Entry) → is_read_in o ≡ true → is_done_as mail (length rows) entry o ≡ true → is_replied mail (length rows) entry ≡ true
+    by : (o : Option Entry) → is_read_in o ≡ true → is_done_as mail (length steps) entry o ≡ true → is_replied mail (length steps) entry ≡ true
     by (Some (Read a)) r h = h
     by (Some (Write a)) r h = absurd (false≢true r)
     by (Some Plain) r h = absurd (false≢true r)
@@ -179,103 +179,103 @@ reads_few : (memory : Option MemoryEntry) (now : ℕ) (trace : List Entry) (firs
 reads_few None now trace first m h = omega arith
 reads_few (Some e) now trace first m h = by (is_read e.entry)
   where
-    by : (b : Bool) → length (cond {A = List WaitingRead} b (record { entry = e.number; issued = now } ∷ []) []) ≤ m
+    by : (b : Bool) → length (cond {A = List OutstandingRead} b (record { entry = e.number; issued = now } ∷ []) []) ≤ m
     by true = omega (arith, h.is_from, h.is_below)
     by false = omega arith
 
-retired-step : (s : Config) (core : ℕ) (trace : List Entry) (rows : List CoreRow) (mail : List Message) (row : CoreRow) (why : Stop)
-    → step s core trace rows mail ≡ (row, why) → retires s trace rows mail ≡ row.retired
+retired-step : (s : Config) (core : ℕ) (trace : List Entry) (steps : List CoreStep) (mail : List Message) (core_step : CoreStep) (why : Stop)
+    → step s core trace steps mail ≡ (core_step, why) → retires s trace steps mail ≡ core_step.retired
 unfolding step
-retired-step s core trace rows mail row why h = ap (λ t. t.0.retired) h
+retired-step s core trace steps mail core_step why h = ap (λ t. t.0.retired) h
 
-past-push : (s : Config) (core : ℕ) (trace : List Entry) (rows : List CoreRow) (mail : List Message) (row : CoreRow) (why : Stop) (memory : Option MemoryEntry)
-    → IsPast s core trace rows mail → IsTurn s core trace rows mail row why memory → IsPast s core trace (rows ++ row ∷ []) mail
-past-push s core trace rows mail row why memory past turn =
-    let i = issued_before-push rows row in
-    let r = retired_before-push rows row in
-    let row_is : (step s core trace rows mail).0 ≡ row = ap (λ t. t.0) turn.does in
-    let within : issued_before rows + row.issued ≤ length trace = subst (λ (x : CoreRow). issued_before rows + x.issued ≤ length trace) row_is (issues-le s core trace rows mail past.issued) in
-    let most : row.retired ≤ issued_before rows - retired_before rows = subst (λ n. n ≤ issued_before rows - retired_before rows) retired_is (retires-le s trace rows mail) in
+past-push : (s : Config) (core : ℕ) (trace : List Entry) (steps : List CoreStep) (mail : List Message) (core_step : CoreStep) (why : Stop) (memory : Option MemoryEntry)
+    → IsPast s core trace steps mail → IsTurn s core trace steps mail core_step why memory → IsPast s core trace (steps ++ core_step ∷ []) mail
+past-push s core trace steps mail core_step why memory past turn =
+    let i = issued_before-push steps core_step in
+    let r = retired_before-push steps core_step in
+    let row_is : (step s core trace steps mail).0 ≡ core_step = ap (λ t. t.0) turn.does in
+    let within : issued_before steps + core_step.issued ≤ length trace = subst (λ (x : CoreStep). issued_before steps + x.issued ≤ length trace) row_is (issues-le s core trace steps mail past.issued) in
+    let most : core_step.retired ≤ issued_before steps - retired_before steps = subst (λ n. n ≤ issued_before steps - retired_before steps) retired_is (retires-le s trace steps mail) in
     record {
       fits = past.fits;
       issued = omega arith;
       retired = omega (arith, past.retired);
       window = omega (arith, turn.window);
-      arrived = Each-weaker (λ (m : Message). m.arrival ≤ length rows) (λ m. m.arrival ≤ length (rows ++ row ∷ [])) (λ m h. omega (arith, length-push_suc rows row)) mail past.arrived;
-      follows = follows-entry rows row mail past.arrived past.follows;
-      done = λ entry b read. ⊎_elim (λ l. past.done entry l read) (λ g. retired_done s trace rows mail past.arrived entry g (omega (arith, retired_is)) read) (cases_lt entry (retired_before rows));
-      answered = omega (arith, past.answered, ap length (reads_waiting-push trace rows row mail memory past.follows turn.issues), length-append (reads_waiting trace rows mail) (reads_issued memory (length rows)), reads_few memory (length rows) trace (issued_before rows) row.issued turn.issues);
-      paid = λ channel write. subst (λ n. n ≤ credits_had s core mail channel write) (sym (spent-push s core trace rows row memory turn.issues channel write)) (paid memory turn.credit channel write);
+      arrived = Each-weaker (λ (m : Message). m.arrival ≤ length steps) (λ m. m.arrival ≤ length (steps ++ core_step ∷ [])) (λ m h. omega (arith, length-push_suc steps core_step)) mail past.arrived;
+      follows = follows-entry steps core_step mail past.arrived past.follows;
+      done = λ entry b read. ⊎_elim (λ l. past.done entry l read) (λ g. retired_done s trace steps mail past.arrived entry g (omega (arith, retired_is)) read) (cases_lt entry (retired_before steps));
+      answered = omega (arith, past.answered, ap length (outstanding_reads-push trace steps core_step mail memory past.follows turn.issues), length-append (outstanding_reads trace steps mail) (reads_issued memory (length steps)), reads_few memory (length steps) trace (issued_before steps) core_step.issued turn.issues);
+      paid = λ channel write. subst (λ n. n ≤ credits_had s core mail channel write) (sym (spent-push s core trace steps core_step memory turn.issues channel write)) (paid memory turn.credit channel write);
     }
   where
-    retired_is : retires s trace rows mail ≡ row.retired
-    retired_is = retired-step s core trace rows mail row why turn.does
+    retired_is : retires s trace steps mail ≡ core_step.retired
+    retired_is = retired-step s core trace steps mail core_step why turn.does
 
-    paid : (o : Option MemoryEntry) → IfSome o (λ e. lacks_credit s core mail (core_messages s core trace rows) (length rows) (Some e.entry) ≡ false) → (channel : ℕ) (write : Bool)
-        → credits_spent s core trace rows channel write + one_if (is_spending s channel write o) ≤ credits_had s core mail channel write
+    paid : (o : Option MemoryEntry) → IfSome o (λ e. lacks_credit s core mail (core_messages s core trace steps) (length steps) (Some e.entry) ≡ false) → (channel : ℕ) (write : Bool)
+        → credits_spent s core trace steps channel write + one_if (is_spending s channel write o) ≤ credits_had s core mail channel write
     paid None h channel write = omega (arith, past.paid channel write)
-    paid (Some e) h channel write = paid-entry s core trace rows mail channel write e.entry past.arrived (past.paid channel write) h
+    paid (Some e) h channel write = paid-entry s core trace steps mail channel write e.entry past.arrived (past.paid channel write) h
 
 -- no message of the next cycle came yet
-none_arrived : (rows : List CoreRow) (row : CoreRow) (mail : List Message) → Each (λ m. m.arrival ≤ length rows) mail → replies_in (length (rows ++ row ∷ [])) mail ≡ []
+none_arrived : (steps : List CoreStep) (core_step : CoreStep) (mail : List Message) → Each (λ m. m.arrival ≤ length steps) mail → replies_in (length (steps ++ core_step ∷ [])) mail ≡ []
 unfolding replies_in
-none_arrived rows row [] h = refl
-none_arrived rows row (m ∷ mail) h =
-    ap (λ b. cond (is_reply m && b) (m ∷ filter (is_reply_in (length (rows ++ row ∷ []))) mail) (filter (is_reply_in (length (rows ++ row ∷ []))) mail))
-    (ne_eqb m.arrival (length (rows ++ row ∷ [])) (λ e. omega (arith, length-push_suc rows row, h.0)))
-    ∙ ap (λ b. cond b (m ∷ filter (is_reply_in (length (rows ++ row ∷ []))) mail) (filter (is_reply_in (length (rows ++ row ∷ []))) mail)) (and_false (is_reply m))
-    ∙ none_arrived rows row mail h.1
+none_arrived steps core_step [] h = refl
+none_arrived steps core_step (m ∷ mail) h =
+    ap (λ b. cond (is_reply m && b) (m ∷ filter (is_reply_in (length (steps ++ core_step ∷ []))) mail) (filter (is_reply_in (length (steps ++ core_step ∷ []))) mail))
+    (ne_eqb m.arrival (length (steps ++ core_step ∷ [])) (λ e. omega (arith, length-push_suc steps core_step, h.0)))
+    ∙ ap (λ b. cond b (m ∷ filter (is_reply_in (length (steps ++ core_step ∷ []))) mail) (filter (is_reply_in (length (steps ++ core_step ∷ []))) mail)) (and_false (is_reply m))
+    ∙ none_arrived steps core_step mail h.1
   where
     and_false : (b : Bool) → (b && false) ≡ false
     and_false true = refl
     and_false false = refl
 
-pub with_none_arrived : (a : CoreStats) (rows : List CoreRow) (mail : List Message) → replies_in (length rows) mail ≡ [] → core_joined a (core_arrived rows mail) ≡ a
+pub with_none_arrived : (a : CoreStats) (steps : List CoreStep) (mail : List Message) → replies_in (length steps) mail ≡ [] → core_joined a (core_arrived steps mail) ≡ a
 unfolding waited
-with_none_arrived a rows mail h = rw h (simp add-zero)
+with_none_arrived a steps mail h = rw h (simp add-zero)
 
 -- what a core does in a cycle, from one state to another
-pub record IsStep (a b : CoreView) (row : CoreRow) (why : Stop) (memory : Option MemoryEntry) : Type 0 where
+pub record IsStep (a b : CoreView) (core_step : CoreStep) (why : Stop) (memory : Option MemoryEntry) : Type 0 where
   pub config : b.config ≡ a.config
   pub number : b.core ≡ a.core
   pub entries : b.trace ≡ a.trace
   pub now : b.now ≡ a.now + 1
-  pub waiting : b.waiting ≡ a.waiting ++ reads_issued memory a.now
+  pub outstanding : b.outstanding ≡ a.outstanding ++ reads_issued memory a.now
   pub channels : length b.credits ≡ length a.credits
   pub credits : (channel : ℕ) (c : Credits) → slice_get a.credits channel ≡ Some c → slice_get b.credits channel ≡ Some (credit_after a.config channel memory c)
-  pub stats : b.stats ≡ core_joined a.stats (cycle_counts row why memory a.stats.retired (length a.trace) a.now)
+  pub stats : b.stats ≡ core_joined a.stats (cycle_counts core_step why memory a.stats.retired (length a.trace) a.now)
 
-retired_of : (s : Config) (core : ℕ) (trace : List Entry) (rows : List CoreRow) (mail : List Message) (a : CoreView) → StandsAt s core trace rows mail a → a.stats.retired ≡ retired_before rows
+retired_of : (s : Config) (core : ℕ) (trace : List Entry) (steps : List CoreStep) (mail : List Message) (a : CoreView) → StandsAt s core trace steps mail a → a.stats.retired ≡ retired_before steps
 unfolding core_stats
-retired_of s core trace rows mail a h = ap (λ (x : CoreStats). x.retired) h.stats ∙ add-zero (retired_before rows)
+retired_of s core trace steps mail a h = ap (λ (x : CoreStats). x.retired) h.stats ∙ add-zero (retired_before steps)
 
-pub step-stands : (s : Config) (core : ℕ) (trace : List Entry) (rows : List CoreRow) (mail : List Message) (a b : CoreView) (row : CoreRow) (why : Stop) (memory : Option MemoryEntry)
-    → StandsAt s core trace rows mail a → IsTurn s core trace rows mail row why memory → IsStep a b row why memory → StandsAt s core trace (rows ++ row ∷ []) mail b
-step-stands s core trace rows mail a b row why memory h turn i =
+pub step-stands : (s : Config) (core : ℕ) (trace : List Entry) (steps : List CoreStep) (mail : List Message) (a b : CoreView) (core_step : CoreStep) (why : Stop) (memory : Option MemoryEntry)
+    → StandsAt s core trace steps mail a → IsTurn s core trace steps mail core_step why memory → IsStep a b core_step why memory → StandsAt s core trace (steps ++ core_step ∷ []) mail b
+step-stands s core trace steps mail a b core_step why memory h turn i =
     record {
       config = i.config ∙ h.config;
       number = i.number ∙ h.number;
       entries = i.entries ∙ h.entries;
-      now = omega (arith, i.now, h.now, length-push_suc rows row);
-      waiting = i.waiting ∙ ap₂ (λ x n. x ++ reads_issued memory n) h.waiting h.now ∙ sym (reads_waiting-push trace rows row mail memory h.past.follows turn.issues);
+      now = omega (arith, i.now, h.now, length-push_suc steps core_step);
+      outstanding = i.outstanding ∙ ap₂ (λ x n. x ++ reads_issued memory n) h.outstanding h.now ∙ sym (outstanding_reads-push trace steps core_step mail memory h.past.follows turn.issues);
       channels = i.channels ∙ h.channels;
       credits = λ channel l. i.credits channel _ (h.credits channel l)
-          ∙ ap (λ (x : Config). Some (credit_after x channel memory (credits_now s core trace rows mail channel))) h.config
-          ∙ ap Some (sym (credits-push s core trace rows row mail memory turn.issues channel));
-      stats = i.stats ∙ ap (λ x. core_joined x (cycle_counts row why memory a.stats.retired (length a.trace) a.now)) h.stats
+          ∙ ap (λ (x : Config). Some (credit_after x channel memory (credits_now s core trace steps mail channel))) h.config
+          ∙ ap Some (sym (credits-push s core trace steps core_step mail memory turn.issues channel));
+      stats = i.stats ∙ ap (λ x. core_joined x (cycle_counts core_step why memory a.stats.retired (length a.trace) a.now)) h.stats
           ∙ counts
-          ∙ stats-push s core trace rows mail row why memory h.past turn
-          ∙ sym (with_none_arrived (core_stats s core trace (rows ++ row ∷ []) mail) (rows ++ row ∷ []) mail (none_arrived rows row mail h.past.arrived));
-      past = past-push s core trace rows mail row why memory h.past turn;
+          ∙ stats-push s core trace steps mail core_step why memory h.past turn
+          ∙ sym (with_none_arrived (core_stats s core trace (steps ++ core_step ∷ []) mail) (steps ++ core_step ∷ []) mail (none_arrived steps core_step mail h.past.arrived));
+      past = past-push s core trace steps mail core_step why memory h.past turn;
     }
   where
-    counts : core_joined (core_joined (core_stats s core trace rows mail) (core_arrived rows mail)) (cycle_counts row why memory a.stats.retired (length a.trace) a.now)
-        ≡ core_joined (core_joined (core_stats s core trace rows mail) (core_arrived rows mail)) (cycle_counts row why memory (retired_before rows) (length trace) (length rows))
+    counts : core_joined (core_joined (core_stats s core trace steps mail) (core_arrived steps mail)) (cycle_counts core_step why memory a.stats.retired (length a.trace) a.now)
+        ≡ core_joined (core_joined (core_stats s core trace steps mail) (core_arrived steps mail)) (cycle_counts core_step why memory (retired_before steps) (length trace) (length steps))
     counts =
-        let count : ℕ → ℕ → ℕ → CoreStats = λ x y z. core_joined (core_joined (core_stats s core trace rows mail) (core_arrived rows mail)) (cycle_counts row why memory x y z) in
-        ap (λ x. count x (length a.trace) a.now) (retired_of s core trace rows mail a h)
-        ∙ ap (λ (t : List Entry). count (retired_before rows) (length t) a.now) h.entries
-        ∙ ap (λ n. count (retired_before rows) (length trace) n) h.now
+        let count : ℕ → ℕ → ℕ → CoreStats = λ x y z. core_joined (core_joined (core_stats s core trace steps mail) (core_arrived steps mail)) (cycle_counts core_step why memory x y z) in
+        ap (λ x. count x (length a.trace) a.now) (retired_of s core trace steps mail a h)
+        ∙ ap (λ (t : List Entry). count (retired_before steps) (length t) a.now) h.entries
+        ∙ ap (λ n. count (retired_before steps) (length trace) n) h.now
 
 -- the statistics with this cycle fit
 pub replies-le : (n : ℕ) (mail : List Message) → length (filter (is_reply_before n) mail) ≤ length (filter is_reply mail)
@@ -293,45 +293,45 @@ replies-le n (m ∷ mail) = by (replies-le n mail) (is_reply m) (ltb m.arrival n
     by h true false = omega arith
     by h false b = h
 
-pub past-fits : (s : Config) (core : ℕ) (trace : List Entry) (rows : List CoreRow) (mail : List Message) → IsPast s core trace rows mail → length trace ≤ 2 ^ 62 → length rows ≤ 2 ^ 62
-    → CoreFits (core_stats s core trace rows mail)
+pub past-fits : (s : Config) (core : ℕ) (trace : List Entry) (steps : List CoreStep) (mail : List Message) → IsPast s core trace steps mail → length trace ≤ 2 ^ 62 → length steps ≤ 2 ^ 62
+    → CoreFits (core_stats s core trace steps mail)
 unfolding replies
-past-fits s core trace rows mail past l n =
-    core_stats-fit s core trace rows mail n (omega (arith, past.issued)) (omega (arith, past.issued, past.retired))
-    (omega (arith, past.issued, past.answered, replies-le (length rows) mail))
+past-fits s core trace steps mail past l n =
+    core_stats-fit s core trace steps mail n (omega (arith, past.issued)) (omega (arith, past.issued, past.retired))
+    (omega (arith, past.issued, past.answered, replies-le (length steps) mail))
 
-pub step-fits : (s : Config) (core : ℕ) (trace : List Entry) (rows : List CoreRow) (mail : List Message) (a : CoreView) (row : CoreRow) (why : Stop) (memory : Option MemoryEntry)
-    → StandsAt s core trace rows mail a → IsTurn s core trace rows mail row why memory → length a.trace ≤ 2 ^ 62 → a.now < 2 ^ 62
-    → CoreFits (core_joined a.stats (cycle_counts row why memory a.stats.retired (length a.trace) a.now))
-step-fits s core trace rows mail a row why memory h turn l n =
-    let count : ℕ → ℕ → ℕ → CoreStats = λ x y z. core_joined (core_joined (core_stats s core trace rows mail) (core_arrived rows mail)) (cycle_counts row why memory x y z) in
-    let e : core_joined a.stats (cycle_counts row why memory a.stats.retired (length a.trace) a.now) ≡ core_stats s core trace (rows ++ row ∷ []) mail =
-    ap (λ x. core_joined x (cycle_counts row why memory a.stats.retired (length a.trace) a.now)) h.stats
-    ∙ ap (λ x. count x (length a.trace) a.now) (retired_of s core trace rows mail a h)
-    ∙ ap (λ (t : List Entry). count (retired_before rows) (length t) a.now) h.entries
-    ∙ ap (λ n. count (retired_before rows) (length trace) n) h.now
-    ∙ stats-push s core trace rows mail row why memory h.past turn in
+pub step-fits : (s : Config) (core : ℕ) (trace : List Entry) (steps : List CoreStep) (mail : List Message) (a : CoreView) (core_step : CoreStep) (why : Stop) (memory : Option MemoryEntry)
+    → StandsAt s core trace steps mail a → IsTurn s core trace steps mail core_step why memory → length a.trace ≤ 2 ^ 62 → a.now < 2 ^ 62
+    → CoreFits (core_joined a.stats (cycle_counts core_step why memory a.stats.retired (length a.trace) a.now))
+step-fits s core trace steps mail a core_step why memory h turn l n =
+    let count : ℕ → ℕ → ℕ → CoreStats = λ x y z. core_joined (core_joined (core_stats s core trace steps mail) (core_arrived steps mail)) (cycle_counts core_step why memory x y z) in
+    let e : core_joined a.stats (cycle_counts core_step why memory a.stats.retired (length a.trace) a.now) ≡ core_stats s core trace (steps ++ core_step ∷ []) mail =
+    ap (λ x. core_joined x (cycle_counts core_step why memory a.stats.retired (length a.trace) a.now)) h.stats
+    ∙ ap (λ x. count x (length a.trace) a.now) (retired_of s core trace steps mail a h)
+    ∙ ap (λ (t : List Entry). count (retired_before steps) (length t) a.now) h.entries
+    ∙ ap (λ n. count (retired_before steps) (length trace) n) h.now
+    ∙ stats-push s core trace steps mail core_step why memory h.past turn in
     let same : length a.trace ≡ length trace = ap length h.entries in
     subst CoreFits (sym e)
-    (past-fits s core trace (rows ++ row ∷ []) mail (past-push s core trace rows mail row why memory h.past turn) (omega arith) (omega (arith, length-push_suc rows row, h.now)))
+    (past-fits s core trace (steps ++ core_step ∷ []) mail (past-push s core trace steps mail core_step why memory h.past turn) (omega arith) (omega (arith, length-push_suc steps core_step, h.now)))
 
 -- a cycle of a core, and what it sends in it
-step-sends : (a b : CoreView) (row : CoreRow) (why : Stop) (memory : Option MemoryEntry)
-    → ((s : Config) (core : ℕ) (trace : List Entry) (rows : List CoreRow) (mail : List Message) → StandsAt s core trace rows mail a → IsTurn s core trace rows mail row why memory)
-    → IsStep a b row why memory → Sends 1 a b (requests_issued a.config a.core a.now memory)
+step-sends : (a b : CoreView) (core_step : CoreStep) (why : Stop) (memory : Option MemoryEntry)
+    → ((s : Config) (core : ℕ) (trace : List Entry) (steps : List CoreStep) (mail : List Message) → StandsAt s core trace steps mail a → IsTurn s core trace steps mail core_step why memory)
+    → IsStep a b core_step why memory → Sends 1 a b (requests_issued a.config a.core a.now memory)
 unfolding core_run
-step-sends a b row why memory turn i s core trace rows mail h =
-    let t : IsTurn s core trace rows mail row why memory = turn s core trace rows mail h in
-    let one : rows ++ (step s core trace rows mail).0 ∷ [] ≡ rows ++ row ∷ [] = ap (λ (x : CoreRow × Stop). rows ++ x.0 ∷ []) t.does in
+step-sends a b core_step why memory turn i s core trace steps mail h =
+    let t : IsTurn s core trace steps mail core_step why memory = turn s core trace steps mail h in
+    let one : steps ++ (step s core trace steps mail).0 ∷ [] ≡ steps ++ core_step ∷ [] = ap (λ (x : CoreStep × Stop). steps ++ x.0 ∷ []) t.does in
     let request : Config → ℕ → ℕ → List Message = λ x c n. requests_issued x c n memory in (
-      subst (λ r. StandsAt s core trace r mail b) (sym one) (step-stands s core trace rows mail a b row why memory h t i),
+      subst (λ r. StandsAt s core trace r mail b) (sym one) (step-stands s core trace steps mail a b core_step why memory h t i),
       ap (core_messages s core trace) one
-          ∙ messages-push s core trace rows row memory t.issues
-          ∙ ap (λ x. core_messages s core trace rows ++ x) (sym (ap (λ x. request x a.core a.now) h.config ∙ ap (λ c. request s c a.now) h.number ∙ ap (request s core) h.now)),
+          ∙ messages-push s core trace steps core_step memory t.issues
+          ∙ ap (λ x. core_messages s core trace steps ++ x) (sym (ap (λ x. request x a.core a.now) h.config ∙ ap (λ c. request s c a.now) h.number ∙ ap (request s core) h.now)),
     )
 
 -- the same, where these are put behind what a list held
-pub step-advances : (a b : CoreView) (row : CoreRow) (why : Stop) (memory : Option MemoryEntry) (before after : List Message)
-    → ((s : Config) (core : ℕ) (trace : List Entry) (rows : List CoreRow) (mail : List Message) → StandsAt s core trace rows mail a → IsTurn s core trace rows mail row why memory)
-    → IsStep a b row why memory → after ≡ before ++ requests_issued a.config a.core a.now memory → Advances 1 a before b after
-step-advances a b row why memory before after turn i e = record { sent = requests_issued a.config a.core a.now memory; behind = e; sends = step-sends a b row why memory turn i }
+pub step-advances : (a b : CoreView) (core_step : CoreStep) (why : Stop) (memory : Option MemoryEntry) (before after : List Message)
+    → ((s : Config) (core : ℕ) (trace : List Entry) (steps : List CoreStep) (mail : List Message) → StandsAt s core trace steps mail a → IsTurn s core trace steps mail core_step why memory)
+    → IsStep a b core_step why memory → after ≡ before ++ requests_issued a.config a.core a.now memory → Advances 1 a before b after
+step-advances a b core_step why memory before after turn i e = record { sent = requests_issued a.config a.core a.now memory; behind = e; sends = step-sends a b core_step why memory turn i }

@@ -10,11 +10,11 @@ use Rattle.sim_base.specs.declared.trace.Stop.{Stop}
 use Rattle.sim_base.specs.declared.trace.Stop.TheVariants.{End, Window}
 use Rattle.core_window.specs.Causes.{first_undone, issue_count, cause_at}
 use Rattle.core_window.specs.Inside.{Does}
-use Rattle.core_window.specs.Rests.{idle_row, IsAtRest}
+use Rattle.core_window.specs.Rests.{idle_step, IsAtRest}
 use Rattle.core_window.specs.Stands.{StandsFor}
 use Rattle.core_window.proofs.Resting.{at_rest}
 use Rattle.sim_base.specs.declared.config.Config.{Config}
-use Rattle.sim_base.specs.declared.history.CoreRow.{CoreRow}
+use Rattle.sim_base.specs.declared.history.CoreStep.{CoreStep}
 use Rattle.sim_base.specs.declared.message.Message.{Message}
 use Rattle.core_window.specs.Turns.{IsLast, IsNextOrEnd, IsSeen}
 use Rattle.sim_base.specs.declared.trace.Entry.TheVariants.{Plain, Read, Write}
@@ -31,21 +31,21 @@ abbrev pub stuck_cause : CoreView → ℕ → Stop
 stuck_cause a two = cause_at a.config.width a.config.window (length a.trace) a.stats.issued a.stats.retired two 0
 
 pub stuck-does : (a : CoreView) (one two : ℕ) (entry : Entry) → IsSeen a.trace a.stats.issued one two entry
-    → first_undone a.stats.issued a.waiting ≤ a.stats.retired → a.config.window ≤ a.stats.issued - a.stats.retired → Does a idle_row (stuck_cause a two) None
-stuck-does a one two entry seen undone most v s core trace rows mail i h =
+    → first_undone a.stats.issued a.outstanding ≤ a.stats.retired → a.config.window ≤ a.stats.issued - a.stats.retired → Does a idle_step (stuck_cause a two) None
+stuck-does a one two entry seen undone most v s core trace steps mail i h =
     let gone = a.stats.retired + 0 in
-    let full : Bool = ltb one (length a.trace) && lacks_credit a.config core mail (core_messages s core trace rows) (length rows) (slice_get a.trace one) in
+    let full : Bool = ltb one (length a.trace) && lacks_credit a.config core mail (core_messages s core trace steps) (length steps) (slice_get a.trace one) in
     let none : 0 ≡ issue_count a.config.width a.config.window a.stats.issued gone one two full = no_issue a.config.width a.config.window a.stats.issued gone one two full (omega arith) in
     let cause : cause_at a.config.width a.config.window (length a.trace) a.stats.issued gone two 0 ≡ stuck_cause a two =
     ap (λ g. cause_at a.config.width a.config.window (length a.trace) a.stats.issued g two 0) (add-zero a.stats.retired) in
-    turn-is s core trace rows mail a v 0 one two full 0 (stuck_cause a two) None i h
+    turn-is s core trace steps mail a v 0 one two full 0 (stuck_cause a two) None i h
     (record {
       retired = omega arith;
       ahead = seen.ahead;
       credit = refl;
       last = λ may. subst
-          (λ why. IsLast a.config core a.trace mail (core_messages s core trace rows) (length rows) a.stats.issued gone one two full 0 why) cause
-          (is_last a.config core a.trace mail (core_messages s core trace rows) (length rows) a.stats.issued gone one two full may 0 none);
+          (λ why. IsLast a.config core a.trace mail (core_messages s core trace steps) (length steps) a.stats.issued gone one two full 0 why) cause
+          (is_last a.config core a.trace mail (core_messages s core trace steps) (length steps) a.stats.issued gone one two full may 0 none);
       issues = λ k l b. absurd (omega arith);
       at = tt;
     })
@@ -129,9 +129,9 @@ seen_from trace from l =
     (cases_lt first.0 (length trace))
 
 -- such a core does nothing
-pub stuck-rests : (s : Config) (core : ℕ) (trace : List Entry) (rows : List CoreRow) (mail : List Message) (a : CoreView) → a.stats.issued ≤ length a.trace
-    → first_undone a.stats.issued a.waiting ≤ a.stats.retired → a.config.window ≤ a.stats.issued - a.stats.retired → StandsFor s core trace rows mail a
-    → IsAtRest s core trace rows mail
-stuck-rests s core trace rows mail a within undone most h =
+pub stuck-rests : (s : Config) (core : ℕ) (trace : List Entry) (steps : List CoreStep) (mail : List Message) (a : CoreView) → a.stats.issued ≤ length a.trace
+    → first_undone a.stats.issued a.outstanding ≤ a.stats.retired → a.config.window ≤ a.stats.issued - a.stats.retired → StandsFor s core trace steps mail a
+    → IsAtRest s core trace steps mail
+stuck-rests s core trace steps mail a within undone most h =
     let x = seen_from a.trace a.stats.issued within in
-    at_rest s core trace rows mail a idle_row (stuck_cause a x.two) None refl (stuck-does a x.one x.two x.entry x.seen undone most) h
+    at_rest s core trace steps mail a idle_step (stuck_cause a x.two) None refl (stuck-does a x.one x.two x.entry x.seen undone most) h

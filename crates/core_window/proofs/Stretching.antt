@@ -8,7 +8,7 @@ use Rattle.std.proofs.lemmas.Bool.{cases_lt, le-ltb, lt-leb}
 use Rattle.sim_base.specs.History.{issued_before}
 use Rattle.sim_base.specs.Machine.{core_run}
 use Rattle.sim_base.specs.Counts.{is_stop}
-use Rattle.sim_base.specs.declared.history.CoreRow.{CoreRow}
+use Rattle.sim_base.specs.declared.history.CoreStep.{CoreStep}
 use Rattle.sim_base.specs.declared.message.Message.{Message}
 use Rattle.sim_base.specs.declared.trace.Entry.{Entry}
 use Rattle.sim_base.specs.declared.trace.Stop.{Stop}
@@ -18,7 +18,7 @@ use Rattle.statistics.specs.Counts.{one_if}
 use Rattle.statistics.specs.Cores.{core_joined, core_times, CoreFits}
 use Rattle.statistics.specs.declared.cores.CoreStats.{CoreStats}
 use Rattle.core_window.specs.Inside.{StandsAt, IsStanding, IsLike, Advances, GoesOn, GoesQuietly, Does}
-use Rattle.core_window.specs.Rests.{idle_row}
+use Rattle.core_window.specs.Rests.{idle_step}
 use Rattle.core_window.specs.Steady.{steady_counts, steady_view, IsSteady}
 use Rattle.core_window.specs.Turns.{IsTurn, IsIssued, cycle_counts}
 use Rattle.core_window.specs.Views.{CoreView}
@@ -51,14 +51,14 @@ no_finish before r len now (inr h) =
     and_false false = refl
 
 -- one cycle more
-pub steady-more : (a : CoreStats) (row : CoreRow) (why : Stop) (n before len later : ℕ) → (row.retired ≡ 0) ⊎ (before + row.retired < len)
-    → core_joined (core_joined a (core_times n (steady_counts row why))) (cycle_counts row why None before len later) ≡ core_joined a (core_times (suc n) (steady_counts row why))
-steady-more a row why n before len later h =
-    let f1 = no_finish before row.retired len later h in
+pub steady-more : (a : CoreStats) (core_step : CoreStep) (why : Stop) (n before len later : ℕ) → (core_step.retired ≡ 0) ⊎ (before + core_step.retired < len)
+    → core_joined (core_joined a (core_times n (steady_counts core_step why))) (cycle_counts core_step why None before len later) ≡ core_joined a (core_times (suc n) (steady_counts core_step why))
+steady-more a core_step why n before len later h =
+    let f1 = no_finish before core_step.retired len later h in
     let f2 = both_none (eqb n 0) in
     let f3 = both_none (eqb (suc n) 0) in
-    let e0 = times_more a.issued n row.issued in
-    let e1 = times_more a.retired n row.retired in
+    let e0 = times_more a.issued n core_step.issued in
+    let e1 = times_more a.retired n core_step.retired in
     let e2 = times_more a.reads n 0 in
     let e3 = times_more a.writes n 0 in
     let e4 = times_more a.replies n 0 in
@@ -68,71 +68,71 @@ steady-more a row why n before len later h =
     let e8 = times_more a.stop_window n (one_if (is_stop stop.Window why)) in
     let e9 = times_more a.stop_memory n (one_if (is_stop stop.Memory why)) in
     let e10 = times_more a.stop_credit n (one_if (is_stop stop.Credit why)) in
-    let e11 : option_or (cond (ltb before len && leb len (before + row.retired)) (Some later) None) (option_or (cond (eqb n 0) None None) a.finish) ≡ option_or (cond {A = Option ℕ} (eqb (suc n) 0) None None) a.finish =
+    let e11 : option_or (cond (ltb before len && leb len (before + core_step.retired)) (Some later) None) (option_or (cond (eqb n 0) None None) a.finish) ≡ option_or (cond {A = Option ℕ} (eqb (suc n) 0) None None) a.finish =
     ap₂ (λ x y. option_or x (option_or y a.finish)) f1 f2 ∙ ap (λ x. option_or x a.finish) (sym f3) in
     cc
 
-none_counted : (x : CoreStats) (row : CoreRow) (why : Stop) → core_joined x (core_times 0 (steady_counts row why)) ≡ x
-none_counted x row why = let z : (k : ℕ) → 0 * k ≡ 0 = λ k. omega arith in simp (z, add-zero)
+none_counted : (x : CoreStats) (core_step : CoreStep) (why : Stop) → core_joined x (core_times 0 (steady_counts core_step why)) ≡ x
+none_counted x core_step why = let z : (k : ℕ) → 0 * k ≡ 0 = λ k. omega arith in simp (z, add-zero)
 
-pub steady-none : (a : CoreView) (row : CoreRow) (why : Stop) → a ≡ steady_view a row why 0
-steady-none a row why =
+pub steady-none : (a : CoreView) (core_step : CoreStep) (why : Stop) → a ≡ steady_view a core_step why 0
+steady-none a core_step why =
     let with : ℕ → CoreStats → CoreView = λ n st. record a { now = n; stats = st } in
-    ap₂ with (sym (add-zero a.now)) (sym (none_counted a.stats row why))
+    ap₂ with (sym (add-zero a.now)) (sym (none_counted a.stats core_step why))
 
 times_suc : (n x : ℕ) → suc n * x ≡ n * x + x
 times_suc n x = grind arith
 
 -- a shorter stretch
-steady-fewer : (a : CoreView) (n : ℕ) (row : CoreRow) (why : Stop) → IsSteady a (suc n) row why → IsSteady a n row why
-steady-fewer a n row why h =
+steady-fewer : (a : CoreView) (n : ℕ) (core_step : CoreStep) (why : Stop) → IsSteady a (suc n) core_step why → IsSteady a n core_step why
+steady-fewer a n core_step why h =
     record {
       turns = λ k l. h.turns k (omega arith);
       unfinished =
-          let e = times_suc n row.retired in
+          let e = times_suc n core_step.retired in
           ⊎_elim (λ z. inl (omega arith)) (λ l. inr (omega arith)) h.unfinished;
     }
 
 -- in the last cycle of a stretch the last entry of the trace does not retire
-last-unfinished : (a : CoreView) (n : ℕ) (row : CoreRow) (why : Stop) → IsSteady a (suc n) row why
-    → (row.retired ≡ 0) ⊎ (a.stats.retired + n * row.retired + row.retired < length a.trace)
-last-unfinished a n row why h =
-    let e = times_suc n row.retired in
+last-unfinished : (a : CoreView) (n : ℕ) (core_step : CoreStep) (why : Stop) → IsSteady a (suc n) core_step why
+    → (core_step.retired ≡ 0) ⊎ (a.stats.retired + n * core_step.retired + core_step.retired < length a.trace)
+last-unfinished a n core_step why h =
+    let e = times_suc n core_step.retired in
     ⊎_elim (λ z. inl (omega arith)) (λ l. inr (omega arith)) h.unfinished
 
-steady-step : (a : CoreView) (n : ℕ) (row : CoreRow) (why : Stop) → IsSteady a (suc n) row why → IsStep (steady_view a row why n) (steady_view a row why (suc n)) row why None
-steady-step a n row why h =
+steady-step : (a : CoreView) (n : ℕ) (core_step : CoreStep) (why : Stop) → IsSteady a (suc n) core_step why → IsStep (steady_view a core_step why n) (steady_view a core_step why (suc n)) core_step why None
+steady-step a n core_step why h =
     record {
       config = refl;
       number = refl;
       entries = refl;
       now = omega arith;
-      waiting = sym (append-nil a.waiting);
+      outstanding = sym (append-nil a.outstanding);
       channels = refl;
       credits = λ channel c e. e;
-      stats = sym (steady-more a.stats row why n (a.stats.retired + n * row.retired) (length a.trace) (a.now + n) (last-unfinished a n row why h));
+      stats = sym (steady-more a.stats core_step why n (a.stats.retired + n * core_step.retired) (length a.trace) (a.now + n) (last-unfinished a n core_step why h));
     }
 
-pub steady-advances : (a : CoreView) (n : ℕ) (row : CoreRow) (why : Stop) (sent : List Message) → IsSteady a n row why → Advances n a sent (steady_view a row why n) sent
-steady-advances a zero row why sent h = subst (λ (v : CoreView). Advances 0 a sent v sent) (steady-none a row why) (advances-none a sent)
-steady-advances a (suc n) row why sent h =
-    let v = steady_view a row why n in
-    let one : Advances 1 v sent (steady_view a row why (suc n)) sent =
-    step-advances v (steady_view a row why (suc n)) row why None sent sent (h.turns n (omega arith)) (steady-step a n row why h) (sym (append-nil sent)) in
+pub steady-advances : (a : CoreView) (n : ℕ) (core_step : CoreStep) (why : Stop) (sent : List Message) → IsSteady a n core_step why → Advances n a sent (steady_view a core_step why n) sent
+steady-advances a zero core_step why sent h = subst (λ (v : CoreView). Advances 0 a sent v sent) (steady-none a core_step why) (advances-none a sent)
+steady-advances a (suc n) core_step why sent h =
+    let v = steady_view a core_step why n in
+    let one : Advances 1 v sent (steady_view a core_step why (suc n)) sent =
+    step-advances v (steady_view a core_step why (suc n)) core_step why None sent sent (h.turns n (omega arith)) (steady-step a n core_step why h) (sym (append-nil sent)) in
     let sum : n + 1 ≡ suc n = omega arith in
-    subst (λ k. Advances k a sent (steady_view a row why (suc n)) sent) sum
-    (advances-add n 1 a v (steady_view a row why (suc n)) sent sent sent (steady-advances a n row why sent (steady-fewer a n row why h)) one)
+    subst (λ k. Advances k a sent (steady_view a core_step why (suc n)) sent) sum
+    (advances-add n 1 a v (steady_view a core_step why (suc n)) sent sent sent (steady-advances a n core_step why sent (steady-fewer a n core_step why h)) one)
 
 -- its counts fit
-pub steady-fits : (a : CoreView) (n : ℕ) (row : CoreRow) (why : Stop) → IsStanding a → IsSteady a n row why → 0 < n → length a.trace ≤ 2 ^ 62 → a.now + n < 2 ^ 62
-    → CoreFits (core_joined a.stats (core_times n (steady_counts row why)))
-steady-fits a zero row why i h l len early = absurd (omega arith)
-steady-fits a (suc n) row why i h l len early =
-    let v = steady_view a row why n in
-    let rows = core_run i.s i.core i.trace i.rows i.mail n in
-    let st : StandsAt i.s i.core i.trace rows i.mail v = ((steady-advances a n row why [] (steady-fewer a n row why h)).sends i.s i.core i.trace i.rows i.mail i.stands).0 in
-    subst CoreFits (steady-more a.stats row why n (a.stats.retired + n * row.retired) (length a.trace) (a.now + n) (last-unfinished a n row why h))
-    (step-fits i.s i.core i.trace rows i.mail v row why None st (h.turns n (omega arith) i.s i.core i.trace rows i.mail st) len (omega arith))
+pub steady-fits : (a : CoreView) (n : ℕ) (core_step : CoreStep) (why : Stop) → IsStanding a → IsSteady a n core_step why → 0 < n → length a.trace ≤ 2 ^ 62 → a.now + n < 2 ^ 62
+    → CoreFits (core_joined a.stats (core_times n (steady_counts core_step why)))
+steady-fits a zero core_step why i h l len early = absurd (omega arith)
+steady-fits a (suc n) core_step why i h l len early =
+    let v = steady_view a core_step why n in
+    let steps = core_run i.s i.core i.trace i.steps i.mail n in
+    let st : StandsAt i.s i.core i.trace steps i.mail v = ((steady-advances a n core_step why [] (steady-fewer a n core_step why h)).sends i.s i.core i.trace i.steps i.mail i.stands).0 in
+    subst CoreFits (steady-more a.stats core_step why n (a.stats.retired + n * core_step.retired) (length a.trace) (a.now + n) (last-unfinished a n core_step why h))
+    (step-fits i.s i.core i.trace steps i.mail v core_step why None st (h.turns n (omega arith) i.s i.core i.trace steps i.mail st) len (omega arith))
 
 -- the counts of the cycles alone fit
 pub times-fits : (a b : CoreStats) → CoreFits (core_joined a b) → CoreFits b
@@ -151,41 +151,41 @@ times-fits a b h =
       stop_credit = omega (arith, h.stop_credit);
     }
 
-pub idle-like : (a : CoreView) (why : Stop) (n : ℕ) → IsLike a (steady_view a idle_row why n)
-idle-like a why n = record { config = refl; entries = refl; waiting = refl; credits = refl; issued = omega arith; retired = omega arith }
+pub idle-like : (a : CoreView) (why : Stop) (n : ℕ) → IsLike a (steady_view a idle_step why n)
+idle-like a why n = record { config = refl; entries = refl; outstanding = refl; credits = refl; issued = omega arith; retired = omega arith }
 
 -- no memory entry is among none
 pub none_issues : (trace : List Entry) (first : ℕ) (memory : Option MemoryEntry) → IsIssued trace first 0 memory → memory ≡ None
 none_issues trace first None h = refl
 none_issues trace first (Some e) h = absurd (omega (arith, h.is_from, h.is_below))
 
-idle-steady : (a : CoreView) (why : Stop) (memory : Option MemoryEntry) (n : ℕ) → Does a idle_row why memory → IsSteady a n idle_row why
+idle-steady : (a : CoreView) (why : Stop) (memory : Option MemoryEntry) (n : ℕ) → Does a idle_step why memory → IsSteady a n idle_step why
 idle-steady a why memory n does =
     record {
-      turns = λ k l s core trace rows mail h.
-          let t : IsTurn s core trace rows mail idle_row why memory = does (steady_view a idle_row why k) s core trace rows mail (idle-like a why k) h in
-          subst (IsTurn s core trace rows mail idle_row why) (none_issues trace (issued_before rows) memory t.issues) t;
+      turns = λ k l s core trace steps mail h.
+          let t : IsTurn s core trace steps mail idle_step why memory = does (steady_view a idle_step why k) s core trace steps mail (idle-like a why k) h in
+          subst (IsTurn s core trace steps mail idle_step why) (none_issues trace (issued_before steps) memory t.issues) t;
       unfinished = inl (omega arith);
     }
 
 -- a core that does nothing in a cycle does nothing in those after it
-pub rest-steady : (a : CoreView) (row : CoreRow) (why : Stop) (memory : Option MemoryEntry) (n : ℕ) → row.retired ≡ 0 → row.issued ≡ 0 → Does a row why memory → IsSteady a n row why
-rest-steady a row why memory n e f does =
-    let both : ℕ → ℕ → CoreRow = λ r i. record { retired = r; issued = i } in
-    let idle : row ≡ idle_row = ap₂ both e f in
+pub rest-steady : (a : CoreView) (core_step : CoreStep) (why : Stop) (memory : Option MemoryEntry) (n : ℕ) → core_step.retired ≡ 0 → core_step.issued ≡ 0 → Does a core_step why memory → IsSteady a n core_step why
+rest-steady a core_step why memory n e f does =
+    let both : ℕ → ℕ → CoreStep = λ r i. record { retired = r; issued = i } in
+    let idle : core_step ≡ idle_step = ap₂ both e f in
     subst (λ r. IsSteady a n r why) (sym idle) (idle-steady a why memory n (subst (λ r. Does a r why memory) idle does))
 
 -- a core that goes on by a stretch
-pub steady-goes : (a b : CoreView) (n until : ℕ) (row : CoreRow) (why : Stop) (sent : List Message) → IsSteady a n row why → b ≡ steady_view a row why n → 0 < n → a.now + n ≤ until
+pub steady-goes : (a b : CoreView) (n until : ℕ) (core_step : CoreStep) (why : Stop) (sent : List Message) → IsSteady a n core_step why → b ≡ steady_view a core_step why n → 0 < n → a.now + n ≤ until
     → GoesOn until a sent b sent
-steady-goes a b n until row why sent h e l u =
-    let e2 : steady_view a row why n ≡ b = sym e in
+steady-goes a b n until core_step why sent h e l u =
+    let e2 : steady_view a core_step why n ≡ b = sym e in
     let gone : n ≡ a.now + n - a.now = omega arith in
     subst (λ v. GoesOn until a sent v sent) e2
     (record {
       later = omega arith;
       until_then = u;
-      advances = subst (λ k. Advances k a sent (steady_view a row why n) sent) gone (steady-advances a n row why sent h);
+      advances = subst (λ k. Advances k a sent (steady_view a core_step why n) sent) gone (steady-advances a n core_step why sent h);
     })
 
 -- a core that goes on by a cycle
@@ -194,10 +194,10 @@ cycle-goes a b until before after l e h =
     let gone : 1 ≡ b.now - a.now = omega arith in
     record { later = omega arith; until_then = omega arith; advances = subst (λ k. Advances k a before b after) gone h }
 
-pub counted-fits : (a : CoreView) (n : ℕ) (row : CoreRow) (why : Stop) (each : CoreStats) → each ≡ steady_counts row why → IsStanding a → IsSteady a n row why → 0 < n
+pub counted-fits : (a : CoreView) (n : ℕ) (core_step : CoreStep) (why : Stop) (each : CoreStats) → each ≡ steady_counts core_step why → IsStanding a → IsSteady a n core_step why → 0 < n
     → length a.trace ≤ 2 ^ 62 → a.now + n < 2 ^ 62 → CoreFits (core_joined a.stats (core_times n each))
-counted-fits a n row why each e i h l len early =
-    subst (λ x. CoreFits (core_joined a.stats (core_times n x))) (sym e) (steady-fits a n row why i h l len early)
+counted-fits a n core_step why each e i h l len early =
+    subst (λ x. CoreFits (core_joined a.stats (core_times n x))) (sym e) (steady-fits a n core_step why i h l len early)
 
 pub ok-both : {T E : Type 0} (r : Result T E) (P Q R : Type 0) → (P → Q → R) → OnOk r P → OnOk r Q → OnOk r R
 ok-both (Ok x) P Q R f p q = f p q
@@ -214,19 +214,19 @@ quiet-none a until l =
     }
 
 -- a stretch
-pub quiet-steady : (a b : CoreView) (n until : ℕ) (row : CoreRow) (why : Stop) → IsSteady a n row why → b ≡ steady_view a row why n → a.now + n ≤ until → GoesQuietly until a b
-quiet-steady a b n until row why h e u =
+pub quiet-steady : (a b : CoreView) (n until : ℕ) (core_step : CoreStep) (why : Stop) → IsSteady a n core_step why → b ≡ steady_view a core_step why n → a.now + n ≤ until → GoesQuietly until a b
+quiet-steady a b n until core_step why h e u =
     let gone : n ≡ a.now + n - a.now = omega arith in
     subst (GoesQuietly until a) (sym e)
     (record {
       since = omega arith;
       until_then = u;
-      advances = λ sent. subst (λ k. Advances k a sent (steady_view a row why n) sent) gone (steady-advances a n row why sent h);
+      advances = λ sent. subst (λ k. Advances k a sent (steady_view a core_step why n) sent) gone (steady-advances a n core_step why sent h);
     })
 
 pub quiet-standing : (a b : CoreView) (until : ℕ) → GoesQuietly until a b → IsStanding a → IsStanding b
 quiet-standing a b until h i =
-    record { s = i.s; core = i.core; trace = i.trace; rows = core_run i.s i.core i.trace i.rows i.mail (b.now - a.now); mail = i.mail; stands = ((h.advances []).sends i.s i.core i.trace i.rows i.mail i.stands).0 }
+    record { s = i.s; core = i.core; trace = i.trace; steps = core_run i.s i.core i.trace i.steps i.mail (b.now - a.now); mail = i.mail; stands = ((h.advances []).sends i.s i.core i.trace i.steps i.mail i.stands).0 }
 
 -- and then the rest of the way
 pub quiet-then : (a b d : CoreView) (until : ℕ) (x z : List Message) → GoesQuietly until a b → GoesOn until b x d z → GoesOn until a x d z
@@ -256,4 +256,4 @@ ok-map (Err e) P Q f p = p
 
 pub goes-standing : (a b : CoreView) (until : ℕ) (x y : List Message) → GoesOn until a x b y → IsStanding a → IsStanding b
 goes-standing a b until x y h i =
-    record { s = i.s; core = i.core; trace = i.trace; rows = core_run i.s i.core i.trace i.rows i.mail (b.now - a.now); mail = i.mail; stands = (h.advances.sends i.s i.core i.trace i.rows i.mail i.stands).0 }
+    record { s = i.s; core = i.core; trace = i.trace; steps = core_run i.s i.core i.trace i.steps i.mail (b.now - a.now); mail = i.mail; stands = (h.advances.sends i.s i.core i.trace i.steps i.mail i.stands).0 }

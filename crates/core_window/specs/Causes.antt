@@ -1,9 +1,9 @@
 -- How many entries retire and issue in a cycle, by what waits and what is ahead.
---     first_undone issued waiting      the first entry that isn't done
+--     first_undone issued outstanding      the first entry that isn't done
 --     issue_count width window number gone one two lacks      how many issue
 --     cause_at width window len number gone two m      why no more than m do
 use Rattle.std.specs.Prelude.{ℕ, ◌+◌, ◌-◌, ◌==◌, min, Bool, List, [], ◌∷◌, if◌then◌else◌}
-use Rattle.core_window.specs.declared.waiting.WaitingRead.{WaitingRead}
+use Rattle.core_window.specs.declared.outstanding.OutstandingRead.{OutstandingRead}
 use Rattle.sim_base.specs.declared.trace.Stop.{Stop}
 use Rattle.sim_base.specs.declared.trace.Stop.TheVariants as stop
 
@@ -24,6 +24,6 @@ cause_at width window len number gone two m =
     else stop.Credit)))
 
 -- the first entry that isn't done, where so many were issued and these Reads wait
-abbrev pub first_undone : ℕ → List WaitingRead → ℕ
+abbrev pub first_undone : ℕ → List OutstandingRead → ℕ
 first_undone issued [] = issued
 first_undone issued (read ∷ others) = read.entry

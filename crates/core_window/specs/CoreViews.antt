@@ -11,7 +11,7 @@ view_of c =
       core = c.id;
       trace = c.trace;
       now = c.cycle;
-      waiting = c.waiting.items;
+      outstanding = c.outstanding.items;
       credits = c.credits.items;
       stats = c.stats;
     }

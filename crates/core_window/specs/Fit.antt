@@ -1,6 +1,6 @@
 -- Messages that may arrive at a core.
---     IsDue s core trace rows mail m      a message may come in the cycle after these rows, and after this mail
---     Fit s core trace rows mail from until inbox      these messages may come in a span of cycles
+--     IsDue s core trace steps mail m      a message may come in the cycle after these steps, and after this mail
+--     Fit s core trace steps mail from until inbox      these messages may come in a span of cycles
 --     MayRun view from until inbox      they may come to a core as it stands
 --     Runs before from until inbox after sent      what it then does and sends
 --     RunsOnto before from until inbox after held holds      the same, with a list behind which it puts what it sends
@@ -11,45 +11,45 @@ use Rattle.sim_base.specs.Config.{credit_link}
 use Rattle.sim_base.specs.History.{issued_before, core_messages}
 use Rattle.sim_base.specs.Machine.{core_run}
 use Rattle.sim_base.specs.Windows.{credit_cap}
-use Rattle.sim_base.specs.declared.history.CoreRow.{CoreRow}
+use Rattle.sim_base.specs.declared.history.CoreStep.{CoreStep}
 use Rattle.sim_base.specs.declared.message.Load.{Load}
 use Rattle.sim_base.specs.declared.message.Load.TheVariants as load
 use Rattle.sim_base.specs.declared.message.Message.{Message}
 use Rattle.sim_base.specs.declared.trace.Entry.{Entry}
 use Rattle.core_window.specs.Stands.{credits_had, credits_spent, StandsFor}
 use Rattle.core_window.specs.Views.{CoreView}
-use Rattle.core_window.specs.Waiting.{is_read_at, is_answered}
+use Rattle.core_window.specs.Outstanding.{is_read_at, is_answered}
 
 -- a reply is of a Read that was issued in an earlier cycle, and that had none
-pub record IsAwaited (trace : List Entry) (rows : List CoreRow) (mail : List Message) (entry : ℕ) : Type 0 where
+pub record IsAwaited (trace : List Entry) (steps : List CoreStep) (mail : List Message) (entry : ℕ) : Type 0 where
   pub is_of_a_read : is_read_at trace entry ≡ true
-  pub is_issued : entry < issued_before rows
+  pub is_issued : entry < issued_before steps
   pub is_first : is_answered mail entry ≡ false
 
 -- a credit comes on the link of a channel, and the core does not hold all its credits for that channel
-pub record IsOwed (s : Config) (core : ℕ) (trace : List Entry) (rows : List CoreRow) (mail : List Message) (link : ℕ) (write : Bool) : Type 0 where
+pub record IsOwed (s : Config) (core : ℕ) (trace : List Entry) (steps : List CoreStep) (mail : List Message) (link : ℕ) (write : Bool) : Type 0 where
   pub channel : ℕ
   pub exists : channel < s.channels
   pub on_its_link : link ≡ credit_link s core channel
-  pub has_room : credits_had s core mail channel write < credit_cap s write + credits_spent s core trace rows channel write
+  pub has_room : credits_had s core mail channel write < credit_cap s write + credits_spent s core trace steps channel write
 
--- what a message may bring in the cycle after these rows, after this mail: a reply or a credit
-abbrev pub IsDueLoad : Config → ℕ → List Entry → List CoreRow → List Message → ℕ → Load → Type 0
-IsDueLoad s core trace rows mail link (load.Reply entry) = IsAwaited trace rows mail entry
-IsDueLoad s core trace rows mail link (load.Credit write entry) = IsOwed s core trace rows mail link write
-IsDueLoad s core trace rows mail link (load.Request r) = ⊥
+-- what a message may bring in the cycle after these steps, after this mail: a reply or a credit
+abbrev pub IsDueLoad : Config → ℕ → List Entry → List CoreStep → List Message → ℕ → Load → Type 0
+IsDueLoad s core trace steps mail link (load.Reply entry) = IsAwaited trace steps mail entry
+IsDueLoad s core trace steps mail link (load.Credit write entry) = IsOwed s core trace steps mail link write
+IsDueLoad s core trace steps mail link (load.Request r) = ⊥
 
--- a message may come in the cycle after these rows, after this mail
-abbrev pub IsDue : Config → ℕ → List Entry → List CoreRow → List Message → Message → Type 0
-IsDue s core trace rows mail m = IsDueLoad s core trace rows mail m.link m.load
+-- a message may come in the cycle after these steps, after this mail
+abbrev pub IsDue : Config → ℕ → List Entry → List CoreStep → List Message → Message → Type 0
+IsDue s core trace steps mail m = IsDueLoad s core trace steps mail m.link m.load
 
 -- each message comes no sooner than those before it
 abbrev pub IsByArrival : List Message → Type 0
 IsByArrival [] = Unit {0}
 IsByArrival (m ∷ ms) = Each (λ n. m.arrival ≤ n.arrival) ms × IsByArrival ms
 
--- Messages that may arrive at a core in the cycles from one on and before another, where it did these rows and had this mail.
-pub record Fit (s : Config) (core : ℕ) (trace : List Entry) (rows : List CoreRow) (mail : List Message) (from until : ℕ) (inbox : List Message) : Type 0 where
+-- Messages that may arrive at a core in the cycles from one on and before another, where it did these steps and had this mail.
+pub record Fit (s : Config) (core : ℕ) (trace : List Entry) (steps : List CoreStep) (mail : List Message) (from until : ℕ) (inbox : List Message) : Type 0 where
   -- they arrive in these cycles: the core would not see a later one, and an earlier one would change what it did
   pub from_then : Each (λ m. from ≤ m.arrival) inbox
   pub until_then : Each (λ m. m.arrival < until) inbox
@@ -58,26 +58,26 @@ pub record Fit (s : Config) (core : ℕ) (trace : List Entry) (rows : List CoreR
   -- each may come in its cycle, after those before it: the core can tell which Read a reply is of, and counts no more credits
   -- than it ever had
   pub due : (before after : List Message) (m : Message) → inbox ≡ before ++ m ∷ after
-      → IsDue s core trace (core_run s core trace rows (mail ++ inbox) (m.arrival - from)) (mail ++ before) m
+      → IsDue s core trace (core_run s core trace steps (mail ++ inbox) (m.arrival - from)) (mail ++ before) m
 
--- a core stands for some rows and messages, after which these may arrive
+-- a core stands for some steps and messages, after which these may arrive
 pub record MayRun (view : CoreView) (from until : ℕ) (inbox : List Message) : Type 0 where
   pub s : Config
   pub core : ℕ
   pub trace : List Entry
-  pub rows : List CoreRow
+  pub steps : List CoreStep
   pub mail : List Message
-  pub stands : StandsFor s core trace rows mail view
-  pub fit : Fit s core trace rows mail from until inbox
+  pub stands : StandsFor s core trace steps mail view
+  pub fit : Fit s core trace steps mail from until inbox
 
 -- A core goes over a span of cycles, in which these messages arrive, from one state to another, and sends these messages:
 -- whatever it stood for, and the arrivals are fit for, it then stands for the longer run, and sent what that sends more.
 abbrev pub Runs : CoreView → ℕ → ℕ → List Message → CoreView → List Message → Type 0
 Runs before from until inbox after sent =
-    (s : Config) (core : ℕ) (trace : List Entry) (rows : List CoreRow) (mail : List Message)
-    → StandsFor s core trace rows mail before → Fit s core trace rows mail from until inbox
-    → StandsFor s core trace (core_run s core trace rows (mail ++ inbox) (until - from)) (mail ++ inbox) after
-    × (core_messages s core trace (core_run s core trace rows (mail ++ inbox) (until - from)) ≡ core_messages s core trace rows ++ sent)
+    (s : Config) (core : ℕ) (trace : List Entry) (steps : List CoreStep) (mail : List Message)
+    → StandsFor s core trace steps mail before → Fit s core trace steps mail from until inbox
+    → StandsFor s core trace (core_run s core trace steps (mail ++ inbox) (until - from)) (mail ++ inbox) after
+    × (core_messages s core trace (core_run s core trace steps (mail ++ inbox) (until - from)) ≡ core_messages s core trace steps ++ sent)
 
 -- the same, and what it sends is put behind what a list held before
 pub record RunsOnto (before : CoreView) (from until : ℕ) (inbox : List Message) (after : CoreView) (held holds : List Message) : Type 0 where

@@ -1,16 +1,16 @@
 -- What a core stands for within a span, where messages of the cycle at which it stands may have come already.
---     StandsAt s core trace rows mail view      what the core stands for
+--     StandsAt s core trace steps mail view      what the core stands for
 --     Sends n a b sent      a core goes n cycles, in which no message comes, and sends these
 --     Advances n a before b after      the same, with a list behind which it puts them
 --     GoesOn until a b sent      a core goes some cycles, at most up to a cycle
 --     GoesQuietly until a b      a core goes no cycles or some, and sends nothing
---     Does view row why memory      what a core does in the next cycle
+--     Does view core_step why memory      what a core does in the next cycle
 use Rattle.std.specs.Prelude.{◌≡◌, ℕ, ◌-◌, ◌<◌, ◌≤◌, false, true, List, ◌++◌, length, take, drop, slice_get, Option, Some, None}
 use Rattle.std.specs.List.{AllByRecursion as Each}
 use Rattle.sim_base.specs.declared.config.Config.{Config}
 use Rattle.sim_base.specs.History.{core_messages}
 use Rattle.sim_base.specs.Machine.{core_run}
-use Rattle.sim_base.specs.declared.history.CoreRow.{CoreRow}
+use Rattle.sim_base.specs.declared.history.CoreStep.{CoreStep}
 use Rattle.sim_base.specs.declared.message.Message.{Message}
 use Rattle.sim_base.specs.declared.trace.Entry.{Entry}
 use Rattle.sim_base.specs.declared.trace.Stop.{Stop}
@@ -22,26 +22,26 @@ use Rattle.core_window.specs.Fit.{IsDue}
 use Rattle.core_window.specs.Stands.{IsPast, credits_had, credits_spent}
 use Rattle.core_window.specs.Turns.{IsTurn}
 use Rattle.core_window.specs.Views.{CoreView}
-use Rattle.core_window.specs.Waiting.{reads_waiting}
+use Rattle.core_window.specs.Outstanding.{outstanding_reads}
 
 -- the credits that a core holds for a channel, after all of this mail
-abbrev pub credits_now : Config → ℕ → List Entry → List CoreRow → List Message → ℕ → Credits
-credits_now s core trace rows mail channel =
+abbrev pub credits_now : Config → ℕ → List Entry → List CoreStep → List Message → ℕ → Credits
+credits_now s core trace steps mail channel =
     record {
-      read = credits_had s core mail channel false - credits_spent s core trace rows channel false;
-      write = credits_had s core mail channel true - credits_spent s core trace rows channel true;
+      read = credits_had s core mail channel false - credits_spent s core trace steps channel false;
+      write = credits_had s core mail channel true - credits_spent s core trace steps channel true;
     }
 
--- the statistics of the replies that came in the cycle after these rows, and of nothing else
-abbrev pub core_arrived : List CoreRow → List Message → CoreStats
-core_arrived rows mail =
+-- the statistics of the replies that came in the cycle after these steps, and of nothing else
+abbrev pub core_arrived : List CoreStep → List Message → CoreStats
+core_arrived steps mail =
     record {
       issued = 0;
       retired = 0;
       reads = 0;
       writes = 0;
-      replies = length (replies_in (length rows) mail);
-      read_latency = waited rows (replies_in (length rows) mail);
+      replies = length (replies_in (length steps) mail);
+      read_latency = waited steps (replies_in (length steps) mail);
       stop_end = 0;
       stop_width = 0;
       stop_window = 0;
@@ -50,34 +50,34 @@ core_arrived rows mail =
       finish = None;
     }
 
--- a core did what these rows say, and had these messages in those cycles or in the one after them, where it stands
-pub record StandsAt (s : Config) (core : ℕ) (trace : List Entry) (rows : List CoreRow) (mail : List Message) (view : CoreView) : Type 0 where
+-- a core did what these steps say, and had these messages in those cycles or in the one after them, where it stands
+pub record StandsAt (s : Config) (core : ℕ) (trace : List Entry) (steps : List CoreStep) (mail : List Message) (view : CoreView) : Type 0 where
   pub config : view.config ≡ s
   pub number : view.core ≡ core
   pub entries : view.trace ≡ trace
-  pub now : view.now ≡ length rows
-  pub waiting : view.waiting ≡ reads_waiting trace rows mail
+  pub now : view.now ≡ length steps
+  pub outstanding : view.outstanding ≡ outstanding_reads trace steps mail
   pub channels : length view.credits ≡ s.channels
-  pub credits : (channel : ℕ) → channel < s.channels → slice_get view.credits channel ≡ Some (credits_now s core trace rows mail channel)
-  pub stats : view.stats ≡ core_joined (core_stats s core trace rows mail) (core_arrived rows mail)
-  pub past : IsPast s core trace rows mail
+  pub credits : (channel : ℕ) → channel < s.channels → slice_get view.credits channel ≡ Some (credits_now s core trace steps mail channel)
+  pub stats : view.stats ≡ core_joined (core_stats s core trace steps mail) (core_arrived steps mail)
+  pub past : IsPast s core trace steps mail
 
--- there are rows and messages that a core stands for
+-- there are steps and messages that a core stands for
 pub record IsStanding (view : CoreView) : Type 0 where
   pub s : Config
   pub core : ℕ
   pub trace : List Entry
-  pub rows : List CoreRow
+  pub steps : List CoreStep
   pub mail : List Message
-  pub stands : StandsAt s core trace rows mail view
+  pub stands : StandsAt s core trace steps mail view
 
 -- in n cycles in which no further message comes, a core comes from one state to another, and sends these messages
 abbrev pub Sends : ℕ → CoreView → CoreView → List Message → Type 0
 Sends n a b sent =
-    (s : Config) (core : ℕ) (trace : List Entry) (rows : List CoreRow) (mail : List Message)
-    → StandsAt s core trace rows mail a
-    → StandsAt s core trace (core_run s core trace rows mail n) mail b
-    × (core_messages s core trace (core_run s core trace rows mail n) ≡ core_messages s core trace rows ++ sent)
+    (s : Config) (core : ℕ) (trace : List Entry) (steps : List CoreStep) (mail : List Message)
+    → StandsAt s core trace steps mail a
+    → StandsAt s core trace (core_run s core trace steps mail n) mail b
+    × (core_messages s core trace (core_run s core trace steps mail n) ≡ core_messages s core trace steps ++ sent)
 
 -- the same, and what it sends is put behind what a list held before
 pub record Advances (n : ℕ) (a : CoreView) (before : List Message) (b : CoreView) (after : List Message) : Type 0 where
@@ -102,17 +102,17 @@ pub record IsReceiving (view : CoreView) (m : Message) : Type 0 where
   pub s : Config
   pub core : ℕ
   pub trace : List Entry
-  pub rows : List CoreRow
+  pub steps : List CoreStep
   pub mail : List Message
-  pub stands : StandsAt s core trace rows mail view
-  pub now : m.arrival ≡ length rows
-  pub due : IsDue s core trace rows mail m
+  pub stands : StandsAt s core trace steps mail view
+  pub now : m.arrival ≡ length steps
+  pub due : IsDue s core trace steps mail m
 
 -- within a span a core has taken so many messages of its inbox, and sent these; no other comes before the cycle where it stands
-pub record IsMidway (s : Config) (core : ℕ) (trace : List Entry) (rows : List CoreRow) (mail : List Message) (from until : ℕ) (inbox : List Message) (taken : ℕ) (view : CoreView) (sent : List Message) : Type 0 where
+pub record IsMidway (s : Config) (core : ℕ) (trace : List Entry) (steps : List CoreStep) (mail : List Message) (from until : ℕ) (inbox : List Message) (taken : ℕ) (view : CoreView) (sent : List Message) : Type 0 where
   pub since : from ≤ view.now
-  pub stands : StandsAt s core trace (core_run s core trace rows (mail ++ inbox) (view.now - from)) (mail ++ take taken inbox) view
-  pub messages : core_messages s core trace (core_run s core trace rows (mail ++ inbox) (view.now - from)) ≡ core_messages s core trace rows ++ sent
+  pub stands : StandsAt s core trace (core_run s core trace steps (mail ++ inbox) (view.now - from)) (mail ++ take taken inbox) view
+  pub messages : core_messages s core trace (core_run s core trace steps (mail ++ inbox) (view.now - from)) ≡ core_messages s core trace steps ++ sent
   pub others : Each (λ m. view.now ≤ m.arrival) (drop taken inbox)
   pub until_then : view.now ≤ until
 
@@ -121,13 +121,13 @@ pub record IsMidway (s : Config) (core : ℕ) (trace : List Entry) (rows : List 
 pub record IsLike (a v : CoreView) : Type 0 where
   pub config : v.config ≡ a.config
   pub entries : v.trace ≡ a.trace
-  pub waiting : v.waiting ≡ a.waiting
+  pub outstanding : v.outstanding ≡ a.outstanding
   pub credits : v.credits ≡ a.credits
   pub issued : v.stats.issued ≡ a.stats.issued
   pub retired : v.stats.retired ≡ a.stats.retired
 
 -- what a core does in the next cycle, if no further message comes: all that is like it does the same
-abbrev pub Does : CoreView → CoreRow → Stop → Option MemoryEntry → Type 0
-Does a row why memory =
-    (v : CoreView) (s : Config) (core : ℕ) (trace : List Entry) (rows : List CoreRow) (mail : List Message)
-    → IsLike a v → StandsAt s core trace rows mail v → IsTurn s core trace rows mail row why memory
+abbrev pub Does : CoreView → CoreStep → Stop → Option MemoryEntry → Type 0
+Does a core_step why memory =
+    (v : CoreView) (s : Config) (core : ℕ) (trace : List Entry) (steps : List CoreStep) (mail : List Message)
+    → IsLike a v → StandsAt s core trace steps mail v → IsTurn s core trace steps mail core_step why memory

@@ -1,5 +1,5 @@
 pub mod Views
-pub mod Waiting
+pub mod Outstanding
 pub mod Stands
 pub mod Fit
 pub mod Inside

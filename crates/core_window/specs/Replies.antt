@@ -3,7 +3,7 @@
 --     after_reply view read      what a core keeps after the reply to a Read
 use Rattle.std.specs.Prelude.{ℕ, ◌^◌, ◌+◌, ◌-◌, ◌<◌, ◌==◌, not, filter}
 use Rattle.core_window.specs.Views.{CoreView}
-use Rattle.core_window.specs.declared.waiting.WaitingRead.{WaitingRead}
+use Rattle.core_window.specs.declared.outstanding.OutstandingRead.{OutstandingRead}
 
 -- one reply more can be counted
 pub record MayTakeReply (view : CoreView) (entry : ℕ) : Type 0 where
@@ -11,10 +11,10 @@ pub record MayTakeReply (view : CoreView) (entry : ℕ) : Type 0 where
   pub sum : view.stats.read_latency < 2 ^ 127
 
 -- what a core keeps after the reply to a Read
-abbrev pub after_reply : CoreView → WaitingRead → CoreView
+abbrev pub after_reply : CoreView → OutstandingRead → CoreView
 after_reply view read =
     record view {
-      waiting = filter (λ r. not (r.entry == read.entry)) view.waiting;
+      outstanding = filter (λ r. not (r.entry == read.entry)) view.outstanding;
       stats = record view.stats {
         replies = view.stats.replies + 1;
         read_latency = view.stats.read_latency + (view.now - read.issued);

@@ -1,14 +1,14 @@
 -- Cycles in which a core sends nothing.
---     IsSilentUntil s core trace rows mail until      it sends nothing before a cycle, while no message comes
+--     IsSilentUntil s core trace steps mail until      it sends nothing before a cycle, while no message comes
 use Rattle.std.specs.Prelude.{◌≡◌, ℕ, ◌+◌, ◌≤◌, List, length}
 use Rattle.sim_base.specs.declared.config.Config.{Config}
 use Rattle.sim_base.specs.History.{core_messages}
 use Rattle.sim_base.specs.Machine.{core_run}
-use Rattle.sim_base.specs.declared.history.CoreRow.{CoreRow}
+use Rattle.sim_base.specs.declared.history.CoreStep.{CoreStep}
 use Rattle.sim_base.specs.declared.message.Message.{Message}
 use Rattle.sim_base.specs.declared.trace.Entry.{Entry}
 
 -- A core sends nothing before a cycle, while no message comes. It may retire entries, and issue Plain ones.
-abbrev pub IsSilentUntil : Config → ℕ → List Entry → List CoreRow → List Message → ℕ → Type 0
-IsSilentUntil s core trace rows mail until =
-    (n : ℕ) → length rows + n ≤ until → core_messages s core trace (core_run s core trace rows mail n) ≡ core_messages s core trace rows
+abbrev pub IsSilentUntil : Config → ℕ → List Entry → List CoreStep → List Message → ℕ → Type 0
+IsSilentUntil s core trace steps mail until =
+    (n : ℕ) → length steps + n ≤ until → core_messages s core trace (core_run s core trace steps mail n) ≡ core_messages s core trace steps

@@ -1,6 +1,6 @@
 -- What a core stands for.
---     IsPast s core trace rows mail      what holds of the rows of a core and of the messages that it had
---     StandsFor s core trace rows mail view      all that a core keeps is what its rows and its messages make of it
+--     IsPast s core trace steps mail      what holds of the steps of a core and of the messages that it had
+--     StandsFor s core trace steps mail view      all that a core keeps is what its steps and its messages make of it
 use Rattle.std.specs.Prelude.{◌≡◌, ℕ, ◌^◌, ◌+◌, ◌<◌, ◌≤◌, Bool, true, List, length, filter, count_by, slice_get, Some}
 use Rattle.std.specs.Option.{IfSome}
 use Rattle.std.specs.List.{AllByRecursion as Each}
@@ -9,18 +9,18 @@ use Rattle.sim_base.specs.Config.{credit_link}
 use Rattle.sim_base.specs.Counts.{replied_entry, is_reply}
 use Rattle.sim_base.specs.History.{retired_before, issued_before, core_messages}
 use Rattle.sim_base.specs.Windows.{is_request_for, is_credit, credit_cap}
-use Rattle.sim_base.specs.declared.history.CoreRow.{CoreRow}
+use Rattle.sim_base.specs.declared.history.CoreStep.{CoreStep}
 use Rattle.sim_base.specs.declared.message.Message.{Message}
 use Rattle.sim_base.specs.declared.trace.Entry.{Entry}
 use Rattle.statistics.specs.Cores.{core_stats}
 use Rattle.statistics.specs.Runs.{credits_of}
 use Rattle.core_window.specs.Views.{CoreView}
-use Rattle.core_window.specs.Waiting.{is_read_at, is_answered, reads_waiting}
+use Rattle.core_window.specs.Outstanding.{is_read_at, is_answered, outstanding_reads}
 use Rattle.std.specs.Prelude.{take, ◌==◌, ◌&&◌}
 
 -- a reply is of an entry that was issued in an earlier cycle than the one in which it arrived
-abbrev pub FollowsItsEntry : List CoreRow → Message → Type 0
-FollowsItsEntry rows m = IfSome (replied_entry m.load) (λ entry. entry < issued_before (take m.arrival rows))
+abbrev pub FollowsItsEntry : List CoreStep → Message → Type 0
+FollowsItsEntry steps m = IfSome (replied_entry m.load) (λ entry. entry < issued_before (take m.arrival steps))
 
 -- a credit on this link
 abbrev pub is_credit_from : ℕ → Bool → Message → Bool
@@ -31,46 +31,46 @@ abbrev pub credits_had : Config → ℕ → List Message → ℕ → Bool → �
 credits_had s core mail channel write = credit_cap s write + count_by (is_credit_from (credit_link s core channel) write) mail
 
 -- the credits that a core spent for a channel
-abbrev pub credits_spent : Config → ℕ → List Entry → List CoreRow → ℕ → Bool → ℕ
-credits_spent s core trace rows channel write = count_by (λ m. is_request_for channel write m.load) (core_messages s core trace rows)
+abbrev pub credits_spent : Config → ℕ → List Entry → List CoreStep → ℕ → Bool → ℕ
+credits_spent s core trace steps channel write = count_by (λ m. is_request_for channel write m.load) (core_messages s core trace steps)
 
--- What holds of the rows of a core, one a cycle, and of the messages that it had, those of the next cycle perhaps included.
-pub record IsPast (s : Config) (core : ℕ) (trace : List Entry) (rows : List CoreRow) (mail : List Message) : Type 0 where
+-- What holds of the steps of a core, one a cycle, and of the messages that it had, those of the next cycle perhaps included.
+pub record IsPast (s : Config) (core : ℕ) (trace : List Entry) (steps : List CoreStep) (mail : List Message) : Type 0 where
   -- a trace has at most 2^62 entries
   pub fits : length trace ≤ 2 ^ 62
   -- it issues in order, up to the end of its trace
-  pub issued : issued_before rows ≤ length trace
+  pub issued : issued_before steps ≤ length trace
   -- it retires what it issued
-  pub retired : retired_before rows ≤ issued_before rows
+  pub retired : retired_before steps ≤ issued_before steps
   -- and keeps no more than its window in between
-  pub window : issued_before rows ≤ retired_before rows + s.window
+  pub window : issued_before steps ≤ retired_before steps + s.window
   -- each message came no later than in the next cycle
-  pub arrived : Each (λ m. m.arrival ≤ length rows) mail
+  pub arrived : Each (λ m. m.arrival ≤ length steps) mail
   -- each reply followed its entry
-  pub follows : Each (FollowsItsEntry rows) mail
+  pub follows : Each (FollowsItsEntry steps) mail
   -- no Read retired without its reply
-  pub done : (entry : ℕ) → entry < retired_before rows → is_read_at trace entry ≡ true → is_answered mail entry ≡ true
+  pub done : (entry : ℕ) → entry < retired_before steps → is_read_at trace entry ≡ true → is_answered mail entry ≡ true
   -- no more Reads were answered than were issued
-  pub answered : length (filter is_reply mail) + length (reads_waiting trace rows mail) ≤ issued_before rows
+  pub answered : length (filter is_reply mail) + length (outstanding_reads trace steps mail) ≤ issued_before steps
   -- no credit was spent that the core did not have
-  pub paid : (channel : ℕ) (write : Bool) → credits_spent s core trace rows channel write ≤ credits_had s core mail channel write
+  pub paid : (channel : ℕ) (write : Bool) → credits_spent s core trace steps channel write ≤ credits_had s core mail channel write
 
--- A core did what these rows say, one a cycle, and had these messages in those cycles: it stands at the cycle after them.
-pub record StandsFor (s : Config) (core : ℕ) (trace : List Entry) (rows : List CoreRow) (mail : List Message) (view : CoreView) : Type 0 where
+-- A core did what these steps say, one a cycle, and had these messages in those cycles: it stands at the cycle after them.
+pub record StandsFor (s : Config) (core : ℕ) (trace : List Entry) (steps : List CoreStep) (mail : List Message) (view : CoreView) : Type 0 where
   -- it has this configuration, this number and this trace
   pub config : view.config ≡ s
   pub number : view.core ≡ core
   pub entries : view.trace ≡ trace
-  -- it stands at the cycle after its rows
-  pub now : view.now ≡ length rows
+  -- it stands at the cycle after its steps
+  pub now : view.now ≡ length steps
   -- it knows which Reads have no reply, in order, and in which cycle each was issued
-  pub waiting : view.waiting ≡ reads_waiting trace rows mail
+  pub outstanding : view.outstanding ≡ outstanding_reads trace steps mail
   -- it knows the credits that it holds for each channel
   pub channels : length view.credits ≡ s.channels
-  pub credits : (channel : ℕ) → channel < s.channels → slice_get view.credits channel ≡ Some (credits_of s core trace rows mail channel)
+  pub credits : (channel : ℕ) → channel < s.channels → slice_get view.credits channel ≡ Some (credits_of s core trace steps mail channel)
   -- it counted what statistics count, among them the entries that it issued and retired
-  pub stats : view.stats ≡ core_stats s core trace rows mail
+  pub stats : view.stats ≡ core_stats s core trace steps mail
   -- all messages came before the cycle where it stands
-  pub before : Each (λ m. m.arrival < length rows) mail
-  -- and its rows and messages are such as a core may have
-  pub past : IsPast s core trace rows mail
+  pub before : Each (λ m. m.arrival < length steps) mail
+  -- and its steps and messages are such as a core may have
+  pub past : IsPast s core trace steps mail

@@ -1,11 +1,11 @@
 -- Cycles in which a core does the same over and over.
---     steady_counts row why      what statistics count in one of them
---     steady_view view row why n      a core after n of them
---     IsSteady view n row why      a core does the same in n cycles in which no message comes
---     IsFlow width window issued retired waiting r n      in n cycles a window takes in as many entries as it can and gives out r
+--     steady_counts core_step why      what statistics count in one of them
+--     steady_view view core_step why n      a core after n of them
+--     IsSteady view n core_step why      a core does the same in n cycles in which no message comes
+--     IsFlow width window issued retired outstanding r n      in n cycles a window takes in as many entries as it can and gives out r
 use Rattle.std.specs.Prelude.{◌≡◌, ℕ, ◌+◌, ◌-◌, ◌*◌, ◌<◌, ◌≤◌, min, List, length, Option, None, ◌⊎◌}
 use Rattle.sim_base.specs.declared.config.Config.{Config}
-use Rattle.sim_base.specs.declared.history.CoreRow.{CoreRow}
+use Rattle.sim_base.specs.declared.history.CoreStep.{CoreStep}
 use Rattle.sim_base.specs.declared.message.Message.{Message}
 use Rattle.sim_base.specs.declared.trace.Entry.{Entry}
 use Rattle.sim_base.specs.declared.trace.Stop.{Stop}
@@ -18,16 +18,16 @@ use Rattle.core_window.specs.Causes.{first_undone}
 use Rattle.core_window.specs.Inside.{StandsAt}
 use Rattle.core_window.specs.Turns.{IsTurn, cycle_counts, is_read_among, is_write_among}
 use Rattle.core_window.specs.Views.{CoreView}
-use Rattle.core_window.specs.declared.waiting.WaitingRead.{WaitingRead}
+use Rattle.core_window.specs.declared.outstanding.OutstandingRead.{OutstandingRead}
 
--- what statistics count in a cycle with this row and this cause to stop, in which neither a memory entry issues nor the last
+-- what statistics count in a cycle with this core_step and this cause to stop, in which neither a memory entry issues nor the last
 -- entry of the trace retires
-abbrev pub steady_counts : CoreRow → Stop → CoreStats
-steady_counts row why = cycle_counts row why None 0 0 0
+abbrev pub steady_counts : CoreStep → Stop → CoreStats
+steady_counts core_step why = cycle_counts core_step why None 0 0 0
 
 -- a core after n such cycles: it only counts
-abbrev pub steady_view : CoreView → CoreRow → Stop → ℕ → CoreView
-steady_view a row why n = record a { now = a.now + n; stats = core_joined a.stats (core_times n (steady_counts row why)) }
+abbrev pub steady_view : CoreView → CoreStep → Stop → ℕ → CoreView
+steady_view a core_step why n = record a { now = a.now + n; stats = core_joined a.stats (core_times n (steady_counts core_step why)) }
 
 -- with so many cycles more in which a core stops for this cause
 abbrev pub with_stop : CoreStats → Stop → ℕ → CoreStats
@@ -43,14 +43,14 @@ with_memory a memory = record a { reads = a.reads + one_if (is_read_among memory
 
 -- In each of n cycles a core does the same and stops for the same cause, while no message comes: no memory entry issues in
 -- them, and the last entry of the trace does not retire in them.
-pub record IsSteady (a : CoreView) (n : ℕ) (row : CoreRow) (why : Stop) : Type 0 where
-  pub turns : (k : ℕ) → k < n → (s : Config) (core : ℕ) (trace : List Entry) (rows : List CoreRow) (mail : List Message)
-      → StandsAt s core trace rows mail (steady_view a row why k) → IsTurn s core trace rows mail row why None
-  pub unfinished : (n * row.retired ≡ 0) ⊎ (a.stats.retired + n * row.retired < length a.trace)
+pub record IsSteady (a : CoreView) (n : ℕ) (core_step : CoreStep) (why : Stop) : Type 0 where
+  pub turns : (k : ℕ) → k < n → (s : Config) (core : ℕ) (trace : List Entry) (steps : List CoreStep) (mail : List Message)
+      → StandsAt s core trace steps mail (steady_view a core_step why k) → IsTurn s core trace steps mail core_step why None
+  pub unfinished : (n * core_step.retired ≡ 0) ⊎ (a.stats.retired + n * core_step.retired < length a.trace)
 
 -- The window of a core that issues its width of Plain entries in each of n cycles lets it retire r of them in each: those that
 -- are done by then, and no more than the width; and it has room for those that issue. Before them, so many entries were issued
 -- and so many retired.
-pub record IsFlow (width window issued retired : ℕ) (waiting : List WaitingRead) (r n : ℕ) : Type 0 where
-  pub retires : (k : ℕ) → k < n → r ≡ min width (first_undone (issued + k * width) waiting - (retired + k * r))
+pub record IsFlow (width window issued retired : ℕ) (outstanding : List OutstandingRead) (r n : ℕ) : Type 0 where
+  pub retires : (k : ℕ) → k < n → r ≡ min width (first_undone (issued + k * width) outstanding - (retired + k * r))
   pub room : (k : ℕ) → k < n → issued + k * width + width ≤ retired + k * r + r + window

@@ -10,10 +10,10 @@ use Rattle.sim_base.specs.Counts.{is_read, is_write, is_stop}
 use Rattle.sim_base.specs.Windows.{is_memory, is_memory_in, lacks_credit, stop_after, first_stop, step}
 use Rattle.sim_base.specs.History.{retired_before, issued_before, core_messages, request_of}
 use Rattle.sim_base.specs.Places.{place_of}
-use Rattle.core_window.specs.declared.waiting.WaitingRead.{WaitingRead}
+use Rattle.core_window.specs.declared.outstanding.OutstandingRead.{OutstandingRead}
 use Rattle.sim_base.specs.declared.config.Config.{Config}
 use Rattle.sim_base.specs.declared.message.Message.{Message}
-use Rattle.sim_base.specs.declared.history.CoreRow.{CoreRow}
+use Rattle.sim_base.specs.declared.history.CoreStep.{CoreStep}
 use Rattle.sim_base.specs.declared.trace.Entry.{Entry}
 use Rattle.sim_base.specs.declared.trace.Entry.TheVariants.{Plain, Read, Write}
 use Rattle.sim_base.specs.declared.trace.Stop.{Stop}
@@ -77,13 +77,13 @@ abbrev pub is_write_among : Option MemoryEntry → Bool
 is_write_among None = false
 is_write_among (Some e) = is_write e.entry
 
--- what statistics count in a cycle, but for replies: it has this row, this cause to stop and this memory entry, and before it
+-- what statistics count in a cycle, but for replies: it has this core_step, this cause to stop and this memory entry, and before it
 -- so many entries of the trace were retired
-abbrev pub cycle_counts : CoreRow → Stop → Option MemoryEntry → ℕ → ℕ → ℕ → CoreStats
-cycle_counts row why memory before len now =
+abbrev pub cycle_counts : CoreStep → Stop → Option MemoryEntry → ℕ → ℕ → ℕ → CoreStats
+cycle_counts core_step why memory before len now =
     record {
-      issued = row.issued;
-      retired = row.retired;
+      issued = core_step.issued;
+      retired = core_step.retired;
       reads = one_if (is_read_among memory);
       writes = one_if (is_write_among memory);
       replies = 0;
@@ -93,7 +93,7 @@ cycle_counts row why memory before len now =
       stop_window = one_if (is_stop stop.Window why);
       stop_memory = one_if (is_stop stop.Memory why);
       stop_credit = one_if (is_stop stop.Credit why);
-      finish = if nat_lt before len && nat_le len (before + row.retired) then Some now else None;
+      finish = if nat_lt before len && nat_le len (before + core_step.retired) then Some now else None;
     }
 
 -- the cause for which a core issues no more than m entries, and that it has none before
@@ -114,7 +114,7 @@ pub record MayIssue (s : Config) (core : ℕ) (trace : List Entry) (inbox sent :
   pub credit : lacks ≡ (nat_lt one (length trace) && lacks_credit s core inbox sent now (slice_get trace one))
 
 -- the Read that begins to wait, if the memory entry that issues is one
-abbrev pub reads_issued : Option MemoryEntry → ℕ → List WaitingRead
+abbrev pub reads_issued : Option MemoryEntry → ℕ → List OutstandingRead
 reads_issued None now = []
 reads_issued (Some e) now = if is_read e.entry then record { entry = e.number; issued = now } ∷ [] else []
 
@@ -134,12 +134,12 @@ abbrev pub credit_after : Config → ℕ → Option MemoryEntry → Credits → 
 credit_after s channel None c = c
 credit_after s channel (Some e) c = credit_after_entry s channel e.entry c
 
--- what a core does in the cycle after these rows, with this mail
-pub record IsTurn (s : Config) (core : ℕ) (trace : List Entry) (rows : List CoreRow) (mail : List Message) (row : CoreRow) (why : Stop) (memory : Option MemoryEntry) : Type 0 where
-  pub does : step s core trace rows mail ≡ (row, why)
-  pub window : issued_before rows + row.issued ≤ retired_before rows + row.retired + s.window
-  pub issues : IsIssued trace (issued_before rows) row.issued memory
-  pub credit : IfSome memory (λ e. lacks_credit s core mail (core_messages s core trace rows) (length rows) (Some e.entry) ≡ false)
+-- what a core does in the cycle after these steps, with this mail
+pub record IsTurn (s : Config) (core : ℕ) (trace : List Entry) (steps : List CoreStep) (mail : List Message) (core_step : CoreStep) (why : Stop) (memory : Option MemoryEntry) : Type 0 where
+  pub does : step s core trace steps mail ≡ (core_step, why)
+  pub window : issued_before steps + core_step.issued ≤ retired_before steps + core_step.retired + s.window
+  pub issues : IsIssued trace (issued_before steps) core_step.issued memory
+  pub credit : IfSome memory (λ e. lacks_credit s core mail (core_messages s core trace steps) (length steps) (Some e.entry) ≡ false)
 
 -- a core that holds these credits for each channel has none for this entry
 abbrev pub lacks_by : Config → (ℕ → Credits) → Entry → Bool

@@ -1,7 +1,7 @@
 //! A core.
 
 ghost use Rattle.std.specs.Prelude.{[], IsTrue, ◌↔◌, ◌∷◌, ◌++◌, ◌/◌, ◌%◌, find, if◌then◌else◌, ◌≡◌, ◌==◌, ◌^◌, ◌+◌, ◌-◌, ◌*◌, ◌≤◌, ◌<◌, ℕ, Some, List, length, replicate, slice_get, min, OnOk, OnErr, IfOk};
-ghost use Rattle.sim_base.specs.declared.history.CoreRow.{CoreRow};
+ghost use Rattle.sim_base.specs.declared.history.CoreStep.{CoreStep};
 ghost use Rattle.sim_base.specs.declared.message.Message.{Message};
 ghost use Rattle.sim_base.specs.declared.config.Config.{Config};
 ghost use Rattle.sim_base.specs.declared.trace.Entry.{Entry};
@@ -15,25 +15,25 @@ ghost use Rattle.core_window.specs.Fit.{IsDue, MayRun, RunsOnto};
 ghost use Rattle.core_window.specs.Stands.{StandsFor};
 ghost use Rattle.core_window.specs.Inside.{IsStanding, IsReceiving, StandsAt, Advances, GoesOn, GoesQuietly, Does};
 ghost use Rattle.core_window.specs.Views.{CoreView};
-ghost use Rattle.core_window.specs.Rests.{Rests, IsNextAct, MayRest, MaySkip, idle_row};
+ghost use Rattle.core_window.specs.Rests.{Rests, IsNextAct, MayRest, MaySkip, idle_step};
 ghost use Rattle.core_window.specs.Silence.{IsSilentUntil};
 ghost use Rattle.core_window.specs.Steady.{steady_view, IsSteady};
 ghost use Rattle.core_window.specs.Replies.{MayTakeReply, after_reply};
-ghost use Rattle.core_window.specs.Waiting.{is_waiting, IsByNumber};
-ghost use Rattle.core_window.specs.declared.waiting.WaitingRead.{WaitingRead};
+ghost use Rattle.core_window.specs.Outstanding.{is_outstanding, IsByNumber};
+ghost use Rattle.core_window.specs.declared.outstanding.OutstandingRead.{OutstandingRead};
 
 use crate::counts::{count_cycle, count_cycles, cycle_counts};
 use crate::flow::{Flow, WindowNumbers, cycles_within, flow_of};
 use crate::issue::{Ahead, entry_issued, issue_of, look_ahead, most_issued, next_two};
 use crate::issue_effects::{send, spend, wait_for};
-use crate::receive::{add_credit_at, channel_of, count_reply, is_waiting, take_read};
+use crate::outstanding::OutstandingRead;
+use crate::receive::{add_credit_at, channel_of, count_reply, is_outstanding, take_read};
 use crate::retire::{cause_where_full, is_next_done, is_stuck, retire_count};
-use crate::waiting::WaitingRead;
 use address_map::digits::Digits;
 use cpu_trace::entries::MemoryEntry;
 use cpu_trace::trace::Trace;
 use sim_base::config::Config;
-use sim_base::history::CoreRow;
+use sim_base::history::CoreStep;
 use sim_base::message::{CoreId, Cycle, LinkId, Load, Message};
 use sim_base::trace::{Entry, Stop};
 use statistics::cores::CoreStats;
@@ -49,7 +49,7 @@ pub struct Core {
     id: CoreId,
     trace: Trace,
     cycle: Cycle,
-    waiting: Vec<WaitingRead>,
+    outstanding: Vec<OutstandingRead>,
     credits: Vec<Credits>,
     stats: CoreStats,
     /// The next two memory entries that it issues.
@@ -62,7 +62,7 @@ pub struct Core {
 /// What a core does in a cycle, and why it stops; with the memory entry that it issues, if it issues one.
 #[derive(Clone, Copy, PartialEq, Eq, Debug)]
 pub(crate) struct Turn {
-    pub row: CoreRow,
+    pub core_step: CoreStep,
     pub why: Stop,
     pub memory: Option<MemoryEntry>,
 }
@@ -94,14 +94,14 @@ impl Core {
     /// What the core does in the next cycle, where the first entry of its full window waits: nothing.
     fn idle_turn(&self) -> Turn
         requires stands { IsStanding (view_of self.now) }
-        requires undone { first_undone self.now.stats.issued self.now.waiting.items ≤ self.now.stats.retired }
+        requires undone { first_undone self.now.stats.issued self.now.outstanding.items ≤ self.now.stats.retired }
         requires full { self.now.config.window ≤ self.now.stats.issued - self.now.stats.retired }
-        ensures does { Does (view_of self.now) result.row result.why result.memory }
-        ensures idle { result.row ≡ idle_row }
+        ensures does { Does (view_of self.now) result.core_step result.why result.memory }
+        ensures idle { result.core_step ≡ idle_step }
     {
         let why = cause_where_full(self.trace.len(), self.stats.issued);
         Turn {
-            row: CoreRow {
+            core_step: CoreStep {
                 retired: 0,
                 issued: 0,
             },
@@ -114,20 +114,21 @@ impl Core {
     #[inline(always)]
     fn turn(&self) -> Turn
         requires { IsStanding (view_of self.now) }
-        ensures does { Does (view_of self.now) result.row result.why result.memory }
+        ensures does { Does (view_of self.now) result.core_step result.why result.memory }
         ensures entry { IfSome result.memory (λ e. e.entry ≡ self.now.found.entry) }
-        ensures within { self.now.stats.issued + result.row.issued ≤ self.now.found.two }
+        ensures within { self.now.stats.issued + result.core_step.issued ≤ self.now.found.two }
     {
         let len = self.trace.len();
         let number = self.stats.issued;
-        let retired = retire_count(self.config.width, &self.waiting, number, self.stats.retired);
+        let width = self.config.width;
+        let retired = retire_count(width, &self.outstanding, number, self.stats.retired);
         let gone = self.stats.retired + u64::from(retired);
         let near = most_issued(&self.config, len, number, gone);
         let lacks = self.found.one < near && is_without_credit(&self.credits, &self.found);
         let issue = issue_of(&self.config, len, number, gone, &self.found, lacks);
         let memory = entry_issued(number, &self.found, issue.count);
         Turn {
-            row: CoreRow {
+            core_step: CoreStep {
                 retired,
                 issued: issue.count,
             },
@@ -139,14 +140,14 @@ impl Core {
     /// Goes on by a cycle, in which no further message comes, and does this.
     fn step(&mut self, turn: Turn, sent: &mut Vec<Message>) -> Result<(), AllocError>
         requires stands { IsStanding (view_of self.old) }
-        requires turn { Does (view_of self.old) turn.row turn.why turn.memory }
+        requires turn { Does (view_of self.old) turn.core_step turn.why turn.memory }
         requires entry { IfSome turn.memory (λ e. e.entry ≡ self.old.found.entry) }
-        requires within { self.old.stats.issued + turn.row.issued ≤ self.old.found.two }
+        requires within { self.old.stats.issued + turn.core_step.issued ≤ self.old.found.two }
         requires early { self.old.cycle < 2 ^ 62 }
         ensures cycle { OnOk result (self.new.cycle ≡ self.old.cycle + 1) }
         ensures advances { OnOk result (Advances 1 (view_of self.old) sent.old.items (view_of self.new) sent.new.items) }
     {
-        wait_for(&mut self.waiting, turn.memory, self.cycle)?;
+        wait_for(&mut self.outstanding, turn.memory, self.cycle)?;
         spend(&mut self.credits, &self.found.place, turn.memory);
         send(
             sent,
@@ -159,7 +160,7 @@ impl Core {
         let len = self.trace.len();
         count_cycle(
             &mut self.stats,
-            turn.row,
+            turn.core_step,
             turn.why,
             turn.memory,
             len,
@@ -177,27 +178,27 @@ impl Core {
     }
 
     /// Goes on by some cycles, in each of which the core does the same.
-    fn pass(&mut self, row: CoreRow, why: Stop, cycles: u64)
+    fn pass(&mut self, core_step: CoreStep, why: Stop, cycles: u64)
         requires stands { IsStanding (view_of self.old) }
-        requires steady { IsSteady (view_of self.old) cycles row why }
+        requires steady { IsSteady (view_of self.old) cycles core_step why }
         requires some { 0 < cycles }
-        requires within { self.old.stats.issued + cycles * row.issued ≤ self.old.found.one }
+        requires within { self.old.stats.issued + cycles * core_step.issued ≤ self.old.found.one }
         requires early { self.old.cycle + cycles < 2 ^ 62 }
-        ensures { view_of self.new ≡ steady_view (view_of self.old) row why cycles }
+        ensures { view_of self.new ≡ steady_view (view_of self.old) core_step why cycles }
     {
         prove!(self.trace.len() <= 1 << 62);
-        count_cycles(&mut self.stats, row, why, cycles);
+        count_cycles(&mut self.stats, core_step, why, cycles);
         self.cycle += cycles;
     }
 
     /// A reply comes: its Read waits no more.
     fn take_reply(&mut self, entry: u64)
         requires room { MayTakeReply (view_of self.old) entry }
-        requires order { IsByNumber self.old.waiting.items }
-        ensures { (read : WaitingRead) → find (λ r. r.entry == entry) self.old.waiting.items ≡ Some read
+        requires order { IsByNumber self.old.outstanding.items }
+        ensures { (read : OutstandingRead) → find (λ r. r.entry == entry) self.old.outstanding.items ≡ Some read
             → view_of self.new ≡ after_reply (view_of self.old) read }
     {
-        if let Some(read) = take_read(&mut self.waiting, entry) {
+        if let Some(read) = take_read(&mut self.outstanding, entry) {
             count_reply(&mut self.stats, self.cycle.saturating_sub(read.issued));
         }
     }
@@ -220,9 +221,9 @@ impl Core {
     fn receive(&mut self, message: Message)
         requires stands { IsReceiving (view_of self.old) message }
         requires early { self.old.cycle < 2 ^ 62 }
-        ensures { (s : Config) (core : ℕ) (trace : List Entry) (rows : List CoreRow) (mail : List Message)
-            → StandsAt s core trace rows mail (view_of self.old) → message.arrival ≡ length rows → IsDue s core trace rows mail message
-            → StandsAt s core trace rows (mail ++ message ∷ []) (view_of self.new) }
+        ensures { (s : Config) (core : ℕ) (trace : List Entry) (steps : List CoreStep) (mail : List Message)
+            → StandsAt s core trace steps mail (view_of self.old) → message.arrival ≡ length steps → IsDue s core trace steps mail message
+            → StandsAt s core trace steps (mail ++ message ∷ []) (view_of self.new) }
     {
         match message.load {
             Load::Reply(entry) => self.take_reply(entry),
@@ -253,7 +254,7 @@ impl Core {
             retired: self.stats.retired,
             plain: self.found.one.min(last).saturating_sub(issued),
         };
-        flow_of(&numbers, &self.waiting, most)
+        flow_of(&numbers, &self.outstanding, most)
     }
 
     /// Goes on by a cycle, or up to a cycle, if the core does nothing until a message comes.
@@ -264,8 +265,8 @@ impl Core {
         ensures { OnOk result (GoesOn until (view_of self.old) sent.old.items (view_of self.new) sent.new.items) }
     {
         let turn = self.turn();
-        if turn.row.retired == 0 && turn.row.issued == 0 {
-            self.pass(turn.row, turn.why, until - self.cycle);
+        if turn.core_step.retired == 0 && turn.core_step.issued == 0 {
+            self.pass(turn.core_step, turn.why, until - self.cycle);
             Ok(())
         } else {
             self.step(turn, sent)
@@ -282,12 +283,12 @@ impl Core {
 
     /// Whether the first entry of its full window waits, so that the core does nothing until a message comes.
     fn is_stuck(&self) -> bool
-        ensures undone { IsTrue result → first_undone self.now.stats.issued self.now.waiting.items ≤ self.now.stats.retired }
+        ensures undone { IsTrue result → first_undone self.now.stats.issued self.now.outstanding.items ≤ self.now.stats.retired }
         ensures full { IsTrue result → self.now.config.window ≤ self.now.stats.issued - self.now.stats.retired }
     {
         is_stuck(
             self.config.window,
-            &self.waiting,
+            &self.outstanding,
             self.stats.issued,
             self.stats.retired,
         )
@@ -296,7 +297,7 @@ impl Core {
     /// Goes on up to a cycle, where the first entry of its full window waits.
     fn rest(&mut self, until: Cycle)
         requires stands { IsStanding (view_of self.old) }
-        requires undone { first_undone self.old.stats.issued self.old.waiting.items ≤ self.old.stats.retired }
+        requires undone { first_undone self.old.stats.issued self.old.outstanding.items ≤ self.old.stats.retired }
         requires full { self.old.config.window ≤ self.old.stats.issued - self.old.stats.retired }
         requires order { self.old.cycle < until }
         requires early { until < 2 ^ 62 }
@@ -304,7 +305,7 @@ impl Core {
         ensures cycle { self.new.cycle ≡ until }
     {
         let turn = self.idle_turn();
-        self.pass(turn.row, turn.why, until - self.cycle);
+        self.pass(turn.core_step, turn.why, until - self.cycle);
     }
 
     /// Goes on by the cycles, at most up to a cycle, in which the core issues its width of Plain entries and does the same in
@@ -319,11 +320,11 @@ impl Core {
         if flow.cycles == 0 {
             return;
         }
-        let row = CoreRow {
+        let core_step = CoreStep {
             retired: flow.retired,
             issued: self.config.width,
         };
-        self.pass(row, Stop::Width, flow.cycles);
+        self.pass(core_step, Stop::Width, flow.cycles);
     }
 
     /// Goes on by some cycles, at most up to a cycle.
@@ -408,7 +409,7 @@ impl Core {
             id,
             trace,
             cycle: 0,
-            waiting: Vec::with_capacity(alloc, config.window as usize)?,
+            outstanding: Vec::with_capacity(alloc, config.window as usize)?,
             credits: vec![in alloc; credits; usize::from(config.channels)]?,
             stats: CoreStats::new(),
             found,
@@ -442,11 +443,11 @@ impl Core {
     fn next_turn(&self, from: Cycle) -> Option<Cycle>
         requires at { self.now.cycle ≡ from }
         requires stands { MayRest (view_of self.now) }
-        ensures { (s : Config) (core : ℕ) (trace : List Entry) (rows : List CoreRow) (mail : List Message)
-            → StandsFor s core trace rows mail (view_of self.now) → IsNextAct s core trace rows mail result }
+        ensures { (s : Config) (core : ℕ) (trace : List Entry) (steps : List CoreStep) (mail : List Message)
+            → StandsFor s core trace steps mail (view_of self.now) → IsNextAct s core trace steps mail result }
     {
-        let row = self.turn().row;
-        if row.retired == 0 && row.issued == 0 {
+        let core_step = self.turn().core_step;
+        if core_step.retired == 0 && core_step.issued == 0 {
             None
         } else {
             Some(from)
@@ -458,10 +459,10 @@ impl Core {
     pub fn next_act(&self, from: Cycle) -> Option<Cycle>
         requires at { self.now.cycle ≡ from }
         requires stands { MayRest (view_of self.now) }
-        ensures { (s : Config) (core : ℕ) (trace : List Entry) (rows : List CoreRow) (mail : List Message)
-            → StandsFor s core trace rows mail (view_of self.now) → IsNextAct s core trace rows mail result }
+        ensures { (s : Config) (core : ℕ) (trace : List Entry) (steps : List CoreStep) (mail : List Message)
+            → StandsFor s core trace steps mail (view_of self.now) → IsNextAct s core trace steps mail result }
     {
-        if is_next_done(&self.waiting, self.stats.issued, self.stats.retired) {
+        if is_next_done(&self.outstanding, self.stats.issued, self.stats.retired) {
             return Some(from);
         }
         if self.is_full() {
@@ -490,8 +491,8 @@ impl Core {
         requires at { self.now.cycle ≡ from }
         requires stands { MayRest (view_of self.now) }
         ensures since { from ≤ result }
-        ensures silent { (s : Config) (core : ℕ) (trace : List Entry) (rows : List CoreRow) (mail : List Message)
-            → StandsFor s core trace rows mail (view_of self.now) → IsSilentUntil s core trace rows mail result }
+        ensures silent { (s : Config) (core : ℕ) (trace : List Entry) (steps : List CoreStep) (mail : List Message)
+            → StandsFor s core trace steps mail (view_of self.now) → IsSilentUntil s core trace steps mail result }
     {
         match self.next_act(from) {
             Some(_) => from.saturating_add(self.plain_cycles()),
@@ -503,14 +504,14 @@ impl Core {
     pub fn skip(&mut self, until: Cycle)
         requires stands { MaySkip (view_of self.old) until }
         requires early { until < 2 ^ 62 }
-        ensures { (s : Config) (core : ℕ) (trace : List Entry) (rows : List CoreRow) (mail : List Message)
-            → StandsFor s core trace rows mail (view_of self.old)
-            → StandsFor s core trace (rows ++ replicate (until - self.old.cycle) idle_row) mail (view_of self.new)
-            × Rests s core trace rows mail (until - self.old.cycle) }
+        ensures { (s : Config) (core : ℕ) (trace : List Entry) (steps : List CoreStep) (mail : List Message)
+            → StandsFor s core trace steps mail (view_of self.old)
+            → StandsFor s core trace (steps ++ replicate (until - self.old.cycle) idle_step) mail (view_of self.new)
+            × Rests s core trace steps mail (until - self.old.cycle) }
     {
         let turn = self.turn();
         let idle = cycle_counts(
-            CoreRow {
+            CoreStep {
                 retired: 0,
                 issued: 0,
             },
@@ -542,9 +543,9 @@ impl Core {
 
     /// Whether the Read with this number was issued and has no reply yet: which replies may come to it, for one that tests its messages.
     pub fn is_awaited(&self, entry: u64) -> bool
-        ensures { result ≡ is_waiting (view_of self.now).waiting entry }
+        ensures { result ≡ is_outstanding (view_of self.now).outstanding entry }
     {
-        is_waiting(&self.waiting, entry)
+        is_outstanding(&self.outstanding, entry)
     }
 
     /// The credits that the core holds for each channel, by number.

@@ -8,7 +8,7 @@ ghost use Rattle.core_window.specs.Steady.{steady_counts, with_stop, with_memory
 ghost use Rattle.core_window.specs.Turns.{cycle_counts, is_read_among, is_write_among};
 
 use cpu_trace::entries::MemoryEntry;
-use sim_base::history::CoreRow;
+use sim_base::history::CoreStep;
 use sim_base::message::Cycle;
 use sim_base::trace::{Entry, Stop};
 use statistics::cores::CoreStats;
@@ -52,20 +52,20 @@ fn write_count(memory: Option<MemoryEntry>) -> u64
 
 /// What statistics count in a cycle, but for replies. Before it, so many entries of a trace of this length were retired.
 pub fn cycle_counts(
-    row: CoreRow,
+    core_step: CoreStep,
     why: Stop,
     memory: Option<MemoryEntry>,
     before: u64,
     len: u64,
     now: Cycle,
 ) -> CoreStats
-    requires { before + row.retired < 2 ^ 64 }
-    ensures { result ≡ cycle_counts row why memory before len now }
+    requires { before + core_step.retired < 2 ^ 64 }
+    ensures { result ≡ cycle_counts core_step why memory before len now }
 {
-    let is_finish = before < len && len <= before + u64::from(row.retired);
+    let is_finish = before < len && len <= before + u64::from(core_step.retired);
     CoreStats {
-        issued: u64::from(row.issued),
-        retired: u64::from(row.retired),
+        issued: u64::from(core_step.issued),
+        retired: u64::from(core_step.retired),
         reads: read_count(memory),
         writes: write_count(memory),
         replies: 0,
@@ -109,32 +109,32 @@ fn count_memory(stats: &mut CoreStats, memory: Option<MemoryEntry>)
 }
 
 /// Counts cycles in which a core does the same.
-pub fn count_cycles(stats: &mut CoreStats, row: CoreRow, why: Stop, cycles: u64)
-    requires { CoreFits (core_joined stats.old (core_times cycles (steady_counts row why))) }
-    ensures { stats.new ≡ core_joined stats.old (core_times cycles (steady_counts row why)) }
+pub fn count_cycles(stats: &mut CoreStats, core_step: CoreStep, why: Stop, cycles: u64)
+    requires { CoreFits (core_joined stats.old (core_times cycles (steady_counts core_step why))) }
+    ensures { stats.new ≡ core_joined stats.old (core_times cycles (steady_counts core_step why)) }
 {
-    stats.issued += cycles * u64::from(row.issued);
-    stats.retired += cycles * u64::from(row.retired);
+    stats.issued += cycles * u64::from(core_step.issued);
+    stats.retired += cycles * u64::from(core_step.retired);
     count_stop(stats, why, cycles);
 }
 
 /// Counts a cycle, but for its replies. The trace of the core has this length.
 pub fn count_cycle(
     stats: &mut CoreStats,
-    row: CoreRow,
+    core_step: CoreStep,
     why: Stop,
     memory: Option<MemoryEntry>,
     len: u64,
     now: Cycle,
 )
-    requires { CoreFits (core_joined stats.old (cycle_counts row why memory stats.old.retired len now)) }
-    ensures { stats.new ≡ core_joined stats.old (cycle_counts row why memory stats.old.retired len now) }
+    requires { CoreFits (core_joined stats.old (cycle_counts core_step why memory stats.old.retired len now)) }
+    ensures { stats.new ≡ core_joined stats.old (cycle_counts core_step why memory stats.old.retired len now) }
 {
-    let retired = stats.retired + u64::from(row.retired);
+    let retired = stats.retired + u64::from(core_step.retired);
     if stats.retired < len && len <= retired {
         stats.finish = Some(now);
     }
-    stats.issued += u64::from(row.issued);
+    stats.issued += u64::from(core_step.issued);
     stats.retired = retired;
     count_memory(stats, memory);
     count_stop(stats, why, 1);

@@ -3,7 +3,7 @@
 ghost use Rattle.std.specs.Prelude.{◌≡◌, ◌+◌, ◌*◌, ◌<◌, ◌≤◌};
 ghost use Rattle.core_window.specs.Steady.{IsFlow};
 
-use crate::waiting::WaitingRead;
+use crate::outstanding::OutstandingRead;
 
 /// In so many cycles a core issues its width of Plain entries, and in each of them it retires so many entries.
 #[derive(Clone, Copy, PartialEq, Eq, Debug)]
@@ -38,16 +38,16 @@ pub(crate) fn cycles_within(entries: u64, width: u16, most: u64) -> u64
 
 /// The cycles, at most so many, in which the core issues its width of Plain entries and does the same in each. Where it can't
 /// do so in the next cycle, there are none.
-pub fn flow_of(numbers: &WindowNumbers, waiting: &[WaitingRead], most: u64) -> Flow
+pub fn flow_of(numbers: &WindowNumbers, outstanding: &[OutstandingRead], most: u64) -> Flow
     requires positive { 0 < numbers.now.width }
     requires order { numbers.now.retired ≤ numbers.now.issued }
     requires room { numbers.now.issued ≤ numbers.now.retired + numbers.now.window }
-    ensures flow { IsFlow numbers.now.width numbers.now.window numbers.now.issued numbers.now.retired waiting.now result.retired result.cycles }
+    ensures flow { IsFlow numbers.now.width numbers.now.window numbers.now.issued numbers.now.retired outstanding.now result.retired result.cycles }
     ensures plain { result.cycles * numbers.now.width ≤ numbers.now.plain }
     ensures most { result.cycles ≤ most }
 {
     let within = numbers.issued - numbers.retired;
-    let Some(read) = waiting.first() else {
+    let Some(read) = outstanding.first() else {
         let entries = if within < u64::from(numbers.width) {
             0
         } else {

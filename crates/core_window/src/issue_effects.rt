@@ -10,8 +10,8 @@ ghost use Rattle.core_window.specs.Ahead.{IsPlaced};
 ghost use Rattle.core_window.specs.Turns.{reads_issued, requests_issued, credit_after, credit_after_entry, less_credit};
 ghost use Rattle.statistics.specs.declared.final_state.Credits.{Credits};
 
+use crate::outstanding::OutstandingRead;
 use crate::receive::take_credit;
-use crate::waiting::WaitingRead;
 use cpu_trace::entries::MemoryEntry;
 use sim_base::config::Config;
 use sim_base::message::{CoreId, Cycle, LinkId, Load, Message, Request};
@@ -22,15 +22,15 @@ use std::alloc::AllocError;
 
 /// A Read that issues waits from now on.
 pub fn wait_for(
-    waiting: &mut Vec<WaitingRead>,
+    outstanding: &mut Vec<OutstandingRead>,
     memory: Option<MemoryEntry>,
     now: Cycle,
 ) -> Result<(), AllocError>
-    ensures { OnOk result (waiting.new.items ≡ waiting.old.items ++ reads_issued memory now) }
+    ensures { OnOk result (outstanding.new.items ≡ outstanding.old.items ++ reads_issued memory now) }
 {
     if let Some(next) = memory {
         if let Entry::Read(_) = next.entry {
-            waiting.push(WaitingRead {
+            outstanding.push(OutstandingRead {
                 entry: next.number,
                 issued: now,
             })?;

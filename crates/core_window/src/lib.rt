@@ -7,6 +7,6 @@ mod counts;
 mod flow;
 mod issue;
 mod issue_effects;
+pub mod outstanding;
 mod receive;
 mod retire;
-pub mod waiting;

@@ -2,38 +2,38 @@
 
 ghost use Rattle.std.specs.Prelude.{◌≡◌, ◌+◌, ◌-◌, ◌/◌, ◌%◌, ◌<◌, ◌^◌, ◌==◌, not, filter, find, position, length, slice_get, ℕ, Some, if◌then◌else◌};
 ghost use Rattle.core_window.specs.Turns.{more_credit, less_credit, credits_of_kind};
-ghost use Rattle.core_window.specs.Waiting.{is_waiting, IsByNumber};
-ghost use Rattle.core_window.specs.declared.waiting.WaitingRead.{WaitingRead};
+ghost use Rattle.core_window.specs.Outstanding.{is_outstanding, IsByNumber};
+ghost use Rattle.core_window.specs.declared.outstanding.OutstandingRead.{OutstandingRead};
 ghost use Rattle.statistics.specs.declared.final_state.Credits.{Credits};
 
-use crate::waiting::WaitingRead;
+use crate::outstanding::OutstandingRead;
 use sim_base::config::Config;
 use sim_base::message::LinkId;
 use statistics::cores::CoreStats;
 use statistics::final_state::Credits;
 
 /// The place of the first Read that waits with this number.
-fn place_of_read(waiting: &[WaitingRead], entry: u64) -> Option<usize>
-    ensures { result ≡ position (λ read. read.entry == entry) waiting.now }
+fn place_of_read(outstanding: &[OutstandingRead], entry: u64) -> Option<usize>
+    ensures { result ≡ position (λ read. read.entry == entry) outstanding.now }
 {
-    waiting.iter().position(|read| read.entry == entry)
+    outstanding.iter().position(|read| read.entry == entry)
 }
 
 /// Whether the Read with this number waits.
-pub fn is_waiting(waiting: &[WaitingRead], entry: u64) -> bool
-    ensures { result ≡ is_waiting waiting.now entry }
+pub fn is_outstanding(outstanding: &[OutstandingRead], entry: u64) -> bool
+    ensures { result ≡ is_outstanding outstanding.now entry }
 {
-    waiting.iter().any(|read| read.entry == entry)
+    outstanding.iter().any(|read| read.entry == entry)
 }
 
 /// Takes out the Read with this number, if it waits.
-pub fn take_read(waiting: &mut Vec<WaitingRead>, entry: u64) -> Option<WaitingRead>
-    requires { IsByNumber waiting.old.items }
-    ensures found { result ≡ find (λ read. read.entry == entry) waiting.old.items }
-    ensures others { waiting.new.items ≡ filter (λ read. not (read.entry == entry)) waiting.old.items }
+pub fn take_read(outstanding: &mut Vec<OutstandingRead>, entry: u64) -> Option<OutstandingRead>
+    requires { IsByNumber outstanding.old.items }
+    ensures found { result ≡ find (λ read. read.entry == entry) outstanding.old.items }
+    ensures others { outstanding.new.items ≡ filter (λ read. not (read.entry == entry)) outstanding.old.items }
 {
-    let place = place_of_read(waiting, entry)?;
-    Some(waiting.remove(place))
+    let place = place_of_read(outstanding, entry)?;
+    Some(outstanding.remove(place))
 }
 
 /// The channel of a link.

@@ -3,40 +3,40 @@
 ghost use Rattle.std.specs.Prelude.{◌≡◌, ◌-◌, ◌<◌, ◌≤◌, ◌↔◌, ◌==◌, if◌then◌else◌, min, IsTrue};
 ghost use Rattle.core_window.specs.Causes.{first_undone};
 
-use crate::waiting::WaitingRead;
+use crate::outstanding::OutstandingRead;
 use sim_base::trace::Stop;
 
 /// The first entry that isn't done, where so many were issued and these Reads wait.
-fn first_undone(waiting: &[WaitingRead], issued: u64) -> u64
-    ensures { result ≡ first_undone issued waiting.now }
+fn first_undone(outstanding: &[OutstandingRead], issued: u64) -> u64
+    ensures { result ≡ first_undone issued outstanding.now }
 {
-    match waiting {
+    match outstanding {
         [read, ..] => read.entry,
         [] => issued,
     }
 }
 
 /// How many entries retire, where so many are retired: up to the first that isn't done, and no more than the width.
-pub fn retire_count(width: u16, waiting: &[WaitingRead], issued: u64, retired: u64) -> u16
-    ensures { result ≡ min width (first_undone issued waiting.now - retired) }
+pub fn retire_count(width: u16, outstanding: &[OutstandingRead], issued: u64, retired: u64) -> u16
+    ensures { result ≡ min width (first_undone issued outstanding.now - retired) }
 {
-    let done = first_undone(waiting, issued).saturating_sub(retired);
+    let done = first_undone(outstanding, issued).saturating_sub(retired);
     u64::from(width).min(done) as u16
 }
 
 /// Whether an entry retires, where so many are retired: the first of them is done.
-pub fn is_next_done(waiting: &[WaitingRead], issued: u64, retired: u64) -> bool
-    ensures { IsTrue result ↔ retired < first_undone issued waiting.now }
+pub fn is_next_done(outstanding: &[OutstandingRead], issued: u64, retired: u64) -> bool
+    ensures { IsTrue result ↔ retired < first_undone issued outstanding.now }
 {
-    retired < first_undone(waiting, issued)
+    retired < first_undone(outstanding, issued)
 }
 
 /// Whether the first entry of a full window waits, so that no entry retires and none issues.
-pub fn is_stuck(window: u32, waiting: &[WaitingRead], issued: u64, retired: u64) -> bool
-    ensures undone { IsTrue result → first_undone issued waiting.now ≤ retired }
+pub fn is_stuck(window: u32, outstanding: &[OutstandingRead], issued: u64, retired: u64) -> bool
+    ensures undone { IsTrue result → first_undone issued outstanding.now ≤ retired }
     ensures full { IsTrue result → window ≤ issued - retired }
 {
-    match waiting {
+    match outstanding {
         [read, ..] => {
             read.entry <= retired && u64::from(window) <= issued.saturating_sub(retired)
         }

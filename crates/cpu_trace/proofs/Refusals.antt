@@ -18,7 +18,7 @@ meaning-cases : (core : ℕ) (text : List ℕ) (why : Unread) → IsUnreadOf (li
 meaning-cases core text (unread.BadLine line cause) h = IsRefusedBy-answer core text _ (trace_answer-bad core text line cause h)
 meaning-cases core text unread.Memory h = tt
 
--- the fault is the answer, if it is not want of memory
+-- the fault is the answer, if it is not out of memory
 pub refused-answer : (core : ℕ) (text : List ℕ) (why : Unread) (fault : Fault) → fault ≡ fault_of core why → IsUnreadOf (lines_of text) why → fault ≢ Memory → trace_answer core text ≡ Err fault
 refused-answer core text why fault e h other = answer-cases core text why h (λ same. other (e ∙ same)) ∙ ap Err (sym e)
 

@@ -50,7 +50,7 @@ pub record IsReadingOf (lines : List (List ℕ)) (reading : Reading) : Type 0 wh
   pub counted : reading.lines ≡ length lines
   pub is_kept : kept_of lines ≡ Ok reading.kept
 
--- why lines are not read: their first bad line, or want of memory, which says nothing of them
+-- why lines are not read: their first bad line, or out of memory, which says nothing of them
 abbrev pub IsUnreadOf : List (List ℕ) → Unread → Type 0
 IsUnreadOf lines (unread.BadLine line cause) = kept_of lines ≡ Err (record { line = line; cause = cause })
 IsUnreadOf lines unread.Memory = ⊤

@@ -131,7 +131,7 @@ impl Reading {
         }
     }
 
-    /// What these lines have with those behind them, of which the first bad line or want of memory comes out.
+    /// What these lines have with those behind them, of which the first bad line or out of memory comes out.
     pub(crate) fn followed_by(self, next: Result<Reading, Unread>) -> Result<Reading, Unread>
         requires { self.lines + lines_told next < 2 ^ 64 }
         ensures { (lines behind : List (List ℕ)) → IsReadingOf lines self → IsRead behind next → IsRead (lines ++ behind) result }

@@ -11,16 +11,16 @@ use Rattle.statistics.specs.Runs.{stats_of_core, stats_of_channel, stats_of}
 use Rattle.statistics.specs.Values.{RunStats}
 use Rattle.epochs.specs.Units.{unit_count}
 use Rattle.epochs.specs.Parts.{IsPart, StandAt}
-use Rattle.epochs.specs.declared.part.Part.{Part}
+use Rattle.epochs.specs.declared.part.UnitState.{UnitState}
 use Rattle.epochs.proofs.Standing.{core-at_place, channel-at_place, places-more}
 
-pub core-stands : (s : Config) (traces : List (List Entry)) (now : ℕ) (parts : List Part) (core : ℕ) (d : Part) → StandAt s traces now parts → length parts ≡ unit_count s
+pub core-stands : (s : Config) (traces : List (List Entry)) (now : ℕ) (parts : List UnitState) (core : ℕ) (d : UnitState) → StandAt s traces now parts → length parts ≡ unit_count s
     → core < s.cores → IsPart s traces (unit.Core core) now (get_or parts core d)
 core-stands s traces now parts core d h e l =
     let k : core < length parts = omega (arith, e, l) in
     subst (λ u. IsPart s traces u now (get_or parts core d)) (core-at_place s core l) (h core (get_or parts core d) (slice_get-get_or parts core d k))
 
-pub channel-stands : (s : Config) (traces : List (List Entry)) (now : ℕ) (parts : List Part) (channel : ℕ) (d : Part) → StandAt s traces now parts → length parts ≡ unit_count s
+pub channel-stands : (s : Config) (traces : List (List Entry)) (now : ℕ) (parts : List UnitState) (channel : ℕ) (d : UnitState) → StandAt s traces now parts → length parts ≡ unit_count s
     → channel < s.channels → IsPart s traces (unit.Channel channel) now (get_or parts (s.cores + channel) d)
 channel-stands s traces now parts channel d h e l =
     let k : s.cores + channel < length parts = omega (arith, e, l) in

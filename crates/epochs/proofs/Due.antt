@@ -101,31 +101,31 @@ exists-at s place l = by (ltb place s.cores) refl
 not_less : (i j : ℕ) → i ≡ j → i < j → ⊥
 not_less i j e l = omega (arith, e, l)
 
--- a message is due at one unit alone
-due-one : (s : Config) (from until i j : ℕ) (m : Message) → i < j → is_due s.channels (unit_at s j) from until m ≡ true → is_due s.channels (unit_at s i) from until m ≡ false
-due-one s from until i j m l e = by (is_unit (receiver s m.link) (unit_at s i)) refl
+-- a message is due at one unit alone, whatever the spans
+due-one : (s : Config) (from until a b i j : ℕ) (m : Message) → i < j → is_due s.channels (unit_at s j) a b m ≡ true → is_due s.channels (unit_at s i) from until m ≡ false
+due-one s from until a b i j m l e = by (is_unit (receiver s m.link) (unit_at s i)) refl
   where
-    by : (b : Bool) → is_unit (receiver s m.link) (unit_at s i) ≡ b → is_due s.channels (unit_at s i) from until m ≡ false
-    by false f = ap (λ b. b && (leb from m.arrival && ltb m.arrival until)) f
+    by : (c : Bool) → is_unit (receiver s m.link) (unit_at s i) ≡ c → is_due s.channels (unit_at s i) from until m ≡ false
+    by false f = ap (λ c. c && (leb from m.arrival && ltb m.arrival until)) f
     by true f =
         let same : unit_at s i ≡ unit_at s j = sym (same_unit _ _ f) ∙ same_unit _ _ (and_parts (is_unit (receiver s m.link) (unit_at s j)) _ e).0 in
         let p : i ≡ j = sym (place-at s i) ∙ ap (place_of_unit s) same ∙ place-at s j in
         absurd (not_less i j p l)
 
-spared-before : (s : Config) (from until k : ℕ) (m : Message) → is_due s.channels (unit_at s k) from until m ≡ true → (j : ℕ) → j ≤ k → spared s from until j m ≡ true
+spared-before : (s : Config) (from until a b k : ℕ) (m : Message) → is_due s.channels (unit_at s k) a b m ≡ true → (j : ℕ) → j ≤ k → spared s from until j m ≡ true
 unfolding spared
-spared-before s from until k m e zero l = refl
-spared-before s from until k m e (suc j) l =
-    ap (λ b. b && not (is_due s.channels (unit_at s j) from until m)) (spared-before s from until k m e j (omega arith))
-    ∙ ap not (due-one s from until j k m (omega arith) e)
+spared-before s from until a b k m e zero l = refl
+spared-before s from until a b k m e (suc j) l =
+    ap (λ c. c && not (is_due s.channels (unit_at s j) from until m)) (spared-before s from until a b k m e j (omega arith))
+    ∙ ap not (due-one s from until a b j k m (omega arith) e)
 
--- what is due at a unit is left by those before it
-pub left-due : (s : Config) (from until k : ℕ) (ms : List Message)
-    → filter (is_due s.channels (unit_at s k) from until) (left s from until k ms) ≡ filter (is_due s.channels (unit_at s k) from until) ms
-left-due s from until k ms =
+-- what is due at a unit, in whatever span, is left by those before it
+pub left-due : (s : Config) (from until a b k : ℕ) (ms : List Message)
+    → filter (is_due s.channels (unit_at s k) a b) (left s from until k ms) ≡ filter (is_due s.channels (unit_at s k) a b) ms
+left-due s from until a b k ms =
     ap (filter _) (left-spared s from until k ms)
     ∙ filter-filter _ (spared s from until k) ms
-    ∙ filter-same _ _ ms (Each-all _ (λ m. implied (spared s from until k m) _ (λ e. spared-before s from until k m e k (omega arith))) ms)
+    ∙ filter-same _ _ ms (Each-all _ (λ m. implied (spared s from until k m) _ (λ e. spared-before s from until a b k m e k (omega arith))) ms)
 
 spared-none : (s : Config) (from until q : ℕ) (m : Message) → is_due s.channels (unit_at s q) from until m ≡ true → (k : ℕ) → q < k → spared s from until k m ≡ false
 unfolding spared

@@ -8,14 +8,14 @@ use Rattle.std.proofs.lemmas.List.{ext_get_or}
 use Rattle.std.proofs.lemmas.List.FromFn.{map-range_with_len_more, length-map-range_with_len, get_or-map-range_with_len}
 use Rattle.std.proofs.lemmas.Option.{get_or_from_slice_get}
 use Rattle.sim_base.specs.Final.{due_left, banks, queue_left}
-use Rattle.sim_base.specs.Scheduling.{waiting, due}
+use Rattle.sim_base.specs.Scheduling.{queued_requests, due}
 use Rattle.statistics.specs.Cores.{core_stats}
 use Rattle.statistics.specs.declared.final_state.OpenRow.{OpenRow}
 use Rattle.sim_base.specs.declared.message.Request.{Request}
 use Rattle.sim_base.specs.declared.message.Message.{Message}
-use Rattle.sim_base.specs.declared.command.CommandRow.{CommandRow}
+use Rattle.sim_base.specs.declared.command.IssuedCommand.{IssuedCommand}
 use Rattle.statistics.specs.declared.cores.CoreStats.{CoreStats}
-use Rattle.laws.specs.Commands.{history_of, rows_of}
+use Rattle.laws.specs.Commands.{history_of, channel_steps_of}
 use Rattle.span_laws.proofs.ChannelsOn.{channels-end_alike}
 use Rattle.sim_base.specs.declared.config.Config.{Config}
 use Rattle.sim_base.specs.declared.trace.Entry.{Entry}
@@ -23,9 +23,9 @@ use Rattle.sim_base.specs.History.{below, trace_of}
 use Rattle.sim_base.proofs.Below.{flat_map_below_more}
 use Rattle.statistics.specs.Runs.{credits_of, core_last, row_of_bank, open_rows_left, channel_last, last_of_core, last_of_channel}
 use Rattle.statistics.specs.Values.{LastCore, LastChannel, LastState, RunStats, RunOutcome}
-use Rattle.laws.proofs.Legal.{length-rows_of}
+use Rattle.laws.proofs.Legal.{length-channel_steps_of}
 use Rattle.core_window.specs.Views.{CoreView}
-use Rattle.span_laws.specs.Cores.{IsCoreAt, core_rows_of}
+use Rattle.span_laws.specs.Cores.{IsCoreAt, core_steps_of}
 use Rattle.span_laws.specs.Mail.{mail_before}
 use Rattle.span_laws.proofs.CoresOn.{cores-end_alike}
 use Rattle.sim_base.specs.Machine.{run}
@@ -63,11 +63,11 @@ pub core_left_is : (s : Config) (traces : List (List Entry)) (core now : ℕ) (v
     → ◌≡◌ {A = LastCore} (record { issued = view.stats.issued; retired = view.stats.retired; credits = view.credits }) (last_of_core s traces (run s traces now) core)
 unfolding core_last core_stats
 core_left_is s traces core now view h =
-    let rows = core_rows_of s traces now core in
+    let steps = core_steps_of s traces now core in
     let trace = trace_of traces core in
     let mail = mail_before s traces now (unit.Core core) now in
     ap₂ {C = LastCore} (λ (x : CoreStats) credits. record { issued = x.issued; retired = x.retired; credits = credits }) h.stats
-    (placed (credits_of s core trace rows mail) s.channels view.credits h.channels h.credits)
+    (placed (credits_of s core trace steps mail) s.channels view.credits h.channels h.credits)
     ∙ (cores-end_alike s traces now core).1
 
 -- the state of a channel, by what it keeps
@@ -75,7 +75,7 @@ pub channel_left_is : (s : Config) (traces : List (List Entry)) (channel now : �
     → ◌≡◌ {A = LastChannel} (record {
       due = map (λ rank. due s rank (history_of s traces now channel) now) (below s.ranks);
       open_rows = filter_map (row_of_bank (history_of s traces now channel)) (banks s);
-      queue = waiting (history_of s traces now channel) (mail_before s traces now (unit.Channel channel) now) (length (rows_of s traces now channel));
+      queue = queued_requests (history_of s traces now channel) (mail_before s traces now (unit.Channel channel) now) (length (channel_steps_of s traces now channel));
     })
     (last_of_channel s traces (run s traces now) channel)
 unfolding channel_last due_left open_rows_left queue_left
@@ -84,9 +84,9 @@ channel_left_is s traces channel now =
     ap {B = LastChannel} (λ n. record {
       due = map (λ rank. due s rank h n) (below s.ranks);
       open_rows = filter_map (row_of_bank h) (banks s);
-      queue = waiting h (mail_before s traces now (unit.Channel channel) now) (length (rows_of s traces now channel));
+      queue = queued_requests h (mail_before s traces now (unit.Channel channel) now) (length (channel_steps_of s traces now channel));
     })
-    (sym (length-rows_of s traces now channel))
+    (sym (length-channel_steps_of s traces now channel))
     ∙ (channels-end_alike s traces now channel).1
 
 -- three lists that are the same leave the same
@@ -98,6 +98,6 @@ pub state_of : {cores cores' : List LastCore} → {channels channels' : List Las
     → ◌≡◌ {A = LastState} (record { cores = cores; channels = channels; in_flight = flight }) (record { cores = cores'; channels = channels'; in_flight = flight' })
 state_of e f g = cc
 
-pub outcome_is : {rows rows' : List CommandRow} → {stats stats' : RunStats} → {last last' : LastState} → (ranks : ℕ) → rows ≡ rows' → stats ≡ stats' → last ≡ last'
+pub outcome_is : {rows rows' : List IssuedCommand} → {stats stats' : RunStats} → {last last' : LastState} → (ranks : ℕ) → rows ≡ rows' → stats ≡ stats' → last ≡ last'
     → ◌≡◌ {A = RunOutcome} (record { commands = rows; stats = stats; last = last; ranks = ranks }) (record { commands = rows'; stats = stats'; last = last'; ranks = ranks })
 outcome_is ranks e f g = cc

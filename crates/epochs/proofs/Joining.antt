@@ -25,7 +25,7 @@ use Rattle.epochs.specs.Units.{unit_at, unit_count, Exists}
 use Rattle.epochs.proofs.Due.{place-at, place_of_unit, exists-at}
 use Rattle.epochs.proofs.Filters.{filter-filter, filter-same, filter-all, implied}
 use Rattle.epochs.proofs.Standing.{core-at_place, channel-at_place}
-use Rattle.epochs.proofs.Travelling.{late-added}
+use Rattle.epochs.proofs.Travelling.{Goes, sent-goes, late-added}
 
 drop-append : {X : Type 0} (xs ys : List X) → drop (length xs) (xs ++ ys) ≡ ys
 drop-append [] ys = refl
@@ -51,7 +51,7 @@ fresh-late s traces from until place l k t =
     let a = late-added s traces from until (unit_at s place) (exists-at s place l) k t in
     subst (Each (λ m. until ≤ m.arrival)) (sym (fresh-is s traces from until place a.more a.are)) a.each
 
-flat-split : {X : Type 0} (f : ℕ → List X) (c k : ℕ) → flat_map f (below (c + k)) ≡ flat_map f (below c) ++ flat_map (λ i. f (c + i)) (below k)
+pub flat-split : {X : Type 0} (f : ℕ → List X) (c k : ℕ) → flat_map f (below (c + k)) ≡ flat_map f (below c) ++ flat_map (λ i. f (c + i)) (below k)
 flat-split f c zero = ap (λ n. flat_map f (below n)) (add-zero c) ∙ sym (append-nil (flat_map f (below c)))
 flat-split f c (suc k) =
     ap (λ n. flat_map f (below n)) (add-suc c k)
@@ -61,7 +61,7 @@ flat-split f c (suc k) =
     ∙ ap (λ z. flat_map f (below c) ++ z) (sym (flat_map_below_more (λ i. f (c + i)) k))
 
 -- all that is sent, unit by unit
-all-sent : (s : Config) (traces : List (List Entry)) (n : ℕ) → flat_map (λ i. sent_of s traces n (unit_at s i)) (below (unit_count s)) ≡ messages s traces (run s traces n)
+pub all-sent : (s : Config) (traces : List (List Entry)) (n : ℕ) → flat_map (λ i. sent_of s traces n (unit_at s i)) (below (unit_count s)) ≡ messages s traces (run s traces n)
 unfolding messages
 all-sent s traces n =
     flat-split (λ i. sent_of s traces n (unit_at s i)) s.cores s.channels
@@ -76,6 +76,13 @@ sent-by s traces n (Channel channel) l = of_channel-by s (run s traces n) channe
 Each-behind : {X : Type 0} (P : X → Type 0) (xs ys : List X) → Each P (xs ++ ys) → Each P ys
 Each-behind P [] ys h = h
 Each-behind P (x ∷ xs) ys h = Each-behind P xs ys h.1
+
+-- each goes to a unit
+pub fresh-goes : (s : Config) (traces : List (List Entry)) (from until place : ℕ) → place < unit_count s → from ≤ until → TravelsFor s (until - from) → Each (Goes s) (fresh s traces from until place)
+fresh-goes s traces from until place l k t =
+    let u = unit_at s place in
+    Each-behind (Goes s) (sent_of s traces from u) (fresh s traces from until place)
+    (subst (Each (Goes s)) (fresh-grows s traces from until place l k t) (sent-goes s traces until u (exists-at s place l)))
 
 fresh-by : (s : Config) (traces : List (List Entry)) (from until place : ℕ) → place < unit_count s → from ≤ until → TravelsFor s (until - from)
     → SentBy s (unit_at s place) (fresh s traces from until place)

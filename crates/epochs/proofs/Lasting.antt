@@ -13,20 +13,20 @@ use Rattle.sim_base.specs.declared.message.Message.{Message}
 use Rattle.sim_base.specs.declared.trace.Entry.{Entry}
 use Rattle.statistics.specs.Cores.{core_stats}
 use Rattle.statistics.specs.declared.cores.CoreStats.{CoreStats}
-use Rattle.sim_base.specs.declared.command.CommandRow.{CommandRow}
+use Rattle.sim_base.specs.declared.command.IssuedCommand.{IssuedCommand}
 use Rattle.channel_step.specs.declared.channel.Channel.{Channel}
 use Rattle.core_window.specs.declared.core_unit.Core.{Core}
 use Rattle.core_window.specs.Views.{CoreView}
 use Rattle.core_window.specs.CoreViews.{view_of}
 use Rattle.span_laws.specs.Channels.{IsChannelAt}
-use Rattle.span_laws.specs.Cores.{IsCoreAt, core_rows_of}
+use Rattle.span_laws.specs.Cores.{IsCoreAt, core_steps_of}
 use Rattle.span_laws.proofs.Over.{over-is_seen}
 use Rattle.span_laws.proofs.Lasting.{lasts-for_trace, lasts-for_flight}
 use Rattle.epochs.specs.Units.{unit_at}
 use Rattle.epochs.specs.Parts.{IsPart, StandAt}
 use Rattle.epochs.specs.Drained.{HasFinished, AllFinished, GoesOn}
-use Rattle.epochs.specs.declared.part.Part.{Part}
-use Rattle.epochs.specs.declared.part.Part.TheVariants as part
+use Rattle.epochs.specs.declared.part.UnitState.{UnitState}
+use Rattle.epochs.specs.declared.part.UnitState.TheVariants as part
 use Rattle.epochs.proofs.Standing.{core-at_place, channel-at_place}
 
 -- the number of a core at a place
@@ -50,7 +50,7 @@ pub record IsChannelPlace (s : Config) (traces : List (List Entry)) (now place :
   pub is : place ≡ s.cores + channel
   pub stands : IsChannelAt s traces channel now c
 
-pub channel-place : (s : Config) (traces : List (List Entry)) (now place : ℕ) (c : Channel) (rows : List CommandRow) → IsPart s traces (unit_at s place) now (part.Channel c rows)
+pub channel-place : (s : Config) (traces : List (List Entry)) (now place : ℕ) (c : Channel) (rows : List IssuedCommand) → IsPart s traces (unit_at s place) now (part.Channel c rows)
     → IsChannelPlace s traces now place c
 channel-place s traces now place c rows h = go (cases_lt place s.cores)
   where
@@ -62,7 +62,7 @@ channel-place s traces now place c rows h = go (cases_lt place s.cores)
 
 -- what a core counted as retired
 pub core-retired : (s : Config) (traces : List (List Entry)) (core now : ℕ) (view : CoreView) → IsCoreAt s traces core now view
-    → view.stats.retired ≡ retired_before (core_rows_of s traces now core)
+    → view.stats.retired ≡ retired_before (core_steps_of s traces now core)
 unfolding core_stats
 core-retired s traces core now view h = ap (λ (x : CoreStats). x.retired) h.stats
 
@@ -136,6 +136,6 @@ flight-goes_on s traces now arrival until ms some e l t m k =
     lasts-for_flight s traces now t m (subst (Any (λ (x : Message). t ≤ x.arrival)) e (some.0, some.1, some.2, some.3, there))
 
 -- the unit at a place of those that stand for their parts
-pub stands-there : (s : Config) (traces : List (List Entry)) (now : ℕ) (parts : List Part) (place : ℕ) (p : Part) → StandAt s traces now parts → place < length parts
+pub stands-there : (s : Config) (traces : List (List Entry)) (now : ℕ) (parts : List UnitState) (place : ℕ) (p : UnitState) → StandAt s traces now parts → place < length parts
     → p ≡ get_or parts place p → IsPart s traces (unit_at s place) now p
 stands-there s traces now parts place p h l e = h place p (slice_get-get_or parts place p l ∙ ap Some (sym e))

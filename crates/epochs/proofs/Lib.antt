@@ -20,5 +20,11 @@ pub mod Lowering
 pub mod Jumping
 pub mod Going
 pub mod Passing
-pub mod Calling
+pub mod Sharing
+pub mod Sharded
 pub mod Stopping
+pub mod Posting
+pub mod Splitting
+pub mod Unloading
+pub mod Fleets
+pub mod Setting

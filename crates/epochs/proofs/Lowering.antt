@@ -1,47 +1,32 @@
 -- Words that are lowered to what is sent in a phase.
-use Rattle.std.proofs.Common.{◌≡◌, ℕ, zero, suc, ◌-◌, ◌<◌, ◌≤◌, Bool, true, false, cond, max, ltb, leb, not, ◌&&◌, List, [], ◌∷◌, length, get_or, refl, sym, ap, ap₂, subst, ◌∙◌, arith}
+use Rattle.std.proofs.Common.{◌≡◌, ℕ, ◌+◌, ◌-◌, ◌<◌, ◌≤◌, Bool, true, false, cond, max, ltb, leb, not, ◌&&◌, List, [], ◌∷◌, length, get_or, refl, sym, ap, ap₂, subst, ◌∙◌, arith}
 use Rattle.std.specs.Prelude.{filter, slice_get, option_map, Some, None, All}
 use Rattle.std.specs.List.{AllByRecursion as Each}
 use Rattle.std.proofs.lemmas.Bool.Decides.{nat_tests}
 use Rattle.std.proofs.lemmas.List.Elements.{All-from_recursion, recursion_from_All}
 use Rattle.sim_base.specs.declared.config.Config.{Config}
 use Rattle.sim_base.specs.Counts.{in_flight}
-use Rattle.sim_base.specs.History.{is_unit, messages}
+use Rattle.sim_base.specs.History.{is_unit}
 use Rattle.sim_base.specs.Locality.{TravelsFor}
 use Rattle.sim_base.specs.Machine.{run}
 use Rattle.sim_base.specs.declared.message.Message.{Message}
 use Rattle.sim_base.specs.declared.message.Unit.{Unit as MachineUnit}
 use Rattle.sim_base.specs.declared.trace.Entry.{Entry}
-use Rattle.sim_base.proofs.Arrived.{puts, by_age-puts, fold-puts}
-use Rattle.sim_base.proofs.Each.{Each-all, Each-flat_map_below}
-use Rattle.sim_base.proofs.Ordered.{Sorted, Sorted-puts, filter-puts}
+use Rattle.sim_base.proofs.Arrived.{puts, fold-puts}
+use Rattle.sim_base.proofs.Each.{Each-all, Each-filter, Each-flat_map_below}
+use Rattle.sim_base.proofs.Ordered.{filter-puts}
 use Rattle.links.specs.InFlight.{is_due, receiver_of, arrives_within}
 use Rattle.span_laws.specs.Mail.{mail_in}
-use Rattle.span_laws.proofs.Flights.{not_before, in_flight-late}
 use Rattle.span_laws.proofs.Lists.{Sorted-filter}
-use Rattle.epochs.specs.Flight.{fresh, left}
+use Rattle.epochs.specs.Flight.{fresh, goes_among, among}
 use Rattle.epochs.specs.Parts.{late, IsPart}
 use Rattle.epochs.specs.Units.{unit_at, unit_count}
 use Rattle.epochs.specs.Wakes.{Sleeper, IsSilent, Waits, WaitAll, IsBetween, BetweenAll, AreLowered, sleeper_at, sent_in}
 use Rattle.epochs.specs.declared.slot.Slot.{Slot}
 use Rattle.epochs.proofs.Filters.{filter-filter, filter-same, implied}
 use Rattle.epochs.proofs.Joining.{join-flight, fresh-late}
+use Rattle.epochs.proofs.Sharing.{due-among, filters-commute, flight-sorted}
 use Rattle.epochs.proofs.Waiting.{silent-sooner, none-stronger, none-first, none-due, due-flight, part-sooner}
-
-flight-sorted : (s : Config) (traces : List (List Entry)) (now : ℕ) → Sorted (in_flight s traces (run s traces now))
-flight-sorted s traces now =
-    let sent = filter (not_before now) (messages s traces (run s traces now)) in
-    subst Sorted (sym (in_flight-late s traces now ∙ by_age-puts sent)) (Sorted-puts [] sent tt)
-
-and-swap : (a b : Bool) → (a && b) ≡ (b && a)
-and-swap true true = refl
-and-swap true false = refl
-and-swap false true = refl
-and-swap false false = refl
-
-filters-commute : (p q : Message → Bool) (ms : List Message) → filter p (filter q ms) ≡ filter q (filter p ms)
-filters-commute p q ms =
-    filter-filter p q ms ∙ filter-same _ _ ms (Each-all _ (λ m. and-swap (q m) (p m)) ms) ∙ sym (filter-filter q p ms)
 
 -- what is sent in a phase arrives no sooner than at its end
 pub sent-late : (s : Config) (traces : List (List Entry)) (now until : ℕ) → now ≤ until → TravelsFor s (until - now) → All (λ m. until ≤ m.arrival) (sent_in s traces now until)
@@ -81,33 +66,41 @@ lowered-waits s traces u now until slot after l t h part at since within none-ne
     mail : ℕ → ℕ → List Message
     mail a b = mail_in s traces until u a b
 
--- so do all units
-pub lowered-wait_all : (s : Config) (traces : List (List Entry)) (now until : ℕ) (slots : List Slot) (old new : List ℕ) → now ≤ until → TravelsFor s (until - now)
-    → length slots ≡ unit_count s → length old ≡ unit_count s → BetweenAll s traces now until slots old → AreLowered s (sent_in s traces now until) old new → WaitAll s traces until slots new
-lowered-wait_all s traces now until slots old new l t count words between low k d less =
+-- so do all units, once their words are lowered to what goes to them of what was sent
+pub lowered-wait_all : (s : Config) (traces : List (List Entry)) (first now until : ℕ) (slots : List Slot) (old new : List ℕ) (sent : List Message) → now ≤ until → TravelsFor s (until - now)
+    → length old ≡ length slots → BetweenAll s traces first now until slots old → sent ≡ among s first (first + length slots) (sent_in s traces now until)
+    → AreLowered s first sent old new → WaitAll s traces first until slots new
+lowered-wait_all s traces first now until slots old new sent l t words between are low k d less =
     let b = between k d less in
-    let i : k < length old = omega (arith, less, count, words) in
-    let since = low.since until (sent-late s traces now until l t) k i b.ahead in
-    lowered-waits s traces (unit_at s k) now until (sleeper_at slots old k d) (sleeper_at slots new k d) l t b refl refl since (low.less k i)
-    (none-due s.channels until (get_or new k 0) (get_or new k 0) (unit_at s k) (sent_in s traces now until) (λ j e m to. low.arrivals k j e i m to) (omega arith))
+    let i : k < length old = omega (arith, less, words) in
+    let u = unit_at s (first + k) in
+    let all = sent_in s traces now until in
+    let late-sent : All (λ m. until ≤ m.arrival) sent =
+    All-from_recursion (λ (m : Message). until ≤ m.arrival) sent
+    (subst (Each (λ (m : Message). until ≤ m.arrival)) (sym are)
+    (Each-filter (λ (m : Message). until ≤ m.arrival) (goes_among s first (first + length slots)) all (recursion_from_All (λ (m : Message). until ≤ m.arrival) all (sent-late s traces now until l t)))) in
+    let since = low.since until late-sent k i b.ahead in
+    let none : filter (is_due s.channels u until (get_or new k 0)) sent ≡ [] =
+    none-due s.channels until (get_or new k 0) (get_or new k 0) u sent (λ j e m to. low.arrivals k j e i m to) (omega arith) in
+    lowered-waits s traces u now until (sleeper_at slots old k d) (sleeper_at slots new k d) l t b refl refl since (low.less k i)
+    (sym (due-among s first (first + length slots) until (get_or new k 0) (first + k) all (omega arith) (omega (arith, less)))
+    ∙ ap (filter (is_due s.channels u until (get_or new k 0))) (sym are)
+    ∙ none)
 
 late-kept : (from until word arrival : ℕ) (b c : Bool) → (b && (leb until arrival && ltb arrival word)) ≡ true → not (c && (leb from arrival && ltb arrival until)) ≡ true
 late-kept from until word arrival true true h = grind (arith, nat_tests)
 late-kept from until word arrival true false h = refl
 late-kept from until word arrival false c h = cc
 
--- what is due later is left when units have taken what is due in a phase
-pub left-later : (s : Config) (from until word k : ℕ) (u : MachineUnit) (ms : List Message)
-    → filter (is_due s.channels u until word) (left s from until k ms) ≡ filter (is_due s.channels u until word) ms
-unfolding left
-left-later s from until word zero u ms = refl
-left-later s from until word (suc k) u ms =
-    let p = is_due s.channels u until word in
-    let q = λ (m : Message). not (is_due s.channels (unit_at s k) from until m) in
-    filter-filter p q (left s from until k ms)
-    ∙ filter-same (λ m. q m && p m) p (left s from until k ms)
-    (Each-all _ (λ m. implied (q m) (p m) (λ e. late-kept from until word m.arrival (is_unit (receiver_of s.channels m.link) u) (is_unit (receiver_of s.channels m.link) (unit_at s k)) e)) (left s from until k ms))
-    ∙ left-later s from until word k u ms
+-- what is due later is left when a unit has taken what is due at it in a phase
+pub taken-later : (channels from until word : ℕ) (u : MachineUnit) (ms : List Message)
+    → filter (is_due channels u until word) (filter (λ m. not (is_due channels u from until m)) ms) ≡ filter (is_due channels u until word) ms
+taken-later channels from until word u ms =
+    let p = is_due channels u until word in
+    let q = λ (m : Message). not (is_due channels u from until m) in
+    filter-filter p q ms
+    ∙ filter-same (λ m. q m && p m) p ms
+    (Each-all _ (λ m. implied (q m) (p m) (λ e. late-kept from until word m.arrival (is_unit (receiver_of channels m.link) u) (is_unit (receiver_of channels m.link) u) e)) ms)
 
 none-after : (from word least a : ℕ) → least ≤ a → word ≤ max least from → (leb from a && ltb a word) ≡ false
 none-after from word least a h l = grind (arith, nat_tests)

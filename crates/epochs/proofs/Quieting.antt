@@ -9,7 +9,7 @@ use Rattle.epochs.specs.Units.{unit_at, unit_count}
 use Rattle.epochs.specs.Planning.{IsLongestQuiet}
 use Rattle.epochs.specs.Parts.{IsPart, StandAt}
 use Rattle.epochs.specs.Quiet.{IsNextActOf, SomeActs, AreFirstActs, IsFirstArrival, RestsUpTo, RestUpTo}
-use Rattle.epochs.specs.declared.part.Part.{Part}
+use Rattle.epochs.specs.declared.part.UnitState.{UnitState}
 use Rattle.span_laws.proofs.QuietSpans.{known-is_quiet, quiet-is_known, rest-is_shortened}
 use Rattle.epochs.proofs.Resting.{rests-in_none}
 use Rattle.epochs.proofs.Standing.{core-at_place, channel-at_place}
@@ -111,12 +111,12 @@ acts-now s traces from limit count all l h =
     }
 
 -- the unit at a place of those that stand for their parts
-pub stand-get : (s : Config) (traces : List (List Entry)) (now : ℕ) (parts : List Part) (place : ℕ) (d : Part) → StandAt s traces now parts → place < length parts
+pub stand-get : (s : Config) (traces : List (List Entry)) (now : ℕ) (parts : List UnitState) (place : ℕ) (d : UnitState) → StandAt s traces now parts → place < length parts
     → IsPart s traces (unit_at s place) now (get_or parts place d)
 stand-get s traces now parts place d h l = h place (get_or parts place d) (slice_get-get_or parts place d l)
 
 -- so does the one at each place rest
-pub rest-get : (s : Config) (traces : List (List Entry)) (from until : ℕ) (parts : List Part) (place : ℕ) (d : Part) → RestUpTo s traces parts from until → place < length parts
+pub rest-get : (s : Config) (traces : List (List Entry)) (from until : ℕ) (parts : List UnitState) (place : ℕ) (d : UnitState) → RestUpTo s traces parts from until → place < length parts
     → RestsUpTo s traces (unit_at s place) (get_or parts place d) from until
 rest-get s traces from until parts place d h l =
     record {
@@ -127,6 +127,6 @@ rest-get s traces from until parts place d h l =
     }
 
 -- units that stand for their parts at each place
-pub stand-each : (s : Config) (traces : List (List Entry)) (now : ℕ) (parts : List Part) → ((place : ℕ) (d : Part) → place < length parts → IsPart s traces (unit_at s place) now (get_or parts place d))
+pub stand-each : (s : Config) (traces : List (List Entry)) (now : ℕ) (parts : List UnitState) → ((place : ℕ) (d : UnitState) → place < length parts → IsPart s traces (unit_at s place) now (get_or parts place d))
     → StandAt s traces now parts
 stand-each s traces now parts h place p e = subst (IsPart s traces (unit_at s place) now) (get_or_from_slice_get parts place p p e) (h place p (slice_get_within parts place p e))

@@ -6,9 +6,9 @@ use Rattle.sim_base.specs.declared.message.Message.{Message}
 use Rattle.sim_base.specs.declared.message.Unit.{Unit as MachineUnit}
 use Rattle.sim_base.specs.declared.message.Unit.TheVariants as unit
 use Rattle.sim_base.specs.declared.trace.Entry.{Entry}
-use Rattle.sim_base.specs.declared.command.CommandRow.{CommandRow}
+use Rattle.sim_base.specs.declared.command.IssuedCommand.{IssuedCommand}
 use Rattle.sim_base.proofs.Spans.{length-run}
-use Rattle.statistics.proofs.Replies.{length-core_rows}
+use Rattle.statistics.proofs.Replies.{length-steps_of_core}
 use Rattle.channel_step.specs.Runs.{CanRun}
 use Rattle.channel_step.specs.declared.channel.Channel.{Channel}
 use Rattle.core_window.specs.CoreViews.{view_of}
@@ -18,11 +18,11 @@ use Rattle.span_laws.specs.Channels.{Gives}
 use Rattle.span_laws.proofs.ChannelsOn.{channels-may_run, channels-go_on}
 use Rattle.span_laws.proofs.CoresOn.{cores-may_run, cores-go_on}
 use Rattle.epochs.specs.Parts.{IsReadyFor, HasRunOnto}
-use Rattle.epochs.specs.declared.part.Part.TheVariants as part
+use Rattle.epochs.specs.declared.part.UnitState.TheVariants as part
 
 pub core-at : (s : Config) (traces : List (List Entry)) (unit : MachineUnit) (c : Core) (inbox : List Message) (from until : ℕ)
     → IsReadyFor s traces unit (part.Core c) inbox from until → c.cycle ≡ from
-core-at s traces (unit.Core core) c inbox from until h = h.stands.now ∙ length-core_rows core (run s traces from) ∙ length-run s traces from
+core-at s traces (unit.Core core) c inbox from until h = h.stands.now ∙ length-steps_of_core core (run s traces from) ∙ length-run s traces from
 core-at s traces (unit.Channel channel) c inbox from until h = absurd h.stands
 
 pub core-may_run : (s : Config) (traces : List (List Entry)) (unit : MachineUnit) (c : Core) (inbox : List Message) (from until : ℕ)
@@ -40,13 +40,13 @@ core-has_run s traces (unit.Core core) c d inbox held holds from until h runs =
     record { messages = runs.sent; behind = runs.behind; ran = record { exists = h.exists; stands = goes.0; sent = goes.1 } }
 core-has_run s traces (unit.Channel channel) c d inbox held holds from until h runs = absurd h.stands
 
-pub channel-can_run : (s : Config) (traces : List (List Entry)) (unit : MachineUnit) (c : Channel) (rows : List CommandRow) (inbox : List Message) (from until : ℕ)
+pub channel-can_run : (s : Config) (traces : List (List Entry)) (unit : MachineUnit) (c : Channel) (rows : List IssuedCommand) (inbox : List Message) (from until : ℕ)
     → IsReadyFor s traces unit (part.Channel c rows) inbox from until → CanRun c inbox from until
 channel-can_run s traces (unit.Channel channel) c rows inbox from until h =
     subst (λ mail. CanRun c mail from until) (sym h.mail) (channels-may_run s traces from until channel c h.exists h.order h.stands.0)
 channel-can_run s traces (unit.Core core) c rows inbox from until h = absurd h.stands
 
-pub channel-has_run : (s : Config) (traces : List (List Entry)) (unit : MachineUnit) (c d : Channel) (rows more : List CommandRow) (inbox held holds : List Message) (from until : ℕ)
+pub channel-has_run : (s : Config) (traces : List (List Entry)) (unit : MachineUnit) (c d : Channel) (rows more : List IssuedCommand) (inbox held holds : List Message) (from until : ℕ)
     → IsReadyFor s traces unit (part.Channel c rows) inbox from until → Gives c inbox from until d rows more held holds
     → HasRunOnto s traces unit from until (part.Channel d more) held holds
 channel-has_run s traces (unit.Channel channel) c d rows more inbox held holds from until h gives =

@@ -8,10 +8,10 @@ use Rattle.std.proofs.Math.Seq.{get_or-append_seam}
 use Rattle.std.proofs.lemmas.Bool.{cond-true, cond-false}
 use Rattle.std.proofs.lemmas.Bool.Decides.{nat_tests}
 use Rattle.sim_base.specs.declared.config.Config.{Config}
-use Rattle.sim_base.specs.declared.command.CommandRow.{CommandRow}
+use Rattle.sim_base.specs.declared.command.IssuedCommand.{IssuedCommand}
 use Rattle.sim_base.specs.declared.message.Unit.TheVariants as unit
 use Rattle.sim_base.specs.declared.trace.Entry.{Entry}
-use Rattle.sim_base.specs.History.{below, trace_of, issued_commands, channel_rows}
+use Rattle.sim_base.specs.History.{below, trace_of, issued_commands, steps_of_channel}
 use Rattle.sim_base.specs.Machine.{run}
 use Rattle.laws.specs.Commands.{history_of}
 use Rattle.channel_step.specs.Channels.{StandsFor as ChannelStandsFor}
@@ -23,8 +23,8 @@ use Rattle.span_laws.proofs.ChannelsOn.{channels-start}
 use Rattle.span_laws.proofs.CoresOn.{cores-start}
 use Rattle.epochs.specs.Units.{unit_at}
 use Rattle.epochs.specs.Parts.{IsPart, StandAt}
-use Rattle.epochs.specs.declared.part.Part.{Part}
-use Rattle.epochs.specs.declared.part.Part.TheVariants as part
+use Rattle.epochs.specs.declared.part.UnitState.{UnitState}
+use Rattle.epochs.specs.declared.part.UnitState.TheVariants as part
 
 pub get-push : {X : Type 0} (xs : List X) (x : X) (i : ℕ) (y : X) → slice_get (xs ++ x ∷ []) i ≡ Some y → (slice_get xs i ≡ Some y) ⊎ ((i ≡ length xs) × (x ≡ y))
 get-push [] x zero y e = inr (refl, cc)
@@ -43,7 +43,7 @@ same-default xs i d e l = sym (get_or_from_slice_get xs i (get_or xs i d) e (sli
 pub stand-none : (s : Config) (traces : List (List Entry)) (now : ℕ) → StandAt s traces now []
 stand-none s traces now place p e = cc
 
-pub stand-push : (s : Config) (traces : List (List Entry)) (now : ℕ) (parts : List Part) (p : Part) → StandAt s traces now parts
+pub stand-push : (s : Config) (traces : List (List Entry)) (now : ℕ) (parts : List UnitState) (p : UnitState) → StandAt s traces now parts
     → IsPart s traces (unit_at s (length parts)) now p → StandAt s traces now (parts ++ p ∷ [])
 stand-push s traces now parts p h k place q e = by_case (get-push parts p place q e)
   where
@@ -60,7 +60,7 @@ channel-at_place s place channel f =
     let g : place - s.cores ≡ channel = omega arith in
     cond-false _ _ _ e ∙ ap unit.Channel g
 
-pub first-core : (s : Config) (traces : List (List Entry)) (parts : List Part) (core : ℕ) (c : Core) → StandAt s traces 0 parts → length parts ≡ core → core < s.cores
+pub first-core : (s : Config) (traces : List (List Entry)) (parts : List UnitState) (core : ℕ) (c : Core) → StandAt s traces 0 parts → length parts ≡ core → core < s.cores
     → CoreStandsFor s core (trace_of traces core) [] [] (view_of c) → StandAt s traces 0 (parts ++ part.Core c ∷ [])
 first-core s traces parts core c h e l k =
     stand-push s traces 0 parts (part.Core c) h
@@ -68,10 +68,10 @@ first-core s traces parts core c h e l k =
     (subst (λ u. IsPart s traces u 0 (part.Core c)) (sym (core-at_place s core l)) (cores-start s traces core (view_of c) k)))
 
 history-none : (s : Config) (traces : List (List Entry)) (channel : ℕ) → history_of s traces 0 channel ≡ []
-unfolding run channel_rows issued_commands
+unfolding run steps_of_channel issued_commands
 history-none s traces channel = refl
 
-pub first-channel : (s : Config) (traces : List (List Entry)) (parts : List Part) (channel : ℕ) (c : Channel) (rows : List CommandRow) → StandAt s traces 0 parts
+pub first-channel : (s : Config) (traces : List (List Entry)) (parts : List UnitState) (channel : ℕ) (c : Channel) (rows : List IssuedCommand) → StandAt s traces 0 parts
     → length parts ≡ s.cores + channel → ChannelStandsFor c s channel [] [] → rows ≡ [] → StandAt s traces 0 (parts ++ part.Channel c rows ∷ [])
 first-channel s traces parts channel c rows h e k none =
     stand-push s traces 0 parts (part.Channel c rows) h
@@ -87,7 +87,7 @@ get-seam [] rest x = refl
 get-seam (y ∷ ys) rest x = get-seam ys rest x
 
 -- the unit that comes after some stands for its part
-pub stand-seam : (s : Config) (traces : List (List Entry)) (now : ℕ) (parts ys rest : List Part) (p : Part) → StandAt s traces now parts
+pub stand-seam : (s : Config) (traces : List (List Entry)) (now : ℕ) (parts ys rest : List UnitState) (p : UnitState) → StandAt s traces now parts
     → ys ++ p ∷ rest ≡ parts → IsPart s traces (unit_at s (length ys)) now p
 stand-seam s traces now parts ys rest p h e = h (length ys) p (ap (λ z. slice_get z (length ys)) (sym e) ∙ get-seam ys rest p)
 

@@ -40,7 +40,7 @@ stops may_give sim limit phase arranged (merging.Double place) way given e =
 stops may_give sim limit phase arranged (merging.Stranger place) way given e =
     inr (record { phase = phase; cause = merging.Stranger place; on_the_way = way; misfit = record { arranged = arranged; given = given; fault_is = second (stranger_place place) e }; fault_is = refl })
 
--- want of memory is told as such
+-- out of memory is told as such
 pub told-as_memory : (cause : MergeFault) → run_fault cause ≢ Merge merging.Memory
 told-as_memory merging.Memory e = cc
 told-as_memory (merging.Missing unit) e = cc
@@ -70,7 +70,7 @@ stopped-further may_give sim later stop limit fault m t l within undrained (inl 
 stopped-further may_give sim later stop limit fault m t l within undrained (inr why) =
     inr (record { phase = why.phase; cause = why.cause; on_the_way = further-way sim later stop limit why.phase m t l within undrained why.on_the_way; misfit = why.misfit; fault_is = why.fault_is })
 
--- an order that only permutes leaves want of memory alone
+-- an order that only permutes leaves out of memory alone
 pub only-memory : (may_give : ℕ → List JobView → List JobView → Type 0) (sim : SimView) (limit : ℕ) (fault : Fault) → IsWhyStopped may_give sim limit fault → OnlyPermutes may_give → fault ≡ Memory
 only-memory may_give sim limit fault (inl e) permutes = e
 only-memory may_give sim limit fault (inr why) permutes =

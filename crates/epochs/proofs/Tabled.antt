@@ -8,7 +8,7 @@ use Rattle.std.proofs.lemmas.List.{append-nil}
 use Rattle.std.proofs.lemmas.List.Concat.{flat_map-append}
 use Rattle.std.proofs.lemmas.List.Elements.{All-from_get_or, All-from_recursion, recursion_from_All, filter-append}
 use Rattle.sim_base.specs.declared.config.Config.{Config}
-use Rattle.sim_base.specs.declared.command.CommandRow.{CommandRow}
+use Rattle.sim_base.specs.declared.command.IssuedCommand.{IssuedCommand}
 use Rattle.sim_base.specs.declared.message.Unit.TheVariants as unit
 use Rattle.sim_base.specs.declared.trace.Entry.{Entry}
 use Rattle.sim_base.specs.History.{below, commands}
@@ -23,16 +23,16 @@ use Rattle.laws.proofs.Tabled.{rows_on-commands, tables_are_ordered}
 use Rattle.span_laws.proofs.Merged.{commands-within}
 use Rattle.epochs.specs.Parts.{IsPart}
 use Rattle.epochs.specs.Units.{unit_at}
-use Rattle.epochs.specs.declared.part.Part.{Part}
+use Rattle.epochs.specs.declared.part.UnitState.{UnitState}
 use Rattle.epochs.proofs.Filters.{filter-filter, filter-all}
 use Rattle.epochs.proofs.Standing.{core-at_place, channel-at_place, places-more}
 
 -- each row stands before those after it
-abbrev Ordered : List CommandRow → Type 0
+abbrev Ordered : List IssuedCommand → Type 0
 Ordered [] = Unit {0}
 Ordered (x ∷ xs) = Each (λ y. stands_before x y ≡ true) xs × Ordered xs
 
-ordered-pairs : (xs : List CommandRow) → IsOrdered xs → Ordered xs
+ordered-pairs : (xs : List IssuedCommand) → IsOrdered xs → Ordered xs
 ordered-pairs [] h = tt
 ordered-pairs (x ∷ xs) h = (
   recursion_from_All (λ y. stands_before x y ≡ true) xs (All-from_get_or (λ y. stands_before x y ≡ true) xs x (λ i l. h 0 (suc i) x (omega arith) (omega arith))),
@@ -43,7 +43,7 @@ ordered-pairs (x ∷ xs) h = (
 table-rises : (s : Config) (traces : List (List Entry)) (now : ℕ) → IsRising (commands (run s traces now))
 table-rises s traces now i j d a b = not-earlier (get_or (commands (run s traces now)) i d) (get_or (commands (run s traces now)) j d) (tables_are_ordered s traces now i j d a b)
   where
-    not-earlier : (x y : CommandRow) → stands_before x y ≡ true → x.cycle ≤ y.cycle
+    not-earlier : (x y : IssuedCommand) → stands_before x y ≡ true → x.cycle ≤ y.cycle
     not-earlier x y h = grind (arith, nat_tests)
 
 -- nor in the list of a channel
@@ -58,17 +58,17 @@ lists-rise s traces now channels = All-from_recursion IsRising _ (each channels)
     each (channel ∷ channels) = (list-rises s traces now channel, each channels)
 
 -- Rows of two kinds, where none of the first comes after one of the second.
-record Falls (p q r : CommandRow → Bool) : Type 0 where
-  first : (x : CommandRow) → p x ≡ true → (q x ≡ false) × (r x ≡ true)
-  second : (x : CommandRow) → p x ≡ false → q x ≡ r x
-  apart : (x y : CommandRow) → q x ≡ true → stands_before x y ≡ true → p y ≡ false
+record Falls (p q r : IssuedCommand → Bool) : Type 0 where
+  first : (x : IssuedCommand) → p x ≡ true → (q x ≡ false) × (r x ≡ true)
+  second : (x : IssuedCommand) → p x ≡ false → q x ≡ r x
+  apart : (x y : IssuedCommand) → q x ≡ true → stands_before x y ≡ true → p y ≡ false
 
-filter-none : (p : CommandRow → Bool) (xs : List CommandRow) → Each (λ x. p x ≡ false) xs → filter p xs ≡ []
+filter-none : (p : IssuedCommand → Bool) (xs : List IssuedCommand) → Each (λ x. p x ≡ false) xs → filter p xs ≡ []
 filter-none p [] h = refl
 filter-none p (x ∷ xs) h = cond-false _ _ _ h.0 ∙ filter-none p xs h.1
 
 -- those of the first and then those of the second are those of either
-both-kinds : (p q r : CommandRow → Bool) → Falls p q r → (xs : List CommandRow) → Ordered xs → filter p xs ++ filter q xs ≡ filter r xs
+both-kinds : (p q r : IssuedCommand → Bool) → Falls p q r → (xs : List IssuedCommand) → Ordered xs → filter p xs ++ filter q xs ≡ filter r xs
 both-kinds p q r f [] o = refl
 both-kinds p q r f (x ∷ xs) o = by (p x) refl (q x) refl (both-kinds p q r f xs o.1)
   where
@@ -85,10 +85,10 @@ both-kinds p q r f (x ∷ xs) o = by (p x) refl (q x) refl (both-kinds p q r f x
         ap₂ (λ u v. u ++ v) (cond-false _ _ _ d) (cond-false _ _ _ e) ∙ h ∙ sym (cond-false _ _ _ (sym (f.second x d) ∙ e))
 
 -- the rows of the channels below a number
-abbrev lower : ℕ → List CommandRow → List CommandRow
-lower n xs = filter (λ (x : CommandRow). ltb x.channel n) xs
+abbrev lower : ℕ → List IssuedCommand → List IssuedCommand
+lower n xs = filter (λ (x : IssuedCommand). ltb x.channel n) xs
 
-falls : (k n : ℕ) → Falls (λ (x : CommandRow). ltb x.channel n && eqb x.cycle k) (λ (x : CommandRow). eqb x.channel n && eqb x.cycle k) (λ (x : CommandRow). ltb x.channel (n + 1) && eqb x.cycle k)
+falls : (k n : ℕ) → Falls (λ (x : IssuedCommand). ltb x.channel n && eqb x.cycle k) (λ (x : IssuedCommand). eqb x.channel n && eqb x.cycle k) (λ (x : IssuedCommand). ltb x.channel (n + 1) && eqb x.cycle k)
 falls k n =
     record {
       first = λ x h. (apart x.channel x.cycle h, wider x.channel x.cycle h);
@@ -105,23 +105,23 @@ falls k n =
     other : (c t : ℕ) → (ltb c n && eqb t k) ≡ false → (eqb c n && eqb t k) ≡ (ltb c (n + 1) && eqb t k)
     other c t h = grind (arith, nat_tests)
 
-    later : (x y : CommandRow) → (eqb x.channel n && eqb x.cycle k) ≡ true → stands_before x y ≡ true → (ltb y.channel n && eqb y.cycle k) ≡ false
+    later : (x y : IssuedCommand) → (eqb x.channel n && eqb x.cycle k) ≡ true → stands_before x y ≡ true → (ltb y.channel n && eqb y.cycle k) ≡ false
     later x y h g = grind (arith, nat_tests)
 
 -- one channel more
-more-channels : (k n : ℕ) (xs : List CommandRow) → Ordered xs → rows_in k (lower n xs) ++ rows_in k (rows_on n xs) ≡ rows_in k (lower (n + 1) xs)
+more-channels : (k n : ℕ) (xs : List IssuedCommand) → Ordered xs → rows_in k (lower n xs) ++ rows_in k (rows_on n xs) ≡ rows_in k (lower (n + 1) xs)
 more-channels k n xs o =
-    let in_cycle = λ (x : CommandRow). eqb x.cycle k in
-    ap₂ (λ u v. u ++ v) (filter-filter in_cycle (λ (x : CommandRow). ltb x.channel n) xs) (filter-filter in_cycle (λ (x : CommandRow). eqb x.channel n) xs)
+    let in_cycle = λ (x : IssuedCommand). eqb x.cycle k in
+    ap₂ (λ u v. u ++ v) (filter-filter in_cycle (λ (x : IssuedCommand). ltb x.channel n) xs) (filter-filter in_cycle (λ (x : IssuedCommand). eqb x.channel n) xs)
     ∙ both-kinds _ _ _ (falls k n) xs o
-    ∙ sym (filter-filter in_cycle (λ (x : CommandRow). ltb x.channel (n + 1)) xs)
+    ∙ sym (filter-filter in_cycle (λ (x : IssuedCommand). ltb x.channel (n + 1)) xs)
 
 -- the lists of the channels below a number
-abbrev pub lists_below : Config → List (List Entry) → ℕ → ℕ → List (List CommandRow)
+abbrev pub lists_below : Config → List (List Entry) → ℕ → ℕ → List (List IssuedCommand)
 lists_below s traces now n = map (history_of s traces now) (below n)
 
 -- the lists of the channels among the units so far, with one unit more
-pub listed-more : (s : Config) (traces : List (List Entry)) (now place : ℕ) (p : Part) (old new : List (List CommandRow)) → IsPart s traces (unit_at s place) now p
+pub listed-more : (s : Config) (traces : List (List Entry)) (now place : ℕ) (p : UnitState) (old new : List (List IssuedCommand)) → IsPart s traces (unit_at s place) now p
     → ((core : ℕ) → IsPart s traces (unit.Core core) now p → new ≡ old)
     → ((channel : ℕ) → IsPart s traces (unit.Channel channel) now p → new ≡ old ++ history_of s traces now channel ∷ [])
     → old ≡ lists_below s traces now (place - s.cores) → new ≡ lists_below s traces now (suc place - s.cores)
@@ -147,7 +147,7 @@ lower-rows s traces now zero l k = ap (rows_in k) (sym (none (commands (run s tr
     no_channel : (c : ℕ) → ltb c 0 ≡ false
     no_channel c = grind (arith, nat_tests)
 
-    none : (xs : List CommandRow) → lower 0 xs ≡ []
+    none : (xs : List IssuedCommand) → lower 0 xs ≡ []
     none [] = refl
     none (x ∷ xs) = cond-false _ _ _ (no_channel x.channel) ∙ none xs
 lower-rows s traces now (suc n) l k =
@@ -157,7 +157,7 @@ lower-rows s traces now (suc n) l k =
     let more : flat_map (λ rows. rows) (lists_below s traces now (suc n)) ≡ flat_map (λ rows. rows) lists ++ own =
     ap (flat_map (λ rows. rows)) (sym (places-more (history_of s traces now) n)) ∙ flat_map-append (λ rows. rows) lists (own ∷ []) ∙ ap (λ z. flat_map (λ rows. rows) lists ++ z) (append-nil own) in
     ap (rows_in k) more
-    ∙ filter-append (λ (x : CommandRow). eqb x.cycle k) (flat_map (λ rows. rows) lists) own
+    ∙ filter-append (λ (x : IssuedCommand). eqb x.cycle k) (flat_map (λ rows. rows) lists) own
     ∙ ap₂ (λ u v. u ++ v) (lower-rows s traces now n (omega arith) k) (ap (rows_in k) (sym (rows_on-commands s traces n (omega arith) now)))
     ∙ more-channels k n all (ordered-pairs all (tables_are_ordered s traces now))
     ∙ ap (λ m. rows_in k (lower m all)) (add-one n)
@@ -167,10 +167,10 @@ pub table-is : (s : Config) (traces : List (List Entry)) (now : ℕ) → table_o
 table-is s traces now =
     by_cycle-is all (flat_map (λ rows. rows) (lists_below s traces now s.channels)) (rising-pairs all (table-rises s traces now)) (λ k. sym (lower-rows s traces now s.channels (omega arith) k ∙ ap (rows_in k) whole))
   where
-    all : List CommandRow
+    all : List IssuedCommand
     all = commands (run s traces now)
 
     whole : lower s.channels all ≡ all
     whole =
-        filter-all (λ (x : CommandRow). ltb x.channel s.channels) all
-        (Each-weaker (λ (x : CommandRow). (x.cycle < now) × (x.channel < s.channels)) (λ (x : CommandRow). ltb x.channel s.channels ≡ true) (λ x h. lt-ltb x.channel s.channels h.1) all (commands-within s traces now))
+        filter-all (λ (x : IssuedCommand). ltb x.channel s.channels) all
+        (Each-weaker (λ (x : IssuedCommand). (x.cycle < now) × (x.channel < s.channels)) (λ (x : IssuedCommand). ltb x.channel s.channels ≡ true) (λ x h. lt-ltb x.channel s.channels h.1) all (commands-within s traces now))

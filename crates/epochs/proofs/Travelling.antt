@@ -6,14 +6,14 @@ use Rattle.std.proofs.lemmas.List.{map-append}
 use Rattle.sim_base.specs.declared.config.Config.{Config}
 use Rattle.std.specs.Prelude.{filter}
 use Rattle.sim_base.specs.Counts.{is_in_flight, in_flight}
-use Rattle.sim_base.specs.History.{receiver, trace_of, core_rows, channel_rows, request, reply, credit, core_messages, requests_in, channel_messages, messages_of, messages_at, messages_of_core, messages_of_channel, messages, by_age}
+use Rattle.sim_base.specs.History.{receiver, trace_of, steps_of_core, steps_of_channel, request, reply, credit, core_messages, requests_in, channel_messages, messages_of, messages_at, messages_of_core, messages_of_channel, messages, by_age}
 use Rattle.sim_base.specs.Locality.{TravelsFor}
-use Rattle.sim_base.specs.Machine.{run, next_row}
+use Rattle.sim_base.specs.Machine.{run, next_step}
 use Rattle.sim_base.specs.Places.{place_of}
-use Rattle.sim_base.specs.Row.{Row, core_row, channel_row}
+use Rattle.sim_base.specs.MachineStep.{MachineStep, step_of_core, step_of_channel}
 use Rattle.sim_base.specs.declared.command.Command.{Command}
 use Rattle.sim_base.specs.declared.command.Command.TheVariants.{Act, Rd, Wr, Pre, Prea, Ref}
-use Rattle.sim_base.specs.declared.history.CoreRow.{CoreRow}
+use Rattle.sim_base.specs.declared.history.CoreStep.{CoreStep}
 use Rattle.sim_base.specs.declared.message.Message.{Message}
 use Rattle.sim_base.specs.declared.message.Unit.TheVariants as unit
 use Rattle.sim_base.specs.declared.message.Unit.{Unit as MachineUnit}
@@ -22,9 +22,9 @@ use Rattle.sim_base.proofs.Added.{core_messages-push, channel_messages-push, req
 use Rattle.sim_base.proofs.Each.{Each-append, Each-flat_map_below}
 use Rattle.sim_base.proofs.Made.{requests-each}
 use Rattle.sim_base.proofs.Served.{choice-below, inbox-below}
-use Rattle.sim_base.proofs.Spans.{length-run, channel_row-next, has_channels}
-use Rattle.statistics.proofs.Replies.{length-core_rows}
-use Rattle.laws.proofs.Legal.{length-rows_of}
+use Rattle.sim_base.proofs.Spans.{length-run, step_of_channel-next, has_channels}
+use Rattle.statistics.proofs.Replies.{length-steps_of_core}
+use Rattle.laws.proofs.Legal.{length-channel_steps_of}
 use Rattle.laws.proofs.Receivers.{receiver_request, receiver_reply, receiver_credit, place_in}
 use Rattle.laws.proofs.Sent.{messages-none}
 use Rattle.epochs.specs.Units.{Exists}
@@ -47,45 +47,45 @@ added-then P a b c xs h e k =
       each = Each-append P h.more xs h.each k;
     }
 
-run-on : (s : Config) (traces : List (List Entry)) (from m : ℕ) → run s traces (from + suc m) ≡ run s traces (from + m) ++ next_row s traces (run s traces (from + m)) ∷ []
+run-on : (s : Config) (traces : List (List Entry)) (from m : ℕ) → run s traces (from + suc m) ≡ run s traces (from + m) ++ next_step s traces (run s traces (from + m)) ∷ []
 unfolding run
 run-on s traces from m = ap (λ i. run s traces i) (add-suc from m)
 
 -- a command is in the name of a core of the machine
 serves : (s : Config) (traces : List (List Entry)) (n channel : ℕ) → channel < s.channels
-    → IfSome (channel_row channel (next_row s traces (run s traces n))) (ServesCoreBelow s.cores)
+    → IfSome (step_of_channel channel (next_step s traces (run s traces n))) (ServesCoreBelow s.cores)
 serves s traces n channel l =
     let history = run s traces n in
-    subst (λ o. IfSome o (ServesCoreBelow s.cores)) (sym (channel_row-next s traces history channel l))
-    (choice-below s channel (channel_rows channel history) _ (inbox-below s traces history (unit.Channel channel)))
+    subst (λ o. IfSome o (ServesCoreBelow s.cores)) (sym (step_of_channel-next s traces history channel l))
+    (choice-below s channel (steps_of_channel channel history) _ (inbox-below s traces history (unit.Channel channel)))
 
-core-pushed : (s : Config) (traces : List (List Entry)) (core : ℕ) (history : List Row) (row : Row) → messages_of_core s traces (history ++ row ∷ []) core
-    ≡ messages_of_core s traces history core ++ requests_in s core (trace_of traces core) (core_rows core history ++ core_row core row ∷ []) (length (core_rows core history))
-unfolding messages_of_core core_rows
-core-pushed s traces core history row =
-    ap (core_messages s core (trace_of traces core)) (map-append (core_row core) history (row ∷ []))
-    ∙ core_messages-push s core (trace_of traces core) (core_rows core history) (core_row core row)
+core-pushed : (s : Config) (traces : List (List Entry)) (core : ℕ) (history : List MachineStep) (machine_step : MachineStep) → messages_of_core s traces (history ++ machine_step ∷ []) core
+    ≡ messages_of_core s traces history core ++ requests_in s core (trace_of traces core) (steps_of_core core history ++ step_of_core core machine_step ∷ []) (length (steps_of_core core history))
+unfolding messages_of_core steps_of_core
+core-pushed s traces core history machine_step =
+    ap (core_messages s core (trace_of traces core)) (map-append (step_of_core core) history (machine_step ∷ []))
+    ∙ core_messages-push s core (trace_of traces core) (steps_of_core core history) (step_of_core core machine_step)
 
 pub core-added : (s : Config) (traces : List (List Entry)) (P : Message → Type 0) (from core : ℕ)
-    → ((rows : List CoreRow) (cycle : ℕ) → from ≤ cycle → Each P (requests_in s core (trace_of traces core) rows cycle))
+    → ((rows : List CoreStep) (cycle : ℕ) → from ≤ cycle → Each P (requests_in s core (trace_of traces core) rows cycle))
     → (m : ℕ) → Added P (messages_of_core s traces (run s traces from) core) (messages_of_core s traces (run s traces (from + m)) core)
 core-added s traces P from core h zero =
     subst (λ i. Added P (messages_of_core s traces (run s traces from) core) (messages_of_core s traces (run s traces i) core)) (sym (add-zero from)) (added-none P _)
 core-added s traces P from core h (suc m) =
     let history = run s traces (from + m) in
-    let row = next_row s traces history in
-    let rows = core_rows core history in
-    let e : length rows ≡ from + m = length-core_rows core history ∙ length-run s traces (from + m) in
-    added-then P _ _ _ (requests_in s core (trace_of traces core) (rows ++ core_row core row ∷ []) (length rows)) (core-added s traces P from core h m)
-    (ap (λ x. messages_of_core s traces x core) (run-on s traces from m) ∙ core-pushed s traces core history row)
-    (h (rows ++ core_row core row ∷ []) (length rows) (omega (arith, e)))
+    let machine_step = next_step s traces history in
+    let rows = steps_of_core core history in
+    let e : length rows ≡ from + m = length-steps_of_core core history ∙ length-run s traces (from + m) in
+    added-then P _ _ _ (requests_in s core (trace_of traces core) (rows ++ step_of_core core machine_step ∷ []) (length rows)) (core-added s traces P from core h m)
+    (ap (λ x. messages_of_core s traces x core) (run-on s traces from m) ∙ core-pushed s traces core history machine_step)
+    (h (rows ++ step_of_core core machine_step ∷ []) (length rows) (omega (arith, e)))
 
-channel-pushed : (s : Config) (channel : ℕ) (history : List Row) (row : Row) → messages_of_channel s (history ++ row ∷ []) channel
-    ≡ messages_of_channel s history channel ++ messages_at s channel (length (channel_rows channel history)) (channel_row channel row)
-unfolding messages_of_channel channel_rows
-channel-pushed s channel history row =
-    ap (channel_messages s channel) (map-append (channel_row channel) history (row ∷ []))
-    ∙ channel_messages-push s channel (channel_rows channel history) (channel_row channel row)
+channel-pushed : (s : Config) (channel : ℕ) (history : List MachineStep) (machine_step : MachineStep) → messages_of_channel s (history ++ machine_step ∷ []) channel
+    ≡ messages_of_channel s history channel ++ messages_at s channel (length (steps_of_channel channel history)) (step_of_channel channel machine_step)
+unfolding messages_of_channel steps_of_channel
+channel-pushed s channel history machine_step =
+    ap (channel_messages s channel) (map-append (step_of_channel channel) history (machine_step ∷ []))
+    ∙ channel_messages-push s channel (steps_of_channel channel history) (step_of_channel channel machine_step)
 
 pub channel-added : (s : Config) (traces : List (List Entry)) (P : Message → Type 0) (from channel : ℕ) → channel < s.channels
     → ((cycle : ℕ) (o : Option Command) → from ≤ cycle → IfSome o (ServesCoreBelow s.cores) → Each P (messages_at s channel cycle o))
@@ -94,12 +94,12 @@ channel-added s traces P from channel l h zero =
     subst (λ i. Added P (messages_of_channel s (run s traces from) channel) (messages_of_channel s (run s traces i) channel)) (sym (add-zero from)) (added-none P _)
 channel-added s traces P from channel l h (suc m) =
     let history = run s traces (from + m) in
-    let row = next_row s traces history in
-    let rows = channel_rows channel history in
-    let e : length rows ≡ from + m = length-rows_of s traces (from + m) channel in
-    added-then P _ _ _ (messages_at s channel (length rows) (channel_row channel row)) (channel-added s traces P from channel l h m)
-    (ap (λ x. messages_of_channel s x channel) (run-on s traces from m) ∙ channel-pushed s channel history row)
-    (h (length rows) (channel_row channel row) (omega (arith, e)) (serves s traces (from + m) channel l))
+    let machine_step = next_step s traces history in
+    let steps = steps_of_channel channel history in
+    let e : length steps ≡ from + m = length-channel_steps_of s traces (from + m) channel in
+    added-then P _ _ _ (messages_at s channel (length steps) (step_of_channel channel machine_step)) (channel-added s traces P from channel l h m)
+    (ap (λ x. messages_of_channel s x channel) (run-on s traces from m) ∙ channel-pushed s channel history machine_step)
+    (h (length steps) (step_of_channel channel machine_step) (omega (arith, e)) (serves s traces (from + m) channel l))
 
 -- what a unit sends in a span that is no longer than each message travels arrives after it
 pub late-added : (s : Config) (traces : List (List Entry)) (from until : ℕ) (u : MachineUnit) → Exists s u → from ≤ until → TravelsFor s (until - from)
@@ -134,7 +134,7 @@ reply-goes s channel cycle l (Some (Prea rank)) c = tt
 reply-goes s channel cycle l (Some (Ref rank)) c = tt
 
 channel-goes : (s : Config) (traces : List (List Entry)) (n channel : ℕ) → channel < s.channels → Each (Goes s) (messages_of_channel s (run s traces n) channel)
-unfolding run messages_of_channel channel_rows channel_messages
+unfolding run messages_of_channel steps_of_channel channel_messages
 channel-goes s traces n channel l =
     let a = channel-added s traces (Goes s) 0 channel l (λ cycle o h c. reply-goes s channel cycle l o c) n in
     let e : 0 + n ≡ n = omega arith in
@@ -143,7 +143,12 @@ channel-goes s traces n channel l =
 core-goes : (s : Config) (traces : List (List Entry)) (n core : ℕ) → core < s.cores → Each (Goes s) (messages_of_core s traces (run s traces n) core)
 unfolding messages_of_core
 core-goes s traces n core l =
-    requests-each s (Goes s) (λ c cycle entry write address k. request-goes s c cycle entry write address k) core l (trace_of traces core) (core_rows core (run s traces n))
+    requests-each s (Goes s) (λ c cycle entry write address k. request-goes s c cycle entry write address k) core l (trace_of traces core) (steps_of_core core (run s traces n))
+
+-- so does each that a unit sends
+pub sent-goes : (s : Config) (traces : List (List Entry)) (n : ℕ) (u : MachineUnit) → Exists s u → Each (Goes s) (sent_of s traces n u)
+sent-goes s traces n (unit.Core core) l = core-goes s traces n core l
+sent-goes s traces n (unit.Channel channel) l = channel-goes s traces n channel l
 
 pub all-go : (s : Config) (traces : List (List Entry)) (n : ℕ) → Each (Goes s) (messages s traces (run s traces n))
 unfolding messages

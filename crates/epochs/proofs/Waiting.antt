@@ -8,14 +8,14 @@ use Rattle.sim_base.specs.Counts.{in_flight}
 use Rattle.sim_base.specs.History.{is_unit, trace_of, core_messages, channel_messages, messages_of_core, messages_of_channel, inbox}
 use Rattle.sim_base.specs.Locality.{TravelsFor}
 use Rattle.sim_base.specs.Machine.{run, core_run, channel_run}
-use Rattle.sim_base.specs.declared.history.CoreRow.{CoreRow}
+use Rattle.sim_base.specs.declared.history.CoreStep.{CoreStep}
 use Rattle.sim_base.specs.declared.message.Message.{Message}
 use Rattle.sim_base.specs.declared.message.Unit.{Unit as MachineUnit}
 use Rattle.sim_base.specs.declared.message.Unit.TheVariants.{Core, Channel}
 use Rattle.sim_base.specs.declared.trace.Entry.{Entry}
 use Rattle.sim_base.proofs.Arrived.{arrived}
 use Rattle.sim_base.proofs.Spans.{inbox-run, has_channels}
-use Rattle.laws.specs.Commands.{rows_of}
+use Rattle.laws.specs.Commands.{channel_steps_of}
 use Rattle.channel_step.proofs.Stretches.{idle-messages, idle-run}
 use Rattle.core_window.specs.CoreViews.{view_of}
 use Rattle.core_window.specs.Rests.{Rests}
@@ -23,7 +23,7 @@ use Rattle.core_window.specs.Silence.{IsSilentUntil}
 use Rattle.core_window.specs.Stands.{StandsFor as CoreStandsFor}
 use Rattle.core_window.specs.declared.core_unit.Core.{Core as CoreUnit}
 use Rattle.links.specs.InFlight.{is_due, receiver_of}
-use Rattle.span_laws.specs.Cores.{core_rows_of}
+use Rattle.span_laws.specs.Cores.{core_steps_of}
 use Rattle.span_laws.specs.Mail.{arriving, mail_before, mail_in}
 use Rattle.span_laws.specs.Quiet.{RestsAlone}
 use Rattle.span_laws.proofs.Arrivals.{arriving-arrived, mail-settled}
@@ -34,7 +34,7 @@ use Rattle.span_laws.proofs.Idle.{rest-messages, rests-sooner}
 use Rattle.epochs.specs.Units.{Exists}
 use Rattle.epochs.specs.Parts.{sent_of, IsPart, IsReadyFor, HasRun}
 use Rattle.epochs.specs.Quiet.{IsNextActOf}
-use Rattle.epochs.specs.declared.part.Part.TheVariants as part
+use Rattle.epochs.specs.declared.part.UnitState.TheVariants as part
 use Rattle.epochs.proofs.Resting.{core-rows_length, rests-in_none}
 use Rattle.epochs.specs.Wakes.{Sleeper, IsSilent, Waits, HasGoneOn}
 
@@ -47,16 +47,16 @@ silent-sooner s traces from sooner until (Channel channel) k h = λ n l. h n (om
 pub rests-silent : (s : Config) (traces : List (List Entry)) (from until : ℕ) (u : MachineUnit) → RestsAlone s traces from until u → IsSilent s traces from until u
 rests-silent s traces from until (Core core) h = λ n l.
     let trace = trace_of traces core in
-    let rows = core_rows_of s traces from core in
+    let steps = core_steps_of s traces from core in
     let mail = mail_before s traces from (Core core) from in
     let parts : until - from ≡ n + (until - from - n) = omega (arith, l) in
-    ap (core_messages s core trace) (rests-sooner s core trace rows mail n (until - from - n) (subst (λ k. Rests s core trace rows mail k) parts h))
-    ∙ rest-messages s core trace rows n
+    ap (core_messages s core trace) (rests-sooner s core trace steps mail n (until - from - n) (subst (λ k. Rests s core trace steps mail k) parts h))
+    ∙ rest-messages s core trace steps n
 rests-silent s traces from until (Channel channel) h = λ n l.
-    let rows = rows_of s traces from channel in
+    let steps = channel_steps_of s traces from channel in
     let mail = mail_before s traces from (Channel channel) from in
-    ap (channel_messages s channel) (idle-run s channel rows mail n (λ k m. h k (omega (arith, l, m))))
-    ∙ idle-messages s channel rows n
+    ap (channel_messages s channel) (idle-run s channel steps mail n (λ k m. h k (omega (arith, l, m))))
+    ∙ idle-messages s channel steps n
 
 -- what arrives up to the end of a phase is known at its beginning, also from an earlier cycle on
 pub mail-lag : (s : Config) (traces : List (List Entry)) (at now until : ℕ) (u : MachineUnit) → now ≤ until → TravelsFor s (until - now)
@@ -119,20 +119,20 @@ pub silent-sent : (s : Config) (traces : List (List Entry)) (at until : ℕ) (u 
 unfolding messages_of_core messages_of_channel
 silent-sent s traces at until (Core core) k l h none =
     let trace = trace_of traces core in
-    let rows = core_rows_of s traces at core in
+    let steps = core_steps_of s traces at core in
     let n = until - at in
     ap (core_messages s core trace)
     (sym (cores-run_alone s traces at until core k l)
-    ∙ ap (λ ms. core_run s core trace rows (mail_before s traces until (Core core) at ++ ms) n) none
-    ∙ ap (λ ms. core_run s core trace rows ms n) (append-nil _ ∙ mail-settled s traces at until (Core core) l))
+    ∙ ap (λ ms. core_run s core trace steps (mail_before s traces until (Core core) at ++ ms) n) none
+    ∙ ap (λ ms. core_run s core trace steps ms n) (append-nil _ ∙ mail-settled s traces at until (Core core) l))
     ∙ h n (omega (arith, l))
 silent-sent s traces at until (Channel channel) k l h none =
-    let rows = rows_of s traces at channel in
+    let steps = channel_steps_of s traces at channel in
     let n = until - at in
     ap (channel_messages s channel)
     (sym (channels-run_alone s traces at until channel k l)
-    ∙ ap (λ ms. channel_run s channel rows (mail_before s traces until (Channel channel) at ++ ms) n) none
-    ∙ ap (λ ms. channel_run s channel rows ms n) (append-nil _ ∙ mail-settled s traces at until (Channel channel) l))
+    ∙ ap (λ ms. channel_run s channel steps (mail_before s traces until (Channel channel) at ++ ms) n) none
+    ∙ ap (λ ms. channel_run s channel steps ms n) (append-nil _ ∙ mail-settled s traces at until (Channel channel) l))
     ∙ h n (omega (arith, l))
 
 -- a unit that waits has sent nothing since the cycle where it stands, and nothing arrived at it
@@ -237,11 +237,11 @@ word-since s traces u from most (Some act) h l = h.since
 -- what a core tells of its silence
 abbrev pub CoreKeepsSilent : CoreUnit → ℕ → Type 0
 CoreKeepsSilent c until =
-    (s : Config) (core : ℕ) (trace : List Entry) (rows : List CoreRow) (mail : List Message) → CoreStandsFor s core trace rows mail (view_of c) → IsSilentUntil s core trace rows mail until
+    (s : Config) (core : ℕ) (trace : List Entry) (rows : List CoreStep) (mail : List Message) → CoreStandsFor s core trace rows mail (view_of c) → IsSilentUntil s core trace rows mail until
 
 pub core-silent : (s : Config) (traces : List (List Entry)) (u : MachineUnit) (c : CoreUnit) (from until : ℕ) → IsPart s traces u from (part.Core c) → CoreKeepsSilent c until → IsSilent s traces from until u
 core-silent s traces (Core core) c from until h keeps = λ n l.
-    keeps s core (trace_of traces core) (core_rows_of s traces from core) (mail_before s traces from (Core core) from) h n (omega (arith, core-rows_length s traces from core, l))
+    keeps s core (trace_of traces core) (core_steps_of s traces from core) (mail_before s traces from (Core core) from) h n (omega (arith, core-rows_length s traces from core, l))
 core-silent s traces (Channel channel) c from until h keeps = absurd h
 
 -- where none passes, none is taken out

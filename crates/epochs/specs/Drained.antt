@@ -11,16 +11,16 @@ use Rattle.sim_base.specs.Machine.{run, is_over}
 use Rattle.sim_base.specs.declared.message.Unit.{Unit as MachineUnit}
 use Rattle.sim_base.specs.declared.message.Unit.TheVariants.{Core, Channel}
 use Rattle.sim_base.specs.declared.trace.Entry.{Entry}
-use Rattle.laws.specs.Commands.{rows_of}
-use Rattle.span_laws.specs.Cores.{core_rows_of}
+use Rattle.laws.specs.Commands.{channel_steps_of}
+use Rattle.span_laws.specs.Cores.{core_steps_of}
 use Rattle.span_laws.specs.Ends.{ends_before}
 use Rattle.span_laws.specs.Mail.{mail_before}
 use Rattle.epochs.specs.Units.{unit_at, unit_count}
 
 -- before a cycle of a run a core has retired its trace, and a channel has no request left in its queue
 abbrev pub HasFinished : Config → List (List Entry) → ℕ → MachineUnit → Type 0
-HasFinished s traces now (Core core) = retired_before (core_rows_of s traces now core) ≡ length (trace_of traces core)
-HasFinished s traces now (Channel channel) = queue_left channel (rows_of s traces now channel) (mail_before s traces now (Channel channel) now) ≡ []
+HasFinished s traces now (Core core) = retired_before (core_steps_of s traces now core) ≡ length (trace_of traces core)
+HasFinished s traces now (Channel channel) = queue_left channel (channel_steps_of s traces now channel) (mail_before s traces now (Channel channel) now) ≡ []
 
 -- so it is with each unit
 abbrev pub AllFinished : Config → List (List Entry) → ℕ → Type 0

@@ -9,5 +9,6 @@ pub mod Ordered
 pub mod Drained
 pub mod Quiet
 pub mod Wakes
-pub mod Shifts
-pub mod Steps
+pub mod Rests
+pub mod Shards
+pub mod Legs

@@ -55,7 +55,7 @@ pub record DoNotFit (may_give : ℕ → List JobView → List JobView → Type 0
   pub given : may_give phase.number (jobs_of phase) arranged
   pub fault_is : merge_fault phase (map (λ (d : JobView). d.name) arranged) ≡ Some cause
 
--- Where results do not fit a run tells why. Want of memory is the same want of memory.
+-- Where results do not fit a run tells why. Out of memory is the same out of memory.
 abbrev pub run_fault : MergeFault → Fault
 run_fault (merging.Missing unit) = Merge (merging.Missing unit)
 run_fault (merging.Double place) = Merge (merging.Double place)
@@ -70,7 +70,7 @@ pub record StopsAtMisfit (may_give : ℕ → List JobView → List JobView → T
   pub misfit : DoNotFit may_give phase cause
   pub fault_is : fault ≡ Merge cause
 
--- a run stops before its limit for want of memory, or at a phase whose results do not fit as the order gives them
+-- a run stops before its limit for out of memory, or at a phase whose results do not fit as the order gives them
 abbrev pub IsWhyStopped : (ℕ → List JobView → List JobView → Type 0) → SimView → ℕ → Fault → Type 0
 IsWhyStopped may_give sim limit fault = (fault ≡ Memory) ⊎ StopsAtMisfit may_give sim limit fault
 

@@ -28,11 +28,11 @@ use Rattle.span_laws.specs.Mail.{mail_in}
 use Rattle.links.specs.InFlight.{InFlight}
 use Rattle.epochs.specs.Units.{unit_count, unit_at, Exists}
 use Rattle.sim_base.specs.declared.job.JobName.{JobName}
-use Rattle.epochs.specs.declared.part.Part.{Part}
-use Rattle.epochs.specs.declared.part.Part.TheVariants as part
+use Rattle.epochs.specs.declared.part.UnitState.{UnitState}
+use Rattle.epochs.specs.declared.part.UnitState.TheVariants as part
 
 -- A unit stands for what the one with this number did in the cycles of a run before one. With a channel its commands are kept.
-abbrev pub IsPart : Config → List (List Entry) → MachineUnit → ℕ → Part → Type 0
+abbrev pub IsPart : Config → List (List Entry) → MachineUnit → ℕ → UnitState → Type 0
 IsPart s traces (unit.Core core) now (part.Core c) = IsCoreAt s traces core now (view_of c)
 IsPart s traces (unit.Channel channel) now (part.Channel c commands) = IsChannelAt s traces channel now c × (commands ≡ history_of s traces now channel)
 IsPart s traces (unit.Core core) now (part.Channel c commands) = ⊥
@@ -45,7 +45,7 @@ sent_of s traces n (unit.Channel channel) = messages_of_channel s (run s traces 
 
 -- A unit of a machine stands for its part of a run at the beginning of a span. The messages are those that arrive at it in
 -- the span.
-pub record IsReadyFor (s : Config) (traces : List (List Entry)) (unit : MachineUnit) (part : Part) (inbox : List Message) (from until : ℕ) : Type 0 where
+pub record IsReadyFor (s : Config) (traces : List (List Entry)) (unit : MachineUnit) (part : UnitState) (inbox : List Message) (from until : ℕ) : Type 0 where
   pub exists : Exists s unit
   pub order : from ≤ until
   pub early : until ≤ 10 ^ 12
@@ -53,38 +53,38 @@ pub record IsReadyFor (s : Config) (traces : List (List Entry)) (unit : MachineU
   pub mail : inbox ≡ mail_in s traces until unit from until
 
 -- the same for some unit of some run
-pub record IsReady (part : Part) (inbox : List Message) (from until : ℕ) : Type 0 where
+pub record IsReady (part : UnitState) (inbox : List Message) (from until : ℕ) : Type 0 where
   pub s : Config
   pub traces : List (List Entry)
   pub unit : MachineUnit
   pub ready : IsReadyFor s traces unit part inbox from until
 
 -- A unit of a machine stands for its part of a run at the end of a span. The messages are those that it sends in the span.
-pub record HasRun (s : Config) (traces : List (List Entry)) (unit : MachineUnit) (from until : ℕ) (part : Part) (messages : List Message) : Type 0 where
+pub record HasRun (s : Config) (traces : List (List Entry)) (unit : MachineUnit) (from until : ℕ) (part : UnitState) (messages : List Message) : Type 0 where
   pub exists : Exists s unit
   pub stands : IsPart s traces unit until part
   pub sent : sent_of s traces until unit ≡ sent_of s traces from unit ++ messages
 
 -- the same, and what it sends is put behind what a list held before
-pub record HasRunOnto (s : Config) (traces : List (List Entry)) (unit : MachineUnit) (from until : ℕ) (part : Part) (held holds : List Message) : Type 0 where
+pub record HasRunOnto (s : Config) (traces : List (List Entry)) (unit : MachineUnit) (from until : ℕ) (part : UnitState) (held holds : List Message) : Type 0 where
   pub messages : List Message
   pub behind : holds ≡ held ++ messages
   pub ran : HasRun s traces unit from until part messages
 
 -- what holds of a job
-abbrev pub IsJob : Config → List (List Entry) → JobName → Part → List Message → Type 0
+abbrev pub IsJob : Config → List (List Entry) → JobName → UnitState → List Message → Type 0
 IsJob s traces name part inbox = IsReadyFor s traces name.unit part inbox name.from name.until
 
 -- units in their order stand for their parts of a run
-abbrev pub StandAt : Config → List (List Entry) → ℕ → List Part → Type 0
-StandAt s traces now parts = (place : ℕ) (p : Part) → slice_get parts place ≡ Some p → IsPart s traces (unit_at s place) now p
+abbrev pub StandAt : Config → List (List Entry) → ℕ → List UnitState → Type 0
+StandAt s traces now parts = (place : ℕ) (p : UnitState) → slice_get parts place ≡ Some p → IsPart s traces (unit_at s place) now p
 
 -- the messages that arrive no sooner than in a cycle
 abbrev pub late : ℕ → List Message → List Message
 late cycle mail = filter (λ m. not (nat_lt m.arrival cycle)) mail
 
 -- All units stand for their part of a run of so many cycles, and the messages in flight are those of this run.
-pub record IsSim (s : Config) (traces : List (List Entry)) (now phase : ℕ) (parts : List Part) (links : InFlight) : Type 0 where
+pub record IsSim (s : Config) (traces : List (List Entry)) (now phase : ℕ) (parts : List UnitState) (links : InFlight) : Type 0 where
   pub counted : phase ≤ now
   pub early : now ≤ 10 ^ 12
   pub count : length parts ≡ unit_count s

@@ -14,7 +14,7 @@ use Rattle.sim_base.specs.declared.trace.Entry.{Entry}
 use Rattle.span_laws.specs.Quiet.{RestsAlone, IsQuiet, arrivals_in}
 use Rattle.epochs.specs.Units.{unit_count, unit_at, Exists}
 use Rattle.epochs.specs.Parts.{IsPart, StandAt}
-use Rattle.epochs.specs.declared.part.Part.{Part}
+use Rattle.epochs.specs.declared.part.UnitState.{UnitState}
 
 -- if nothing arrives from a cycle on, a unit would do nothing before another, and something in it
 pub record IsFirstActOf (s : Config) (traces : List (List Entry)) (unit : MachineUnit) (from act : ℕ) : Type 0 where
@@ -49,28 +49,28 @@ pub record IsFirstArrival (s : Config) (traces : List (List Entry)) (now limit u
   pub some : (later : ℕ) → until < limit → until < later → arrivals_in s traces now now later ≡ [] → ⊥
 
 -- a unit of a machine stands for its part of a run, in which nothing happens in a span
-pub record RestsUpTo (s : Config) (traces : List (List Entry)) (unit : MachineUnit) (part : Part) (from until : ℕ) : Type 0 where
+pub record RestsUpTo (s : Config) (traces : List (List Entry)) (unit : MachineUnit) (part : UnitState) (from until : ℕ) : Type 0 where
   pub exists : Exists s unit
   pub order : from ≤ until
   pub stands : IsPart s traces unit from part
   pub quiet : IsQuiet s traces from until
 
 -- so do all units of a machine in their order
-pub record RestUpTo (s : Config) (traces : List (List Entry)) (parts : List Part) (from until : ℕ) : Type 0 where
+pub record RestUpTo (s : Config) (traces : List (List Entry)) (parts : List UnitState) (from until : ℕ) : Type 0 where
   pub count : length parts ≡ unit_count s
   pub order : from ≤ until
   pub stand : StandAt s traces from parts
   pub quiet : IsQuiet s traces from until
 
 -- a unit stands for its part of some run
-pub record IsInSomeRun (part : Part) (now : ℕ) : Type 0 where
+pub record IsInSomeRun (part : UnitState) (now : ℕ) : Type 0 where
   pub s : Config
   pub traces : List (List Entry)
   pub unit : MachineUnit
   pub stands : IsPart s traces unit now part
 
 -- a unit stands for its part of some run, in which nothing happens from there up to a cycle
-pub record RestsInSomeRun (part : Part) (until : ℕ) : Type 0 where
+pub record RestsInSomeRun (part : UnitState) (until : ℕ) : Type 0 where
   pub s : Config
   pub traces : List (List Entry)
   pub unit : MachineUnit
@@ -78,13 +78,13 @@ pub record RestsInSomeRun (part : Part) (until : ℕ) : Type 0 where
   pub rests : RestsUpTo s traces unit part from until
 
 -- units in their order stand for their parts of some run
-pub record AreInSomeRun (parts : List Part) (now : ℕ) : Type 0 where
+pub record AreInSomeRun (parts : List UnitState) (now : ℕ) : Type 0 where
   pub s : Config
   pub traces : List (List Entry)
   pub stand : StandAt s traces now parts
 
 -- all units of a machine stand for their parts of some run, in which nothing happens from there up to a cycle
-pub record RestInSomeRun (parts : List Part) (until : ℕ) : Type 0 where
+pub record RestInSomeRun (parts : List UnitState) (until : ℕ) : Type 0 where
   pub s : Config
   pub traces : List (List Entry)
   pub from : ℕ

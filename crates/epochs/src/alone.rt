@@ -1,17 +1,16 @@
 //! A machine that is run in place, by the caller alone: only units that wake are touched.
 
-ghost use Rattle.std.specs.Prelude.{◌≡◌, ◌<◌, ◌≤◌, ◌^◌, ◌-◌, ℕ, Bool, true, false, [], length, map, IfOk, OnOk, IfSome, IfNone, All, slice_index_or};
-ghost use Rattle.sim_base.specs.Counts.{in_flight};
+ghost use Rattle.std.specs.Prelude.{◌≡◌, ◌<◌, ◌≤◌, ◌^◌, ◌+◌, ◌-◌, ℕ, true, false, [], length, IfOk, OnOk, IfSome, IfNone, All, slice_index_or};
 ghost use Rattle.sim_base.specs.History.{is_unit};
 ghost use Rattle.sim_base.specs.Locality.{TravelsFor};
-ghost use Rattle.sim_base.specs.Machine.{run};
 ghost use Rattle.links.specs.InFlight.{receiver_of};
-ghost use Rattle.epochs.specs.Parts.{late, StandAt};
+ghost use Rattle.epochs.specs.Flight.{sent_by};
+ghost use Rattle.epochs.specs.Parts.{StandAt};
 ghost use Rattle.epochs.specs.Units.{unit_at, unit_count};
-ghost use Rattle.epochs.specs.Wakes.{WaitAll, BetweenAll, IsAsleep, AreLowered, sent_in, AreSlots};
+ghost use Rattle.epochs.specs.Wakes.{WaitAll, HaveGone, IsAsleep, AreLowered, AreSlots};
 
 use crate::machine::Machine;
-use crate::part::Part;
+use crate::part::UnitState;
 use crate::planning::end_of_phase;
 use crate::slot::{Mail, Slot};
 use lane_scan::{first_below, least};
@@ -34,40 +33,38 @@ fn next_waking(words: &[Cycle], from: usize, until: Cycle) -> usize
     }
 }
 
-/// Takes all units over a phase: those whose word is before its end are run, the others are left as they are.
-fn go_all(
+/// Takes units, at places from one on, over a phase: those whose word is before its end are run, the others are left as they are.
+pub(crate) fn go_all(
     machine: &Machine,
     links: &mut Links,
     mail: &mut Mail,
     slots: &mut [Slot],
     words: &mut [Cycle],
+    first: usize,
     now: Cycle,
     until: Cycle,
 ) -> Result<(), AllocError>
-    requires asleep { IsAsleep machine.now.config machine.now.traces.items now slots.old words.old links.old }
+    requires asleep { IsAsleep machine.now.config machine.now.traces.items first now slots.old words.old links.old }
     requires order { now < until }
     requires early { until ≤ 10 ^ 12 }
     requires travels { TravelsFor machine.now.config (until - now) }
     requires sent { mail.old.sent.items ≡ [] }
     ensures count { length slots.new ≡ length slots.old }
     ensures words { length words.new ≡ length words.old }
-    ensures between { OnOk result (BetweenAll machine.now.config machine.now.traces.items now until slots.new words.new) }
-    ensures sent { OnOk result (mail.new.sent.items ≡ sent_in machine.now.config machine.now.traces.items now until) }
-    ensures links { OnOk result (links.new ≡ record {
-      channels = machine.now.config.channels;
-      messages = late until (in_flight machine.now.config machine.now.traces.items (run machine.now.config machine.now.traces.items now));
-    }) }
+    ensures gone { OnOk result (HaveGone machine.now.config machine.now.traces.items first now until slots.new words.new links.new) }
+    ensures sent { OnOk result (mail.new.sent.items ≡ sent_by machine.now.config machine.now.traces.items now until first (length slots.old)) }
 {
     let mut place = next_waking(words, 0, until);
     while place < slots.len() {
-        words[place] = slots[place].woken(machine, links, mail, words[place], place, now, until)?;
+        let word = words[place];
+        words[place] = slots[place].woken(machine, links, mail, word, first + place, now, until)?;
         place = next_waking(words, place + 1, until);
     }
     Ok(())
 }
 
 /// The place of the unit that a link leads to, if the machine has it.
-fn receiver_place(config: &Config, link: LinkId) -> Option<usize>
+pub(crate) fn receiver_place(config: &Config, link: LinkId) -> Option<usize>
     ensures some { IfSome result (λ place. (place < unit_count config.now) × (unit_at config.now place ≡ receiver_of config.now.channels link)) }
     ensures none { IfNone result ((place : ℕ) → place < unit_count config.now → is_unit (receiver_of config.now.channels link) (unit_at config.now place) ≡ false) }
 {
@@ -83,32 +80,34 @@ fn receiver_place(config: &Config, link: LinkId) -> Option<usize>
     }
 }
 
-/// Lowers the word of the unit that a message goes to.
-fn lower(config: &Config, words: &mut [Cycle], message: &Message)
-    requires { length words.old ≡ unit_count config.now }
+/// Lowers the word of the unit that a message goes to, of units at places from one on.
+fn lower(config: &Config, first: usize, words: &mut [Cycle], message: &Message)
+    requires { first + length words.old ≤ unit_count config.now }
     ensures count { length words.new ≡ length words.old }
     ensures less { (k : ℕ) → k < length words.old → slice_index_or words.new k 0 ≤ slice_index_or words.old k 0 }
-    ensures arrival { (k : ℕ) → k < length words.old → is_unit (receiver_of config.now.channels message.now.link) (unit_at config.now k) ≡ true
+    ensures arrival { (k : ℕ) → k < length words.old → is_unit (receiver_of config.now.channels message.now.link) (unit_at config.now (first + k)) ≡ true
         → slice_index_or words.new k 0 ≤ message.now.arrival }
     ensures since { (cycle k : ℕ) → k < length words.old → cycle ≤ slice_index_or words.old k 0 → cycle ≤ message.now.arrival → cycle ≤ slice_index_or words.new k 0 }
 {
     if let Some(place) = receiver_place(config, message.link) {
-        words[place] = words[place].min(message.arrival);
+        if first <= place && place - first < words.len() {
+            words[place - first] = words[place - first].min(message.arrival);
+        }
     }
 }
 
-/// Lowers the words to the arrivals of what was sent.
-pub(crate) fn lower_all(config: &Config, words: &mut [Cycle], sent: &[Message])
-    requires { length words.old ≡ unit_count config.now }
-    ensures { AreLowered config.now sent.now words.old words.new }
+/// Lowers the words of units, at places from one on, to the arrivals of what was sent to them.
+pub(crate) fn lower_all(config: &Config, first: usize, words: &mut [Cycle], sent: &[Message])
+    requires { first + length words.old ≤ unit_count config.now }
+    ensures { AreLowered config.now first sent.now words.old words.new }
 {
     for message in sent {
-        lower(config, words, message);
+        lower(config, first, words, message);
     }
 }
 
 /// One phase of a machine: from a cycle on and before another, which is no further than the shortest latency.
-pub(crate) fn step(
+fn step(
     machine: &Machine,
     links: &mut Links,
     mail: &mut Mail,
@@ -117,15 +116,17 @@ pub(crate) fn step(
     now: Cycle,
     until: Cycle,
 ) -> Result<(), AllocError>
-    requires asleep { IsAsleep machine.now.config machine.now.traces.items now slots.old words.old links.old }
+    requires asleep { IsAsleep machine.now.config machine.now.traces.items 0 now slots.old words.old links.old }
+    requires whole { length slots.old ≡ unit_count machine.now.config }
     requires order { now < until }
     requires early { until ≤ 10 ^ 12 }
     requires travels { TravelsFor machine.now.config (until - now) }
-    ensures { OnOk result (IsAsleep machine.now.config machine.now.traces.items until slots.new words.new links.new) }
+    ensures asleep { OnOk result (IsAsleep machine.now.config machine.now.traces.items 0 until slots.new words.new links.new) }
+    ensures count { length slots.new ≡ length slots.old }
 {
     mail.sent.clear();
-    go_all(machine, links, mail, slots, words, now, until)?;
-    lower_all(&machine.config, words, &mail.sent);
+    go_all(machine, links, mail, slots, words, 0, now, until)?;
+    lower_all(&machine.config, 0, words, &mail.sent);
     links.accept(&mut mail.sent)?;
     Ok(())
 }
@@ -149,10 +150,12 @@ pub(crate) fn run_to(
     from: Cycle,
     limit: Cycle,
 ) -> Result<(), AllocError>
-    requires asleep { IsAsleep machine.now.config machine.now.traces.items from slots.old words.old links.old }
+    requires asleep { IsAsleep machine.now.config machine.now.traces.items 0 from slots.old words.old links.old }
+    requires whole { length slots.old ≡ unit_count machine.now.config }
     requires order { from ≤ limit }
     requires early { limit ≤ 10 ^ 12 }
-    ensures { OnOk result (IsAsleep machine.now.config machine.now.traces.items limit slots.new words.new links.new) }
+    ensures asleep { OnOk result (IsAsleep machine.now.config machine.now.traces.items 0 limit slots.new words.new links.new) }
+    ensures count { length slots.new ≡ length slots.old }
 {
     let mut now = from;
     while now < limit {
@@ -167,43 +170,43 @@ pub(crate) fn run_to(
     Ok(())
 }
 
-/// All units, brought up to the cycle where the machine stands.
+/// Units, at places from one on, brought up to the cycle where the machine stands, behind those of a list.
 pub(crate) fn bring_up(
-    alloc: Global,
     machine: &Machine,
     mail: &mut Mail,
     slots: Vec<Slot>,
     words: &[Cycle],
     now: Cycle,
-) -> Result<Vec<Part>, AllocError>
-    requires count { length slots.items ≡ unit_count machine.now.config }
-    requires words { length words.now ≡ unit_count machine.now.config }
+    parts: &mut Vec<UnitState>,
+) -> Result<(), AllocError>
+    requires within { length parts.old.items + length slots.items ≤ unit_count machine.now.config }
+    requires words { length words.now ≡ length slots.items }
     requires early { now ≤ 10 ^ 12 }
-    requires wait { WaitAll machine.now.config machine.now.traces.items now slots.items words.now }
-    ensures count { IfOk result (λ parts. length parts.items ≡ unit_count machine.now.config) }
-    ensures stand { IfOk result (λ parts. StandAt machine.now.config machine.now.traces.items now parts.items) }
+    requires wait { WaitAll machine.now.config machine.now.traces.items (length parts.old.items) now slots.items words.now }
+    requires stand { StandAt machine.now.config machine.now.traces.items now parts.old.items }
+    ensures count { OnOk result (length parts.new.items ≡ length parts.old.items + length slots.items) }
+    ensures stand { OnOk result (StandAt machine.now.config machine.now.traces.items now parts.new.items) }
 {
-    let mut parts = Vec::with_capacity(alloc, slots.len())?;
+    let first = parts.len();
     for slot in slots {
         let place = parts.len();
-        parts.push(slot.brought_up(machine, mail, words[place], place, now)?)?;
+        parts.push(slot.brought_up(machine, mail, words[place - first], place, now)?)?;
     }
-    Ok(parts)
+    Ok(())
 }
 
 /// Units, each where the machine stands.
-pub(crate) fn slots_of(alloc: Global, parts: Vec<Part>, now: Cycle) -> Result<Vec<Slot>, AllocError>
+pub(crate) fn slots_of(
+    alloc: Global,
+    parts: Vec<UnitState>,
+    now: Cycle,
+) -> Result<Vec<Slot>, AllocError>
     ensures { IfOk result (λ slots. AreSlots now parts.items slots.items) }
 {
     let mut slots = Vec::with_capacity(alloc, parts.len())?;
     for part in parts {
         let part = Box::new(alloc, part)?;
-        let mail = Mail::new(alloc);
-        slots.push(Slot {
-            part,
-            at: now,
-            mail,
-        })?;
+        slots.push(Slot { part, at: now })?;
     }
     Ok(slots)
 }

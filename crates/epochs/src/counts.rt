@@ -10,31 +10,31 @@ ghost use Rattle.statistics.specs.Runs.{stats_of_core, stats_of_channel};
 ghost use Rattle.epochs.specs.Units.{unit_count};
 ghost use Rattle.epochs.specs.Parts.{IsPart, StandAt};
 
-use crate::part::Part;
+use crate::part::UnitState;
 use sim_base::config::Config;
 use statistics::channels::ChannelStats;
 use statistics::cores::CoreStats;
 use std::alloc::{AllocError, Global};
 
 /// The statistics of a unit that is a core.
-fn core_stats_of(part: &Part) -> CoreStats
+fn core_stats_of(part: &UnitState) -> CoreStats
     ensures { (s : Config) (traces : List (List Entry)) (core now : ℕ) → IsPart s traces (unit.Core core) now part.now
         → result ≡ stats_of_core s traces (run s traces now) core }
 {
     match part {
-        Part::Core(core) => core.stats(),
-        Part::Channel(..) => CoreStats::new(),
+        UnitState::Core(core) => core.stats(),
+        UnitState::Channel(..) => CoreStats::new(),
     }
 }
 
 /// The statistics of a unit that is a channel.
-fn channel_stats_of(part: &Part) -> ChannelStats
+fn channel_stats_of(part: &UnitState) -> ChannelStats
     ensures { (s : Config) (traces : List (List Entry)) (channel now : ℕ) → IsPart s traces (unit.Channel channel) now part.now
         → result ≡ stats_of_channel s traces (run s traces now) channel }
 {
     match part {
-        Part::Core(..) => ChannelStats::new(),
-        Part::Channel(channel, _) => channel.stats(),
+        UnitState::Core(..) => ChannelStats::new(),
+        UnitState::Channel(channel, _) => channel.stats(),
     }
 }
 
@@ -42,7 +42,7 @@ fn channel_stats_of(part: &Part) -> ChannelStats
 pub(crate) fn stats_of_cores(
     alloc: Global,
     config: &Config,
-    parts: &[Part],
+    parts: &[UnitState],
 ) -> Result<Vec<CoreStats>, AllocError>
     requires count { length parts.now ≡ unit_count config.now }
     ensures { (traces : List (List Entry)) (now : ℕ) → StandAt config.now traces now parts.now
@@ -59,7 +59,7 @@ pub(crate) fn stats_of_cores(
 pub(crate) fn stats_of_channels(
     alloc: Global,
     config: &Config,
-    parts: &[Part],
+    parts: &[UnitState],
 ) -> Result<Vec<ChannelStats>, AllocError>
     requires count { length parts.now ≡ unit_count config.now }
     ensures { (traces : List (List Entry)) (now : ℕ) → StandAt config.now traces now parts.now

@@ -10,23 +10,23 @@ ghost use Rattle.epochs.specs.Parts.{IsPart, StandAt};
 ghost use Rattle.epochs.specs.Drained.{HasFinished, AllFinished, GoesOn};
 
 use crate::machine::Machine;
-use crate::part::Part;
+use crate::part::UnitState;
 use links::flight::Links;
 use sim_base::message::Cycle;
 
 /// Whether the unit at a place has retired its trace, or has no request left in its queue.
-fn has_finished(machine: &Machine, place: usize, part: &Part) -> bool
+fn has_finished(machine: &Machine, place: usize, part: &UnitState) -> bool
     ensures { (now : ℕ) → IsPart machine.now.config machine.now.traces.items (unit_at machine.now.config place) now part.now
         → IsTrue result ↔ HasFinished machine.now.config machine.now.traces.items now (unit_at machine.now.config place) }
 {
     match part {
-        Part::Core(core) => core.stats().retired == machine.trace_len(place),
-        Part::Channel(channel, _) => channel.requests().is_empty(),
+        UnitState::Core(core) => core.stats().retired == machine.trace_len(place),
+        UnitState::Channel(channel, _) => channel.requests().is_empty(),
     }
 }
 
 /// Whether each unit has. None is looked at after the first that has not.
-pub(crate) fn all_finished(machine: &Machine, parts: &[Part]) -> bool
+pub(crate) fn all_finished(machine: &Machine, parts: &[UnitState]) -> bool
     requires count { length parts.now ≡ unit_count machine.now.config }
     ensures { (now : ℕ) → StandAt machine.now.config machine.now.traces.items now parts.now
         → IsTrue result ↔ AllFinished machine.now.config machine.now.traces.items now }
@@ -40,24 +40,24 @@ pub(crate) fn all_finished(machine: &Machine, parts: &[Part]) -> bool
 }
 
 /// The first cycle before which the unit at a place may have retired its trace, if it is a core, by its width in each cycle.
-fn unit_until(machine: &Machine, now: Cycle, place: usize, part: &Part) -> Cycle
+fn unit_until(machine: &Machine, now: Cycle, place: usize, part: &UnitState) -> Cycle
     requires place { place < unit_count machine.now.config }
     ensures { IsPart machine.now.config machine.now.traces.items (unit_at machine.now.config place) now part.now
         → GoesOn machine.now.config machine.now.traces.items now result }
 {
     match part {
-        Part::Core(core) => {
+        UnitState::Core(core) => {
             let left = machine
                 .trace_len(place)
                 .saturating_sub(core.stats().retired);
             now.saturating_add(left.div_ceil(u64::from(machine.config.width)))
         }
-        Part::Channel(..) => now,
+        UnitState::Channel(..) => now,
     }
 }
 
 /// The first cycle before which all cores may have retired their traces.
-pub(crate) fn cores_until(machine: &Machine, now: Cycle, parts: &[Part]) -> Cycle
+pub(crate) fn cores_until(machine: &Machine, now: Cycle, parts: &[UnitState]) -> Cycle
     requires count { length parts.now ≡ unit_count machine.now.config }
     ensures { StandAt machine.now.config machine.now.traces.items now parts.now
         → GoesOn machine.now.config machine.now.traces.items now result }

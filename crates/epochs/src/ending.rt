@@ -14,7 +14,7 @@ ghost use Rattle.epochs.specs.Units.{unit_count};
 ghost use Rattle.epochs.specs.Parts.{IsPart, StandAt};
 
 use crate::machine::Machine;
-use crate::part::Part;
+use crate::part::UnitState;
 use channel_step::channel::Channel;
 use sim_base::message::{ChannelId, CoreId, Cycle};
 use sim_base::place::BankId;
@@ -27,13 +27,13 @@ fn core_left(
     machine: &Machine,
     now: Cycle,
     core: CoreId,
-    part: &Part,
+    part: &UnitState,
 ) -> Result<CoreState, AllocError>
     requires stands { IsPart machine.now.config machine.now.traces.items (unit.Core core) now part.now }
     ensures { IfOk result (λ left. left ≡ last_of_core machine.now.config machine.now.traces.items (run machine.now.config machine.now.traces.items now) core) }
 {
     match part {
-        Part::Core(core) => {
+        UnitState::Core(core) => {
             let stats = core.stats();
             Ok(CoreState {
                 issued: stats.issued,
@@ -41,7 +41,7 @@ fn core_left(
                 credits: core.credits().to_vec(alloc)?,
             })
         }
-        Part::Channel(..) => unreachable!(),
+        UnitState::Channel(..) => unreachable!(),
     }
 }
 
@@ -149,14 +149,14 @@ fn channel_left(
     machine: &Machine,
     now: Cycle,
     number: ChannelId,
-    part: &Part,
+    part: &UnitState,
 ) -> Result<ChannelState, AllocError>
     requires stands { IsPart machine.now.config machine.now.traces.items (unit.Channel number) now part.now }
     ensures { IfOk result (λ left. left ≡ last_of_channel machine.now.config machine.now.traces.items (run machine.now.config machine.now.traces.items now) number) }
 {
     match part {
-        Part::Core(..) => unreachable!(),
-        Part::Channel(channel, _) => Ok(ChannelState {
+        UnitState::Core(..) => unreachable!(),
+        UnitState::Channel(channel, _) => Ok(ChannelState {
             due: all_due(alloc, machine, now, number, channel)?,
             open_rows: open_rows(alloc, machine, now, number, channel)?,
             queue: channel.requests().to_vec(alloc)?,
@@ -169,7 +169,7 @@ pub(crate) fn cores_left(
     alloc: Global,
     machine: &Machine,
     now: Cycle,
-    parts: &[Part],
+    parts: &[UnitState],
 ) -> Result<Vec<CoreState>, AllocError>
     requires count { length parts.now ≡ unit_count machine.now.config }
     requires stand { StandAt machine.now.config machine.now.traces.items now parts.now }
@@ -188,7 +188,7 @@ pub(crate) fn channels_left(
     alloc: Global,
     machine: &Machine,
     now: Cycle,
-    parts: &[Part],
+    parts: &[UnitState],
 ) -> Result<Vec<ChannelState>, AllocError>
     requires count { length parts.now ≡ unit_count machine.now.config }
     requires stand { StandAt machine.now.config machine.now.traces.items now parts.now }

@@ -4,11 +4,10 @@ ghost use Rattle.std.specs.Prelude.{◌≡◌, ◌<◌, ◌≤◌, ◌^◌, IfOk
 ghost use Rattle.std.specs.Arc.{arc_value};
 ghost use Rattle.sim_base.specs.Locality.{TravelsFor};
 ghost use Rattle.epochs.specs.Views.{JobView};
-ghost use Rattle.epochs.specs.Parts.{IsPart, IsJob};
-ghost use Rattle.epochs.specs.Wakes.{IsDone};
+ghost use Rattle.epochs.specs.Parts.{HasRun, IsPart, IsJob};
 
 use crate::machine::Machine;
-use crate::part::Part;
+use crate::part::UnitState;
 use crate::slot::Mail;
 use sim_base::job::JobName;
 use sim_base::message::Cycle;
@@ -21,7 +20,7 @@ use std::sync::Arc;
 pub struct Job {
     machine: Arc<Machine>,
     name: JobName,
-    part: Box<Part>,
+    part: Box<UnitState>,
     mail: Mail,
 }
 
@@ -43,15 +42,13 @@ impl Model for Job {
     ghost invariant = { λ j. IsJob (arc_value j.machine).config (arc_value j.machine).traces.items j.name j.part.value j.mail.inbox.items };
 }
 
-/// A unit at the end of the span of a job, with the messages that it sent in it, and a cycle before which it sends nothing more, if
-/// nothing arrives at it.
+/// A unit at the end of the span of a job, with the messages that it sent in it.
 #[derive(Drop)]
 pub struct Done {
     machine: Arc<Machine>,
     name: JobName,
-    part: Box<Part>,
+    part: Box<UnitState>,
     mail: Mail,
-    send: Cycle,
 }
 
 impl Model for Done {
@@ -65,24 +62,23 @@ impl Model for Done {
 
     ghost coded = { Prim.hlevel (codes, config.the_row.coded) };
 
-    ghost use Rattle.epochs.specs.Wakes.{IsDone};
+    ghost use Rattle.epochs.specs.Parts.{HasRun};
 
     ghost view = { λ d. record { machine = (arc_value d.machine).config; traces = (arc_value d.machine).traces.items; name = d.name } };
 
-    ghost invariant = { λ d. IsDone (arc_value d.machine).config (arc_value d.machine).traces.items d.name d.part.value d.mail.sent.items d.send };
+    ghost invariant = { λ d. HasRun (arc_value d.machine).config (arc_value d.machine).traces.items d.name.unit d.name.from d.name.until d.part.value d.mail.sent.items };
 }
 
-/// A unit with its lists, of which one holds what it sent in a span, and a cycle before which it sends nothing more.
+/// A unit with its lists, of which one holds what it sent in a span.
 #[derive(Drop)]
 pub(crate) struct Sent {
-    pub part: Box<Part>,
+    pub part: Box<UnitState>,
     pub mail: Mail,
-    pub send: Cycle,
 }
 
 impl Job {
     /// A unit that is to run over a span.
-    pub(crate) fn new(machine: Arc<Machine>, name: JobName, part: Box<Part>, mail: Mail) -> Job
+    pub(crate) fn new(machine: Arc<Machine>, name: JobName, part: Box<UnitState>, mail: Mail) -> Job
         requires { IsJob (arc_value machine).config (arc_value machine).traces.items name part.value mail.inbox.items }
         ensures { result ≡ record { machine = (arc_value machine).config; traces = (arc_value machine).traces.items; name = name } }
     {
@@ -112,13 +108,12 @@ impl Job {
             mail: Mail { inbox, mut sent },
         } = self;
         sent.clear();
-        let send = part.run_and_tell(&inbox, name.from, name.until, &mut sent)?;
+        part.run(&inbox, name.from, name.until, &mut sent)?;
         Ok(Done {
             machine,
             name,
             part,
             mail: Mail { inbox, sent },
-            send,
         })
     }
 }
@@ -133,14 +128,9 @@ impl Done {
 
     /// The unit, with what it sent.
     pub(crate) fn into_sent(self) -> Sent
-        ensures { IsDone self.machine self.traces self.name result.part.value result.mail.sent.items result.send }
+        ensures { HasRun self.machine self.traces self.name.unit self.name.from self.name.until result.part.value result.mail.sent.items }
     {
-        let Done {
-            part,
-            mail,
-            send,
-            ..
-        } = self;
-        Sent { part, mail, send }
+        let Done { part, mail, .. } = self;
+        Sent { part, mail }
     }
 }

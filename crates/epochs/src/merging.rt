@@ -13,7 +13,7 @@ ghost use Rattle.sim_base.specs.declared.job.JobName.{JobName};
 
 use crate::job::{Done, Sent};
 use crate::machine::{Machine, unit_at};
-use crate::part::Part;
+use crate::part::UnitState;
 use crate::phase::{Outline, Phase};
 use crate::sim::Sim;
 use links::flight::Links;
@@ -33,7 +33,7 @@ fn parts_of(
     from: Cycle,
     until: Cycle,
     results: Vec<Done>,
-) -> Result<Vec<Part>, AllocError>
+) -> Result<Vec<UnitState>, AllocError>
     requires all { results.items ≡ map (job_at (record { machine = (arc_value machine.now).config; traces = (arc_value machine.now).traces.items; number = number; from = from; until = until })) (below (unit_count (arc_value machine.now).config)) }
     ensures count { IfOk result (λ parts. length parts.items ≡ unit_count (arc_value machine.now).config) }
     ensures stand { IfOk result (λ parts. StandAt (arc_value machine.now).config (arc_value machine.now).traces.items until parts.items) }
@@ -44,7 +44,7 @@ fn parts_of(
 {
     let mut parts = Vec::new(alloc);
     for done in results {
-        let Sent { part, mut mail, .. } = done.into_sent();
+        let Sent { part, mut mail } = done.into_sent();
         links.accept(&mut mail.sent)?;
         parts.push(Box::into_inner(part))?;
     }

@@ -14,12 +14,12 @@ use std::alloc::AllocError;
 
 /// A core, or a channel with the commands that it issued, in their order.
 #[derive(Drop)]
-pub(crate) enum Part {
+pub(crate) enum UnitState {
     Core(Core),
     Channel(Channel, CommandList),
 }
 
-impl Part {
+impl UnitState {
     /// Runs the unit over a span, in which these messages arrive at it, and puts what it sends behind what a list holds.
     pub(crate) fn run(
         &mut self,
@@ -33,8 +33,8 @@ impl Part {
             → OnOk result (HasRunOnto s traces unit from until self.new sent.old.items sent.new.items) }
     {
         match self {
-            Part::Core(core) => core.run(inbox, from, until, sent),
-            Part::Channel(channel, issued) => channel.run(inbox, from, until, issued, sent),
+            UnitState::Core(core) => core.run(inbox, from, until, sent),
+            UnitState::Channel(channel, issued) => channel.run(inbox, from, until, issued, sent),
         }
     }
 }

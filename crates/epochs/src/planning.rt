@@ -16,7 +16,7 @@ ghost use Rattle.epochs.specs.Planning.{EndsAt, IsNext, IsPlanned};
 use crate::job::Job;
 use crate::machine::{Machine, unit_at};
 use crate::merging::no_results;
-use crate::part::Part;
+use crate::part::UnitState;
 use crate::phase::{Outline, Phase};
 use crate::sim::Sim;
 use crate::slot::Mail;
@@ -54,7 +54,7 @@ fn job_for(
     machine: &Arc<Machine>,
     links: &mut Links,
     name: JobName,
-    part: Part,
+    part: UnitState,
 ) -> Result<Job, AllocError>
     requires exists { Exists (arc_value machine.now).config name.unit }
     requires order { name.from ≤ name.until }
@@ -79,7 +79,7 @@ fn jobs(
     phase: u64,
     from: Cycle,
     until: Cycle,
-    parts: Vec<Part>,
+    parts: Vec<UnitState>,
 ) -> Result<Vec<Job>, AllocError>
     requires sim { IsSim (arc_value machine.now).config (arc_value machine.now).traces.items from phase parts.items links.old }
     requires order { from < until }

@@ -11,12 +11,12 @@ ghost use Rattle.epochs.specs.Parts.{IsPart, StandAt};
 ghost use Rattle.epochs.specs.Planning.{IsLongestQuiet};
 ghost use Rattle.epochs.specs.Quiet.{IsNextActOf, AreFirstActs, IsFirstArrival, RestsUpTo, RestUpTo, IsInSomeRun, RestsInSomeRun, AreInSomeRun, RestInSomeRun};
 
-use crate::part::Part;
+use crate::part::UnitState;
 use crate::sim::Sim;
 use links::flight::Links;
 use sim_base::message::Cycle;
 
-impl Part {
+impl UnitState {
     /// The first cycle from `from` on, where the unit stands, in which it acts, if nothing arrives at it; none, where it never
     /// does.
     pub(crate) fn next_act(&mut self, from: Cycle) -> Option<Cycle>
@@ -25,8 +25,8 @@ impl Part {
         ensures first { (s : Config) (traces : List (List Entry)) (unit : MachineUnit) → IsPart s traces unit from self.old → IsNextActOf s traces unit from result }
     {
         match self {
-            Part::Core(core) => core.next_act(from),
-            Part::Channel(channel, _) => channel.next_act(from),
+            UnitState::Core(core) => core.next_act(from),
+            UnitState::Channel(channel, _) => channel.next_act(from),
         }
     }
 
@@ -37,8 +37,8 @@ impl Part {
         ensures { (s : Config) (traces : List (List Entry)) (unit : MachineUnit) (from : ℕ) → RestsUpTo s traces unit self.old from until → IsPart s traces unit until self.new }
     {
         match self {
-            Part::Core(core) => core.skip(until),
-            Part::Channel(channel, _) => channel.skip(until),
+            UnitState::Core(core) => core.skip(until),
+            UnitState::Channel(channel, _) => channel.skip(until),
         }
     }
 }
@@ -56,7 +56,7 @@ fn first_arrival(links: &Links, limit: Cycle) -> Cycle
 
 /// The first cycle from `now` on in which a unit acts, if nothing arrives, or a limit that comes sooner. No unit is asked after
 /// the first that acts now.
-fn first_act(parts: &mut [Part], now: Cycle, limit: Cycle) -> Cycle
+fn first_act(parts: &mut [UnitState], now: Cycle, limit: Cycle) -> Cycle
     requires stand { AreInSomeRun parts.old now }
     ensures same { parts.new ≡ parts.old }
     ensures first { (s : Config) (traces : List (List Entry)) → StandAt s traces now parts.old → now ≤ limit → AreFirstActs s traces now limit (length parts.old) result }
@@ -74,7 +74,7 @@ fn first_act(parts: &mut [Part], now: Cycle, limit: Cycle) -> Cycle
 }
 
 /// Takes all units to a cycle before which nothing happens. It takes no memory.
-fn skip_all(parts: &mut [Part], until: Cycle)
+fn skip_all(parts: &mut [UnitState], until: Cycle)
     requires rest { RestInSomeRun parts.old until }
     requires early { until ≤ 10 ^ 12 }
     ensures count { length parts.new ≡ length parts.old }

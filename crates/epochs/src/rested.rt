@@ -1,29 +1,21 @@
 //! A simulator whose units stand at cycles of their own.
 
-ghost use Rattle.std.specs.Prelude.{◌≡◌, ◌<◌, ◌≤◌, ◌^◌, ◌-◌, IfOk};
-ghost use Rattle.sim_base.specs.Locality.{TravelsFor};
+ghost use Rattle.std.specs.Prelude.{◌≡◌, ◌≤◌, ◌^◌, IfOk};
 ghost use Rattle.epochs.specs.Ordered.{HasReached};
-ghost use Rattle.epochs.specs.Shifts.{IsShiftAt, IsWoken};
-ghost use Rattle.epochs.specs.Steps.{IsStep};
 
-use crate::alone::{bring_up, next_wake, run_to, slots_of, step};
-use crate::job::Job;
+use crate::alone::{bring_up, run_to, slots_of};
 use crate::machine::Machine;
-use crate::planning::end_of_phase;
-use crate::seat::{Span, call_all};
-use crate::shift::Shift;
 use crate::sim::Sim;
 use crate::slot::{Mail, Slot};
 use links::flight::Links;
 use sim_base::message::Cycle;
 use std::alloc::{AllocError, Global};
 use std::marker::Model;
-use std::snapshot::Snapshot;
 use std::sync::Arc;
 
 /// A simulator whose units stand at cycles of their own, each with its wake word: a phase touches only those that wake in it.
 #[derive(Drop)]
-pub struct Rested {
+pub(crate) struct Rested {
     pub(crate) machine: Arc<Machine>,
     pub(crate) now: Cycle,
     pub(crate) phase: u64,
@@ -44,30 +36,16 @@ impl Model for Rested {
 
     ghost coded = { Prim.hlevel (codes, config.the_row.coded) };
 
-    ghost use Rattle.epochs.specs.Shifts.{IsRested};
+    ghost use Rattle.epochs.specs.Rests.{IsRested};
 
     ghost view = { λ m. record { machine = (arc_value m.machine).config; traces = (arc_value m.machine).traces.items; now = m.now; phase = m.phase } };
 
     ghost invariant = { λ m. IsRested (arc_value m.machine).config (arc_value m.machine).traces.items m.now m.phase m.slots.items m.words.items m.links };
 }
 
-/// What comes next.
-#[derive(Drop)]
-pub enum Step {
-    /// Nothing that is worth a job: the simulator has gone on.
-    Alone(Rested),
-    /// A phase, with the jobs of the units that wake in it.
-    Together(Shift, Vec<Job>),
-}
-
-/// How many units wake before a cycle.
-fn waking(words: &[Cycle], until: Cycle) -> usize {
-    words.iter().filter(|word| **word < until).count()
-}
-
 impl Sim {
     /// The same simulator, whose units may stand at cycles of their own. Only memory can be refused; the simulator is then gone.
-    pub fn rested(self, alloc: Global) -> Result<Rested, AllocError>
+    fn rested(self, alloc: Global) -> Result<Rested, AllocError>
         ensures { IfOk result (λ rested. rested ≡ self) }
     {
         let Sim {
@@ -103,15 +81,8 @@ impl Sim {
 }
 
 impl Rested {
-    /// How many cycles are over.
-    pub fn now(&self) -> Cycle
-        ensures { result ≡ self.entry.now.now }
-    {
-        self.now
-    }
-
     /// The same simulator, with all units where the machine stands. Only memory can be refused; the simulator is then gone.
-    pub fn brought_up(self, alloc: Global) -> Result<Sim, AllocError>
+    fn brought_up(self, alloc: Global) -> Result<Sim, AllocError>
         ensures { IfOk result (λ sim. sim ≡ self) }
     {
         let Rested {
@@ -123,7 +94,8 @@ impl Rested {
             links,
             mut mail,
         } = self;
-        let parts = bring_up(alloc, &machine, &mut mail, slots, &words, now)?;
+        let mut parts = Vec::with_capacity(alloc, slots.len())?;
+        bring_up(&machine, &mut mail, slots, &words, now, &mut parts)?;
         Ok(Sim {
             machine,
             now,
@@ -160,117 +132,5 @@ impl Rested {
             links,
             mail,
         })
-    }
-
-    /// The same simulator where the first unit wakes, or at a limit that comes sooner.
-    fn woken(self, limit: Cycle) -> Rested
-        requires not_past { self.now ≤ limit }
-        requires early { limit ≤ 10 ^ 12 }
-        ensures { IsWoken self limit result }
-    {
-        let Rested {
-            machine,
-            phase,
-            slots,
-            words,
-            links,
-            mail,
-            ..
-        } = self;
-        let now = next_wake(&words, limit);
-        Rested {
-            machine,
-            now,
-            phase,
-            slots,
-            words,
-            links,
-            mail,
-        }
-    }
-
-    /// The simulator at the end of a phase that the caller runs alone.
-    fn stepped(self, until: Cycle) -> Result<Rested, AllocError>
-        requires order { self.now < until }
-        requires early { until ≤ 10 ^ 12 }
-        requires travels { TravelsFor self.machine (until - self.now) }
-        ensures { IfOk result (λ after. after ≡ record self { now = until }) }
-    {
-        let Rested {
-            machine,
-            now,
-            phase,
-            mut slots,
-            mut words,
-            mut links,
-            mut mail,
-        } = self;
-        step(
-            &machine, &mut links, &mut mail, &mut slots, &mut words, now, until,
-        )?;
-        Ok(Rested {
-            machine,
-            now: until,
-            phase,
-            slots,
-            words,
-            links,
-            mail,
-        })
-    }
-
-    /// The phase up to a cycle, with the jobs of the units that wake in it.
-    fn called(self, alloc: Global, until: Cycle) -> Result<(Shift, Vec<Job>), AllocError>
-        requires order { self.now < until }
-        requires early { until ≤ 10 ^ 12 }
-        requires travels { TravelsFor self.machine (until - self.now) }
-        ensures shift { IfOk result (λ r. IsShiftAt self until r.0) }
-        ensures jobs { IfOk result (λ r. r.1.items ≡ r.0.jobs) }
-    {
-        let Rested {
-            machine,
-            now,
-            phase,
-            slots,
-            words,
-            mut links,
-            mail,
-        } = self;
-        let span = Span {
-            number: phase,
-            from: now,
-            until,
-        };
-        let (seats, jobs) = call_all(alloc, &machine, &mut links, slots, &words, span)?;
-        let shift = Shift {
-            machine,
-            span,
-            seats,
-            words,
-            links,
-            mail,
-            jobs: Snapshot::of(&jobs),
-        };
-        Ok((shift, jobs))
-    }
-
-    /// What comes next before a limit, at most 10^12 cycles: the phase that begins where the first unit wakes, with the jobs of the
-    /// units that wake in it. Where they are no more than `few`, the caller runs them at once. Only memory can be refused; the
-    /// simulator is then gone.
-    pub fn further(self, alloc: Global, limit: Cycle, few: usize) -> Result<Step, AllocError>
-        requires before { self.now < limit }
-        requires early { limit ≤ 10 ^ 12 }
-        ensures { IfOk result (IsStep self limit) }
-    {
-        let rested = self.woken(limit);
-        if rested.now == limit {
-            return Ok(Step::Alone(rested));
-        }
-        let until = end_of_phase(&rested.machine.config, rested.now, limit);
-        if waking(&rested.words, until) <= few {
-            return Ok(Step::Alone(rested.stepped(until)?));
-        }
-        let (shift, jobs) = rested.called(alloc, until)?;
-        Ok(Step::Together(shift, jobs))
     }
 }

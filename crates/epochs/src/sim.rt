@@ -2,6 +2,7 @@
 
 ghost use Rattle.std.specs.Prelude.{◌≡◌, ◌<◌, ◌≤◌, ◌^◌, ◌+◌, ℕ, true, false, List, [], length, IfOk, OnOk, IfSome, IfNone};
 ghost use Rattle.sim_base.specs.declared.trace.Entry.{Entry};
+ghost use Rattle.sim_base.specs.Counts.{in_flight};
 ghost use Rattle.sim_base.specs.Machine.{run, is_over};
 ghost use Rattle.span_laws.specs.Ends.{ends_before};
 ghost use Rattle.statistics.specs.Runs.{stats_of, final_of, outcome_of};
@@ -13,7 +14,7 @@ use crate::counts::{stats_of_channels, stats_of_cores};
 use crate::drained::{all_finished, cores_until, flight_until};
 use crate::ending::{channels_left, cores_left};
 use crate::machine::Machine;
-use crate::part::Part;
+use crate::part::UnitState;
 use crate::tables::all_commands;
 use channel_step::channel::Channel;
 use command_table::list::CommandList;
@@ -35,7 +36,7 @@ pub struct Sim {
     pub(crate) machine: Arc<Machine>,
     pub(crate) now: Cycle,
     pub(crate) phase: u64,
-    pub(crate) parts: Vec<Part>,
+    pub(crate) parts: Vec<UnitState>,
     pub(crate) links: Links,
 }
 
@@ -58,7 +59,11 @@ impl Model for Sim {
 }
 
 /// The cores of a machine before the first cycle.
-fn first_cores(alloc: Global, config: &Config, traces: &[Trace]) -> Result<Vec<Part>, AllocError>
+fn first_cores(
+    alloc: Global,
+    config: &Config,
+    traces: &[Trace],
+) -> Result<Vec<UnitState>, AllocError>
     requires one_each { length traces.now ≡ config.now.cores }
     ensures count { IfOk result (λ parts. length parts.items ≡ config.now.cores) }
     ensures stand { IfOk result (λ parts. StandAt config.now traces.now 0 parts.items) }
@@ -66,20 +71,24 @@ fn first_cores(alloc: Global, config: &Config, traces: &[Trace]) -> Result<Vec<P
     let mut parts = Vec::new(alloc);
     for core in 0..config.cores {
         let trace = traces[core as usize].copy()?;
-        parts.push(Part::Core(Core::start(alloc, config, core, trace)?))?;
+        parts.push(UnitState::Core(Core::start(alloc, config, core, trace)?))?;
     }
     Ok(parts)
 }
 
 /// Puts the channels of a machine before the first cycle behind its cores.
-fn add_channels(alloc: Global, config: &Config, parts: &mut Vec<Part>) -> Result<(), AllocError>
+fn add_channels(
+    alloc: Global,
+    config: &Config,
+    parts: &mut Vec<UnitState>,
+) -> Result<(), AllocError>
     requires cores { length parts.old.items ≡ config.now.cores }
     ensures count { OnOk result (length parts.new.items ≡ unit_count config.now) }
     ensures stand { OnOk result ((traces : List (List Entry)) → StandAt config.now traces 0 parts.old.items → StandAt config.now traces 0 parts.new.items) }
 {
     for number in 0..u32::from(config.channels) {
         let channel = Channel::start(alloc, config, number)?;
-        parts.push(Part::Channel(channel, CommandList::new(alloc)))?;
+        parts.push(UnitState::Channel(channel, CommandList::new(alloc)))?;
     }
     Ok(())
 }
@@ -90,7 +99,7 @@ fn final_state(
     machine: &Machine,
     now: Cycle,
     phase: u64,
-    parts: &[Part],
+    parts: &[UnitState],
     links: &Links,
 ) -> Result<FinalState, AllocError>
     requires { IsSim machine.now.config machine.now.traces.items now phase parts.now links.now }
@@ -134,6 +143,13 @@ impl Sim {
         ensures { result ≡ is_over self.entry.now.machine self.entry.now.traces (run self.entry.now.machine self.entry.now.traces self.entry.now.now) }
     {
         self.links.is_empty() && all_finished(&self.machine, &self.parts)
+    }
+
+    /// How many messages are in flight. Only memory can be refused.
+    pub fn in_flight(&self, alloc: Global) -> Result<usize, AllocError>
+        ensures { IfOk result (λ count. count ≡ length (in_flight self.entry.now.machine self.entry.now.traces (run self.entry.now.machine self.entry.now.traces self.entry.now.now))) }
+    {
+        Ok(self.links.messages(alloc)?.len())
     }
 
     /// A later cycle, at most the limit, before whose last cycle the run is surely not over. A run takes each core as many cycles as

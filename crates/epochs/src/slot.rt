@@ -1,21 +1,18 @@
 //! A unit that stands at a cycle of its own.
 
-ghost use Rattle.std.specs.Prelude.{◌≡◌, ◌<◌, ◌≤◌, ◌^◌, ◌+◌, ◌-◌, ℕ, List, [], IfOk, OnOk, filter};
-ghost use Rattle.sim_base.specs.Counts.{in_flight};
+ghost use Rattle.std.specs.Prelude.{◌≡◌, ◌<◌, ◌≤◌, ◌^◌, ◌+◌, ◌-◌, ℕ, List, [], IfOk, OnOk, filter, not};
 ghost use Rattle.sim_base.specs.Locality.{TravelsFor};
-ghost use Rattle.sim_base.specs.Machine.{run};
 ghost use Rattle.sim_base.specs.declared.config.Config.{Config};
 ghost use Rattle.sim_base.specs.declared.message.Unit.{Unit as MachineUnit};
 ghost use Rattle.sim_base.specs.declared.trace.Entry.{Entry};
 ghost use Rattle.links.specs.InFlight.{is_due};
-ghost use Rattle.epochs.specs.Flight.{left};
 ghost use Rattle.epochs.specs.Parts.{IsPart, IsReady, IsReadyFor};
 ghost use Rattle.epochs.specs.Quiet.{IsInSomeRun};
 ghost use Rattle.epochs.specs.Units.{unit_at, unit_count};
-ghost use Rattle.epochs.specs.Wakes.{IsSilent, HasRunAndTells, Waits, AddsWhatItSent, sleeper};
+ghost use Rattle.epochs.specs.Wakes.{IsSilent, HasRunAndTells, HoldsFor, Waits, AddsWhatItSent, sleeper};
 
 use crate::machine::{Machine, unit_at};
-use crate::part::Part;
+use crate::part::UnitState;
 use links::flight::Links;
 use sim_base::message::{Cycle, Message, Unit};
 use std::alloc::{AllocError, Global};
@@ -39,29 +36,28 @@ impl Mail {
     }
 }
 
-/// A unit, the cycle where it stands, and the lists that go along with its jobs, so that no thread gives back the memory of another.
+/// A unit, and the cycle where it stands.
 #[derive(Drop)]
 pub(crate) struct Slot {
-    pub part: Box<Part>,
+    pub part: Box<UnitState>,
     pub at: Cycle,
-    pub mail: Mail,
 }
 
 /// A cycle, not before `from`, where the unit stands, before which it sends nothing, if nothing arrives at it; the last of all words,
 /// where it never does.
-fn send_word(part: &mut Part, from: Cycle) -> Cycle
+fn send_word(part: &mut UnitState, from: Cycle) -> Cycle
     requires stands { IsInSomeRun part.old from }
     ensures same { part.new ≡ part.old }
     ensures silent { (s : Config) (traces : List (List Entry)) (unit : MachineUnit) → IsPart s traces unit from part.old → IsSilent s traces from result unit }
     ensures since { (s : Config) (traces : List (List Entry)) (unit : MachineUnit) → IsPart s traces unit from part.old → from ≤ result }
 {
     match part {
-        Part::Core(core) => core.silent_until(from),
-        Part::Channel(channel, _) => channel.next_act(from).unwrap_or(Cycle::MAX),
+        UnitState::Core(core) => core.silent_until(from),
+        UnitState::Channel(channel, _) => channel.next_act(from).unwrap_or(Cycle::MAX),
     }
 }
 
-impl Part {
+impl UnitState {
     /// Runs the unit over a span, in which these messages arrive at it, and puts what it sends behind what a list holds. Gives a cycle,
     /// not before the end of the span, before which it sends nothing more, if nothing arrives at it.
     pub(crate) fn run_and_tell(
@@ -111,15 +107,9 @@ impl Slot {
         requires early { until ≤ 10 ^ 12 }
         requires travels { TravelsFor machine.now.config (until - now) }
         requires waits { Waits machine.now.config machine.now.traces.items (unit_at machine.now.config place) now (sleeper self.old word) }
-        requires links { links.old ≡ record {
-          channels = machine.now.config.channels;
-          messages = left machine.now.config now until place (in_flight machine.now.config machine.now.traces.items (run machine.now.config machine.now.traces.items now));
-        } }
+        requires holds { HoldsFor machine.now.config machine.now.traces.items now (unit_at machine.now.config place) links.old }
         ensures gone { IfOk result (λ wake. AddsWhatItSent machine.now.config machine.now.traces.items (unit_at machine.now.config place) now until (sleeper self.new wake) mail.old.sent.items mail.new.sent.items) }
-        ensures links { OnOk result (links.new ≡ record {
-          channels = machine.now.config.channels;
-          messages = left machine.now.config now until (place + 1) (in_flight machine.now.config machine.now.traces.items (run machine.now.config machine.now.traces.items now));
-        }) }
+        ensures links { OnOk result (links.new ≡ record links.old { messages = filter (λ m. not (is_due machine.now.config.channels (unit_at machine.now.config place) now until m)) links.old.messages }) }
     {
         let unit = unit_at(&machine.config, place);
         let Mail { inbox, sent } = mail;
@@ -138,7 +128,7 @@ impl Slot {
         word: Cycle,
         place: usize,
         now: Cycle,
-    ) -> Result<Part, AllocError>
+    ) -> Result<UnitState, AllocError>
         requires place { place < unit_count machine.now.config }
         requires early { now ≤ 10 ^ 12 }
         requires waits { Waits machine.now.config machine.now.traces.items (unit_at machine.now.config place) now (sleeper self word) }

@@ -11,22 +11,22 @@ ghost use Rattle.epochs.specs.Units.{unit_count};
 ghost use Rattle.epochs.specs.Parts.{IsPart, StandAt};
 
 use crate::machine::Machine;
-use crate::part::Part;
+use crate::part::UnitState;
 use command_table::list::CommandList;
 use command_table::table::CommandTable;
 use sim_base::message::Cycle;
 use std::alloc::{AllocError, Global};
 
 /// Puts the commands of a unit behind those of the units before it, if it is a channel. The unit is gone.
-fn add_commands(lists: &mut Vec<CommandList>, part: Part) -> Result<(), AllocError>
+fn add_commands(lists: &mut Vec<CommandList>, part: UnitState) -> Result<(), AllocError>
     ensures core { (s : Config) (traces : List (List Entry)) (core now : ℕ) → IsPart s traces (unit.Core core) now part
         → OnOk result (lists.new.items ≡ lists.old.items) }
     ensures channel { (s : Config) (traces : List (List Entry)) (channel now : ℕ) → IsPart s traces (unit.Channel channel) now part
         → OnOk result (lists.new.items ≡ lists.old.items ++ history_of s traces now channel ∷ []) }
 {
     match part {
-        Part::Core(_) => Ok(()),
-        Part::Channel(_, commands) => Ok(lists.push(commands)?),
+        UnitState::Core(_) => Ok(()),
+        UnitState::Channel(_, commands) => Ok(lists.push(commands)?),
     }
 }
 
@@ -35,7 +35,7 @@ fn commands_by_channel(
     alloc: Global,
     machine: &Machine,
     now: Cycle,
-    parts: Vec<Part>,
+    parts: Vec<UnitState>,
 ) -> Result<Vec<CommandList>, AllocError>
     requires count { length parts.items ≡ unit_count machine.now.config }
     requires stand { StandAt machine.now.config machine.now.traces.items now parts.items }
@@ -53,7 +53,7 @@ pub(crate) fn all_commands(
     alloc: Global,
     machine: &Machine,
     now: Cycle,
-    parts: Vec<Part>,
+    parts: Vec<UnitState>,
 ) -> Result<CommandTable, AllocError>
     requires count { length parts.items ≡ unit_count machine.now.config }
     requires stand { StandAt machine.now.config machine.now.traces.items now parts.items }

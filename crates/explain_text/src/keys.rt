@@ -3,47 +3,6 @@
 use sim_base::key::Key;
 use std::fmt;
 
-/// The keys that a document may have.
-pub(crate) static DOCUMENT_KEYS: [Key; 37] = [
-    Key::Cores,
-    Key::Channels,
-    Key::Groups,
-    Key::Ranks,
-    Key::Columns,
-    Key::Rows,
-    Key::Fields,
-    Key::Window,
-    Key::Width,
-    Key::ReadCredits,
-    Key::WriteCredits,
-    Key::RequestLatency,
-    Key::ReplyLatency,
-    Key::CreditLatency,
-    Key::NRcd,
-    Key::NRp,
-    Key::NRas,
-    Key::NRc,
-    Key::NCl,
-    Key::NCwl,
-    Key::NCcdS,
-    Key::NCcdL,
-    Key::NRrdS,
-    Key::NRrdL,
-    Key::NFaw,
-    Key::NRtp,
-    Key::NWr,
-    Key::NWtrS,
-    Key::NWtrL,
-    Key::NRtw,
-    Key::NRfc,
-    Key::NRtrs,
-    Key::NRefi,
-    Key::WriteHigh,
-    Key::WriteLow,
-    Key::End,
-    Key::Link,
-];
-
 /// The keys of an item of `link`.
 pub(crate) static ITEM_KEYS: [Key; 2] = [Key::Id, Key::Latency];
 

@@ -1,10 +1,10 @@
 //! What is said of a relation between the numbers of a configuration.
 
-use crate::keys::{DOCUMENT_KEYS, key_named};
+use crate::keys::key_named;
 use crate::links::ids_of;
 use crate::section::entry_text;
 use crate::shown::Shown;
-use sim_base::key::Key;
+use sim_base::key::{DOCUMENT_KEYS, Key};
 use std::alloc::{AllocError, Global};
 use std::fmt;
 use toml::Table;

@@ -1,9 +1,9 @@
 //! A table of a configuration, and what is said of its keys.
 
-use crate::keys::{Allowed, DOCUMENT_KEYS, ITEM_KEYS, key_named};
+use crate::keys::{Allowed, ITEM_KEYS, key_named};
 use crate::nearest::{is_near, nearest};
 use crate::shown::Shown;
-use sim_base::key::Key;
+use sim_base::key::{DOCUMENT_KEYS, Key};
 use std::alloc::{AllocError, Global};
 use std::fmt;
 use toml::{Table, Value};

@@ -5,7 +5,7 @@ use Rattle.std.specs.List.{All}
 use Rattle.std.specs.Option.{is_some, IfSome}
 use Rattle.sim_base.specs.declared.config.Config.{Config}
 use Rattle.sim_base.specs.declared.command.Command.{Command}
-use Rattle.sim_base.specs.declared.command.CommandRow.{CommandRow}
+use Rattle.sim_base.specs.declared.command.IssuedCommand.{IssuedCommand}
 use Rattle.sim_base.specs.declared.command.Kind.{Kind}
 use Rattle.sim_base.specs.declared.command.Kind.TheVariants as kind
 use Rattle.sim_base.specs.declared.message.Request.{Request}
@@ -16,15 +16,15 @@ use Rattle.bank_ready.specs.Ready.{ready_from}
 use Rattle.bank_ready.specs.Stands.{IsAllowedFrom}
 use Rattle.bank_ready.proofs.Allowed.{allowed-other}
 use Rattle.queue_columns.specs.Columns.{bank_number}
-use Rattle.heads.specs.declared.entry.BankHeads.{BankHeads}
-use Rattle.heads.specs.declared.entry.KindHeads.{KindHeads}
-use Rattle.heads.specs.Heads.{bank_at, hits, first_place, AreFirst, AreHeads}
-use Rattle.heads.specs.Moves.{earlier}
-use Rattle.heads.proofs.Searches.{none_everywhere}
+use Rattle.bank_candidates.specs.declared.entry.CandidatesOfBank.{CandidatesOfBank}
+use Rattle.bank_candidates.specs.declared.entry.CandidatesOfKind.{CandidatesOfKind}
+use Rattle.bank_candidates.specs.Candidates.{bank_at, hits, first_place, AreFirst, AreCandidates}
+use Rattle.bank_candidates.specs.Moves.{earlier}
+use Rattle.bank_candidates.proofs.Searches.{none_everywhere}
 use Rattle.fr_fcfs.specs.declared.kinds.Kinds.{Kinds}
 use Rattle.fr_fcfs.specs.declared.offers.Offer.{Offer}
 use Rattle.fr_fcfs.specs.Requests.{IsInBanks, is_hit}
-use Rattle.fr_fcfs.specs.Offers.{is_of, only, column_kind, if_allowed, hit_head, oldest_head, hits_now, hits_in, rows_in, offer_from, row_kind, IsReadyFrom, IsBestOffer, IsBestSoFar}
+use Rattle.fr_fcfs.specs.Offers.{is_of, only, column_kind, if_allowed, hit_candidate, oldest_candidate, hits_now, hits_in, rows_in, offer_from, row_kind, IsReadyFrom, IsBestOffer, IsBestSoFar}
 use Rattle.fr_fcfs.proofs.Booleans.{and_false, and_true, or_false}
 use Rattle.fr_fcfs.proofs.Legal.{needed_bank}
 use Rattle.fr_fcfs.proofs.Firsts.{same_among, either_among, place_if}
@@ -34,19 +34,19 @@ use Rattle.fr_fcfs.proofs.Below.{none_is}
 use Rattle.fr_fcfs.proofs.Favoured.{within}
 use Rattle.fr_fcfs.proofs.SoFar.{IsTaken, one_more, so_far_same}
 
--- heads of a bank that there is not
-pub nowhere : BankHeads
+-- candidates of a bank that there is not
+pub nowhere : CandidatesOfBank
 nowhere = record { row = None; reads = record { oldest = None; hit = None }; writes = record { oldest = None; hit = None } }
 
--- the heads of a bank to write, or to read
-abbrev pub kind_heads : Bool → BankHeads → KindHeads
-kind_heads write h = cond write h.writes h.reads
+-- the candidates of a bank to write, or to read
+abbrev pub kind_candidates : Bool → CandidatesOfBank → CandidatesOfKind
+kind_candidates write h = cond write h.writes h.reads
 
-pub kind_first : (write : Bool) (requests : List Request) (bank : ℕ) (h : BankHeads) → AreHeads requests bank h → AreFirst requests bank write h.row (kind_heads write h)
+pub kind_first : (write : Bool) (requests : List Request) (bank : ℕ) (h : CandidatesOfBank) → AreCandidates requests bank h → AreFirst requests bank write h.row (kind_candidates write h)
 kind_first true requests bank h first = first.writes_are
 kind_first false requests bank h first = first.reads_are
 
-hit_only : (write : Bool) (h : BankHeads) → hit_head (only write) h ≡ (kind_heads write h).hit
+hit_only : (write : Bool) (h : CandidatesOfBank) → hit_candidate (only write) h ≡ (kind_candidates write h).hit
 hit_only true h = refl
 hit_only false h = first_alone h.reads.hit
 
@@ -67,9 +67,9 @@ hit_test true false false ready hit row_hit legal same when = one hit row_hit le
     one false rh l ready is then = sym (ap (λ t. ready && t) (sym is) ∙ and_false ready)
 
 -- the first row hit of a bank that is ready
-hits_of_kind : (s : Config) (history : List CommandRow) (ranks : ℕ) (requests : List Request) (write : Bool) (bank : ℕ) (h : BankHeads) (ready : ℕ) → All (IsInBanks ranks) requests
-    → AreHeads requests bank h → h.row ≡ open_row (bank_at bank) history → IsReadyFrom s history (bank_at bank) (column_kind write) ready → (cycle : ℕ)
-    → hits_in s history requests (only write) bank cycle ≡ cond (leb ready cycle) (kind_heads write h).hit None
+hits_of_kind : (s : Config) (history : List IssuedCommand) (ranks : ℕ) (requests : List Request) (write : Bool) (bank : ℕ) (h : CandidatesOfBank) (ready : ℕ) → All (IsInBanks ranks) requests
+    → AreCandidates requests bank h → h.row ≡ open_row (bank_at bank) history → IsReadyFrom s history (bank_at bank) (column_kind write) ready → (cycle : ℕ)
+    → hits_in s history requests (only write) bank cycle ≡ cond (leb ready cycle) (kind_candidates write h).hit None
 unfolding ready_hit
 hits_of_kind s history ranks requests write bank h ready places first row_is from cycle =
     same_among (λ r. eqb (bank_number r.place) bank && hits_now s history (only write) cycle r) (λ r. leb ready cycle && hits bank write h.row r) (IsInBanks ranks) requests places
@@ -81,8 +81,8 @@ hits_of_kind s history ranks requests write bank h ready places first row_is fro
     ∙ ap (λ o. cond (leb ready cycle) o None) (sym (kind_first write requests bank h first).hit_is)
 
 -- what a bank offers to those that ask for its open row
-pub kind_hit : (s : Config) (history : List CommandRow) (ranks : ℕ) (requests : List Request) (write : Bool) (bank : ℕ) (h : BankHeads) (ready now slot : ℕ) → All (IsInBanks ranks) requests
-    → AreHeads requests bank h → h.row ≡ open_row (bank_at bank) history → IsReadyFrom s history (bank_at bank) (column_kind write) ready → (kind_heads write h).hit ≡ Some slot
+pub kind_hit : (s : Config) (history : List IssuedCommand) (ranks : ℕ) (requests : List Request) (write : Bool) (bank : ℕ) (h : CandidatesOfBank) (ready now slot : ℕ) → All (IsInBanks ranks) requests
+    → AreCandidates requests bank h → h.row ≡ open_row (bank_at bank) history → IsReadyFrom s history (bank_at bank) (column_kind write) ready → (kind_candidates write h).hit ≡ Some slot
     → IsBestOffer now (hits_in s history requests (only write) bank) (rows_in s history requests (only write) bank) (offer_from now ready true slot)
 kind_hit s history ranks requests write bank h ready now slot places first row_is from hit =
     best_same now (λ c. cond (leb ready c) (Some slot) None) (λ c. None) (hits_in s history requests (only write) bank) (rows_in s history requests (only write) bank)
@@ -99,15 +99,15 @@ either_within n (Some k) None true true in_a in_b = in_a
 either_within n (Some k) (Some j) true true in_a in_b = omega arith
 
 -- the first request of a bank stands within the queue
-within_kinds : (requests : List Request) (kinds : Kinds) (bank : ℕ) (h : BankHeads) → AreHeads requests bank h → IfSome (oldest_head kinds h) (λ k. k < length requests)
+within_kinds : (requests : List Request) (kinds : Kinds) (bank : ℕ) (h : CandidatesOfBank) → AreCandidates requests bank h → IfSome (oldest_candidate kinds h) (λ k. k < length requests)
 within_kinds requests kinds bank h first =
     either_within (length requests) h.reads.oldest h.writes.oldest kinds.reads kinds.writes (within _ requests h.reads.oldest first.reads_are.oldest_is)
     (within _ requests h.writes.oldest first.writes_are.oldest_is)
 
 -- what a bank offers where none asks for its open row
-kinds_row : (s : Config) (history : List CommandRow) (ranks : ℕ) (requests : List Request) (kinds : Kinds) (bank : ℕ) (h : BankHeads) (ready now slot : ℕ) → All (IsInBanks ranks) requests
-    → AreHeads requests bank h → h.row ≡ open_row (bank_at bank) history → IsReadyFrom s history (bank_at bank) (row_kind h.row) ready → hit_head kinds h ≡ None
-    → oldest_head kinds h ≡ Some slot
+kinds_row : (s : Config) (history : List IssuedCommand) (ranks : ℕ) (requests : List Request) (kinds : Kinds) (bank : ℕ) (h : CandidatesOfBank) (ready now slot : ℕ) → All (IsInBanks ranks) requests
+    → AreCandidates requests bank h → h.row ≡ open_row (bank_at bank) history → IsReadyFrom s history (bank_at bank) (row_kind h.row) ready → hit_candidate kinds h ≡ None
+    → oldest_candidate kinds h ≡ Some slot
     → IsBestOffer now (hits_in s history requests kinds bank) (rows_in s history requests kinds bank) (offer_from now ready false slot)
 kinds_row s history ranks requests kinds bank h ready now slot places first row_is from none oldest =
     best_same now (λ c. None) (λ c. cond (leb ready c) (Some slot) None) (hits_in s history requests kinds bank) (rows_in s history requests kinds bank)
@@ -115,18 +115,18 @@ kinds_row s history ranks requests kinds bank h ready now slot places first row_
     (λ c late. sym (rows_are s history ranks requests kinds bank h ready places first row_is from (ap is_some none) c ∙ ap (λ o. cond (leb ready c) o None) oldest))
     (row_offer_is now ready (Some slot))
 
--- the best offer so far with the head of a bank, where none asks for its open row
-pub row_more : (s : Config) (history : List CommandRow) (ranks : ℕ) (requests : List Request) (kinds : Kinds) (bank : ℕ) (h : BankHeads) (ready now : ℕ) (hits rows : ℕ → Option ℕ)
-    (best after : Offer) → ready ≤ 18446744073709551615 → now ≤ 18446744073709551615 → All (IsInBanks ranks) requests → AreHeads requests bank h
-    → h.row ≡ open_row (bank_at bank) history → IsReadyFrom s history (bank_at bank) (row_kind h.row) ready → is_some (hit_head kinds h) ≡ false
-    → (head : Option ℕ) → oldest_head kinds h ≡ head → IsTaken head now ready false best after → IsBestSoFar (length requests) now hits rows best
+-- the best offer so far with the candidate of a bank, where none asks for its open row
+pub row_more : (s : Config) (history : List IssuedCommand) (ranks : ℕ) (requests : List Request) (kinds : Kinds) (bank : ℕ) (h : CandidatesOfBank) (ready now : ℕ) (hits rows : ℕ → Option ℕ)
+    (best after : Offer) → ready ≤ 18446744073709551615 → now ≤ 18446744073709551615 → All (IsInBanks ranks) requests → AreCandidates requests bank h
+    → h.row ≡ open_row (bank_at bank) history → IsReadyFrom s history (bank_at bank) (row_kind h.row) ready → is_some (hit_candidate kinds h) ≡ false
+    → (candidate : Option ℕ) → oldest_candidate kinds h ≡ candidate → IsTaken candidate now ready false best after → IsBestSoFar (length requests) now hits rows best
     → IsBestSoFar (length requests) now hits (λ c. earlier (rows c) (rows_in s history requests kinds bank c)) after
 row_more s history ranks requests kinds bank h ready now hits rows best after ready_fits now_fits places first row_is from no_hit None oldest step so_far =
     so_far_same (length requests) now hits rows hits (λ c. earlier (rows c) (rows_in s history requests kinds bank c)) after (λ c late. refl)
     (λ c late. sym (ap (earlier (rows c)) (none_offered requests kinds bank h _ first oldest) ∙ first_alone (rows c)))
     (subst (IsBestSoFar (length requests) now hits rows) (sym (step.none refl)) so_far)
 row_more s history ranks requests kinds bank h ready now hits rows best after ready_fits now_fits places first row_is from no_hit (Some slot) oldest step so_far =
-    let none = none_is (hit_head kinds h) no_hit in
+    let none = none_is (hit_candidate kinds h) no_hit in
     let inside : slot < length requests = subst (λ o. IfSome o (λ k. k < length requests)) oldest (within_kinds requests kinds bank h first) in
     so_far_same (length requests) now (λ c. earlier (hits c) (hits_in s history requests kinds bank c)) (λ c. earlier (rows c) (rows_in s history requests kinds bank c)) hits
     (λ c. earlier (rows c) (rows_in s history requests kinds bank c)) after
@@ -137,17 +137,17 @@ row_more s history ranks requests kinds bank h ready now hits rows best after re
     (kinds_row s history ranks requests kinds bank h ready now slot places first row_is from none oldest)))
 
 -- the same with its row hit
-pub hit_more : (s : Config) (history : List CommandRow) (ranks : ℕ) (requests : List Request) (write : Bool) (bank : ℕ) (h : BankHeads) (ready now : ℕ) (hits rows : ℕ → Option ℕ)
-    (best after : Offer) → ready ≤ 18446744073709551615 → now ≤ 18446744073709551615 → All (IsInBanks ranks) requests → AreHeads requests bank h
+pub hit_more : (s : Config) (history : List IssuedCommand) (ranks : ℕ) (requests : List Request) (write : Bool) (bank : ℕ) (h : CandidatesOfBank) (ready now : ℕ) (hits rows : ℕ → Option ℕ)
+    (best after : Offer) → ready ≤ 18446744073709551615 → now ≤ 18446744073709551615 → All (IsInBanks ranks) requests → AreCandidates requests bank h
     → h.row ≡ open_row (bank_at bank) history → IsReadyFrom s history (bank_at bank) (column_kind write) ready
-    → (head : Option ℕ) → (kind_heads write h).hit ≡ head → IsTaken head now ready true best after → IsBestSoFar (length requests) now hits rows best
+    → (candidate : Option ℕ) → (kind_candidates write h).hit ≡ candidate → IsTaken candidate now ready true best after → IsBestSoFar (length requests) now hits rows best
     → IsBestSoFar (length requests) now (λ c. earlier (hits c) (hits_in s history requests (only write) bank c)) rows after
 hit_more s history ranks requests write bank h ready now hits rows best after ready_fits now_fits places first row_is from None hit step so_far =
     so_far_same (length requests) now hits rows (λ c. earlier (hits c) (hits_in s history requests (only write) bank c)) rows after
     (λ c late. sym (ap (earlier (hits c)) (no_hits s history ranks requests (only write) bank h places first row_is (hit_only write h ∙ hit) c) ∙ first_alone (hits c))) (λ c late. refl)
     (subst (IsBestSoFar (length requests) now hits rows) (sym (step.none refl)) so_far)
 hit_more s history ranks requests write bank h ready now hits rows best after ready_fits now_fits places first row_is from (Some slot) hit step so_far =
-    let inside : slot < length requests = subst (λ o. IfSome o (λ k. k < length requests)) hit (within _ requests (kind_heads write h).hit (kind_first write requests bank h first).hit_is) in
+    let inside : slot < length requests = subst (λ o. IfSome o (λ k. k < length requests)) hit (within _ requests (kind_candidates write h).hit (kind_first write requests bank h first).hit_is) in
     so_far_same (length requests) now (λ c. earlier (hits c) (hits_in s history requests (only write) bank c)) (λ c. earlier (rows c) (rows_in s history requests (only write) bank c))
     (λ c. earlier (hits c) (hits_in s history requests (only write) bank c)) rows after (λ c late. refl)
     (λ c late. ap (earlier (rows c)) (rows_withheld s history ranks requests (only write) bank h places first row_is (ap is_some (hit_only write h ∙ hit)) c) ∙ first_alone (rows c))
@@ -157,15 +157,15 @@ hit_more s history ranks requests write bank h ready now hits rows best after re
     (kind_hit s history ranks requests write bank h ready now slot places first row_is from hit)))
 
 -- a bank that is not asked for, or has a row hit, offers nothing else
-pub row_none : (s : Config) (history : List CommandRow) (ranks : ℕ) (requests : List Request) (kinds : Kinds) (bank : ℕ) (h : BankHeads) → All (IsInBanks ranks) requests
-    → AreHeads requests bank h → h.row ≡ open_row (bank_at bank) history → (is_some (oldest_head kinds h) && not (is_some (hit_head kinds h))) ≡ false → (cycle : ℕ)
+pub row_none : (s : Config) (history : List IssuedCommand) (ranks : ℕ) (requests : List Request) (kinds : Kinds) (bank : ℕ) (h : CandidatesOfBank) → All (IsInBanks ranks) requests
+    → AreCandidates requests bank h → h.row ≡ open_row (bank_at bank) history → (is_some (oldest_candidate kinds h) && not (is_some (hit_candidate kinds h))) ≡ false → (cycle : ℕ)
     → rows_in s history requests kinds bank cycle ≡ None
-row_none s history ranks requests kinds bank h places first row_is left cycle = elim (cases_Bool (is_some (hit_head kinds h))) [
+row_none s history ranks requests kinds bank h places first row_is left cycle = elim (cases_Bool (is_some (hit_candidate kinds h))) [
   | inl hit ↦ rows_withheld s history ranks requests kinds bank h places first row_is hit cycle
   | inr no_hit ↦
-      let none : is_some (oldest_head kinds h) ≡ false =
-      sym (and_true (is_some (oldest_head kinds h))) ∙ ap (λ b. is_some (oldest_head kinds h) && not b) (sym no_hit) ∙ left in
-      none_offered requests kinds bank h _ first (none_is (oldest_head kinds h) none)
+      let none : is_some (oldest_candidate kinds h) ≡ false =
+      sym (and_true (is_some (oldest_candidate kinds h))) ∙ ap (λ b. is_some (oldest_candidate kinds h) && not b) (sym no_hit) ∙ left in
+      none_offered requests kinds bank h _ first (none_is (oldest_candidate kinds h) none)
 ]
 
 -- some bank is asked for by a kind that goes
@@ -194,7 +194,7 @@ kind_hits false true kw h = sym (ap (λ t. h || t) (and_false kw) ∙ or_false h
 kind_hits false false true h = refl
 kind_hits false false false h = refl
 
-pub both_hits : (s : Config) (history : List CommandRow) (requests : List Request) (kinds : Kinds) (cycle : ℕ)
+pub both_hits : (s : Config) (history : List IssuedCommand) (requests : List Request) (kinds : Kinds) (cycle : ℕ)
     → earlier (first_place (λ r. kinds.reads && hits_now s history (only false) cycle r) requests) (first_place (λ r. kinds.writes && hits_now s history (only true) cycle r) requests)
     ≡ first_place (hits_now s history kinds cycle) requests
 both_hits s history requests kinds cycle =
@@ -214,14 +214,14 @@ pub all_go : (goes : Bool) (test : Request → Bool) (requests : List Request) �
 all_go goes test requests on = place_if goes test requests ∙ ap (λ b. cond b (first_place test requests) None) on
 
 -- a bank with no row hit
-pub hit_none : (s : Config) (history : List CommandRow) (ranks : ℕ) (requests : List Request) (write : Bool) (bank : ℕ) (h : BankHeads) → All (IsInBanks ranks) requests
-    → AreHeads requests bank h → h.row ≡ open_row (bank_at bank) history → is_some (kind_heads write h).hit ≡ false → (cycle : ℕ)
+pub hit_none : (s : Config) (history : List IssuedCommand) (ranks : ℕ) (requests : List Request) (write : Bool) (bank : ℕ) (h : CandidatesOfBank) → All (IsInBanks ranks) requests
+    → AreCandidates requests bank h → h.row ≡ open_row (bank_at bank) history → is_some (kind_candidates write h).hit ≡ false → (cycle : ℕ)
     → hits_in s history requests (only write) bank cycle ≡ None
 hit_none s history ranks requests write bank h places first row_is none cycle =
-    no_hits s history ranks requests (only write) bank h places first row_is (hit_only write h ∙ none_is (kind_heads write h).hit none) cycle
+    no_hits s history ranks requests (only write) bank h places first row_is (hit_only write h ∙ none_is (kind_candidates write h).hit none) cycle
 
 -- no command of a kind to some bank of so many ranks is allowed before this cycle
-abbrev pub IsFloor : Config → List CommandRow → ℕ → Kind → ℕ → Type 0
+abbrev pub IsFloor : Config → List IssuedCommand → ℕ → Kind → ℕ → Type 0
 IsFloor s history ranks k floor =
     (command : Command) (cycle bank : ℕ) → kind_of command ≡ k → bank_of command ≡ Some (bank_at bank) → bank < 16 * ranks → IsAllowedFrom s history command cycle → floor ≤ cycle
 
@@ -235,14 +235,14 @@ column_other : (k : Bool) → is_kind (column_kind k) kind.Act ≡ false
 column_other true = refl
 column_other false = refl
 
-allowed_too : (s : Config) (history : List CommandRow) (cycle : ℕ) (command : Command) → is_legal s history cycle command ≡ true → is_allowed s.timing history cycle command ≡ true
+allowed_too : (s : Config) (history : List IssuedCommand) (cycle : ℕ) (command : Command) → is_legal s history cycle command ≡ true → is_allowed s.timing history cycle command ≡ true
 unfolding is_legal
 allowed_too s history cycle command legal = (and_parts (finds_its_banks s history command) (is_allowed s.timing history cycle command) legal).1
 
 number_in : (ranks : ℕ) (r : Request) → IsInBanks ranks r → bank_number r.place < 16 * ranks
 number_in ranks r places = omega (arith, places.rank, places.group, places.bank)
 
-hit_after : (s : Config) (history : List CommandRow) (ranks : ℕ) (r : Request) (write : Bool) (floor cycle : ℕ) → IsInBanks ranks r → IsFloor s history ranks (column_kind write) floor
+hit_after : (s : Config) (history : List IssuedCommand) (ranks : ℕ) (r : Request) (write : Bool) (floor cycle : ℕ) → IsInBanks ranks r → IsFloor s history ranks (column_kind write) floor
     → hits_now s history (only write) cycle r ≡ true → floor ≤ cycle
 unfolding ready_hit needed
 hit_after s history ranks r write floor cycle in_banks least now_is =
@@ -258,7 +258,7 @@ hit_after s history ranks r write floor cycle in_banks least now_is =
     omega (arith, late, floor_is)
 
 -- no row hit is ready before it
-pub hits_before : (s : Config) (history : List CommandRow) (ranks : ℕ) (requests : List Request) (write : Bool) (floor : ℕ) → All (IsInBanks ranks) requests
+pub hits_before : (s : Config) (history : List IssuedCommand) (ranks : ℕ) (requests : List Request) (write : Bool) (floor : ℕ) → All (IsInBanks ranks) requests
     → IsFloor s history ranks (column_kind write) floor → (cycle : ℕ) → cycle < floor → first_place (hits_now s history (only write) cycle) requests ≡ None
 hits_before s history ranks requests write floor places least cycle early =
     same_among (hits_now s history (only write) cycle) (λ r. false) (IsInBanks ranks) requests places

@@ -5,7 +5,7 @@ use Rattle.std.specs.List.{All}
 use Rattle.std.specs.Option.{is_some}
 use Rattle.sim_base.specs.declared.config.Config.{Config}
 use Rattle.sim_base.specs.declared.command.Command.TheVariants.{Rd, Wr, Pre}
-use Rattle.sim_base.specs.declared.command.CommandRow.{CommandRow}
+use Rattle.sim_base.specs.declared.command.IssuedCommand.{IssuedCommand}
 use Rattle.sim_base.specs.declared.command.Kind.{Kind}
 use Rattle.sim_base.specs.declared.command.Kind.TheVariants as kind
 use Rattle.sim_base.specs.declared.message.Request.{Request}
@@ -13,14 +13,14 @@ use Rattle.sim_base.specs.Places.{bank_in, is_bank}
 use Rattle.sim_base.specs.Rules.{is_legal, open_row, is_row, kind_of}
 use Rattle.sim_base.specs.Scheduling.{needed, needed_at, column_command, source_of, is_column_command, has_hit, is_withheld, is_row_hit, ready_hit, ready_row}
 use Rattle.queue_columns.specs.Columns.{bank_number}
-use Rattle.heads.specs.declared.entry.BankHeads.{BankHeads}
-use Rattle.heads.specs.Heads.{bank_at, asks, hits, first_place, AreHeads}
-use Rattle.heads.specs.Moves.{earlier}
-use Rattle.heads.proofs.Stood.{bank_named}
-use Rattle.heads.proofs.Searches.{none_everywhere, none_narrower_all}
+use Rattle.bank_candidates.specs.declared.entry.CandidatesOfBank.{CandidatesOfBank}
+use Rattle.bank_candidates.specs.Candidates.{bank_at, asks, hits, first_place, AreCandidates}
+use Rattle.bank_candidates.specs.Moves.{earlier}
+use Rattle.bank_candidates.proofs.Stood.{bank_named}
+use Rattle.bank_candidates.proofs.Searches.{none_everywhere, none_narrower_all}
 use Rattle.fr_fcfs.specs.Requests.{IsInBanks, is_hit}
 use Rattle.fr_fcfs.specs.declared.kinds.Kinds.{Kinds}
-use Rattle.fr_fcfs.specs.Offers.{is_of, if_allowed, hit_head, oldest_head, going, hits_now, rows_now, hits_in, rows_in, IsReadyFrom, row_kind}
+use Rattle.fr_fcfs.specs.Offers.{is_of, if_allowed, hit_candidate, oldest_candidate, going, hits_now, rows_now, hits_in, rows_in, IsReadyFrom, row_kind}
 use Rattle.fr_fcfs.proofs.Booleans.{and_false, and_true, or_false, eqb_swap}
 use Rattle.fr_fcfs.proofs.Legal.{needed_bank, hit_is, column_needed, finds_needed, legal_at, withheld_is}
 use Rattle.fr_fcfs.proofs.Firsts.{same_among, either_among, place_if, same_unless, any_going}
@@ -43,7 +43,7 @@ bank_is ranks r bank places same =
     λ i. record { rank = rank i; group = group i; bank = number_in_group i }
 
 -- a request of a bank asks for its open row
-pub row_hit_is : (history : List CommandRow) (ranks : ℕ) (r : Request) (bank : ℕ) (row : Option ℕ) → IsInBanks ranks r → row ≡ open_row (bank_at bank) history
+pub row_hit_is : (history : List IssuedCommand) (ranks : ℕ) (r : Request) (bank : ℕ) (row : Option ℕ) → IsInBanks ranks r → row ≡ open_row (bank_at bank) history
     → eqb (bank_number r.place) bank ≡ true → is_hit history r ≡ is_row r.place.row row
 row_hit_is history ranks r bank row places row_is here =
     hit_is history r ∙ ap (λ b. is_row r.place.row (open_row b history)) (bank_is ranks r bank places here) ∙ ap (is_row r.place.row) (sym row_is)
@@ -52,7 +52,7 @@ column_kind : (w : Bool) (r : Request) → kind_of (cond w (Wr (bank_in r.place)
 column_kind true r = refl
 column_kind false r = refl
 
-pub hit_kind : (history : List CommandRow) (r : Request) → is_hit history r ≡ true → kind_of (needed history r) ≡ cond r.write kind.Wr kind.Rd
+pub hit_kind : (history : List IssuedCommand) (r : Request) → is_hit history r ≡ true → kind_of (needed history r) ≡ cond r.write kind.Wr kind.Rd
 unfolding needed
 hit_kind history r hit = ap kind_of (column_needed (open_row (bank_in r.place) history) r hit) ∙ column_kind r.write r
 
@@ -70,7 +70,7 @@ row_kind_at (Some row) r other = elim (cases_Bool (eqb row r.place.row)) [
     column_any false r = refl
 
 -- when what a request of a bank needs is legal
-pub legal_then : (s : Config) (history : List CommandRow) (ranks : ℕ) (r : Request) (bank : ℕ) (k : Kind) (ready : ℕ) → IsInBanks ranks r → IsReadyFrom s history (bank_at bank) k ready
+pub legal_then : (s : Config) (history : List IssuedCommand) (ranks : ℕ) (r : Request) (bank : ℕ) (k : Kind) (ready : ℕ) → IsInBanks ranks r → IsReadyFrom s history (bank_at bank) k ready
     → eqb (bank_number r.place) bank ≡ true → kind_of (needed history r) ≡ k → (cycle : ℕ) → is_legal s history cycle (needed history r) ≡ leb ready cycle
 unfolding needed
 legal_then s history ranks r bank k ready places from here kind_is =
@@ -86,15 +86,15 @@ row_hit_test true false kr kw row_hit = sym (ap (λ t. (kr && row_hit) || t) (an
 abbrev wants_row : Kinds → ℕ → Option ℕ → Request → Bool
 wants_row kinds bank row r = (kinds.reads && hits bank false row r) || (kinds.writes && hits bank true row r)
 
-hit_head_is : (ranks : ℕ) (requests : List Request) (kinds : Kinds) (bank : ℕ) (h : BankHeads) → All (IsInBanks ranks) requests → AreHeads requests bank h
-    → first_place (wants_row kinds bank h.row) requests ≡ hit_head kinds h
-hit_head_is ranks requests kinds bank h places first =
+hit_candidate_is : (ranks : ℕ) (requests : List Request) (kinds : Kinds) (bank : ℕ) (h : CandidatesOfBank) → All (IsInBanks ranks) requests → AreCandidates requests bank h
+    → first_place (wants_row kinds bank h.row) requests ≡ hit_candidate kinds h
+hit_candidate_is ranks requests kinds bank h places first =
     either_among (wants_row kinds bank h.row) (λ r. kinds.reads && hits bank false h.row r) (λ r. kinds.writes && hits bank true h.row r) (IsInBanks ranks) requests places (λ r in_banks. refl)
     ∙ (λ i. earlier (place_if kinds.reads (hits bank false h.row) requests i) (place_if kinds.writes (hits bank true h.row) requests i))
     ∙ (λ i. earlier (cond kinds.reads ((sym first.reads_are.hit_is) i) None) (cond kinds.writes ((sym first.writes_are.hit_is) i) None))
 
-has_hit_is : (history : List CommandRow) (ranks : ℕ) (requests : List Request) (kinds : Kinds) (bank : ℕ) (h : BankHeads) → All (IsInBanks ranks) requests
-    → AreHeads requests bank h → h.row ≡ open_row (bank_at bank) history → has_hit history (going kinds requests) (bank_at bank) ≡ is_some (hit_head kinds h)
+has_hit_is : (history : List IssuedCommand) (ranks : ℕ) (requests : List Request) (kinds : Kinds) (bank : ℕ) (h : CandidatesOfBank) → All (IsInBanks ranks) requests
+    → AreCandidates requests bank h → h.row ≡ open_row (bank_at bank) history → has_hit history (going kinds requests) (bank_at bank) ≡ is_some (hit_candidate kinds h)
 has_hit_is history ranks requests kinds bank h places first row_is =
     let row = open_row (bank_at bank) history in
     any_going (λ x. is_row_hit x (bank_at bank) row) kinds requests
@@ -103,7 +103,7 @@ has_hit_is history ranks requests kinds bank h places first row_is =
     (λ x in_banks.
     (λ i. is_of kinds x && (number_is ranks x bank in_banks i && is_row x.place.row (row_is' i)))
     ∙ row_hit_test (eqb (bank_number x.place) bank) x.write kinds.reads kinds.writes (is_row x.place.row h.row))
-    ∙ hit_head_is ranks requests kinds bank h places first)
+    ∙ hit_candidate_is ranks requests kinds bank h places first)
   where
     row_is' : open_row (bank_at bank) history ≡ h.row
     row_is' = sym row_is
@@ -137,16 +137,16 @@ both_allowed true a b ka kb = λ i. earlier (cond (and_true ka i) a None) (cond 
 both_allowed false a b ka kb = λ i. earlier (cond (and_false ka i) a None) (cond (and_false kb i) b None)
 
 -- the first request of a bank whose ACT or PRE is ready, where none asks for its open row
-pub rows_are : (s : Config) (history : List CommandRow) (ranks : ℕ) (requests : List Request) (kinds : Kinds) (bank : ℕ) (h : BankHeads) (ready : ℕ)
-    → All (IsInBanks ranks) requests → AreHeads requests bank h → h.row ≡ open_row (bank_at bank) history → IsReadyFrom s history (bank_at bank) (row_kind h.row) ready
-    → is_some (hit_head kinds h) ≡ false → (cycle : ℕ)
-    → rows_in s history requests kinds bank cycle ≡ cond (leb ready cycle) (oldest_head kinds h) None
+pub rows_are : (s : Config) (history : List IssuedCommand) (ranks : ℕ) (requests : List Request) (kinds : Kinds) (bank : ℕ) (h : CandidatesOfBank) (ready : ℕ)
+    → All (IsInBanks ranks) requests → AreCandidates requests bank h → h.row ≡ open_row (bank_at bank) history → IsReadyFrom s history (bank_at bank) (row_kind h.row) ready
+    → is_some (hit_candidate kinds h) ≡ false → (cycle : ℕ)
+    → rows_in s history requests kinds bank cycle ≡ cond (leb ready cycle) (oldest_candidate kinds h) None
 unfolding ready_row needed
 rows_are s history ranks requests kinds bank h ready places first row_is from none cycle =
     let cands = going kinds requests in
     same_unless (λ r. eqb (bank_number r.place) bank && rows_now s history requests kinds cycle r)
     (λ r. ((kinds.reads && leb ready cycle) && asks bank false r) || ((kinds.writes && leb ready cycle) && asks bank true r)) (wants_row kinds bank h.row) (IsInBanks ranks) requests
-    (hit_head_is ranks requests kinds bank h places first ∙ is_none (hit_head kinds h) none) places
+    (hit_candidate_is ranks requests kinds bank h places first ∙ is_none (hit_candidate kinds h) none) places
     (λ r in_banks off.
     row_test (eqb (bank_number r.place) bank) r.write kinds.reads kinds.writes (is_hit history r) (is_row r.place.row h.row) (is_legal s history cycle (needed history r)) (leb ready cycle)
     (is_withheld history cands (needed history r)) (row_hit_is history ranks r bank h.row in_banks row_is)
@@ -176,8 +176,8 @@ withheld_test true k true legal withheld is = and_false k
 withheld_test true k false legal withheld is = ap (λ w. k && (legal && not w)) (is refl) ∙ ap (λ t. k && t) (and_false legal) ∙ and_false k
 
 -- a row hit that goes withholds all else of its bank
-pub rows_withheld : (s : Config) (history : List CommandRow) (ranks : ℕ) (requests : List Request) (kinds : Kinds) (bank : ℕ) (h : BankHeads) → All (IsInBanks ranks) requests
-    → AreHeads requests bank h → h.row ≡ open_row (bank_at bank) history → is_some (hit_head kinds h) ≡ true → (cycle : ℕ) → rows_in s history requests kinds bank cycle ≡ None
+pub rows_withheld : (s : Config) (history : List IssuedCommand) (ranks : ℕ) (requests : List Request) (kinds : Kinds) (bank : ℕ) (h : CandidatesOfBank) → All (IsInBanks ranks) requests
+    → AreCandidates requests bank h → h.row ≡ open_row (bank_at bank) history → is_some (hit_candidate kinds h) ≡ true → (cycle : ℕ) → rows_in s history requests kinds bank cycle ≡ None
 unfolding ready_row
 rows_withheld s history ranks requests kinds bank h places first row_is some cycle =
     let cands = going kinds requests in
@@ -198,18 +198,18 @@ none_test true true kr false test off = refl
 none_test true false true kw test off = cc
 none_test true false false kw test off = refl
 
--- no request of a bank goes that has no head
-pub none_offered : (requests : List Request) (kinds : Kinds) (bank : ℕ) (h : BankHeads) (test : Request → Bool) → AreHeads requests bank h → oldest_head kinds h ≡ None
+-- no request of a bank goes that has no candidate
+pub none_offered : (requests : List Request) (kinds : Kinds) (bank : ℕ) (h : CandidatesOfBank) (test : Request → Bool) → AreCandidates requests bank h → oldest_candidate kinds h ≡ None
     → first_place (λ r. eqb (bank_number r.place) bank && (is_of kinds r && test r)) requests ≡ None
 none_offered requests kinds bank h test first none =
     let asked = λ (r : Request). (kinds.reads && asks bank false r) || (kinds.writes && asks bank true r) in
-    let head_is : first_place asked requests ≡ oldest_head kinds h =
+    let candidate_is : first_place asked requests ≡ oldest_candidate kinds h =
     either_among asked (λ r. kinds.reads && asks bank false r) (λ r. kinds.writes && asks bank true r) (λ r. Unit {0}) requests (λ k d exists. tt) (λ r in_all. refl)
     ∙ (λ i. earlier (place_if kinds.reads (asks bank false) requests i) (place_if kinds.writes (asks bank true) requests i))
     ∙ (λ i. earlier (cond kinds.reads ((sym first.reads_are.oldest_is) i) None) (cond kinds.writes ((sym first.writes_are.oldest_is) i) None)) in
     sym
     (none_narrower_all (λ r. eqb (bank_number r.place) bank && (is_of kinds r && test r)) asked requests
-    (λ r off. none_test (eqb (bank_number r.place) bank) r.write kinds.reads kinds.writes (test r) off) (sym (head_is ∙ none)))
+    (λ r off. none_test (eqb (bank_number r.place) bank) r.write kinds.reads kinds.writes (test r) off) (sym (candidate_is ∙ none)))
 
 no_hit_test : (b w kr kw hit row_hit legal : Bool) → (b ≡ true → hit ≡ row_hit)
     → ((kr && ((b && cond false w (not w)) && row_hit)) || (kw && ((b && cond true w (not w)) && row_hit))) ≡ false → (b && (cond w kw kr && (hit && legal))) ≡ false
@@ -221,12 +221,12 @@ no_hit_test true w kr kw hit row_hit legal same none = one (cond w kw kr) hit ro
     one true h rh l is none = ap (λ t. t && l) (is ∙ none)
 
 -- no row hit of a bank is ready where there is none
-pub no_hits : (s : Config) (history : List CommandRow) (ranks : ℕ) (requests : List Request) (kinds : Kinds) (bank : ℕ) (h : BankHeads) → All (IsInBanks ranks) requests
-    → AreHeads requests bank h → h.row ≡ open_row (bank_at bank) history → hit_head kinds h ≡ None → (cycle : ℕ) → hits_in s history requests kinds bank cycle ≡ None
+pub no_hits : (s : Config) (history : List IssuedCommand) (ranks : ℕ) (requests : List Request) (kinds : Kinds) (bank : ℕ) (h : CandidatesOfBank) → All (IsInBanks ranks) requests
+    → AreCandidates requests bank h → h.row ≡ open_row (bank_at bank) history → hit_candidate kinds h ≡ None → (cycle : ℕ) → hits_in s history requests kinds bank cycle ≡ None
 unfolding ready_hit
 no_hits s history ranks requests kinds bank h places first row_is none cycle =
     same_unless (λ r. eqb (bank_number r.place) bank && hits_now s history kinds cycle r) (λ r. false) (wants_row kinds bank h.row) (IsInBanks ranks) requests
-    (hit_head_is ranks requests kinds bank h places first ∙ none) places
+    (hit_candidate_is ranks requests kinds bank h places first ∙ none) places
     (λ r in_banks off.
     no_hit_test (eqb (bank_number r.place) bank) r.write kinds.reads kinds.writes (is_hit history r) (is_row r.place.row h.row) (is_legal s history cycle (needed history r))
     (row_hit_is history ranks r bank h.row in_banks row_is) off)

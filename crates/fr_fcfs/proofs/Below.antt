@@ -4,14 +4,14 @@ use Rattle.std.proofs.lemmas.Bool.{cases_lt, cases_eq, lt-ltb, le-ltb, eq-eqb, n
 use Rattle.std.specs.List.{All, slice_get}
 use Rattle.std.specs.Option.{is_some, option_map, option_and_then, IfSome}
 use Rattle.sim_base.specs.declared.config.Config.{Config}
-use Rattle.sim_base.specs.declared.command.CommandRow.{CommandRow}
+use Rattle.sim_base.specs.declared.command.IssuedCommand.{IssuedCommand}
 use Rattle.sim_base.specs.declared.message.Request.{Request}
 use Rattle.sim_base.specs.Scheduling.{needed, or_else, first_ready, ready_hit, ready_row}
 use Rattle.queue_columns.specs.Columns.{bank_number}
 use Rattle.queue.specs.View.{QueueView}
-use Rattle.heads.specs.Heads.{first_place}
-use Rattle.heads.specs.Moves.{earlier}
-use Rattle.heads.proofs.Searches.{none_everywhere}
+use Rattle.bank_candidates.specs.Candidates.{first_place}
+use Rattle.bank_candidates.specs.Moves.{earlier}
+use Rattle.bank_candidates.proofs.Searches.{none_everywhere}
 use Rattle.fr_fcfs.specs.declared.offers.Offer.{Offer}
 use Rattle.fr_fcfs.specs.Requests.{candidates_of}
 use Rattle.fr_fcfs.specs.declared.kinds.Kinds.{Kinds}
@@ -69,7 +69,7 @@ none_is None off = refl
 none_is (Some k) off = cc
 
 -- the command of the first request that is ready, by the places
-pub ready_by_places : (s : Config) (history : List CommandRow) (requests : List Request) (kinds : Kinds) (cycle : ℕ)
+pub ready_by_places : (s : Config) (history : List IssuedCommand) (requests : List Request) (kinds : Kinds) (cycle : ℕ)
     → first_ready s history cycle (going kinds requests)
     ≡ option_map (needed history)
     (or_else (option_and_then (slice_get requests) (first_place (hits_now s history kinds cycle) requests))
@@ -79,7 +79,7 @@ ready_by_places s history requests kinds cycle =
     λ i. option_map (needed history)
     (or_else (find_going (ready_hit s history cycle) kinds requests i) (find_going (ready_row s history cycle (going kinds requests)) kinds requests i))
 
-none_ready : (s : Config) (history : List CommandRow) (requests : List Request) (a b : Option ℕ) → a ≡ None → b ≡ None
+none_ready : (s : Config) (history : List IssuedCommand) (requests : List Request) (a b : Option ℕ) → a ≡ None → b ≡ None
     → option_map (needed history) (or_else (option_and_then (slice_get requests) a) (option_and_then (slice_get requests) b)) ≡ None
 none_ready s history requests a b none_a none_b = λ i. option_map (needed history) (or_else (option_and_then (slice_get requests) (none_a i)) (option_and_then (slice_get requests) (none_b i)))
 
@@ -92,7 +92,7 @@ first_some : {X : Type 0} (a b : Option X) → is_some a ≡ true → or_else a 
 first_some (Some x) b some = refl
 first_some None b some = cc
 
-ready_at : (history : List CommandRow) (requests : List Request) (hit : Bool) (a b : Option ℕ) (slot : ℕ) → slot < length requests → IsAt hit a b slot
+ready_at : (history : List IssuedCommand) (requests : List Request) (hit : Bool) (a b : Option ℕ) (slot : ℕ) → slot < length requests → IsAt hit a b slot
     → option_map (needed history) (or_else (option_and_then (slice_get requests) a) (option_and_then (slice_get requests) b)) ≡ option_map (needed history) (slice_get requests slot)
 ready_at history requests true a b slot within is =
     ap (λ o. option_map (needed history) (or_else (option_and_then (slice_get requests) o) (option_and_then (slice_get requests) b))) is
@@ -100,7 +100,7 @@ ready_at history requests true a b slot within is =
 ready_at history requests false a b slot within is = λ i. option_map (needed history) (or_else (option_and_then (slice_get requests) (is.0 i)) (option_and_then (slice_get requests) (is.1 i)))
 
 -- the offer that goes first of all is what the first request needs that is ready
-pub first_ready_is : (s : Config) (history : List CommandRow) (queue : QueueView) (kinds : Kinds) (now : ℕ) (o : Option Offer) → candidates_of s queue ≡ going kinds queue.requests
+pub first_ready_is : (s : Config) (history : List IssuedCommand) (queue : QueueView) (kinds : Kinds) (now : ℕ) (o : Option Offer) → candidates_of s queue ≡ going kinds queue.requests
     → IfSome o (λ x. x.slot < length queue.requests)
     → IsBest now (λ cycle. first_place (hits_now s history kinds cycle) queue.requests) (λ cycle. first_place (rows_now s history queue.requests kinds cycle) queue.requests) o
     → IsFirstReady s history queue now o

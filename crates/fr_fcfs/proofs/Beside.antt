@@ -4,9 +4,9 @@ use Rattle.std.proofs.lemmas.Bool.{cases_Bool, cases_eq, false≢true}
 use Rattle.std.specs.List.{All}
 use Rattle.sim_base.specs.declared.message.Request.{Request}
 use Rattle.queue_columns.specs.Columns.{bank_number}
-use Rattle.heads.specs.Heads.{first_place}
-use Rattle.heads.specs.Moves.{earlier}
-use Rattle.heads.proofs.Searches.{none_everywhere}
+use Rattle.bank_candidates.specs.Candidates.{first_place}
+use Rattle.bank_candidates.specs.Moves.{earlier}
+use Rattle.bank_candidates.proofs.Searches.{none_everywhere}
 use Rattle.fr_fcfs.proofs.Booleans.{and_false, or_false}
 use Rattle.fr_fcfs.proofs.Firsts.{same_among, either_among}
 use Rattle.fr_fcfs.proofs.Below.{place_below, none_below, place_more, place_all}

@@ -2,7 +2,7 @@
 use Rattle.std.proofs.Common.{◌≡◌, ℕ, ◌+◌, ◌<◌, ◌≤◌, Bool, true, false, cond, ltb, leb, eqb, max, min, Option, Some, None, refl, sym, ap, subst, ◌∙◌, inl, inr, arith}
 use Rattle.std.proofs.lemmas.Bool.{cases_lt, cases_eq, eq-eqb, ne_eqb, ltb-true, ltb-false, lt-ltb, le-ltb, cond-true, cond-false, le-leb, lt-leb, false≢true}
 use Rattle.std.specs.Option.{option_map}
-use Rattle.heads.specs.Moves.{earlier}
+use Rattle.bank_candidates.specs.Moves.{earlier}
 use Rattle.fr_fcfs.specs.declared.offers.Offer.{Offer}
 use Rattle.fr_fcfs.specs.Offers.{goes_before, IsAt, IsBestOffer, IsBest}
 
@@ -127,8 +127,8 @@ either_none true o none = none
 either_none false o none = refl
 
 -- the offer of a row hit that is ready from a cycle on
-pub hit_offer_is : (now ready : ℕ) (head : Option ℕ)
-    → IsBest now (λ c. cond (leb ready c) head None) (λ c. None) (option_map (λ slot. record { cycle = max now ready; hit = true; slot = slot }) head)
+pub hit_offer_is : (now ready : ℕ) (candidate : Option ℕ)
+    → IsBest now (λ c. cond (leb ready c) candidate None) (λ c. None) (option_map (λ slot. record { cycle = max now ready; hit = true; slot = slot }) candidate)
 hit_offer_is now ready None = λ c from. (either_none (leb ready c) None refl, refl)
 hit_offer_is now ready (Some slot) = record {
   from_now = omega arith;
@@ -137,8 +137,8 @@ hit_offer_is now ready (Some slot) = record {
 }
 
 -- the offer of another request
-pub row_offer_is : (now ready : ℕ) (head : Option ℕ)
-    → IsBest now (λ c. None) (λ c. cond (leb ready c) head None) (option_map (λ slot. record { cycle = max now ready; hit = false; slot = slot }) head)
+pub row_offer_is : (now ready : ℕ) (candidate : Option ℕ)
+    → IsBest now (λ c. None) (λ c. cond (leb ready c) candidate None) (option_map (λ slot. record { cycle = max now ready; hit = false; slot = slot }) candidate)
 row_offer_is now ready None = λ c from. (refl, either_none (leb ready c) None refl)
 row_offer_is now ready (Some slot) = record {
   from_now = omega arith;

@@ -67,14 +67,14 @@ pub found_any : {X : Type 0} (p : X → Bool) (xs : List X) → is_some (find p 
 found_any p [] = refl
 found_any p (x ∷ xs) = found_next (p x) x (find p xs) (list_any p xs) (found_any p xs)
 
-kept_head : {X : Type 0} (b : Bool) (x : X) (rest : Option X) (kept : List X) → rest ≡ slice_get kept 0 → cond b (Some x) rest ≡ slice_get (cond b (x ∷ kept) kept) 0
-kept_head true x rest kept same = refl
-kept_head false x rest kept same = same
+kept_candidate : {X : Type 0} (b : Bool) (x : X) (rest : Option X) (kept : List X) → rest ≡ slice_get kept 0 → cond b (Some x) rest ≡ slice_get (cond b (x ∷ kept) kept) 0
+kept_candidate true x rest kept same = refl
+kept_candidate false x rest kept same = same
 
 -- what is found first is the first that a filter keeps
-pub find_head : {X : Type 0} (p : X → Bool) (xs : List X) → find p xs ≡ slice_get (filter p xs) 0
-find_head p [] = refl
-find_head p (x ∷ xs) = kept_head (p x) x (find p xs) (filter p xs) (find_head p xs)
+pub find_candidate : {X : Type 0} (p : X → Bool) (xs : List X) → find p xs ≡ slice_get (filter p xs) 0
+find_candidate p [] = refl
+find_candidate p (x ∷ xs) = kept_candidate (p x) x (find p xs) (filter p xs) (find_candidate p xs)
 
 kept_next : {X : Type 0} (keep q : Bool) (p : X → Bool) (x : X) (rest : Option X) (kept : List X) → p x ≡ q → rest ≡ find p kept
     → cond (keep && q) (Some x) rest ≡ find p (cond keep (x ∷ kept) kept)

@@ -7,8 +7,8 @@ use Rattle.sim_base.specs.declared.config.Config.{Config}
 use Rattle.sim_base.specs.declared.message.Request.{Request}
 use Rattle.sim_base.specs.Scheduling.{candidates, favour, is_favoured, first_of_lines}
 use Rattle.queue.specs.View.{QueueView, is_draining}
-use Rattle.heads.specs.Heads.{passes, entries, first_place}
-use Rattle.heads.proofs.Entries.{length-entries}
+use Rattle.bank_candidates.specs.Candidates.{passes, entries, first_place}
+use Rattle.bank_candidates.proofs.Entries.{length-entries}
 use Rattle.fr_fcfs.specs.Requests.{candidates_of}
 use Rattle.fr_fcfs.specs.Offers.{is_of, only, all_kinds}
 use Rattle.fr_fcfs.proofs.Firsts.{some_filtered}
@@ -102,7 +102,7 @@ bound p xs k is =
       | inr over ↦ let none : None ≡ Some k = sym (cond-false (ltb place (length xs)) (Some place) None (le-ltb place (length xs) over)) ∙ is in cc
     ]
 
--- the head of a bank stands within the queue
+-- the candidate of a bank stands within the queue
 pub within : (test : Request → Bool) (requests : List Request) (o : Option ℕ) → o ≡ first_place test requests → IfSome o (λ k. k < length requests)
 within test requests None is = tt
 within test requests (Some k) is = let inside = bound (passes test) (entries requests) k (sym is) in omega (arith, length-entries requests)

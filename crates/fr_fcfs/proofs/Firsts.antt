@@ -8,10 +8,10 @@ use Rattle.sim_base.specs.Scheduling.{first_of_lines}
 use Rattle.queue_columns.specs.Marks.{is_marked}
 use Rattle.queue_columns.specs.Columns.{eligible_column, marked_items}
 use Rattle.queue_columns.proofs.Eligible.{marked_eligible}
-use Rattle.heads.specs.Heads.{passes, entries, first_place}
-use Rattle.heads.specs.Moves.{earlier}
-use Rattle.heads.proofs.Positions.{position-cons, position-either}
-use Rattle.heads.proofs.Searches.{none_everywhere}
+use Rattle.bank_candidates.specs.Candidates.{passes, entries, first_place}
+use Rattle.bank_candidates.specs.Moves.{earlier}
+use Rattle.bank_candidates.proofs.Positions.{position-cons, position-either}
+use Rattle.bank_candidates.proofs.Searches.{none_everywhere}
 use Rattle.fr_fcfs.specs.declared.kinds.Kinds.{Kinds}
 use Rattle.fr_fcfs.specs.Offers.{going, is_of}
 
@@ -59,9 +59,9 @@ zipped_unless p q h P [] ms none all same = refl
 zipped_unless p q h P (r ∷ rs) [] none all same = refl
 zipped_unless p q h P (r ∷ rs) (m ∷ ms) none all same =
     let parts = none_parts (is_marked m && h r) (position (passes h) (zip rs ms)) (sym (position-cons (passes h) (r, m) (zip rs ms)) ∙ none) in
-    let head = unless_next (is_marked m) (p r) (q r) (h r) parts.0 (same r (All-head P r rs all)) in
+    let candidate = unless_next (is_marked m) (p r) (q r) (h r) parts.0 (same r (All-head P r rs all)) in
     position-cons (passes p) (r, m) (zip rs ms)
-    ∙ (λ i. cond (head i) (Some 0) (option_map suc (zipped_unless p q h P rs ms parts.1 (All-tail P r rs all) same i)))
+    ∙ (λ i. cond (candidate i) (Some 0) (option_map suc (zipped_unless p q h P rs ms parts.1 (All-tail P r rs all) same i)))
     ∙ sym (position-cons (passes q) (r, m) (zip rs ms))
 
 -- tests that agree wherever a third one fails, which none passes

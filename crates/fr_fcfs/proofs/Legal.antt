@@ -6,7 +6,7 @@ use Rattle.std.specs.Option.{is_some}
 use Rattle.sim_base.specs.declared.config.Config.{Config}
 use Rattle.sim_base.specs.declared.command.Command.{Command}
 use Rattle.sim_base.specs.declared.command.Command.TheVariants.{Rd, Wr, Pre}
-use Rattle.sim_base.specs.declared.command.CommandRow.{CommandRow}
+use Rattle.sim_base.specs.declared.command.IssuedCommand.{IssuedCommand}
 use Rattle.sim_base.specs.declared.message.Request.{Request}
 use Rattle.sim_base.specs.declared.place.BankId.{BankId}
 use Rattle.sim_base.specs.Places.{bank_in, is_bank}
@@ -14,8 +14,8 @@ use Rattle.sim_base.specs.Rules.{is_legal, is_allowed, finds_its_banks, open_row
 use Rattle.sim_base.specs.Scheduling.{source_of, column_command, needed_at, needed, is_column_command, is_withheld, has_hit, is_row_hit}
 use Rattle.bank_ready.specs.Stands.{IsAllowedFrom}
 use Rattle.queue_columns.specs.Columns.{bank_number}
-use Rattle.heads.specs.declared.heads.Heads.{Heads}
-use Rattle.heads.specs.Stands.{bank_count, IsAmong}
+use Rattle.bank_candidates.specs.declared.all_banks.BankCandidates.{BankCandidates}
+use Rattle.bank_candidates.specs.Stands.{bank_count, IsAmong}
 use Rattle.fr_fcfs.specs.Requests.{IsInBanks, IsLegalFrom, is_hit}
 use Rattle.fr_fcfs.proofs.Booleans.{and_false, and_true, eqb_swap, any_never}
 
@@ -27,7 +27,7 @@ column_is : (w : Bool) (r : Request) → is_column_command (column_of w r) ≡ t
 column_is true r = refl
 column_is false r = refl
 
-column_finds : (s : Config) (history : List CommandRow) (w : Bool) (r : Request) → is_row r.place.row (open_row (bank_in r.place) history) ≡ true
+column_finds : (s : Config) (history : List IssuedCommand) (w : Bool) (r : Request) → is_row r.place.row (open_row (bank_in r.place) history) ≡ true
     → finds_its_banks s history (column_of w r) ≡ true
 column_finds s history true r hit = hit
 column_finds s history false r hit = hit
@@ -36,7 +36,7 @@ column_bank : (w : Bool) (r : Request) → bank_of (column_of w r) ≡ Some (ban
 column_bank true r = refl
 column_bank false r = refl
 
-column_free : (history : List CommandRow) (requests : List Request) (w : Bool) (r : Request) → is_withheld history requests (column_of w r) ≡ false
+column_free : (history : List IssuedCommand) (requests : List Request) (w : Bool) (r : Request) → is_withheld history requests (column_of w r) ≡ false
 unfolding is_withheld
 column_free history requests true r = refl
 column_free history requests false r = refl
@@ -66,7 +66,7 @@ column_needed (Some row) r hit = elim (cases_Bool (eqb row r.place.row)) [
   | inr apart ↦ absurd (false≢true (sym (ap (λ b. is_column_command (cond b (column_of r.write r) (Pre (bank_in r.place) (source_of r)))) apart) ∙ hit))
 ]
 
-finds_at : (s : Config) (history : List CommandRow) (r : Request) (row : Option ℕ) → open_row (bank_in r.place) history ≡ row → finds_its_banks s history (needed_at row r) ≡ true
+finds_at : (s : Config) (history : List IssuedCommand) (r : Request) (row : Option ℕ) → open_row (bank_in r.place) history ≡ row → finds_its_banks s history (needed_at row r) ≡ true
 finds_at s history r None is = ap (λ o. not (is_some o)) is
 finds_at s history r (Some row) is = elim (cases_Bool (eqb row r.place.row)) [
   | inl same ↦
@@ -76,11 +76,11 @@ finds_at s history r (Some row) is = elim (cases_Bool (eqb row r.place.row)) [
 ]
 
 -- what a request needs finds its bank as it should
-pub finds_needed : (s : Config) (history : List CommandRow) (r : Request) → finds_its_banks s history (needed history r) ≡ true
+pub finds_needed : (s : Config) (history : List IssuedCommand) (r : Request) → finds_its_banks s history (needed history r) ≡ true
 unfolding needed
 finds_needed s history r = finds_at s history r (open_row (bank_in r.place) history) refl
 
-pub legal_from : (s : Config) (history : List CommandRow) (command : Command) (cycle : ℕ) → finds_its_banks s history command ≡ true → IsAllowedFrom s history command cycle
+pub legal_from : (s : Config) (history : List IssuedCommand) (command : Command) (cycle : ℕ) → finds_its_banks s history command ≡ true → IsAllowedFrom s history command cycle
     → IsLegalFrom s history command cycle
 unfolding is_legal
 legal_from s history command cycle finds allowed = λ now.
@@ -88,7 +88,7 @@ legal_from s history command cycle finds allowed = λ now.
     ap (λ b. b && is_allowed s.timing history now command) finds in
     (λ late. same ∙ (allowed now).0 late, λ legal. (allowed now).1 (sym same ∙ legal))
 
-pub legal_at : (s : Config) (history : List CommandRow) (command : Command) (cycle : ℕ) → IsLegalFrom s history command cycle → (now : ℕ)
+pub legal_at : (s : Config) (history : List IssuedCommand) (command : Command) (cycle : ℕ) → IsLegalFrom s history command cycle → (now : ℕ)
     → is_legal s history now command ≡ leb cycle now
 legal_at s history command cycle from now = elim (cases_Bool (leb cycle now)) [
   | inl late ↦ (from now).0 (leb-true cycle now late) ∙ sym late
@@ -98,7 +98,7 @@ legal_at s history command cycle from now = elim (cases_Bool (leb cycle now)) [
       ∙ sym early
 ]
 
-withheld_at : (history : List CommandRow) (requests : List Request) (r : Request) (row : Option ℕ) → open_row (bank_in r.place) history ≡ row
+withheld_at : (history : List IssuedCommand) (requests : List Request) (r : Request) (row : Option ℕ) → open_row (bank_in r.place) history ≡ row
     → is_withheld history requests (needed_at row r) ≡ (has_hit history requests (bank_in r.place) && not (is_column_command (needed_at row r)))
 unfolding is_withheld
 withheld_at history requests r None is =
@@ -123,12 +123,12 @@ withheld_at history requests r (Some row) is =
     ]
 
 -- what a request needs is withheld where some row hit wants its bank, and it is none
-pub withheld_is : (history : List CommandRow) (requests : List Request) (r : Request)
+pub withheld_is : (history : List IssuedCommand) (requests : List Request) (r : Request)
     → is_withheld history requests (needed history r) ≡ (has_hit history requests (bank_in r.place) && not (is_hit history r))
 unfolding needed
 withheld_is history requests r = withheld_at history requests r (open_row (bank_in r.place) history) refl
 
-pub hit_is : (history : List CommandRow) (r : Request) → is_hit history r ≡ is_row r.place.row (open_row (bank_in r.place) history)
+pub hit_is : (history : List IssuedCommand) (r : Request) → is_hit history r ≡ is_row r.place.row (open_row (bank_in r.place) history)
 unfolding needed
 hit_is history r = hit_at (open_row (bank_in r.place) history) r
 
@@ -160,7 +160,7 @@ number_same ranks a b in_a in_b same =
     λ i. record { rank = rank i; group = group i; bank = bank i }
 
 -- a row hit in the bank of another request, by the bank's number
-pub hit_in : (history : List CommandRow) (ranks : ℕ) (x r : Request) → IsInBanks ranks x → IsInBanks ranks r
+pub hit_in : (history : List IssuedCommand) (ranks : ℕ) (x r : Request) → IsInBanks ranks x → IsInBanks ranks r
     → (is_hit history x && eqb (bank_number x.place) (bank_number r.place)) ≡ is_row_hit x (bank_in r.place) (open_row (bank_in r.place) history)
 hit_in history ranks x r in_x in_r = elim (cases_Bool (eqb (bank_number x.place) (bank_number r.place))) [
   | inl same ↦
@@ -181,9 +181,9 @@ hit_in history ranks x r in_x in_r = elim (cases_Bool (eqb (bank_number x.place)
       ∙ ap (λ b. b && is_row x.place.row (open_row (bank_in r.place) history)) (sym other)
 ]
 
--- requests for the banks of so many ranks ask for banks that have heads
-pub all_among : (heads : Heads) (ranks : ℕ) (requests : List Request) → bank_count heads ≡ 16 * ranks → All (IsInBanks ranks) requests
-    → All (λ r. IsAmong heads (bank_in r.place)) requests
-all_among heads ranks requests count places = λ k d exists.
+-- requests for the banks of so many ranks ask for banks that have candidates
+pub all_among : (bank_candidates : BankCandidates) (ranks : ℕ) (requests : List Request) → bank_count bank_candidates ≡ 16 * ranks → All (IsInBanks ranks) requests
+    → All (λ r. IsAmong bank_candidates (bank_in r.place)) requests
+all_among bank_candidates ranks requests count places = λ k d exists.
     let there = places k d exists in
     record { number = omega (arith, count, there.rank, there.group, there.bank); group = there.group; bank = there.bank }

@@ -1,7 +1,7 @@
 -- The best offer so far.
 use Rattle.std.proofs.Common.{◌≡◌, ℕ, ◌<◌, ◌≤◌, Bool, true, false, cond, ltb, eqb, max, min, Option, Some, None, refl, sym, ap, subst, ◌∙◌, inl, inr, arith}
 use Rattle.std.proofs.lemmas.Bool.{cases_lt, cases_eq, eq-eqb, ne_eqb, lt-ltb, le-ltb, cond-true, cond-false}
-use Rattle.heads.specs.Moves.{earlier}
+use Rattle.bank_candidates.specs.Moves.{earlier}
 use Rattle.fr_fcfs.specs.declared.offers.Offer.{Offer}
 use Rattle.fr_fcfs.specs.Offers.{goes_before, no_offer, if_within, offer_from, IsAt, IsBestOffer, IsBest, IsBestSoFar}
 use Rattle.fr_fcfs.proofs.Bests.{first_alone, better_is, second_alone_is, best_same}
@@ -112,10 +112,10 @@ earlier_assoc (Some i) None c = refl
 earlier_assoc (Some i) (Some j) None = refl
 earlier_assoc (Some i) (Some j) (Some k) = let same : min (min i j) k ≡ min i (min j k) = omega arith in ap Some same
 
--- a head whose need may be issued from a cycle on is taken where that goes before the best offer so far
-pub record IsTaken (head : Option ℕ) (now ready : ℕ) (hit : Bool) (best after : Offer) : Type 0 where
-  pub some : (slot : ℕ) → head ≡ Some slot → after ≡ cond (goes_before (offer_from now ready hit slot) best) (offer_from now ready hit slot) best
-  pub none : head ≡ None → after ≡ best
+-- a candidate whose need may be issued from a cycle on is taken where that goes before the best offer so far
+pub record IsTaken (candidate : Option ℕ) (now ready : ℕ) (hit : Bool) (best after : Offer) : Type 0 where
+  pub some : (slot : ℕ) → candidate ≡ Some slot → after ≡ cond (goes_before (offer_from now ready hit slot) best) (offer_from now ready hit slot) best
+  pub none : candidate ≡ None → after ≡ best
 
 later_stays : (now ready slot : ℕ) (hit : Bool) (best : Offer) → best.cycle < ready → goes_before (offer_from now ready hit slot) best ≡ false
 later_stays now ready slot hit best late =
@@ -124,16 +124,16 @@ later_stays now ready slot hit best late =
     ∙ le-ltb (max now ready) best.cycle (omega arith)
 
 -- none is where that is later than the best offer
-pub not_taken : (head : Option ℕ) (now ready : ℕ) (hit : Bool) (best : Offer) → best.cycle < ready → IsTaken head now ready hit best best
-not_taken head now ready hit best late = record {
+pub not_taken : (candidate : Option ℕ) (now ready : ℕ) (hit : Bool) (best : Offer) → best.cycle < ready → IsTaken candidate now ready hit best best
+not_taken candidate now ready hit best late = record {
   some = λ slot is. sym (cond-false (goes_before (offer_from now ready hit slot) best) (offer_from now ready hit slot) best (later_stays now ready slot hit best late));
   none = λ is. refl;
 }
 
 -- one that there is
-pub taken : (head : Option ℕ) (now ready slot : ℕ) (hit : Bool) (best after : Offer) → head ≡ Some slot
-    → after ≡ cond (goes_before (offer_from now ready hit slot) best) (offer_from now ready hit slot) best → IsTaken head now ready hit best after
-taken head now ready slot hit best after is after_is = record {
+pub taken : (candidate : Option ℕ) (now ready slot : ℕ) (hit : Bool) (best after : Offer) → candidate ≡ Some slot
+    → after ≡ cond (goes_before (offer_from now ready hit slot) best) (offer_from now ready hit slot) best → IsTaken candidate now ready hit best after
+taken candidate now ready slot hit best after is after_is = record {
   some = λ other other_is.
       let same : slot ≡ other = cc in
       after_is ∙ ap (λ k. cond (goes_before (offer_from now ready hit k) best) (offer_from now ready hit k) best) same;
@@ -141,8 +141,8 @@ taken head now ready slot hit best after is after_is = record {
 }
 
 -- none, where there is none
-pub none_taken : (head : Option ℕ) (now ready : ℕ) (hit : Bool) (best : Offer) → head ≡ None → IsTaken head now ready hit best best
-none_taken head now ready hit best is = record {
+pub none_taken : (candidate : Option ℕ) (now ready : ℕ) (hit : Bool) (best : Offer) → candidate ≡ None → IsTaken candidate now ready hit best best
+none_taken candidate now ready hit best is = record {
   some = λ slot some. let never : None ≡ Some slot = sym is ∙ some in cc;
   none = λ none. refl;
 }

@@ -8,7 +8,7 @@ use Rattle.std.specs.List.{All, AllWithin, filter, find, zip}
 use Rattle.std.specs.Option.{option_map, option_or}
 use Rattle.sim_base.specs.declared.config.Config.{Config}
 use Rattle.sim_base.specs.declared.command.Command.{Command}
-use Rattle.sim_base.specs.declared.command.CommandRow.{CommandRow}
+use Rattle.sim_base.specs.declared.command.IssuedCommand.{IssuedCommand}
 use Rattle.sim_base.specs.declared.command.Kind.{Kind}
 use Rattle.sim_base.specs.declared.message.Request.{Request}
 use Rattle.sim_base.specs.declared.place.BankId.{BankId}
@@ -19,8 +19,8 @@ use Rattle.queue_columns.specs.Marks.{is_marked}
 use Rattle.queue_columns.specs.Columns.{bank_number, marked_items}
 use Rattle.queue_columns.proofs.Eligible.{marks_after, eligible_is, marked_eligible}
 use Rattle.queue.specs.View.{QueueView}
-use Rattle.heads.specs.Heads.{bank_at}
-use Rattle.heads.proofs.Entries.{front, entries_without}
+use Rattle.bank_candidates.specs.Candidates.{bank_at}
+use Rattle.bank_candidates.proofs.Entries.{front, entries_without}
 use Rattle.fr_fcfs.specs.Arrivals.{ComesAfter, KeepsNext}
 use Rattle.fr_fcfs.specs.Choices.{choice_in}
 use Rattle.fr_fcfs.specs.Requests.{IsInBanks, is_hit, candidates_of}
@@ -63,15 +63,15 @@ none_found : {X : Type 0} (p : X → Bool) (xs : List X) → All (λ x. p x ≡ 
 none_found p [] all = refl
 none_found p (x ∷ xs) all = ap (λ b. cond b (Some x) (find p xs)) (All-head (λ y. p y ≡ false) x xs all) ∙ none_found p xs (All-tail (λ y. p y ≡ false) x xs all)
 
-none_head : {X : Type 0} (b : Bool) (x : X) (rest : Option X) → cond b (Some x) rest ≡ None → (b ≡ false) × (rest ≡ None)
-none_head true x rest none = cc
-none_head false x rest none = (refl, none)
+no_candidate : {X : Type 0} (b : Bool) (x : X) (rest : Option X) → cond b (Some x) rest ≡ None → (b ≡ false) × (rest ≡ None)
+no_candidate true x rest none = cc
+no_candidate false x rest none = (refl, none)
 
 -- what passes a stronger test passes the other
 narrower : {X : Type 0} (p q : X → Bool) (xs : List X) → ((x : X) → p x ≡ false → q x ≡ false) → find p xs ≡ None → find q xs ≡ None
 narrower p q [] less none = refl
 narrower p q (x ∷ xs) less none =
-    let parts = none_head (p x) x (find p xs) none in ap (λ b. cond b (Some x) (find q xs)) (less x parts.0) ∙ narrower p q xs less parts.1
+    let parts = no_candidate (p x) x (find p xs) none in ap (λ b. cond b (Some x) (find q xs)) (less x parts.0) ∙ narrower p q xs less parts.1
 
 -- what is found passes
 passes_here : {X : Type 0} (p : X → Bool) (x y : X) (rest : Option X) (b : Bool) → p y ≡ b → (rest ≡ Some x → p x ≡ true) → cond b (Some y) rest ≡ Some x → p x ≡ true
@@ -83,7 +83,7 @@ some_passes p [] x found = cc
 some_passes p (y ∷ ys) x found = passes_here p x y (find p ys) (p y) refl (some_passes p ys x) found
 
 -- nothing is ready among requests that come after a cycle
-late_hits : (s : Config) (history : List CommandRow) (cycle t : ℕ) (hit : Bool) (more : List Request) → t < cycle → All (ComesAfter s history cycle hit) more → find (ready_hit s history t) more ≡ None
+late_hits : (s : Config) (history : List IssuedCommand) (cycle t : ℕ) (hit : Bool) (more : List Request) → t < cycle → All (ComesAfter s history cycle hit) more → find (ready_hit s history t) more ≡ None
 unfolding ready_hit
 late_hits s history cycle t hit more early all =
     none_found (λ r. is_hit history r && is_legal s history t (needed history r)) more
@@ -92,7 +92,7 @@ late_hits s history cycle t hit more early all =
 no_row : (hit legal withheld : Bool) → legal ≡ false → ((not hit && legal) && not withheld) ≡ false
 no_row hit legal withheld off = ap (λ b. (not hit && b) && not withheld) off ∙ ap (λ b. b && not withheld) (and_false (not hit))
 
-late_rows : (s : Config) (history : List CommandRow) (cycle t : ℕ) (hit : Bool) (requests more : List Request) → t < cycle → All (ComesAfter s history cycle hit) more
+late_rows : (s : Config) (history : List IssuedCommand) (cycle t : ℕ) (hit : Bool) (requests more : List Request) → t < cycle → All (ComesAfter s history cycle hit) more
     → find (ready_row s history t requests) more ≡ None
 unfolding ready_row
 late_rows s history cycle t hit requests more early all =
@@ -107,11 +107,11 @@ less_ready false false a b w off is = refl
 less_ready false true true b w off is = ap not is
 less_ready false true false b w off is = cc
 
-hits_more : (history : List CommandRow) (requests more : List Request) (bank : BankId) → has_hit history (requests ++ more) bank ≡ (has_hit history requests bank || has_hit history more bank)
+hits_more : (history : List IssuedCommand) (requests more : List Request) (bank : BankId) → has_hit history (requests ++ more) bank ≡ (has_hit history requests bank || has_hit history more bank)
 hits_more history requests more bank = list_any-append (λ r. is_row_hit r bank (open_row bank history)) requests more
 
 -- more requests withhold more
-fewer_rows : (s : Config) (history : List CommandRow) (t : ℕ) (requests more : List Request) (r : Request) → ready_row s history t requests r ≡ false
+fewer_rows : (s : Config) (history : List IssuedCommand) (t : ℕ) (requests more : List Request) (r : Request) → ready_row s history t requests r ≡ false
     → ready_row s history t (requests ++ more) r ≡ false
 unfolding ready_row
 fewer_rows s history t requests more r off =
@@ -122,13 +122,13 @@ fewer_rows s history t requests more r off =
     (ap (λ w. (not hit && legal) && not w) (sym (withheld_is history requests r)) ∙ off)
     (withheld_is history (requests ++ more) r ∙ ap (λ b. b && not hit) (hits_more history requests more bank))
 
-both_none : (history : List CommandRow) (a b : Option Request) → option_map (needed history) (or_else a b) ≡ None → (a ≡ None) × (b ≡ None)
+both_none : (history : List IssuedCommand) (a b : Option Request) → option_map (needed history) (or_else a b) ≡ None → (a ≡ None) × (b ≡ None)
 both_none history None None none = (refl, refl)
 both_none history None (Some r) none = cc
 both_none history (Some r) b none = cc
 
 -- nothing is ready before the cycle, as before
-quiet_still : (s : Config) (history : List CommandRow) (cycle t : ℕ) (hit : Bool) (requests more : List Request) → t < cycle → All (ComesAfter s history cycle hit) more
+quiet_still : (s : Config) (history : List IssuedCommand) (cycle t : ℕ) (hit : Bool) (requests more : List Request) → t < cycle → All (ComesAfter s history cycle hit) more
     → first_ready s history t requests ≡ None → first_ready s history t (requests ++ more) ≡ None
 unfolding first_ready
 quiet_still s history cycle t hit requests more early all none =
@@ -143,7 +143,7 @@ quiet_still s history cycle t hit requests more early all none =
     λ i. option_map (needed history) (or_else (hits i) (rows i))
 
 -- no row hit is among requests that need something else
-no_hits_among : (s : Config) (history : List CommandRow) (cycle : ℕ) (more : List Request) → All (ComesAfter s history cycle false) more → (bank : BankId) → has_hit history more bank ≡ false
+no_hits_among : (s : Config) (history : List IssuedCommand) (cycle : ℕ) (more : List Request) → All (ComesAfter s history cycle false) more → (bank : BankId) → has_hit history more bank ≡ false
 no_hits_among s history cycle [] all bank = refl
 no_hits_among s history cycle (r ∷ rs) all bank =
     ap (λ b. b || has_hit history rs bank) (here (is_bank (bank_in r.place) bank) refl) ∙ no_hits_among s history cycle rs (All-tail (ComesAfter s history cycle false) r rs all) bank
@@ -157,7 +157,7 @@ no_hits_among s history cycle (r ∷ rs) all bank =
     here false is = ap (λ b. b && is_row r.place.row (open_row bank history)) is
 
 -- so nothing more is withheld
-rows_same : (s : Config) (history : List CommandRow) (cycle t : ℕ) (requests more : List Request) → All (ComesAfter s history cycle false) more
+rows_same : (s : Config) (history : List IssuedCommand) (cycle t : ℕ) (requests more : List Request) → All (ComesAfter s history cycle false) more
     → (r : Request) → ready_row s history t (requests ++ more) r ≡ ready_row s history t requests r
 unfolding ready_row
 rows_same s history cycle t requests more all r =
@@ -170,13 +170,13 @@ rows_same s history cycle t requests more all r =
     (hits_more history requests more bank ∙ ap (λ b. has_hit history requests bank || b) (no_hits_among s history cycle more all bank) ∙ or_false (has_hit history requests bank))
     ∙ sym (withheld_is history requests r))
 
-none_hit : (s : Config) (history : List CommandRow) (cycle t : ℕ) (more : List Request) → All (ComesAfter s history cycle false) more → find (ready_hit s history t) more ≡ None
+none_hit : (s : Config) (history : List IssuedCommand) (cycle t : ℕ) (more : List Request) → All (ComesAfter s history cycle false) more → find (ready_hit s history t) more ≡ None
 unfolding ready_hit
 none_hit s history cycle t more all =
     none_found (λ r. is_hit history r && is_legal s history t (needed history r)) more
     (λ k d exists. ap (λ b. b && is_legal s history t (needed history (slice_index_or more k d))) ((all k d exists).no_hit refl))
 
-row_is_none : (s : Config) (history : List CommandRow) (t : ℕ) (requests : List Request) (r : Request) → ready_row s history t requests r ≡ true → is_hit history r ≡ false
+row_is_none : (s : Config) (history : List IssuedCommand) (t : ℕ) (requests : List Request) (r : Request) → ready_row s history t requests r ≡ true → is_hit history r ≡ false
 unfolding ready_row
 row_is_none s history t requests r ready =
     let hit = is_hit history r in
@@ -189,7 +189,7 @@ row_is_none s history t requests r ready =
     not_true false is = refl
 
 -- what is chosen for the cycle is so still
-chosen_still : (s : Config) (history : List CommandRow) (cycle : ℕ) (requests more : List Request) (command : Command) → All (ComesAfter s history cycle (is_column_command command)) more
+chosen_still : (s : Config) (history : List IssuedCommand) (cycle : ℕ) (requests more : List Request) (command : Command) → All (ComesAfter s history cycle (is_column_command command)) more
     → first_ready s history cycle requests ≡ Some command → first_ready s history cycle (requests ++ more) ≡ Some command
 unfolding first_ready
 chosen_still s history cycle requests more command all chosen =
@@ -219,21 +219,21 @@ chosen_still s history cycle requests more command all chosen =
         (λ i. option_map (needed history) (or_else (hits i) (first i))) ∙ is
 
 -- a rank that is to be refreshed does not look at the requests
-between_chosen : (s : Config) (history : List CommandRow) (cycle : ℕ) (requests more : List Request) (command : Command) (due : Option ℕ)
+between_chosen : (s : Config) (history : List IssuedCommand) (cycle : ℕ) (requests more : List Request) (command : Command) (due : Option ℕ)
     → All (ComesAfter s history cycle (is_column_command command)) more
     → choice_between s history cycle requests due ≡ Some command → choice_between s history cycle (requests ++ more) due ≡ Some command
 unfolding choice_between
 between_chosen s history cycle requests more command None all chosen = chosen_still s history cycle requests more command all chosen
 between_chosen s history cycle requests more command (Some rank) all chosen = chosen
 
-between_quiet : (s : Config) (history : List CommandRow) (cycle t : ℕ) (hit : Bool) (requests more : List Request) (due : Option ℕ) → t < cycle → All (ComesAfter s history cycle hit) more
+between_quiet : (s : Config) (history : List IssuedCommand) (cycle t : ℕ) (hit : Bool) (requests more : List Request) (due : Option ℕ) → t < cycle → All (ComesAfter s history cycle hit) more
     → choice_between s history t requests due ≡ None → choice_between s history t (requests ++ more) due ≡ None
 unfolding choice_between
 between_quiet s history cycle t hit requests more None early all none = quiet_still s history cycle t hit requests more early all none
 between_quiet s history cycle t hit requests more (Some rank) early all none = none
 
 -- What is next stays so with requests that come after it, where the channel never drains its writes.
-pub next_stays : (s : Config) (history : List CommandRow) (earlier later : QueueView) (new : List Request) (cycle : ℕ) (command : Command) → s.write_high ≡ 0
+pub next_stays : (s : Config) (history : List IssuedCommand) (earlier later : QueueView) (new : List Request) (cycle : ℕ) (command : Command) → s.write_high ≡ 0
     → later.requests ≡ earlier.requests ++ new → All (ComesAfter s history cycle (is_column_command command)) new
     → KeepsNext (choice_in s history earlier) (choice_in s history later) cycle command
 next_stays s history earlier later new cycle command never whole all =
@@ -255,7 +255,7 @@ next_stays s history earlier later new cycle command never whole all =
     }
 
 -- a request that comes after, by the first cycle in which what it needs may be issued
-pub after_ready : (s : Config) (history : List CommandRow) (ranks : ℕ) (r : Request) (k : Kind) (ready cycle : ℕ) (hit : Bool) → IsInBanks ranks r → IsReadyFrom s history (bank_at (bank_number r.place)) k ready
+pub after_ready : (s : Config) (history : List IssuedCommand) (ranks : ℕ) (r : Request) (k : Kind) (ready cycle : ℕ) (hit : Bool) → IsInBanks ranks r → IsReadyFrom s history (bank_at (bank_number r.place)) k ready
     → kind_of (needed history r) ≡ k → cycle ≤ ready → (hit ≡ false → is_hit history r ≡ false) → ComesAfter s history cycle hit r
 after_ready s history ranks r k ready cycle hit places from kind_is late other =
     let bank = bank_number r.place in

@@ -5,7 +5,7 @@ use Rattle.std.specs.List.{find, range_with_len}
 use Rattle.std.specs.Option.{is_some}
 use Rattle.sim_base.specs.declared.config.Config.{Config}
 use Rattle.sim_base.specs.declared.command.Command.{Command}
-use Rattle.sim_base.specs.declared.command.CommandRow.{CommandRow}
+use Rattle.sim_base.specs.declared.command.IssuedCommand.{IssuedCommand}
 use Rattle.sim_base.specs.declared.message.Request.{Request}
 use Rattle.sim_base.specs.Scheduling.{first_ready, due, refresh_command, if_legal, choice_between, lowest_due}
 use Rattle.refresh.specs.Refreshes.{RefreshCounts, lowest_owed, is_due_at, IsDueFrom, StandsFor}
@@ -16,19 +16,19 @@ use Rattle.fr_fcfs.specs.Cycles.{IsFirst, IsNextAt, IsNext}
 use Rattle.fr_fcfs.proofs.Legal.{legal_at}
 
 -- the choice where only the ranks from k on may be refreshed
-abbrev pub chosen_from : Config → List CommandRow → List Request → ℕ → ℕ → ℕ → Option Command
+abbrev pub chosen_from : Config → List IssuedCommand → List Request → ℕ → ℕ → ℕ → Option Command
 chosen_from s history requests k n cycle = choice_between s history cycle requests (find (λ rank. ltb 0 (due s rank history cycle)) (range_with_len k n))
 
-pub chosen_last : (s : Config) (history : List CommandRow) (requests : List Request) (k cycle : ℕ) → chosen_from s history requests k 0 cycle ≡ first_ready s history cycle requests
+pub chosen_last : (s : Config) (history : List IssuedCommand) (requests : List Request) (k cycle : ℕ) → chosen_from s history requests k 0 cycle ≡ first_ready s history cycle requests
 unfolding choice_between
 chosen_last s history requests k cycle = refl
 
-refreshed : (s : Config) (history : List CommandRow) (requests : List Request) (k cycle : ℕ)
+refreshed : (s : Config) (history : List IssuedCommand) (requests : List Request) (k cycle : ℕ)
     → choice_between s history cycle requests (Some k) ≡ if_legal s history cycle (refresh_command s history k)
 unfolding choice_between
 refreshed s history requests k cycle = refl
 
-pub chosen_next : (s : Config) (history : List CommandRow) (requests : List Request) (k n cycle : ℕ)
+pub chosen_next : (s : Config) (history : List IssuedCommand) (requests : List Request) (k n cycle : ℕ)
     → chosen_from s history requests k (suc n) cycle
     ≡ cond (ltb 0 (due s k history cycle)) (if_legal s history cycle (refresh_command s history k)) (chosen_from s history requests (k + 1) n cycle)
 chosen_next s history requests k n cycle =
@@ -44,17 +44,17 @@ chosen_next s history requests k n cycle =
     ]
 
 -- a command where it is legal
-legal_then : (s : Config) (history : List CommandRow) (command : Command) (ready cycle : ℕ) → IsLegalFrom s history command ready
+legal_then : (s : Config) (history : List IssuedCommand) (command : Command) (ready cycle : ℕ) → IsLegalFrom s history command ready
     → if_legal s history cycle command ≡ cond (leb ready cycle) (Some command) None
 unfolding if_legal
 legal_then s history command ready cycle legal = ap (λ b. cond b (Some command) None) (legal_at s history command ready legal cycle)
 
 -- something due from a cycle on is there as soon as it is legal, and before that what else there is
-abbrev pub IsRefreshed : Config → List CommandRow → Command → Option ℕ → ℕ → (ℕ → Option Command) → (ℕ → Option Command) → Type 0
+abbrev pub IsRefreshed : Config → List IssuedCommand → Command → Option ℕ → ℕ → (ℕ → Option Command) → (ℕ → Option Command) → Type 0
 IsRefreshed s history command due now commands rest = (c : ℕ) → now ≤ c → commands c ≡ cond (is_due_at due c) (if_legal s history c command) (rest c)
 
 -- where there is nothing else before it is due
-pub next_later : (s : Config) (history : List CommandRow) (command : Command) (due ready now : ℕ) (commands rest : ℕ → Option Command)
+pub next_later : (s : Config) (history : List IssuedCommand) (command : Command) (due ready now : ℕ) (commands rest : ℕ → Option Command)
     → IsRefreshed s history command (Some due) now commands rest → IsLegalFrom s history command ready → now ≤ due → ((c : ℕ) → now ≤ c → c < due → rest c ≡ None)
     → IsNextAt commands now (max due ready) command
 next_later s history command due ready now commands rest is legal late none = record {
@@ -76,7 +76,7 @@ next_later s history command due ready now commands rest is legal late none = re
 }
 
 -- where there is something else before it is due
-pub next_sooner : (s : Config) (history : List CommandRow) (command other : Command) (cycle due now : ℕ) (commands rest : ℕ → Option Command)
+pub next_sooner : (s : Config) (history : List IssuedCommand) (command other : Command) (cycle due now : ℕ) (commands rest : ℕ → Option Command)
     → IsRefreshed s history command (Some due) now commands rest → IsNextAt rest now cycle other → cycle < due → IsNextAt commands now cycle other
 next_sooner s history command other cycle due now commands rest is before sooner = record {
   from_now = before.from_now;
@@ -95,7 +95,7 @@ next_same commands rest now (Some next) same is = record {
 }
 
 -- one rank more, below those that were looked at
-pub refreshes_more : (s : Config) (history : List CommandRow) (requests : List Request) (rank ranks now : ℕ) (due_cycle : Option ℕ) (first next : Option (ℕ × Choice))
+pub refreshes_more : (s : Config) (history : List IssuedCommand) (requests : List Request) (rank ranks now : ℕ) (due_cycle : Option ℕ) (first next : Option (ℕ × Choice))
     → IsDueFrom (due s rank history) now due_cycle → rank < ranks
     → ((n : ℕ) → (rank + 1) + n ≡ ranks → IsNext (chosen_from s history requests (rank + 1) n) now first)
     → ((commands rest : ℕ → Option Command) → IsRefreshed s history (refresh_command s history rank) due_cycle now commands rest → IsNext rest now first → IsNext commands now next)
@@ -109,7 +109,7 @@ refreshes_more s history requests rank ranks now due_cycle first next is_due exi
     (before n (omega arith))
 
 -- the choice with no rank is that of the requests
-pub chosen_start : (s : Config) (history : List CommandRow) (requests : List Request) (ranks now : ℕ) (next : Option (ℕ × Choice))
+pub chosen_start : (s : Config) (history : List IssuedCommand) (requests : List Request) (ranks now : ℕ) (next : Option (ℕ × Choice))
     → IsNext (λ cycle. first_ready s history cycle requests) now next → (n : ℕ) → ranks + n ≡ ranks → IsNext (chosen_from s history requests ranks n) now next
 chosen_start s history requests ranks now next is zero all =
     next_same (chosen_from s history requests ranks 0) (λ cycle. first_ready s history cycle requests) now next (λ c from. chosen_last s history requests ranks c) is
@@ -124,7 +124,7 @@ first_cycle commands now cycle command next = record {
 }
 
 -- where no refresh is due by the cycle of the first command of the requests, that goes first
-pub next_quiet : (s : Config) (history : List CommandRow) (requests : List Request) (counts : RefreshCounts) (now cycle : ℕ) (command : Command) → StandsFor counts s history
+pub next_quiet : (s : Config) (history : List IssuedCommand) (requests : List Request) (counts : RefreshCounts) (now cycle : ℕ) (command : Command) → StandsFor counts s history
     → is_some (lowest_owed counts cycle) ≡ false → IsNextAt (λ c. first_ready s history c requests) now cycle command
     → IsNextAt (λ c. choice_between s history c requests (lowest_due s history c)) now cycle command
 next_quiet s history requests counts now cycle command stands none first = record {

@@ -4,14 +4,14 @@
 use Rattle.std.specs.Prelude.{◌≡◌, ℕ, ◌<◌, Bool, false, List, Option, Some, None}
 use Rattle.sim_base.specs.declared.config.Config.{Config}
 use Rattle.sim_base.specs.declared.command.Command.{Command}
-use Rattle.sim_base.specs.declared.command.CommandRow.{CommandRow}
+use Rattle.sim_base.specs.declared.command.IssuedCommand.{IssuedCommand}
 use Rattle.sim_base.specs.declared.message.Request.{Request}
 use Rattle.sim_base.specs.Rules.{is_legal}
 use Rattle.sim_base.specs.Scheduling.{needed}
 use Rattle.fr_fcfs.specs.Requests.{is_hit}
 
 -- What a request needs may not be issued before a cycle. It is no row hit, unless what is chosen for the cycle moves data.
-pub record ComesAfter (s : Config) (history : List CommandRow) (cycle : ℕ) (hit : Bool) (r : Request) : Type 0 where
+pub record ComesAfter (s : Config) (history : List IssuedCommand) (cycle : ℕ) (hit : Bool) (r : Request) : Type 0 where
   pub late : (t : ℕ) → t < cycle → is_legal s history t (needed history r) ≡ false
   pub no_hit : hit ≡ false → is_hit history r ≡ false
 

@@ -1,4 +1,4 @@
--- What banks offer for the heads of their queues.
+-- What banks offer for the candidates of their queues.
 --     is_of kinds r      a request is of the kinds that go
 --     only write      requests to write go alone, or requests to read
 --     hits_in s history requests kinds bank cycle      the place of the first ready row hit of a bank in a cycle
@@ -9,7 +9,7 @@
 use Rattle.std.specs.Prelude.{◌≡◌, ℕ, ◌<◌, ◌≤◌, ◌==◌, nat_lt, max, Bool, true, false, not, ◌&&◌, List, filter, Option, Some, None, option_map, slice_get, if◌then◌else◌}
 use Rattle.sim_base.specs.declared.config.Config.{Config}
 use Rattle.sim_base.specs.declared.command.Command.{Command}
-use Rattle.sim_base.specs.declared.command.CommandRow.{CommandRow}
+use Rattle.sim_base.specs.declared.command.IssuedCommand.{IssuedCommand}
 use Rattle.sim_base.specs.declared.command.Kind.{Kind}
 use Rattle.sim_base.specs.declared.command.Kind.TheVariants as kind
 use Rattle.sim_base.specs.declared.message.Request.{Request}
@@ -18,9 +18,9 @@ use Rattle.sim_base.specs.Rules.{kind_of, bank_of, finds_its_banks}
 use Rattle.sim_base.specs.Scheduling.{needed, ready_hit, ready_row, first_of_lines, first_ready}
 use Rattle.queue_columns.specs.Columns.{bank_number}
 use Rattle.queue.specs.View.{QueueView}
-use Rattle.heads.specs.declared.entry.BankHeads.{BankHeads}
-use Rattle.heads.specs.Heads.{first_place}
-use Rattle.heads.specs.Moves.{earlier}
+use Rattle.bank_candidates.specs.declared.entry.CandidatesOfBank.{CandidatesOfBank}
+use Rattle.bank_candidates.specs.Candidates.{first_place}
+use Rattle.bank_candidates.specs.Moves.{earlier}
 use Rattle.fr_fcfs.specs.declared.kinds.Kinds.{Kinds}
 use Rattle.fr_fcfs.specs.declared.offers.Offer.{Offer}
 use Rattle.fr_fcfs.specs.Requests.{IsLegalFrom, candidates_of}
@@ -41,36 +41,36 @@ all_kinds = record { reads = true; writes = true }
 abbrev pub column_kind : Bool → Kind
 column_kind write = if write then kind.Wr else kind.Rd
 
--- a head, if its kind goes
+-- a candidate, if its kind goes
 abbrev pub if_allowed : Option ℕ → Bool → Option ℕ
-if_allowed head allowed = if allowed then head else None
+if_allowed candidate allowed = if allowed then candidate else None
 
 -- the first row hit of a bank, of the kinds that go
-abbrev pub hit_head : Kinds → BankHeads → Option ℕ
-hit_head kinds heads = earlier (if_allowed heads.reads.hit kinds.reads) (if_allowed heads.writes.hit kinds.writes)
+abbrev pub hit_candidate : Kinds → CandidatesOfBank → Option ℕ
+hit_candidate kinds bank_candidates = earlier (if_allowed bank_candidates.reads.hit kinds.reads) (if_allowed bank_candidates.writes.hit kinds.writes)
 
 -- the first request of a bank, of the kinds that go
-abbrev pub oldest_head : Kinds → BankHeads → Option ℕ
-oldest_head kinds heads = earlier (if_allowed heads.reads.oldest kinds.reads) (if_allowed heads.writes.oldest kinds.writes)
+abbrev pub oldest_candidate : Kinds → CandidatesOfBank → Option ℕ
+oldest_candidate kinds bank_candidates = earlier (if_allowed bank_candidates.reads.oldest kinds.reads) (if_allowed bank_candidates.writes.oldest kinds.writes)
 
 -- the requests that may be served, of the kinds that go
 abbrev pub going : Kinds → List Request → List Request
 going kinds requests = filter (is_of kinds) (first_of_lines requests)
 
 -- a row hit of a bank that is ready in a cycle
-abbrev pub hits_now : Config → List CommandRow → Kinds → ℕ → Request → Bool
+abbrev pub hits_now : Config → List IssuedCommand → Kinds → ℕ → Request → Bool
 hits_now s history kinds cycle r = is_of kinds r && ready_hit s history cycle r
 
 -- a request for which an ACT or a PRE may be issued in a cycle
-abbrev pub rows_now : Config → List CommandRow → List Request → Kinds → ℕ → Request → Bool
+abbrev pub rows_now : Config → List IssuedCommand → List Request → Kinds → ℕ → Request → Bool
 rows_now s history requests kinds cycle r = is_of kinds r && ready_row s history cycle (going kinds requests) r
 
 -- the place of the first row hit of a bank that is ready in a cycle
-abbrev pub hits_in : Config → List CommandRow → List Request → Kinds → ℕ → ℕ → Option ℕ
+abbrev pub hits_in : Config → List IssuedCommand → List Request → Kinds → ℕ → ℕ → Option ℕ
 hits_in s history requests kinds bank cycle = first_place (λ r. (bank_number r.place == bank) && hits_now s history kinds cycle r) requests
 
 -- the place of its first request for which an ACT or a PRE may be issued then
-abbrev pub rows_in : Config → List CommandRow → List Request → Kinds → ℕ → ℕ → Option ℕ
+abbrev pub rows_in : Config → List IssuedCommand → List Request → Kinds → ℕ → ℕ → Option ℕ
 rows_in s history requests kinds bank cycle = first_place (λ r. (bank_number r.place == bank) && rows_now s history requests kinds cycle r) requests
 
 -- a row hit is at this place, or there is none and the other is
@@ -112,7 +112,7 @@ abbrev pub offer_from : ℕ → ℕ → Bool → ℕ → Offer
 offer_from now ready hit slot = record { cycle = max now ready; hit = hit; slot = slot }
 
 -- from which cycle on commands of a kind may be issued to a bank, where they find it as they should
-abbrev pub IsReadyFrom : Config → List CommandRow → BankId → Kind → ℕ → Type 0
+abbrev pub IsReadyFrom : Config → List IssuedCommand → BankId → Kind → ℕ → Type 0
 IsReadyFrom s history bank kind ready =
     (command : Command) → kind_of command ≡ kind → bank_of command ≡ Some bank → finds_its_banks s history command ≡ true → IsLegalFrom s history command ready
 
@@ -122,12 +122,12 @@ row_kind (Some row) = kind.Pre
 row_kind None = kind.Act
 
 -- An offer is what the first request needs that is ready from now on.
-pub record IsReadyAt (s : Config) (history : List CommandRow) (queue : QueueView) (now : ℕ) (o : Offer) : Type 0 where
+pub record IsReadyAt (s : Config) (history : List IssuedCommand) (queue : QueueView) (now : ℕ) (o : Offer) : Type 0 where
   pub from_now : now ≤ o.cycle
   pub none_before : (cycle : ℕ) → now ≤ cycle → cycle < o.cycle → first_ready s history cycle (candidates_of s queue) ≡ None
   pub then_is : first_ready s history o.cycle (candidates_of s queue) ≡ option_map (needed history) (slice_get queue.requests o.slot)
 
 -- the same, where there may be none
-abbrev pub IsFirstReady : Config → List CommandRow → QueueView → ℕ → Option Offer → Type 0
+abbrev pub IsFirstReady : Config → List IssuedCommand → QueueView → ℕ → Option Offer → Type 0
 IsFirstReady s history queue now None = (cycle : ℕ) → now ≤ cycle → first_ready s history cycle (candidates_of s queue) ≡ None
 IsFirstReady s history queue now (Some o) = IsReadyAt s history queue now o

@@ -1,19 +1,19 @@
 -- What a request needs, and which requests may be served next.
 --     IsInBanks ranks r      a request asks for a bank that there is
---     KnowsRows heads history      heads that know which rows are open
+--     KnowsRows bank_candidates history      bank_candidates that know which rows are open
 --     IsLegalFrom s history command cycle      from which cycle on a command may be issued
 --     is_hit history r      the request waits for its data alone
 --     candidates_of s queue      the requests that may be served next
 use Rattle.std.specs.Prelude.{ℕ, ◌<◌, ◌≤◌, ◌↔◌, Bool, IsTrue, List}
 use Rattle.sim_base.specs.declared.config.Config.{Config}
 use Rattle.sim_base.specs.declared.command.Command.{Command}
-use Rattle.sim_base.specs.declared.command.CommandRow.{CommandRow}
+use Rattle.sim_base.specs.declared.command.IssuedCommand.{IssuedCommand}
 use Rattle.sim_base.specs.declared.message.Request.{Request}
 use Rattle.sim_base.specs.Rules.{is_legal, open_row}
 use Rattle.sim_base.specs.Scheduling.{needed, is_column_command, candidates}
-use Rattle.heads.specs.declared.heads.Heads.{Heads}
-use Rattle.heads.specs.Heads.{bank_at}
-use Rattle.heads.specs.Stands.{StandsFor as HeadsStandFor}
+use Rattle.bank_candidates.specs.declared.all_banks.BankCandidates.{BankCandidates}
+use Rattle.bank_candidates.specs.Candidates.{bank_at}
+use Rattle.bank_candidates.specs.Stands.{StandsFor as CandidatesStandFor}
 use Rattle.queue.specs.View.{QueueView, is_draining}
 
 -- a request asks for a bank of so many ranks, each with four groups of four banks at most
@@ -22,17 +22,17 @@ pub record IsInBanks (ranks : ℕ) (r : Request) : Type 0 where
   pub group : r.place.group < 4
   pub bank : r.place.bank < 4
 
--- heads that stand for some queue, and for the rows that are open after a history
-pub record KnowsRows (heads : Heads) (history : List CommandRow) : Type 0 where
+-- candidates that stand for some queue, and for the rows that are open after a history
+pub record KnowsRows (bank_candidates : BankCandidates) (history : List IssuedCommand) : Type 0 where
   pub requests : List Request
-  pub stands : HeadsStandFor heads requests (λ bank. open_row (bank_at bank) history)
+  pub stands : CandidatesStandFor bank_candidates requests (λ bank. open_row (bank_at bank) history)
 
 -- from this cycle on, and not before, a command may be issued after a history
-abbrev pub IsLegalFrom : Config → List CommandRow → Command → ℕ → Type 0
+abbrev pub IsLegalFrom : Config → List IssuedCommand → Command → ℕ → Type 0
 IsLegalFrom s history command cycle = (now : ℕ) → (cycle ≤ now) ↔ IsTrue (is_legal s history now command)
 
 -- a request waits for nothing but its data
-abbrev pub is_hit : List CommandRow → Request → Bool
+abbrev pub is_hit : List IssuedCommand → Request → Bool
 is_hit history r = is_column_command (needed history r)
 
 -- the requests that may be served next

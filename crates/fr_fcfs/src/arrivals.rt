@@ -6,22 +6,22 @@ ghost use Rattle.sim_base.specs.Rules.{kind_of, open_row};
 ghost use Rattle.sim_base.specs.Scheduling.{needed_at, is_column_command};
 ghost use Rattle.sim_base.specs.declared.config.Config.{Config};
 ghost use Rattle.sim_base.specs.declared.command.Command.{Command};
-ghost use Rattle.sim_base.specs.declared.command.CommandRow.{CommandRow};
+ghost use Rattle.sim_base.specs.declared.command.IssuedCommand.{IssuedCommand};
 ghost use Rattle.sim_base.specs.declared.message.Request.{Request};
 ghost use Rattle.bank_ready.specs.Words.{names_bank};
 ghost use Rattle.bank_ready.specs.Stands.{rank_count, StandsFor as BanksStandFor};
 ghost use Rattle.queue.specs.View.{QueueView};
 ghost use Rattle.queue_columns.specs.Columns.{bank_number};
-ghost use Rattle.heads.specs.Heads.{bank_at};
-ghost use Rattle.heads.specs.Stands.{bank_count, StandsFor as HeadsStandFor};
+ghost use Rattle.bank_candidates.specs.Candidates.{bank_at};
+ghost use Rattle.bank_candidates.specs.Stands.{bank_count, StandsFor as CandidatesStandFor};
 ghost use Rattle.fr_fcfs.specs.Arrivals.{ComesAfter, KeepsNext};
 ghost use Rattle.fr_fcfs.specs.Choices.{choice_in};
 ghost use Rattle.fr_fcfs.specs.Requests.{IsInBanks, KnowsRows};
 
 use crate::choice::Choice;
 use crate::offers::ready;
+use bank_candidates::BankCandidates;
 use bank_ready::banks::Banks;
-use heads::Heads;
 use queue::Queue;
 use queue_columns::words::bank_number;
 use sim_base::command::Kind;
@@ -51,13 +51,19 @@ fn moves_data(kind: Kind) -> bool
 
 /// Whether what a request needs may not be issued before a cycle, and is no row hit, unless a row hit is chosen for the cycle.
 #[inline(always)]
-fn comes_after(heads: &Heads, banks: &Banks, request: &Request, cycle: Cycle, hit: bool) -> bool
+fn comes_after(
+    bank_candidates: &BankCandidates,
+    banks: &Banks,
+    request: &Request,
+    cycle: Cycle,
+    hit: bool,
+) -> bool
     requires place { IsInBanks (rank_count banks.now) request.now }
-    requires banks { bank_count heads.now ≡ 16 * rank_count banks.now }
-    ensures { (s : Config) (history : List CommandRow) → result ≡ true → BanksStandFor banks.now s history → KnowsRows heads.now history
+    requires banks { bank_count bank_candidates.now ≡ 16 * rank_count banks.now }
+    ensures { (s : Config) (history : List IssuedCommand) → result ≡ true → BanksStandFor banks.now s history → KnowsRows bank_candidates.now history
         → ComesAfter s history cycle hit request.now }
 {
-    let open_row = heads.open_row(request.place.bank_id());
+    let open_row = bank_candidates.open_row(request.place.bank_id());
     let kind = kind_needed(open_row, request.place.row, request.write);
     let after = cycle <= ready(banks, bank_number(request.place), kind);
     after && (hit || !moves_data(kind))
@@ -69,16 +75,16 @@ fn comes_after(heads: &Heads, banks: &Banks, request: &Request, cycle: Cycle, hi
 #[inline(always)]
 pub fn stays(
     queue: &Queue,
-    heads: &Heads,
+    bank_candidates: &BankCandidates,
     banks: &Banks,
     from: usize,
     cycle: Cycle,
     choice: &Choice,
 ) -> bool
     requires places { All (IsInBanks (rank_count banks.now)) queue.now.requests }
-    requires banks { bank_count heads.now ≡ 16 * rank_count banks.now }
-    ensures { (s : Config) (history : List CommandRow) (earlier : QueueView) → result ≡ true → BanksStandFor banks.now s history
-        → HeadsStandFor heads.now queue.now.requests (λ bank. open_row (bank_at bank) history) → s.write_high ≡ queue.now.high
+    requires banks { bank_count bank_candidates.now ≡ 16 * rank_count banks.now }
+    ensures { (s : Config) (history : List IssuedCommand) (earlier : QueueView) → result ≡ true → BanksStandFor banks.now s history
+        → CandidatesStandFor bank_candidates.now queue.now.requests (λ bank. open_row (bank_at bank) history) → s.write_high ≡ queue.now.high
         → earlier.requests ≡ take from queue.now.requests
         → KeepsNext (choice_in s history earlier) (choice_in s history queue.now) cycle choice.now.command }
 {
@@ -88,7 +94,7 @@ pub fn stays(
     let hit = choice.command.is_column();
     let requests = queue.requests();
     for slot in from..requests.len() {
-        if !comes_after(heads, banks, &requests[slot], cycle, hit) {
+        if !comes_after(bank_candidates, banks, &requests[slot], cycle, hit) {
             return false;
         }
     }

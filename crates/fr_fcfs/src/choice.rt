@@ -6,20 +6,20 @@ ghost use Rattle.sim_base.specs.Rules.{open_row};
 ghost use Rattle.sim_base.specs.Scheduling.{needed, first_ready, if_legal, refresh_command};
 ghost use Rattle.sim_base.specs.declared.config.Config.{Config};
 ghost use Rattle.sim_base.specs.declared.command.Command.{Command};
-ghost use Rattle.sim_base.specs.declared.command.CommandRow.{CommandRow};
+ghost use Rattle.sim_base.specs.declared.command.IssuedCommand.{IssuedCommand};
 ghost use Rattle.sim_base.specs.declared.message.Request.{Request};
 ghost use Rattle.bank_ready.specs.Stands.{rank_count, StandsFor as BanksStandFor};
 ghost use Rattle.refresh.specs.Refreshes.{is_due_at};
-ghost use Rattle.heads.specs.Heads.{bank_at};
-ghost use Rattle.heads.specs.Stands.{bank_count, IsAmong, StandsFor as HeadsStandFor};
+ghost use Rattle.bank_candidates.specs.Candidates.{bank_at};
+ghost use Rattle.bank_candidates.specs.Stands.{bank_count, IsAmong, StandsFor as CandidatesStandFor};
 ghost use Rattle.fr_fcfs.specs.Requests.{IsInBanks, KnowsRows, candidates_of};
 ghost use Rattle.fr_fcfs.specs.Cycles.{IsNext};
 ghost use Rattle.fr_fcfs.specs.Choices.{StandFor, choice_in, IsFor};
 
 use crate::needs::{needed, refresh_need};
 use crate::offers::first_offer;
+use bank_candidates::BankCandidates;
 use bank_ready::banks::Banks;
-use heads::Heads;
 use queue::Queue;
 use refresh::Refresh;
 use sim_base::command::Command;
@@ -34,14 +34,14 @@ pub struct Choice {
 
 /// What a request at a place of the queue needs, as a choice.
 #[inline]
-fn choice_at(heads: &Heads, requests: &[Request], slot: usize) -> Choice
-    requires places { All (λ r. IsAmong heads.now (bank_in r.place)) requests.now }
+fn choice_at(bank_candidates: &BankCandidates, requests: &[Request], slot: usize) -> Choice
+    requires places { All (λ r. IsAmong bank_candidates.now (bank_in r.place)) requests.now }
     requires within { slot < length requests.now }
-    ensures command { (history : List CommandRow) → KnowsRows heads.now history
+    ensures command { (history : List IssuedCommand) → KnowsRows bank_candidates.now history
         → option_map (needed history) (slice_get requests.now slot) ≡ Some result.command }
     ensures place { IsFor requests.now result }
 {
-    let command = needed(heads, requests[slot]);
+    let command = needed(bank_candidates, requests[slot]);
     let place = command.is_column().then_some(slot);
     Choice {
         command,
@@ -53,39 +53,42 @@ fn choice_at(heads: &Heads, requests: &[Request], slot: usize) -> Choice
 #[inline]
 fn next_of_requests(
     queue: &Queue,
-    heads: &Heads,
+    bank_candidates: &BankCandidates,
     banks: &Banks,
     now: Cycle,
 ) -> Option<(Cycle, Choice)>
     requires places { All (IsInBanks (rank_count banks.now)) queue.now.requests }
-    requires banks { bank_count heads.now ≡ 16 * rank_count banks.now }
-    ensures next { (s : Config) (history : List CommandRow) → BanksStandFor banks.now s history
-        → HeadsStandFor heads.now queue.now.requests (λ bank. open_row (bank_at bank) history) → s.write_high ≡ queue.now.high
+    requires banks { bank_count bank_candidates.now ≡ 16 * rank_count banks.now }
+    ensures next { (s : Config) (history : List IssuedCommand) → BanksStandFor banks.now s history
+        → CandidatesStandFor bank_candidates.now queue.now.requests (λ bank. open_row (bank_at bank) history) → s.write_high ≡ queue.now.high
         → IsNext (λ cycle. first_ready s history cycle (candidates_of s queue.now)) now result }
     ensures place { IfSome result (λ next. IsFor queue.now.requests next.1) }
 {
-    match first_offer(queue, heads, banks, now) {
-        Some(offer) => Some((offer.cycle, choice_at(heads, queue.requests(), offer.slot))),
+    match first_offer(queue, bank_candidates, banks, now) {
+        Some(offer) => Some((
+            offer.cycle,
+            choice_at(bank_candidates, queue.requests(), offer.slot),
+        )),
         None => None,
     }
 }
 
-/// Takes the refresh of a rank, which may be due from some cycle on and keeps all else waiting then, into the first cycle with a
+/// Takes the refresh of a rank, which may be due from some cycle on and holds all else back then, into the first cycle with a
 /// command and that command. Nothing is written where they stay.
 #[inline(always)]
 fn with_refresh(
     next: &mut Option<(Cycle, Choice)>,
     due: Option<Cycle>,
-    heads: &Heads,
+    bank_candidates: &BankCandidates,
     banks: &Banks,
     rank: u32,
     groups: u32,
 )
     requires rank { rank < rank_count banks.now }
-    requires banks { bank_count heads.now ≡ 16 * rank_count banks.now }
+    requires banks { bank_count bank_candidates.now ≡ 16 * rank_count banks.now }
     requires groups { groups ≤ 4 }
-    ensures next { (s : Config) (history : List CommandRow) (commands rest : ℕ → Option Command) (now : ℕ) → BanksStandFor banks.now s history
-        → KnowsRows heads.now history → s.groups ≡ groups
+    ensures next { (s : Config) (history : List IssuedCommand) (commands rest : ℕ → Option Command) (now : ℕ) → BanksStandFor banks.now s history
+        → KnowsRows bank_candidates.now history → s.groups ≡ groups
         → IfSome due (λ cycle. now ≤ cycle)
         → ((c : ℕ) → now ≤ c → commands c ≡ (if is_due_at due c then if_legal s history c (refresh_command s history rank) else rest c))
         → IsNext rest now next.old → IsNext commands now next.new }
@@ -97,7 +100,7 @@ fn with_refresh(
     match *next {
         Some((cycle, _)) if cycle < due => {}
         _ => {
-            let need = refresh_need(heads, banks, rank, groups);
+            let need = refresh_need(bank_candidates, banks, rank, groups);
             let choice = Choice {
                 command: need.command,
                 slot: None,
@@ -108,25 +111,25 @@ fn with_refresh(
 }
 
 /// The first cycle with a command from `now` on, if the queue stays as it is, and that command; None where there is none. `groups`
-/// is the number of groups of each rank. What a rank needs that is to be refreshed goes first, and keeps the requests waiting; of
+/// is the number of groups of each rank. What a rank needs that is to be refreshed goes first, and holds the requests back; of
 /// these row hits go first, and then the oldest.
 pub fn next(
     queue: &Queue,
-    heads: &Heads,
+    bank_candidates: &BankCandidates,
     banks: &Banks,
     refresh: &Refresh,
     groups: u32,
     now: Cycle,
 ) -> Option<(Cycle, Choice)>
     requires places { All (IsInBanks (rank_count banks.now)) queue.now.requests }
-    requires banks { bank_count heads.now ≡ 16 * rank_count banks.now }
+    requires banks { bank_count bank_candidates.now ≡ 16 * rank_count banks.now }
     requires ranks { refresh.now.ranks ≤ rank_count banks.now }
     requires groups { groups ≤ 4 }
-    ensures next { (s : Config) (history : List CommandRow) → StandFor heads.now banks.now refresh.now queue.now groups s history
+    ensures next { (s : Config) (history : List IssuedCommand) → StandFor bank_candidates.now banks.now refresh.now queue.now groups s history
         → IsNext (choice_in s history queue.now) now result }
     ensures place { IfSome result (λ next. IsFor queue.now.requests next.1) }
 {
-    let mut next = next_of_requests(queue, heads, banks, now);
+    let mut next = next_of_requests(queue, bank_candidates, banks, now);
     if let Some((cycle, _)) = next {
         if !refresh.is_due_by(cycle) {
             return next;
@@ -136,7 +139,7 @@ pub fn next(
     while 0 < rank {
         rank -= 1;
         let due = refresh.first_due(now, rank);
-        with_refresh(&mut next, due, heads, banks, rank, groups);
+        with_refresh(&mut next, due, bank_candidates, banks, rank, groups);
     }
     next
 }

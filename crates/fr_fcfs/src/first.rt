@@ -3,22 +3,22 @@
 ghost use Rattle.std.specs.Prelude.{◌≡◌, ◌<◌, ◌≤◌, ◌*◌, ℕ, true, false, ◌&&◌, List, Option, None, All, IsTrue, length, is_some, IfSome, if◌then◌else◌};
 ghost use Rattle.sim_base.specs.Rules.{open_row};
 ghost use Rattle.sim_base.specs.declared.config.Config.{Config};
-ghost use Rattle.sim_base.specs.declared.command.CommandRow.{CommandRow};
+ghost use Rattle.sim_base.specs.declared.command.IssuedCommand.{IssuedCommand};
 ghost use Rattle.sim_base.specs.declared.message.Request.{Request};
 ghost use Rattle.bank_ready.specs.Words.{names_bank, moves_data};
 ghost use Rattle.bank_ready.specs.Stands.{rank_count, StandsFor as BanksStandFor};
-ghost use Rattle.heads.specs.declared.entry.BankHeads.{BankHeads};
-ghost use Rattle.heads.specs.Heads.{bank_at, first_place};
-ghost use Rattle.heads.specs.Moves.{earlier};
-ghost use Rattle.heads.specs.Sets.{is_in};
-ghost use Rattle.heads.specs.Stands.{bank_count, heads_of, StandsFor as HeadsStandFor};
+ghost use Rattle.bank_candidates.specs.declared.entry.CandidatesOfBank.{CandidatesOfBank};
+ghost use Rattle.bank_candidates.specs.Candidates.{bank_at, first_place};
+ghost use Rattle.bank_candidates.specs.Moves.{earlier};
+ghost use Rattle.bank_candidates.specs.Sets.{is_in};
+ghost use Rattle.bank_candidates.specs.Stands.{bank_count, candidates_of_bank, StandsFor as CandidatesStandFor};
 ghost use Rattle.fr_fcfs.specs.Requests.{IsInBanks, candidates_of};
-ghost use Rattle.fr_fcfs.specs.Offers.{only, going, column_kind, if_allowed, hit_head, oldest_head, hits_now, rows_now, hits_in, rows_in, IsBestSoFar, IsFirstReady};
+ghost use Rattle.fr_fcfs.specs.Offers.{only, going, column_kind, if_allowed, hit_candidate, oldest_candidate, hits_now, rows_now, hits_in, rows_in, IsBestSoFar, IsFirstReady};
 
 use crate::kinds::Kinds;
 use crate::offers::{Offer, improve, ready, row_kind};
+use bank_candidates::{BankCandidates, BankSet};
 use bank_ready::banks::Banks;
-use heads::{BankSet, Heads};
 use queue::Queue;
 use sim_base::command::Kind;
 use sim_base::message::Cycle;
@@ -45,12 +45,12 @@ fn earlier(a: Option<usize>, b: Option<usize>) -> Option<usize>
     }
 }
 
-/// A head, if its kind goes.
+/// A candidate, if its kind goes.
 #[inline(always)]
-fn if_allowed(head: Option<usize>, allowed: bool) -> Option<usize>
-    ensures { result ≡ if_allowed head allowed }
+fn if_allowed(candidate: Option<usize>, allowed: bool) -> Option<usize>
+    ensures { result ≡ if_allowed candidate allowed }
 {
-    if allowed { head } else { None }
+    if allowed { candidate } else { None }
 }
 
 /// Banks, if the kind that is asked of them goes.
@@ -63,64 +63,78 @@ fn banks_if(banks: BankSet, allowed: bool) -> BankSet
 
 /// The first request of a bank that may be served, of the kinds that go.
 #[inline(always)]
-fn oldest(heads: &Heads, bank: usize, kinds: Kinds) -> Option<usize>
-    requires { bank < bank_count heads.now }
-    ensures { (d : BankHeads) → result ≡ oldest_head kinds (heads_of heads.now bank d) }
+fn oldest(bank_candidates: &BankCandidates, bank: usize, kinds: Kinds) -> Option<usize>
+    requires { bank < bank_count bank_candidates.now }
+    ensures { (d : CandidatesOfBank) → result ≡ oldest_candidate kinds (candidates_of_bank bank_candidates.now bank d) }
 {
-    let read = if_allowed(heads.of_kind(bank, false).oldest, kinds.reads);
-    let write = if_allowed(heads.of_kind(bank, true).oldest, kinds.writes);
+    let read = if_allowed(bank_candidates.of_kind(bank, false).oldest, kinds.reads);
+    let write = if_allowed(bank_candidates.of_kind(bank, true).oldest, kinds.writes);
     earlier(read, write)
 }
 
 /// The banks for which a request of the kinds that go may be served.
 #[inline(always)]
-fn asked(heads: &Heads, kinds: Kinds) -> BankSet
-    ensures within { (k : ℕ) → is_in result k ≡ true → k < bank_count heads.now }
-    ensures each { (k : ℕ) (d : BankHeads) → k < bank_count heads.now → is_in result k ≡ is_some (oldest_head kinds (heads_of heads.now k d)) }
+fn banks_with_candidate(bank_candidates: &BankCandidates, kinds: Kinds) -> BankSet
+    ensures within { (k : ℕ) → is_in result k ≡ true → k < bank_count bank_candidates.now }
+    ensures each { (k : ℕ) (d : CandidatesOfBank) → k < bank_count bank_candidates.now → is_in result k ≡ is_some (oldest_candidate kinds (candidates_of_bank bank_candidates.now k d)) }
 {
-    let reads = banks_if(heads.asked(false), kinds.reads);
-    let writes = banks_if(heads.asked(true), kinds.writes);
+    let reads = banks_if(bank_candidates.banks_with_candidate(false), kinds.reads);
+    let writes = banks_if(bank_candidates.banks_with_candidate(true), kinds.writes);
     reads.union(writes)
 }
 
 /// The banks whose open row a request of the kinds that go asks for.
 #[inline(always)]
-fn hit(heads: &Heads, kinds: Kinds) -> BankSet
-    ensures { (k : ℕ) (d : BankHeads) → k < bank_count heads.now → is_in result k ≡ is_some (hit_head kinds (heads_of heads.now k d)) }
+fn hit(bank_candidates: &BankCandidates, kinds: Kinds) -> BankSet
+    ensures { (k : ℕ) (d : CandidatesOfBank) → k < bank_count bank_candidates.now → is_in result k ≡ is_some (hit_candidate kinds (candidates_of_bank bank_candidates.now k d)) }
 {
-    let reads = banks_if(heads.hit(false), kinds.reads);
-    let writes = banks_if(heads.hit(true), kinds.writes);
+    let reads = banks_if(bank_candidates.hit(false), kinds.reads);
+    let writes = banks_if(bank_candidates.hit(true), kinds.writes);
     reads.union(writes)
 }
 
 /// Takes what opens or closes the row of one bank more into the best offer so far. No request of the kinds that go asks for the open
 /// row. The request is looked for only where the command may be issued soon enough.
 #[inline(always)]
-fn with_row(best: &mut Offer, heads: &Heads, bank: usize, kinds: Kinds, banks: &Banks, now: Cycle)
-    requires heads { bank < bank_count heads.now }
+fn with_row(
+    best: &mut Offer,
+    bank_candidates: &BankCandidates,
+    bank: usize,
+    kinds: Kinds,
+    banks: &Banks,
+    now: Cycle,
+)
+    requires bank_candidates { bank < bank_count bank_candidates.now }
     requires banks { bank < 16 * rank_count banks.now }
-    requires no_hit { (d : BankHeads) → is_some (hit_head kinds (heads_of heads.now bank d)) ≡ false }
-    ensures { (s : Config) (history : List CommandRow) (requests : List Request) (hits rows : ℕ → Option ℕ) → BanksStandFor banks.now s history
-        → HeadsStandFor heads.now requests (λ bank. open_row (bank_at bank) history) → All (IsInBanks (rank_count banks.now)) requests
+    requires no_hit { (d : CandidatesOfBank) → is_some (hit_candidate kinds (candidates_of_bank bank_candidates.now bank d)) ≡ false }
+    ensures { (s : Config) (history : List IssuedCommand) (requests : List Request) (hits rows : ℕ → Option ℕ) → BanksStandFor banks.now s history
+        → CandidatesStandFor bank_candidates.now requests (λ bank. open_row (bank_at bank) history) → All (IsInBanks (rank_count banks.now)) requests
         → IsBestSoFar (length requests) now hits rows best.old
         → IsBestSoFar (length requests) now hits (λ cycle. earlier (rows cycle) (rows_in s history requests kinds bank cycle)) best.new }
 {
-    let ready = ready(banks, bank, row_kind(heads.row_of(bank)));
+    let ready = ready(banks, bank, row_kind(bank_candidates.row_of(bank)));
     if best.cycle < ready {
         return;
     }
-    if let Some(slot) = oldest(heads, bank, kinds) {
+    if let Some(slot) = oldest(bank_candidates, bank, kinds) {
         improve(best, ready, false, slot, now);
     }
 }
 
 /// Takes the row hit of one bank more into the best offer so far. It is looked for only where it may be issued soon enough.
 #[inline(always)]
-fn with_hit(best: &mut Offer, heads: &Heads, bank: usize, write: bool, banks: &Banks, now: Cycle)
-    requires heads { bank < bank_count heads.now }
+fn with_hit(
+    best: &mut Offer,
+    bank_candidates: &BankCandidates,
+    bank: usize,
+    write: bool,
+    banks: &Banks,
+    now: Cycle,
+)
+    requires bank_candidates { bank < bank_count bank_candidates.now }
     requires banks { bank < 16 * rank_count banks.now }
-    ensures { (s : Config) (history : List CommandRow) (requests : List Request) (hits rows : ℕ → Option ℕ) → BanksStandFor banks.now s history
-        → HeadsStandFor heads.now requests (λ bank. open_row (bank_at bank) history) → All (IsInBanks (rank_count banks.now)) requests
+    ensures { (s : Config) (history : List IssuedCommand) (requests : List Request) (hits rows : ℕ → Option ℕ) → BanksStandFor banks.now s history
+        → CandidatesStandFor bank_candidates.now requests (λ bank. open_row (bank_at bank) history) → All (IsInBanks (rank_count banks.now)) requests
         → IsBestSoFar (length requests) now hits rows best.old
         → IsBestSoFar (length requests) now (λ cycle. earlier (hits cycle) (hits_in s history requests (only write) bank cycle)) rows best.new }
 {
@@ -128,7 +142,7 @@ fn with_hit(best: &mut Offer, heads: &Heads, bank: usize, write: bool, banks: &B
     if best.cycle < ready {
         return;
     }
-    if let Some(slot) = heads.of_kind(bank, write).hit {
+    if let Some(slot) = bank_candidates.of_kind(bank, write).hit {
         improve(best, ready, true, slot, now);
     }
 }
@@ -136,32 +150,44 @@ fn with_hit(best: &mut Offer, heads: &Heads, bank: usize, write: bool, banks: &B
 /// Takes what opens or closes a row into the best offer so far, in all banks that are asked for. A row hit keeps its bank from being
 /// closed.
 #[inline(always)]
-fn with_rows(best: &mut Offer, heads: &Heads, kinds: Kinds, banks: &Banks, now: Cycle)
-    requires { bank_count heads.now ≡ 16 * rank_count banks.now }
-    ensures { (s : Config) (history : List CommandRow) (requests : List Request) (hits : ℕ → Option ℕ) → BanksStandFor banks.now s history
-        → HeadsStandFor heads.now requests (λ bank. open_row (bank_at bank) history) → All (IsInBanks (rank_count banks.now)) requests
+fn with_rows(
+    best: &mut Offer,
+    bank_candidates: &BankCandidates,
+    kinds: Kinds,
+    banks: &Banks,
+    now: Cycle,
+)
+    requires { bank_count bank_candidates.now ≡ 16 * rank_count banks.now }
+    ensures { (s : Config) (history : List IssuedCommand) (requests : List Request) (hits : ℕ → Option ℕ) → BanksStandFor banks.now s history
+        → CandidatesStandFor bank_candidates.now requests (λ bank. open_row (bank_at bank) history) → All (IsInBanks (rank_count banks.now)) requests
         → IsBestSoFar (length requests) now hits (λ cycle. None) best.old
         → IsBestSoFar (length requests) now hits (λ cycle. first_place (rows_now s history requests kinds cycle) requests) best.new }
 {
-    let mut rest = asked(heads, kinds).minus(hit(heads, kinds));
+    let mut rest = banks_with_candidate(bank_candidates, kinds).minus(hit(bank_candidates, kinds));
     while let Some(bank) = rest.first() {
-        with_row(best, heads, bank, kinds, banks, now);
+        with_row(best, bank_candidates, bank, kinds, banks, now);
         rest = rest.without(bank);
     }
 }
 
 /// Takes the row hits to write, or to read, into the best offer so far, in all banks.
 #[inline(always)]
-fn with_all_hits(best: &mut Offer, heads: &Heads, write: bool, banks: &Banks, now: Cycle)
-    requires { bank_count heads.now ≡ 16 * rank_count banks.now }
-    ensures { (s : Config) (history : List CommandRow) (requests : List Request) (hits rows : ℕ → Option ℕ) → BanksStandFor banks.now s history
-        → HeadsStandFor heads.now requests (λ bank. open_row (bank_at bank) history) → All (IsInBanks (rank_count banks.now)) requests
+fn with_all_hits(
+    best: &mut Offer,
+    bank_candidates: &BankCandidates,
+    write: bool,
+    banks: &Banks,
+    now: Cycle,
+)
+    requires { bank_count bank_candidates.now ≡ 16 * rank_count banks.now }
+    ensures { (s : Config) (history : List IssuedCommand) (requests : List Request) (hits rows : ℕ → Option ℕ) → BanksStandFor banks.now s history
+        → CandidatesStandFor bank_candidates.now requests (λ bank. open_row (bank_at bank) history) → All (IsInBanks (rank_count banks.now)) requests
         → IsBestSoFar (length requests) now hits rows best.old
         → IsBestSoFar (length requests) now (λ cycle. earlier (hits cycle) (first_place (hits_now s history (only write) cycle) requests)) rows best.new }
 {
-    let mut rest = heads.hit(write);
+    let mut rest = bank_candidates.hit(write);
     while let Some(bank) = rest.first() {
-        with_hit(best, heads, bank, write, banks, now);
+        with_hit(best, bank_candidates, bank, write, banks, now);
         rest = rest.without(bank);
     }
 }
@@ -169,10 +195,17 @@ fn with_all_hits(best: &mut Offer, heads: &Heads, write: bool, banks: &Banks, no
 /// Takes the row hits to write, or to read, into the best offer so far, if they go. They are left out where none may be issued by its
 /// cycle.
 #[inline(always)]
-fn with_hits(best: &mut Offer, heads: &Heads, write: bool, goes: bool, banks: &Banks, now: Cycle)
-    requires { bank_count heads.now ≡ 16 * rank_count banks.now }
-    ensures { (s : Config) (history : List CommandRow) (requests : List Request) (hits rows : ℕ → Option ℕ) → BanksStandFor banks.now s history
-        → HeadsStandFor heads.now requests (λ bank. open_row (bank_at bank) history) → All (IsInBanks (rank_count banks.now)) requests
+fn with_hits(
+    best: &mut Offer,
+    bank_candidates: &BankCandidates,
+    write: bool,
+    goes: bool,
+    banks: &Banks,
+    now: Cycle,
+)
+    requires { bank_count bank_candidates.now ≡ 16 * rank_count banks.now }
+    ensures { (s : Config) (history : List IssuedCommand) (requests : List Request) (hits rows : ℕ → Option ℕ) → BanksStandFor banks.now s history
+        → CandidatesStandFor bank_candidates.now requests (λ bank. open_row (bank_at bank) history) → All (IsInBanks (rank_count banks.now)) requests
         → IsBestSoFar (length requests) now hits rows best.old
         → IsBestSoFar (length requests) now (λ cycle. earlier (hits cycle) (first_place (λ r. goes && hits_now s history (only write) cycle r) requests)) rows best.new }
 {
@@ -182,37 +215,43 @@ fn with_hits(best: &mut Offer, heads: &Heads, write: bool, goes: bool, banks: &B
     if best.cycle < banks.data_floor(column_kind(write)) {
         return;
     }
-    with_all_hits(best, heads, write, banks, now);
+    with_all_hits(best, bank_candidates, write, banks, now);
 }
 
 /// Takes the offers of all banks into the best one so far, which stands for none.
 #[inline(always)]
-fn with_banks(best: &mut Offer, heads: &Heads, kinds: Kinds, banks: &Banks, now: Cycle)
-    requires { bank_count heads.now ≡ 16 * rank_count banks.now }
-    ensures { (s : Config) (history : List CommandRow) (requests : List Request) → BanksStandFor banks.now s history
-        → HeadsStandFor heads.now requests (λ bank. open_row (bank_at bank) history) → All (IsInBanks (rank_count banks.now)) requests
+fn with_banks(
+    best: &mut Offer,
+    bank_candidates: &BankCandidates,
+    kinds: Kinds,
+    banks: &Banks,
+    now: Cycle,
+)
+    requires { bank_count bank_candidates.now ≡ 16 * rank_count banks.now }
+    ensures { (s : Config) (history : List IssuedCommand) (requests : List Request) → BanksStandFor banks.now s history
+        → CandidatesStandFor bank_candidates.now requests (λ bank. open_row (bank_at bank) history) → All (IsInBanks (rank_count banks.now)) requests
         → IsBestSoFar (length requests) now (λ cycle. None) (λ cycle. None) best.old
         → IsBestSoFar (length requests) now (λ cycle. first_place (hits_now s history kinds cycle) requests)
         (λ cycle. first_place (rows_now s history requests kinds cycle) requests) best.new }
 {
-    with_rows(best, heads, kinds, banks, now);
-    with_hits(best, heads, false, kinds.reads, banks, now);
-    with_hits(best, heads, true, kinds.writes, banks, now);
+    with_rows(best, bank_candidates, kinds, banks, now);
+    with_hits(best, bank_candidates, false, kinds.reads, banks, now);
+    with_hits(best, bank_candidates, true, kinds.writes, banks, now);
 }
 
 /// The offer that goes first of all banks, from now on, of the kinds that go.
 pub(crate) fn first_of(
     queue: &Queue,
-    heads: &Heads,
+    bank_candidates: &BankCandidates,
     kinds: Kinds,
     banks: &Banks,
     now: Cycle,
 ) -> Option<Offer>
     requires places { All (IsInBanks (rank_count banks.now)) queue.now.requests }
-    requires banks { bank_count heads.now ≡ 16 * rank_count banks.now }
+    requires banks { bank_count bank_candidates.now ≡ 16 * rank_count banks.now }
     ensures within { IfSome result (λ o. o.slot < length queue.now.requests) }
-    ensures first { (s : Config) (history : List CommandRow) → BanksStandFor banks.now s history
-        → HeadsStandFor heads.now queue.now.requests (λ bank. open_row (bank_at bank) history) → candidates_of s queue.now ≡ going kinds queue.now.requests
+    ensures first { (s : Config) (history : List IssuedCommand) → BanksStandFor banks.now s history
+        → CandidatesStandFor bank_candidates.now queue.now.requests (λ bank. open_row (bank_at bank) history) → candidates_of s queue.now ≡ going kinds queue.now.requests
         → IsFirstReady s history queue.now now result }
 {
     let room = queue.len();
@@ -221,6 +260,6 @@ pub(crate) fn first_of(
         hit: false,
         slot: room,
     };
-    with_banks(&mut best, heads, kinds, banks, now);
+    with_banks(&mut best, bank_candidates, kinds, banks, now);
     if best.slot < room { Some(best) } else { None }
 }

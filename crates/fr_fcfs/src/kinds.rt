@@ -2,11 +2,11 @@
 
 ghost use Rattle.std.specs.Prelude.{◌≡◌, ◌<◌, ℕ, Option};
 ghost use Rattle.sim_base.specs.declared.config.Config.{Config};
-ghost use Rattle.heads.specs.Stands.{StandsFor as HeadsStandFor};
+ghost use Rattle.bank_candidates.specs.Stands.{StandsFor as CandidatesStandFor};
 ghost use Rattle.fr_fcfs.specs.Requests.{candidates_of};
 ghost use Rattle.fr_fcfs.specs.Offers.{only, going};
 
-use heads::Heads;
+use bank_candidates::BankCandidates;
 use queue::Queue;
 
 /// Whether requests to read go, and requests to write.
@@ -18,13 +18,13 @@ pub(crate) struct Kinds {
 
 /// The kind that goes, where the channel ever drains: true for requests to write, false for requests to read. It is the favoured
 /// one, where there is a request of it.
-fn kind_that_goes(queue: &Queue, heads: &Heads) -> bool
+fn kind_that_goes(queue: &Queue, bank_candidates: &BankCandidates) -> bool
     requires { 0 < queue.now.high }
-    ensures { (s : Config) (open_rows : ℕ → Option ℕ) → s.write_high ≡ queue.now.high → HeadsStandFor heads.now queue.now.requests open_rows
+    ensures { (s : Config) (open_rows : ℕ → Option ℕ) → s.write_high ≡ queue.now.high → CandidatesStandFor bank_candidates.now queue.now.requests open_rows
         → candidates_of s queue.now ≡ going (only result) queue.now.requests }
 {
     let writes = queue.draining();
-    if heads.has_kind(writes) {
+    if bank_candidates.has_kind(writes) {
         writes
     } else {
         !writes
@@ -32,8 +32,8 @@ fn kind_that_goes(queue: &Queue, heads: &Heads) -> bool
 }
 
 /// The kinds that go: both, where the channel never drains.
-pub(crate) fn kinds_that_go(queue: &Queue, heads: &Heads) -> Kinds
-    ensures { (s : Config) (open_rows : ℕ → Option ℕ) → s.write_high ≡ queue.now.high → HeadsStandFor heads.now queue.now.requests open_rows
+pub(crate) fn kinds_that_go(queue: &Queue, bank_candidates: &BankCandidates) -> Kinds
+    ensures { (s : Config) (open_rows : ℕ → Option ℕ) → s.write_high ≡ queue.now.high → CandidatesStandFor bank_candidates.now queue.now.requests open_rows
         → candidates_of s queue.now ≡ going result queue.now.requests }
 {
     if queue.high() == 0 {
@@ -42,7 +42,7 @@ pub(crate) fn kinds_that_go(queue: &Queue, heads: &Heads) -> Kinds
             writes: true,
         };
     }
-    let writes = kind_that_goes(queue, heads);
+    let writes = kind_that_goes(queue, bank_candidates);
     Kinds {
         reads: !writes,
         writes,

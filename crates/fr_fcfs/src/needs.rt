@@ -5,14 +5,14 @@ ghost use Rattle.sim_base.specs.Places.{bank_in};
 ghost use Rattle.sim_base.specs.Rules.{kind_of, bank_of, is_open, has_open_bank_in_group, has_open_bank};
 ghost use Rattle.sim_base.specs.Scheduling.{column_command, needed, is_column_command, refresh_command};
 ghost use Rattle.sim_base.specs.declared.config.Config.{Config};
-ghost use Rattle.sim_base.specs.declared.command.CommandRow.{CommandRow};
+ghost use Rattle.sim_base.specs.declared.command.IssuedCommand.{IssuedCommand};
 ghost use Rattle.bank_ready.specs.Words.{names_bank, names_rank};
 ghost use Rattle.bank_ready.specs.Stands.{rank_count, StandsFor};
-ghost use Rattle.heads.specs.Stands.{bank_count, IsAmong};
+ghost use Rattle.bank_candidates.specs.Stands.{bank_count, IsAmong};
 ghost use Rattle.fr_fcfs.specs.Requests.{KnowsRows, IsLegalFrom};
 
+use bank_candidates::BankCandidates;
 use bank_ready::banks::Banks;
-use heads::Heads;
 use sim_base::command::{Command, Kind};
 use sim_base::message::{Cycle, Request};
 use sim_base::place::BankId;
@@ -26,45 +26,47 @@ pub(crate) struct Need {
 
 /// What a request needs next.
 #[inline]
-pub(crate) fn needed(heads: &Heads, request: Request) -> Command
-    requires { IsAmong heads.now (bank_in request.place) }
-    ensures command { (history : List CommandRow) → KnowsRows heads.now history → result ≡ needed history request }
+pub(crate) fn needed(bank_candidates: &BankCandidates, request: Request) -> Command
+    requires { IsAmong bank_candidates.now (bank_in request.place) }
+    ensures command { (history : List IssuedCommand) → KnowsRows bank_candidates.now history → result ≡ needed history request }
     ensures column { is_column_command result ≡ true → result ≡ column_command request }
 {
     let bank = request.place.bank_id();
-    request.needed_at(heads.open_row(bank))
+    request.needed_at(bank_candidates.open_row(bank))
 }
 
-fn is_open(heads: &Heads, rank: u32, group: u32, bank: u32) -> bool
-    requires rank { 16 * rank + 16 ≤ bank_count heads.now }
+fn is_open(bank_candidates: &BankCandidates, rank: u32, group: u32, bank: u32) -> bool
+    requires rank { 16 * rank + 16 ≤ bank_count bank_candidates.now }
     requires group { group < 4 }
     requires bank { bank < 4 }
-    ensures { (history : List CommandRow) → KnowsRows heads.now history
+    ensures { (history : List IssuedCommand) → KnowsRows bank_candidates.now history
         → result ≡ is_open history (record { rank = rank; group = group; bank = bank }) }
 {
-    heads.open_row(BankId { rank, group, bank }).is_some()
+    bank_candidates
+        .open_row(BankId { rank, group, bank })
+        .is_some()
 }
 
-fn has_open_bank_in_group(heads: &Heads, rank: u32, group: u32) -> bool
-    requires rank { 16 * rank + 16 ≤ bank_count heads.now }
+fn has_open_bank_in_group(bank_candidates: &BankCandidates, rank: u32, group: u32) -> bool
+    requires rank { 16 * rank + 16 ≤ bank_count bank_candidates.now }
     requires group { group < 4 }
-    ensures { (history : List CommandRow) → KnowsRows heads.now history
+    ensures { (history : List IssuedCommand) → KnowsRows bank_candidates.now history
         → result ≡ has_open_bank_in_group history rank group }
 {
-    is_open(heads, rank, group, 0)
-        || is_open(heads, rank, group, 1)
-        || is_open(heads, rank, group, 2)
-        || is_open(heads, rank, group, 3)
+    is_open(bank_candidates, rank, group, 0)
+        || is_open(bank_candidates, rank, group, 1)
+        || is_open(bank_candidates, rank, group, 2)
+        || is_open(bank_candidates, rank, group, 3)
 }
 
-fn has_open_bank(heads: &Heads, rank: u32, groups: u32) -> bool
-    requires rank { 16 * rank + 16 ≤ bank_count heads.now }
+fn has_open_bank(bank_candidates: &BankCandidates, rank: u32, groups: u32) -> bool
+    requires rank { 16 * rank + 16 ≤ bank_count bank_candidates.now }
     requires groups { groups ≤ 4 }
-    ensures { (s : Config) (history : List CommandRow) → KnowsRows heads.now history
+    ensures { (s : Config) (history : List IssuedCommand) → KnowsRows bank_candidates.now history
         → s.groups ≡ groups → result ≡ has_open_bank s history rank }
 {
     for group in 0..groups {
-        if has_open_bank_in_group(heads, rank, group) {
+        if has_open_bank_in_group(bank_candidates, rank, group) {
             return true;
         }
     }
@@ -73,18 +75,23 @@ fn has_open_bank(heads: &Heads, rank: u32, groups: u32) -> bool
 
 /// What a rank needs that is to be refreshed.
 #[inline(never)]
-pub(crate) fn refresh_need(heads: &Heads, banks: &Banks, rank: u32, groups: u32) -> Need
+pub(crate) fn refresh_need(
+    bank_candidates: &BankCandidates,
+    banks: &Banks,
+    rank: u32,
+    groups: u32,
+) -> Need
     requires rank { rank < rank_count banks.now }
-    requires banks { bank_count heads.now ≡ 16 * rank_count banks.now }
+    requires banks { bank_count bank_candidates.now ≡ 16 * rank_count banks.now }
     requires groups { groups ≤ 4 }
-    ensures command { (s : Config) (history : List CommandRow) → KnowsRows heads.now history
+    ensures command { (s : Config) (history : List IssuedCommand) → KnowsRows bank_candidates.now history
         → s.groups ≡ groups → result.command ≡ refresh_command s history rank }
-    ensures ready { (s : Config) (history : List CommandRow) → StandsFor banks.now s history
-        → KnowsRows heads.now history → s.groups ≡ groups
+    ensures ready { (s : Config) (history : List IssuedCommand) → StandsFor banks.now s history
+        → KnowsRows bank_candidates.now history → s.groups ≡ groups
         → IsLegalFrom s history (refresh_command s history rank) result.ready }
     ensures other { is_column_command result.command ≡ false }
 {
-    if has_open_bank(heads, rank, groups) {
+    if has_open_bank(bank_candidates, rank, groups) {
         Need {
             command: Command::Prea { rank },
             ready: banks.earliest_all(Kind::Prea, rank),

@@ -3,18 +3,18 @@
 ghost use Rattle.std.specs.Prelude.{◌≡◌, ◌<◌, ◌*◌, ℕ, List, Option, All, IsTrue, length, IfSome, if◌then◌else◌};
 ghost use Rattle.sim_base.specs.Rules.{open_row};
 ghost use Rattle.sim_base.specs.declared.config.Config.{Config};
-ghost use Rattle.sim_base.specs.declared.command.CommandRow.{CommandRow};
+ghost use Rattle.sim_base.specs.declared.command.IssuedCommand.{IssuedCommand};
 ghost use Rattle.bank_ready.specs.Words.{names_bank};
 ghost use Rattle.bank_ready.specs.Stands.{rank_count, StandsFor as BanksStandFor};
-ghost use Rattle.heads.specs.Heads.{bank_at};
-ghost use Rattle.heads.specs.Stands.{bank_count, StandsFor as HeadsStandFor};
+ghost use Rattle.bank_candidates.specs.Candidates.{bank_at};
+ghost use Rattle.bank_candidates.specs.Stands.{bank_count, StandsFor as CandidatesStandFor};
 ghost use Rattle.fr_fcfs.specs.Requests.{IsInBanks};
 ghost use Rattle.fr_fcfs.specs.Offers.{goes_before, offer_from, IsReadyFrom, IsFirstReady, row_kind};
 
 use crate::first::first_of;
 use crate::kinds::kinds_that_go;
+use bank_candidates::BankCandidates;
 use bank_ready::banks::Banks;
-use heads::Heads;
 use queue::Queue;
 use sim_base::command::Kind;
 use sim_base::message::Cycle;
@@ -66,7 +66,7 @@ pub(crate) fn improve(best: &mut Offer, ready: Cycle, hit: bool, slot: usize, no
 pub(crate) fn ready(banks: &Banks, bank: usize, kind: Kind) -> Cycle
     requires kind { IsTrue (names_bank kind) }
     requires bank { bank < 16 * rank_count banks.now }
-    ensures { (s : Config) (history : List CommandRow) → BanksStandFor banks.now s history → IsReadyFrom s history (bank_at bank) kind result }
+    ensures { (s : Config) (history : List IssuedCommand) → BanksStandFor banks.now s history → IsReadyFrom s history (bank_at bank) kind result }
 {
     banks.earliest_in(kind, bank)
 }
@@ -84,13 +84,24 @@ pub(crate) fn row_kind(row: Option<u32>) -> Kind
 }
 
 /// The offer that goes first of all banks, from now on.
-pub(crate) fn first_offer(queue: &Queue, heads: &Heads, banks: &Banks, now: Cycle) -> Option<Offer>
+pub(crate) fn first_offer(
+    queue: &Queue,
+    bank_candidates: &BankCandidates,
+    banks: &Banks,
+    now: Cycle,
+) -> Option<Offer>
     requires places { All (IsInBanks (rank_count banks.now)) queue.now.requests }
-    requires banks { bank_count heads.now ≡ 16 * rank_count banks.now }
+    requires banks { bank_count bank_candidates.now ≡ 16 * rank_count banks.now }
     ensures within { IfSome result (λ o. o.slot < length queue.now.requests) }
-    ensures first { (s : Config) (history : List CommandRow) → BanksStandFor banks.now s history
-        → HeadsStandFor heads.now queue.now.requests (λ bank. open_row (bank_at bank) history) → s.write_high ≡ queue.now.high
+    ensures first { (s : Config) (history : List IssuedCommand) → BanksStandFor banks.now s history
+        → CandidatesStandFor bank_candidates.now queue.now.requests (λ bank. open_row (bank_at bank) history) → s.write_high ≡ queue.now.high
         → IsFirstReady s history queue.now now result }
 {
-    first_of(queue, heads, kinds_that_go(queue, heads), banks, now)
+    first_of(
+        queue,
+        bank_candidates,
+        kinds_that_go(queue, bank_candidates),
+        banks,
+        now,
+    )
 }

@@ -8,7 +8,7 @@ use Rattle.sim_base.specs.declared.config.Config.{Config}
 use Rattle.sim_base.specs.declared.overrides.Override.{Override}
 use Rattle.sim_base.specs.Config.{usual_latency, latency}
 use Rattle.sim_base.specs.History.{inbox, issued_commands}
-use Rattle.sim_base.specs.Scheduling.{is_served, is_waiting, waiting, queue_in}
+use Rattle.sim_base.specs.Scheduling.{is_served, is_queued, queued_requests, queue_in}
 use Rattle.sim_base.specs.Machine.{run}
 use Rattle.sim_base.specs.Locality.{TravelsFor}
 use Rattle.sim_base.specs.declared.message.Request.{Request}
@@ -19,11 +19,11 @@ use Rattle.sim_base.proofs.LinkNumbers.{override_in_range}
 use Rattle.sim_base.proofs.Ordered.{Each-weaker}
 use Rattle.sim_base.proofs.Same.{queue-same}
 use Rattle.sim_base.proofs.Spans.{inbox-run, inbox-stamped, has_channels}
-use Rattle.laws.specs.Commands.{rows_of, history_of}
+use Rattle.laws.specs.Commands.{channel_steps_of, history_of}
 use Rattle.laws.specs.Credits.{QueuesAreBounded}
 use Rattle.laws.proofs.Conserved.{is_of, unserved, unserved-bound}
 use Rattle.laws.proofs.Counting.{count-none, count-weaker, count-weaker_each, count-split}
-use Rattle.laws.proofs.Legal.{take-rows_of}
+use Rattle.laws.proofs.Legal.{take-channel_steps_of}
 use Rattle.laws.proofs.Traced.{requests_to, requests-traced}
 
 -- the requests of the first n cores, where there are no more than b of each
@@ -90,12 +90,12 @@ of_core s traces n k c l m =
         → ((is_of c false r && not (is_served (history_of s traces n k) r)) ≡ true) ⊎ ((is_of c true r && not (is_served (history_of s traces n k) r)) ≡ true)
     either r h = let parts = and_parts (eqb r.core c) (not (is_served (history_of s traces n k) r)) h in both r parts.1 (kind r r.write refl parts.0)
 
-waiting-bound : (s : Config) (traces : List (List Entry)) (n k : ℕ) → k < s.channels
-    → length (waiting (history_of s traces n k) (inbox s traces (run s traces n) (Channel k)) (n + 1)) ≤ s.cores * (s.read_credits + s.write_credits)
-unfolding waiting is_unserved
-waiting-bound s traces n k l =
+queued_requests-bound : (s : Config) (traces : List (List Entry)) (n k : ℕ) → k < s.channels
+    → length (queued_requests (history_of s traces n k) (inbox s traces (run s traces n) (Channel k)) (n + 1)) ≤ s.cores * (s.read_credits + s.write_credits)
+unfolding queued_requests is_unserved
+queued_requests-bound s traces n k l =
     let xs = requests_to s traces n k in
-    let p = is_waiting (history_of s traces n k) (n + 1) in
+    let p = is_queued (history_of s traces n k) (n + 1) in
     let q = λ (r : Request). not (is_served (history_of s traces n k) r) in
     let a : length (filter p xs) ≡ count_by p xs = length-filter p xs in
     let b : count_by p xs ≤ count_by q xs = count-weaker p q (λ r h. (and_parts (ltb r.arrival (n + 1)) (q r) h).1) xs in
@@ -124,20 +124,20 @@ travels s link l = latency-positive s link
 
 -- the queue in a cycle does not depend on what is done from then on
 pub queue-then : (s : Config) (traces : List (List Entry)) (k : ℕ) → k < s.channels → (n t : ℕ) → t ≤ n
-    → queue_in k (rows_of s traces n k) (inbox s traces (run s traces n) (Channel k)) t ≡ waiting (history_of s traces t k) (inbox s traces (run s traces t) (Channel k)) (t + 1)
+    → queue_in k (channel_steps_of s traces n k) (inbox s traces (run s traces n) (Channel k)) t ≡ queued_requests (history_of s traces t k) (inbox s traces (run s traces t) (Channel k)) (t + 1)
 unfolding queue_in
 queue-then s traces k l n t h =
     let now = inbox s traces (run s traces t) (Channel k) in
     let then = inbox s traces (run s traces n) (Channel k) in
     let e : t + (n - t) ≡ n = omega arith in
-    queue-same k (rows_of s traces n k) then now t
+    queue-same k (channel_steps_of s traces n k) then now t
     (record {
       one = inbox-stamped s traces (run s traces n) (Channel k);
       other = inbox-stamped s traces (run s traces t) (Channel k);
       same = λ u b. ap (λ i. arrived (inbox s traces (run s traces i) (Channel k)) u) (sym e) ∙ inbox-run s traces t 1 (Channel k) u (has_channels s) (travels s) b (n - t);
     })
-    ∙ ap (λ rows. waiting (issued_commands k rows) now (t + 1)) (take-rows_of s traces k l n t h)
+    ∙ ap (λ steps. queued_requests (issued_commands k steps) now (t + 1)) (take-channel_steps_of s traces k l n t h)
 
 pub queues_are_bounded : (s : Config) (traces : List (List Entry)) (n : ℕ) → QueuesAreBounded s traces n
 queues_are_bounded s traces n k t l h =
-    subst (λ q. length q ≤ s.cores * (s.read_credits + s.write_credits)) (sym (queue-then s traces k l n t h)) (waiting-bound s traces t k l)
+    subst (λ q. length q ≤ s.cores * (s.read_credits + s.write_credits)) (sym (queue-then s traces k l n t h)) (queued_requests-bound s traces t k l)

@@ -12,16 +12,16 @@ use Rattle.sim_base.specs.declared.command.Relation.{Relation}
 use Rattle.sim_base.specs.declared.command.Relation.TheVariants.{SameBank, SameGroup, OtherGroup, OtherRank}
 use Rattle.sim_base.specs.declared.command.Command.{Command}
 use Rattle.sim_base.specs.declared.command.Command.TheVariants.{Act, Rd, Wr, Pre, Prea, Ref}
-use Rattle.sim_base.specs.declared.command.CommandRow.{CommandRow}
+use Rattle.sim_base.specs.declared.command.IssuedCommand.{IssuedCommand}
 use Rattle.sim_base.specs.Rules.{is_bound, gap, is_past_gap, is_allowed, finds_its_banks, is_legal, kind_of, relation_of}
-use Rattle.sim_base.specs.History.{channel_rows, issued_at, issued_commands}
+use Rattle.sim_base.specs.History.{steps_of_channel, issued_at, issued_commands}
 use Rattle.sim_base.specs.Machine.{run}
 use Rattle.sim_base.specs.declared.trace.Entry.{Entry}
 use Rattle.sim_base.proofs.Ordered.{Each-weaker}
-use Rattle.laws.specs.Commands.{rows_of, history_of}
+use Rattle.laws.specs.Commands.{channel_steps_of, history_of}
 use Rattle.laws.specs.DataBus.{is_in_burst, has_data_in, moves_data_in, DataBusIsShared}
 use Rattle.laws.proofs.Counting.{count-push, count-none, Each-list_all}
-use Rattle.laws.proofs.Legal.{chosen, rows_of-more, IsLegalStep, legal_step, issued_commands-push}
+use Rattle.laws.proofs.Legal.{chosen, channel_steps_of-more, IsLegalStep, legal_step, issued_commands-push}
 
 -- an earlier command at a cycle does not hold back a later one now
 abbrev IsPast : Config → Kind → Kind → Relation → ℕ → ℕ → Type 0
@@ -74,18 +74,18 @@ apart s relation at now cycle a (Pre _ _) p h = refl
 apart s relation at now cycle a (Prea _) p h = refl
 apart s relation at now cycle a (Ref _) p h = refl
 
-past_apart : (s : Config) (now cycle : ℕ) (command : Command) (i : CommandRow) → is_past_gap s.timing now command i ≡ true
+past_apart : (s : Config) (now cycle : ℕ) (command : Command) (i : IssuedCommand) → is_past_gap s.timing now command i ≡ true
     → has_data_in s.timing cycle i ≡ true → moves_data_in s.timing cycle now command ≡ false
 unfolding is_past_gap
 past_apart s now cycle command i p h = apart s (relation_of i.command command) i.cycle now cycle i.command command p h
 
-keeps_past : (s : Config) (history : List CommandRow) (now : ℕ) (command : Command) → is_legal s history now command ≡ true
+keeps_past : (s : Config) (history : List IssuedCommand) (now : ℕ) (command : Command) → is_legal s history now command ≡ true
     → list_all (is_past_gap s.timing now command) history ≡ true
 unfolding is_legal is_allowed
 keeps_past s history now command h = (and_parts _ _ (and_parts (finds_its_banks s history command) (is_allowed s.timing history now command) h).1).0
 
 -- a legal command that has data on the bus in a cycle is the only one
-free_bus : (s : Config) (cycle now : ℕ) (command : Command) (history : List CommandRow) → is_legal s history now command ≡ true
+free_bus : (s : Config) (cycle now : ℕ) (command : Command) (history : List IssuedCommand) → is_legal s history now command ≡ true
     → moves_data_in s.timing cycle now command ≡ true → count_by (has_data_in s.timing cycle) history ≡ 0
 free_bus s cycle now command history h k =
     count-none (has_data_in s.timing cycle) history
@@ -93,35 +93,35 @@ free_bus s cycle now command history h k =
     (λ i p. cases_from i p (has_data_in s.timing cycle i) refl)
     history (Each-list_all (is_past_gap s.timing now command) history (keeps_past s history now command h)))
   where
-    cases_from : (i : CommandRow) → is_past_gap s.timing now command i ≡ true → (b : Bool) → has_data_in s.timing cycle i ≡ b → has_data_in s.timing cycle i ≡ false
+    cases_from : (i : IssuedCommand) → is_past_gap s.timing now command i ≡ true → (b : Bool) → has_data_in s.timing cycle i ≡ b → has_data_in s.timing cycle i ≡ false
     cases_from i p true e = absurd (false≢true (sym (past_apart s now cycle command i p e) ∙ k))
     cases_from i p false e = e
 
 -- with one command more, that is legal, the bus is still shared
-shared_more : (s : Config) (k cycle : ℕ) (rows : List (Option Command)) (o : Option Command) → IsLegalStep s k rows o
-    → count_by (has_data_in s.timing cycle) (issued_commands k rows) ≤ 1 → count_by (has_data_in s.timing cycle) (issued_commands k rows ++ cons_option (issued_at k (length rows) o) []) ≤ 1
+shared_more : (s : Config) (k cycle : ℕ) (steps : List (Option Command)) (o : Option Command) → IsLegalStep s k steps o
+    → count_by (has_data_in s.timing cycle) (issued_commands k steps) ≤ 1 → count_by (has_data_in s.timing cycle) (issued_commands k steps ++ cons_option (issued_at k (length steps) o) []) ≤ 1
 unfolding IsLegalStep
-shared_more s k cycle rows None h l = subst (λ x. count_by (has_data_in s.timing cycle) x ≤ 1) (sym (append-nil (issued_commands k rows))) l
-shared_more s k cycle rows (Some command) h l =
-    let history = issued_commands k rows in
-    let now = length rows in
-    let i : CommandRow = record { cycle = now; channel = k; command = command } in
+shared_more s k cycle steps None h l = subst (λ x. count_by (has_data_in s.timing cycle) x ≤ 1) (sym (append-nil (issued_commands k steps))) l
+shared_more s k cycle steps (Some command) h l =
+    let history = issued_commands k steps in
+    let now = length steps in
+    let i : IssuedCommand = record { cycle = now; channel = k; command = command } in
     let e : count_by (has_data_in s.timing cycle) (history ++ i ∷ []) ≡ count_by (has_data_in s.timing cycle) history + cond (moves_data_in s.timing cycle now command) 1 0 = count-push (has_data_in s.timing cycle) history i in
     go (moves_data_in s.timing cycle now command) refl e
   where
-    go : (b : Bool) → moves_data_in s.timing cycle (length rows) command ≡ b
-        → count_by (has_data_in s.timing cycle) (issued_commands k rows ++ record { cycle = length rows; channel = k; command = command } ∷ []) ≡ count_by (has_data_in s.timing cycle) (issued_commands k rows) + cond b 1 0
-        → count_by (has_data_in s.timing cycle) (issued_commands k rows ++ record { cycle = length rows; channel = k; command = command } ∷ []) ≤ 1
-    go true f e = let z = free_bus s cycle (length rows) command (issued_commands k rows) h f in omega arith
+    go : (b : Bool) → moves_data_in s.timing cycle (length steps) command ≡ b
+        → count_by (has_data_in s.timing cycle) (issued_commands k steps ++ record { cycle = length steps; channel = k; command = command } ∷ []) ≡ count_by (has_data_in s.timing cycle) (issued_commands k steps) + cond b 1 0
+        → count_by (has_data_in s.timing cycle) (issued_commands k steps ++ record { cycle = length steps; channel = k; command = command } ∷ []) ≤ 1
+    go true f e = let z = free_bus s cycle (length steps) command (issued_commands k steps) h f in omega arith
     go false f e = omega arith
 
 bus_shared : (s : Config) (traces : List (List Entry)) (k cycle : ℕ) → k < s.channels → (n : ℕ) → count_by (has_data_in s.timing cycle) (history_of s traces n k) ≤ 1
-unfolding run channel_rows issued_commands
+unfolding run steps_of_channel issued_commands
 bus_shared s traces k cycle l zero = omega arith
 bus_shared s traces k cycle l (suc n) =
-    let rows = rows_of s traces n k in
-    subst (λ x. count_by (has_data_in s.timing cycle) x ≤ 1) (sym (ap (issued_commands k) (rows_of-more s traces n k l) ∙ issued_commands-push k rows (chosen s traces n k)))
-    (shared_more s k cycle rows (chosen s traces n k) (legal_step s traces k n) (bus_shared s traces k cycle l n))
+    let steps = channel_steps_of s traces n k in
+    subst (λ x. count_by (has_data_in s.timing cycle) x ≤ 1) (sym (ap (issued_commands k) (channel_steps_of-more s traces n k l) ∙ issued_commands-push k steps (chosen s traces n k)))
+    (shared_more s k cycle steps (chosen s traces n k) (legal_step s traces k n) (bus_shared s traces k cycle l n))
 
 pub data_bus_is_shared : (s : Config) (traces : List (List Entry)) (n : ℕ) → DataBusIsShared s traces n
 data_bus_is_shared s traces n k cycle l = bus_shared s traces k cycle l n

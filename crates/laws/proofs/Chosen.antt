@@ -11,7 +11,7 @@ use Rattle.sim_base.specs.Rules.{is_legal, open_row, has_open_bank}
 use Rattle.sim_base.specs.Scheduling.{needed_at, needed, is_column_command, is_withheld, ready_hit, ready_row, first_ready, or_else, if_legal, refresh_command, choice_between, drains, lowest_due, queue_in, choice}
 use Rattle.sim_base.specs.declared.command.Command.{Command}
 use Rattle.sim_base.specs.declared.command.Command.TheVariants.{Prea, Ref}
-use Rattle.sim_base.specs.declared.command.CommandRow.{CommandRow}
+use Rattle.sim_base.specs.declared.command.IssuedCommand.{IssuedCommand}
 use Rattle.sim_base.specs.declared.message.Message.{Message}
 use Rattle.sim_base.specs.declared.message.Request.{Request}
 use Rattle.sim_base.proofs.Each.{IfSome-find}
@@ -30,20 +30,20 @@ IfSome-option_map P f None h = tt
 IfSome-option_map P f (Some x) h = h
 
 -- a command is legal now
-abbrev pub IsLegalNow : Config → List CommandRow → ℕ → Command → Type 0
+abbrev pub IsLegalNow : Config → List IssuedCommand → ℕ → Command → Type 0
 IsLegalNow s history now command = is_legal s history now command ≡ true
 
-hit-legal : (s : Config) (history : List CommandRow) (now : ℕ) (r : Request) → ready_hit s history now r ≡ true → IsLegalNow s history now (needed history r)
+hit-legal : (s : Config) (history : List IssuedCommand) (now : ℕ) (r : Request) → ready_hit s history now r ≡ true → IsLegalNow s history now (needed history r)
 unfolding ready_hit
 hit-legal s history now r h = (and_parts (is_column_command (needed history r)) (is_legal s history now (needed history r)) h).1
 
-row-legal : (s : Config) (history : List CommandRow) (now : ℕ) (requests : List Request) (r : Request) → ready_row s history now requests r ≡ true → IsLegalNow s history now (needed history r)
+row-legal : (s : Config) (history : List IssuedCommand) (now : ℕ) (requests : List Request) (r : Request) → ready_row s history now requests r ≡ true → IsLegalNow s history now (needed history r)
 unfolding ready_row
 row-legal s history now requests r h =
     let legal = is_legal s history now (needed history r) in
     (and_parts (not (is_column_command (needed history r))) legal (and_parts _ (not (is_withheld history requests (needed history r))) h).0).1
 
-first_ready-legal : (s : Config) (history : List CommandRow) (now : ℕ) (requests : List Request) → IfSome (first_ready s history now requests) (IsLegalNow s history now)
+first_ready-legal : (s : Config) (history : List IssuedCommand) (now : ℕ) (requests : List Request) → IfSome (first_ready s history now requests) (IsLegalNow s history now)
 unfolding first_ready
 first_ready-legal s history now requests =
     let wanted = λ (r : Request). IsLegalNow s history now (needed history r) in
@@ -52,29 +52,29 @@ first_ready-legal s history now requests =
     (IfSome-weaker _ wanted (hit-legal s history now) _ (find-passes (ready_hit s history now) requests))
     (IfSome-weaker _ wanted (row-legal s history now requests) _ (find-passes (ready_row s history now requests) requests)))
 
-if_legal-legal : (s : Config) (history : List CommandRow) (now : ℕ) (command : Command) → IfSome (if_legal s history now command) (IsLegalNow s history now)
+if_legal-legal : (s : Config) (history : List IssuedCommand) (now : ℕ) (command : Command) → IfSome (if_legal s history now command) (IsLegalNow s history now)
 unfolding if_legal
 if_legal-legal s history now command = cond_both (is_legal s history now command) (Some command) None (λ o. IfSome o (IsLegalNow s history now)) (λ e. e) (λ e. tt)
 
-between-legal : (s : Config) (history : List CommandRow) (now : ℕ) (requests : List Request) (due : Option ℕ) → IfSome (choice_between s history now requests due) (IsLegalNow s history now)
+between-legal : (s : Config) (history : List IssuedCommand) (now : ℕ) (requests : List Request) (due : Option ℕ) → IfSome (choice_between s history now requests due) (IsLegalNow s history now)
 unfolding choice_between
 between-legal s history now requests None = first_ready-legal s history now requests
 between-legal s history now requests (Some rank) = if_legal-legal s history now (refresh_command s history rank)
 
-pub choice-legal : (s : Config) (channel : ℕ) (rows : List (Option Command)) (inbox : List Message)
-    → IfSome (choice s channel rows inbox) (IsLegalNow s (issued_commands channel rows) (length rows))
+pub choice-legal : (s : Config) (channel : ℕ) (steps : List (Option Command)) (inbox : List Message)
+    → IfSome (choice s channel steps inbox) (IsLegalNow s (issued_commands channel steps) (length steps))
 unfolding choice
-choice-legal s channel rows inbox =
-    between-legal s (issued_commands channel rows) (length rows) _ (lowest_due s (issued_commands channel rows) (length rows))
+choice-legal s channel steps inbox =
+    between-legal s (issued_commands channel steps) (length steps) _ (lowest_due s (issued_commands channel steps) (length steps))
 
 -- a command that is chosen is one that a request of the queue needs, or it serves a refresh
-option_map-needed : (P : Request → Type 0) (Q : Command → Type 0) (history : List CommandRow) → ((r : Request) (o : Option ℕ) → P r → Q (needed_at o r))
+option_map-needed : (P : Request → Type 0) (Q : Command → Type 0) (history : List IssuedCommand) → ((r : Request) (o : Option ℕ) → P r → Q (needed_at o r))
     → (o : Option Request) → IfSome o P → IfSome (option_map (needed history) o) Q
 unfolding needed
 option_map-needed P Q history f None h = tt
 option_map-needed P Q history f (Some r) h = f r (open_row (bank_in r.place) history) h
 
-between-needed : (P : Request → Type 0) (Q : Command → Type 0) (s : Config) (history : List CommandRow) (now : ℕ) (requests : List Request) (due : Option ℕ)
+between-needed : (P : Request → Type 0) (Q : Command → Type 0) (s : Config) (history : List IssuedCommand) (now : ℕ) (requests : List Request) (due : Option ℕ)
     → ((r : Request) (o : Option ℕ) → P r → Q (needed_at o r)) → ((rank : ℕ) → Q (Prea rank)) → ((rank : ℕ) → Q (Ref rank))
     → Each P requests → IfSome (choice_between s history now requests due) Q
 unfolding choice_between first_ready if_legal refresh_command
@@ -86,16 +86,16 @@ between-needed P Q s history now requests (Some rank) f g k h =
     (λ e. cond_both (has_open_bank s history rank) (Prea rank) (Ref rank) Q (λ d. g rank) (λ d. k rank))
     (λ e. tt)
 
-pub choice-needed : (P : Request → Type 0) (Q : Command → Type 0) (s : Config) (channel : ℕ) (rows : List (Option Command)) (inbox : List Message)
+pub choice-needed : (P : Request → Type 0) (Q : Command → Type 0) (s : Config) (channel : ℕ) (steps : List (Option Command)) (inbox : List Message)
     → ((r : Request) (o : Option ℕ) → P r → Q (needed_at o r)) → ((rank : ℕ) → Q (Prea rank)) → ((rank : ℕ) → Q (Ref rank))
-    → Each P (queue_in channel rows inbox (length rows)) → IfSome (choice s channel rows inbox) Q
+    → Each P (queue_in channel steps inbox (length steps)) → IfSome (choice s channel steps inbox) Q
 unfolding choice
-choice-needed P Q s channel rows inbox f g k h =
-    between-needed P Q s (issued_commands channel rows) (length rows) _ (lowest_due s (issued_commands channel rows) (length rows)) f g k
-    (candidates-each P s (drains s channel rows inbox (length rows)) (queue_in channel rows inbox (length rows)) h)
+choice-needed P Q s channel steps inbox f g k h =
+    between-needed P Q s (issued_commands channel steps) (length steps) _ (lowest_due s (issued_commands channel steps) (length steps)) f g k
+    (candidates-each P s (drains s channel steps inbox (length steps)) (queue_in channel steps inbox (length steps)) h)
 
 -- what is ready first is one that a request needs
-pub first_ready-needed : (Q : Command → Type 0) (s : Config) (history : List CommandRow) (now : ℕ) (requests : List Request) → ((r : Request) (o : Option ℕ) → Q (needed_at o r))
+pub first_ready-needed : (Q : Command → Type 0) (s : Config) (history : List IssuedCommand) (now : ℕ) (requests : List Request) → ((r : Request) (o : Option ℕ) → Q (needed_at o r))
     → IfSome (first_ready s history now requests) Q
 unfolding first_ready needed
 first_ready-needed Q s history now requests f = any_needed (or_else (find (ready_hit s history now) requests) (find (ready_row s history now requests) requests))

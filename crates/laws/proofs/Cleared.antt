@@ -12,13 +12,13 @@ use Rattle.sim_base.specs.declared.command.Relation.{Relation}
 use Rattle.sim_base.specs.declared.command.Relation.TheVariants.{SameBank, OtherRank}
 use Rattle.sim_base.specs.declared.command.Command.{Command}
 use Rattle.sim_base.specs.declared.command.Command.TheVariants.{Act, Rd, Wr, Pre, Prea, Ref}
-use Rattle.sim_base.specs.declared.command.CommandRow.{CommandRow}
+use Rattle.sim_base.specs.declared.command.IssuedCommand.{IssuedCommand}
 use Rattle.sim_base.specs.declared.place.BankId.{BankId}
 use Rattle.sim_base.proofs.Ordered.{Each-weaker}
 use Rattle.sim_base.specs.History.{below}
 use Rattle.sim_base.specs.Rules.{is_bound, gap, kind_of, relation_of, row_after, open_row, is_past_gap, is_allowed, is_open, has_open_bank_in_group, has_open_bank, is_legal}
 
--- the longest that a rank's banks can keep a precharge of all of them waiting
+-- the longest that a rank's banks can hold a precharge of all of them back
 abbrev pub close_wait : Timing → ℕ
 close_wait t = max t.n_ras (max t.n_rtp (t.n_cwl + 4 + t.n_wr))
 
@@ -75,7 +75,7 @@ list_all-each p [] h = refl
 list_all-each p (x ∷ xs) h = and_from (p x) (list_all p xs) h.0 (list_all-each p xs h.1)
 
 -- where each earlier command lets it, a rank's banks can all be closed now
-pub close-legal : (s : Config) (history : List CommandRow) (now rank : ℕ) → Each (λ (i : CommandRow). LetsClose s.timing rank now i.cycle i.command) history
+pub close-legal : (s : Config) (history : List IssuedCommand) (now rank : ℕ) → Each (λ (i : IssuedCommand). LetsClose s.timing rank now i.cycle i.command) history
     → is_legal s history now (Prea rank) ≡ true
 unfolding is_legal is_allowed is_past_gap past_gap
 close-legal s history now rank h =
@@ -84,7 +84,7 @@ close-legal s history now rank h =
     (Each-weaker _ (λ i. is_past_gap s.timing now (Prea rank) i ≡ true) (λ i k. close-past s.timing rank now i.cycle i.command k) history h))
 
 -- where each earlier command lets it, a rank with no open bank can be refreshed now
-pub refresh-legal : (s : Config) (history : List CommandRow) (now rank : ℕ) → has_open_bank s history rank ≡ false → Each (λ (i : CommandRow). LetsRefresh s.timing rank now i.cycle i.command) history
+pub refresh-legal : (s : Config) (history : List IssuedCommand) (now rank : ℕ) → has_open_bank s history rank ≡ false → Each (λ (i : IssuedCommand). LetsRefresh s.timing rank now i.cycle i.command) history
     → is_legal s history now (Ref rank) ≡ true
 unfolding is_legal is_allowed is_past_gap past_gap
 refresh-legal s history now rank closed h =
@@ -101,27 +101,27 @@ list_any-same : {X : Type 0} (p q : X → Bool) → ((x : X) → p x ≡ q x) �
 list_any-same p q h [] = refl
 list_any-same p q h (x ∷ xs) = ap₂ (λ a b. a || b) (h x) (list_any-same p q h xs)
 
-open_row-push : (bank : BankId) (history : List CommandRow) (i : CommandRow) → open_row bank (history ++ i ∷ []) ≡ row_after bank (open_row bank history) i.command
+open_row-push : (bank : BankId) (history : List IssuedCommand) (i : IssuedCommand) → open_row bank (history ++ i ∷ []) ≡ row_after bank (open_row bank history) i.command
 unfolding open_row
-open_row-push bank history i = fold_push (λ (row : Option ℕ) (x : CommandRow). row_after bank row x.command) None history i
+open_row-push bank history i = fold_push (λ (row : Option ℕ) (x : IssuedCommand). row_after bank row x.command) None history i
 
 -- a precharge of all banks leaves none open
-pub closed-prea : (s : Config) (history : List CommandRow) (rank cycle channel : ℕ)
+pub closed-prea : (s : Config) (history : List IssuedCommand) (rank cycle channel : ℕ)
     → has_open_bank s (history ++ record { cycle = cycle; channel = channel; command = Prea rank } ∷ []) rank ≡ false
 unfolding has_open_bank
 closed-prea s history rank cycle channel =
-    let i : CommandRow = record { cycle = cycle; channel = channel; command = Prea rank } in
+    let i : IssuedCommand = record { cycle = cycle; channel = channel; command = Prea rank } in
     list_any-none (has_open_bank_in_group (history ++ i ∷ []) rank)
     (λ group. list_any-none (λ bank. is_open (history ++ i ∷ []) (record { rank = rank; group = group; bank = bank }))
     (λ bank. ap is_some (open_row-push (record { rank = rank; group = group; bank = bank }) history i ∙ cond-true _ _ _ (eq-eqb rank rank refl))) (below 4))
     (below s.groups)
 
 -- a refresh opens none
-pub closed-ref : (s : Config) (history : List CommandRow) (rank other cycle channel : ℕ)
+pub closed-ref : (s : Config) (history : List IssuedCommand) (rank other cycle channel : ℕ)
     → has_open_bank s (history ++ record { cycle = cycle; channel = channel; command = Ref other } ∷ []) rank ≡ has_open_bank s history rank
 unfolding has_open_bank
 closed-ref s history rank other cycle channel =
-    let i : CommandRow = record { cycle = cycle; channel = channel; command = Ref other } in
+    let i : IssuedCommand = record { cycle = cycle; channel = channel; command = Ref other } in
     list_any-same (has_open_bank_in_group (history ++ i ∷ []) rank) (has_open_bank_in_group history rank)
     (λ group. list_any-same (λ bank. is_open (history ++ i ∷ []) (record { rank = rank; group = group; bank = bank })) (λ bank. is_open history (record { rank = rank; group = group; bank = bank }))
     (λ bank. ap is_some (open_row-push (record { rank = rank; group = group; bank = bank }) history i)) (below 4))

@@ -8,15 +8,15 @@ use Rattle.std.proofs.lemmas.List.Folds.{list_any-append}
 use Rattle.sim_base.specs.declared.config.Config.{Config}
 use Rattle.sim_base.specs.Config.{reply_link, credit_link}
 use Rattle.sim_base.specs.Places.{place_of}
-use Rattle.sim_base.specs.Row.{channel_row}
-use Rattle.sim_base.specs.History.{below, channel_rows, issued_at, issued_commands, request, request_of, reply, credit, messages_of, messages_at, messages, receiver, is_unit, is_to, inbox}
+use Rattle.sim_base.specs.MachineStep.{step_of_channel}
+use Rattle.sim_base.specs.History.{below, steps_of_channel, issued_at, issued_commands, request, request_of, reply, credit, messages_of, messages_at, messages, receiver, is_unit, is_to, inbox}
 use Rattle.sim_base.specs.Sends.{sender, core_sends, channel_sends, sends}
 use Rattle.sim_base.specs.Scheduling.{request_in, is_source, serves, is_served, source_of}
-use Rattle.sim_base.specs.Machine.{next_row, run}
+use Rattle.sim_base.specs.Machine.{next_step, run}
 use Rattle.sim_base.specs.Windows.{is_request_for, is_credit, is_credit_on, credit_cap}
 use Rattle.sim_base.specs.declared.command.Command.{Command}
 use Rattle.sim_base.specs.declared.command.Command.TheVariants.{Act, Rd, Wr, Pre, Prea, Ref}
-use Rattle.sim_base.specs.declared.command.CommandRow.{CommandRow}
+use Rattle.sim_base.specs.declared.command.IssuedCommand.{IssuedCommand}
 use Rattle.sim_base.specs.declared.command.Source.{Source}
 use Rattle.sim_base.specs.declared.message.Message.{Message}
 use Rattle.sim_base.specs.declared.message.Request.{Request}
@@ -25,7 +25,7 @@ use Rattle.sim_base.specs.declared.message.Unit.TheVariants.{Core, Channel}
 use Rattle.sim_base.specs.declared.trace.Entry.{Entry}
 use Rattle.sim_base.specs.declared.trace.Entry.TheVariants.{Plain, Read, Write}
 use Rattle.sim_base.proofs.Grows.{sender_credit}
-use Rattle.sim_base.proofs.Spans.{channel_row-next}
+use Rattle.sim_base.proofs.Spans.{step_of_channel-next}
 use Rattle.laws.specs.Commands.{history_of}
 use Rattle.laws.specs.Credits.{requests_sent, credits_back, CreditsComeBackOnce}
 use Rattle.laws.proofs.Counting.{bit_le, count-cons, count-append, count-none, count-weaker, count-weaker_each, count-fewer, count-flat_map-none, count-flat_map-bound, test_in, count-filter_map}
@@ -41,11 +41,11 @@ is_of core write r = eqb r.core core && cond write r.write (not r.write)
 
 requests-more : (q : Request → Bool) (s : Config) (traces : List (List Entry)) (n k : ℕ)
     → count_by q (requests_to s traces (suc n) k)
-    ≡ count_by q (requests_to s traces n k) + count_by (λ m. is_to s (Channel k) m && test_in q (request_in m.load)) (sends s traces (run s traces n) (next_row s traces (run s traces n)))
+    ≡ count_by q (requests_to s traces n k) + count_by (λ m. is_to s (Channel k) m && test_in q (request_in m.load)) (sends s traces (run s traces n) (next_step s traces (run s traces n)))
 requests-more q s traces n k =
     count-filter_map q (λ (m : Message). request_in m.load) (inbox s traces (run s traces (suc n)) (Channel k))
     ∙ inbox-more (λ (m : Message). test_in q (request_in m.load)) s traces n (Channel k)
-    ∙ ap (λ i. i + count_by (λ m. is_to s (Channel k) m && test_in q (request_in m.load)) (sends s traces (run s traces n) (next_row s traces (run s traces n))))
+    ∙ ap (λ i. i + count_by (λ m. is_to s (Channel k) m && test_in q (request_in m.load)) (sends s traces (run s traces n) (next_step s traces (run s traces n))))
     (sym (count-filter_map q (λ (m : Message). request_in m.load) (inbox s traces (run s traces n) (Channel k))))
 
 -- a message to this channel with a request of this kind and core
@@ -77,21 +77,21 @@ own-brings s core k write cycle entry (Write address) = λ h.
     and_from (eqb (place_of s address).channel k) (cond write true false) (request-goes s k core cycle entry true address both.0) (and_parts (eqb core core) (cond write true false) both.1).1
 
 new-requests : (s : Config) (traces : List (List Entry)) (n core k : ℕ) (write : Bool)
-    → count_by (brings s core k write) (sends s traces (run s traces n) (next_row s traces (run s traces n))) ≤ sent_now s traces n core k write
+    → count_by (brings s core k write) (sends s traces (run s traces n) (next_step s traces (run s traces n))) ≤ sent_now s traces n core k write
 unfolding sends sent_now channel_sends reply credit
 new-requests s traces n core k write =
     let history = run s traces n in
-    let row = next_row s traces history in
+    let machine_step = next_step s traces history in
     let p = brings s core k write in
-    let f = core_sends s traces history row in
-    let g = channel_sends s history row in
+    let f = core_sends s traces history machine_step in
+    let g = channel_sends s history machine_step in
     let b = count_by (λ (m : Message). is_request_for k write m.load) (f core) in
     let a : count_by p (flat_map f (below s.cores) ++ flat_map g (below s.channels)) ≡ count_by p (flat_map f (below s.cores)) + count_by p (flat_map g (below s.channels)) = count-append p (flat_map f (below s.cores)) _ in
     let z : count_by p (flat_map g (below s.channels)) ≡ 0 =
     count-flat_map-none p g s.channels
     (λ i l. count-none p (g i) (commands-each (λ (m : Message). p m ≡ false) s i (length history)
     (λ source. and_right (is_to s (Channel k) (reply s i (length history) source)) false refl)
-    (λ w source. and_right (is_to s (Channel k) (credit s i (length history) w source)) false refl) (channel_row i row))) in
+    (λ w source. and_right (is_to s (Channel k) (credit s i (length history) w source)) false refl) (step_of_channel i machine_step))) in
     let d : count_by p (flat_map f (below s.cores)) ≤ b =
     count-flat_map-bound p f s.cores core b
     (λ i l ne. count-none p (f i) (issues-each (λ (m : Message). p m ≡ false) s traces history i l (λ j e x y v. other-brings s core k write i (length history) _ e ne)))
@@ -125,7 +125,7 @@ served-more s traces n core k write l = count-history_of (serves_for core write)
 served-kept : (s : Config) (traces : List (List Entry)) (n k : ℕ) (r : Request) → k < s.channels → is_served (history_of s traces n k) r ≡ true → is_served (history_of s traces (suc n) k) r ≡ true
 unfolding is_served
 served-kept s traces n k r l h =
-    let p = λ (i : CommandRow). serves r i.command in
+    let p = λ (i : IssuedCommand). serves r i.command in
     ap (list_any p) (history_of-more s traces n k l) ∙ list_any-append p (history_of s traces n k) _ ∙ or_left (list_any p (history_of s traces n k)) _ h
 
 -- a request whose data is moved is served
@@ -133,7 +133,7 @@ served-now : (s : Config) (traces : List (List Entry)) (n k : ℕ) (r : Request)
     → is_served (history_of s traces (suc n) k) r ≡ true
 unfolding is_served
 served-now s traces n k r command l e h =
-    let p = λ (i : CommandRow). serves r i.command in
+    let p = λ (i : IssuedCommand). serves r i.command in
     ap (list_any p) (history_of-more s traces n k l) ∙ list_any-append p (history_of s traces n k) _
     ∙ or_right (list_any p (history_of s traces n k)) _ (ap (λ o. list_any p (cons_option (issued_at k n o) [])) e ∙ or_left (serves r command) false h)
 
@@ -209,7 +209,7 @@ unserved-more : (s : Config) (traces : List (List Entry)) (n core k : ℕ) (writ
 unfolding unserved
 unserved-more s traces n core k write l =
     let q = is_left s traces (suc n) core k write in
-    let new = sends s traces (run s traces n) (next_row s traces (run s traces n)) in
+    let new = sends s traces (run s traces n) (next_step s traces (run s traces n)) in
     let a = requests-more q s traces n k in
     let b = left-fewer s traces n core k write l in
     let c : count_by (λ m. is_to s (Channel k) m && test_in q (request_in m.load)) new ≤ count_by (brings s core k write) new =
@@ -234,7 +234,7 @@ unserved-none s traces core k write =
     ∙ inbox-none (λ (m : Message). test_in (is_left s traces 0 core k write) (request_in m.load)) s traces (Channel k)
 
 served-none : (s : Config) (traces : List (List Entry)) (core k : ℕ) (write : Bool) → served s traces 0 core k write ≡ 0
-unfolding served run channel_rows issued_commands
+unfolding served run steps_of_channel issued_commands
 served-none s traces core k write = refl
 
 -- what was sent is served, or not yet
@@ -322,11 +322,11 @@ credits-served s traces core k write l zero =
 credits-served s traces core k write l (suc n) =
     let p = is_credit_from s core k write in
     let history = run s traces n in
-    let row = next_row s traces history in
-    let a = count-messages p s traces history row in
-    let b = sends-channel s traces history row p k l (credit-only s core k write l) in
-    let c : count_by p (channel_sends s history row k) ≤ cond (test_in (serves_for core write) (chosen s traces n k)) 1 0 =
-    subst (λ o. count_by p (messages_at s k (length history) o) ≤ cond (test_in (serves_for core write) (chosen s traces n k)) 1 0) (sym (channel_row-next s traces history k l))
+    let machine_step = next_step s traces history in
+    let a = count-messages p s traces history machine_step in
+    let b = sends-channel s traces history machine_step p k l (credit-only s core k write l) in
+    let c : count_by p (channel_sends s history machine_step k) ≤ cond (test_in (serves_for core write) (chosen s traces n k)) 1 0 =
+    subst (λ o. count_by p (messages_at s k (length history) o) ≤ cond (test_in (serves_for core write) (chosen s traces n k)) 1 0) (sym (step_of_channel-next s traces history k l))
     (command-credits s core k (length history) write l (chosen s traces n k)) in
     let d = served-more s traces n core k write l in
     let rest : count_by p (messages s traces history) ≤ served s traces n core k write = credits-served s traces core k write l n in

@@ -6,31 +6,31 @@ use Rattle.std.proofs.lemmas.Bool.{false≢true, cond_both, cond-true, cond-fals
 use Rattle.std.proofs.lemmas.Nat.{le-div}
 use Rattle.std.proofs.Math.Nat.{div-mul-le_self}
 use Rattle.sim_base.specs.declared.config.Config.{Config}
-use Rattle.sim_base.specs.History.{below, channel_rows, issued_commands, inbox}
+use Rattle.sim_base.specs.History.{below, steps_of_channel, issued_commands, inbox}
 use Rattle.sim_base.specs.Rules.{has_open_bank, is_legal}
 use Rattle.sim_base.specs.Scheduling.{queue_in, candidates, drains, needed_at, column_command, first_ready, refreshes, due, lowest_due, refresh_command, if_legal, choice_between, choice}
 use Rattle.sim_base.specs.Machine.{run}
 use Rattle.sim_base.specs.declared.command.Command.TheVariants.{Prea, Ref}
-use Rattle.sim_base.specs.declared.command.CommandRow.{CommandRow}
+use Rattle.sim_base.specs.declared.command.IssuedCommand.{IssuedCommand}
 use Rattle.sim_base.specs.declared.message.Request.{Request}
 use Rattle.sim_base.specs.declared.message.Unit.TheVariants.{Channel}
 use Rattle.sim_base.specs.declared.trace.Entry.{Entry}
-use Rattle.laws.specs.Commands.{rows_of, history_of}
+use Rattle.laws.specs.Commands.{channel_steps_of, history_of}
 use Rattle.laws.proofs.Chosen.{find-passes, first_ready-needed}
 use Rattle.laws.proofs.Counting.{test_in}
 use Rattle.laws.proofs.Lists.{FailsBefore, find-range}
-use Rattle.laws.proofs.Legal.{chosen, length-rows_of, count-history_of}
+use Rattle.laws.proofs.Legal.{chosen, length-channel_steps_of, count-history_of}
 
 -- the REFs of a rank before a cycle
 abbrev pub refreshed : Config → List (List Entry) → ℕ → ℕ → ℕ → ℕ
-refreshed s traces k rank t = count_by (λ (i : CommandRow). refreshes rank i.command) (history_of s traces t k)
+refreshed s traces k rank t = count_by (λ (i : IssuedCommand). refreshes rank i.command) (history_of s traces t k)
 
 pub refreshed-more : (s : Config) (traces : List (List Entry)) (k rank t : ℕ) → k < s.channels
     → refreshed s traces k rank (suc t) ≡ refreshed s traces k rank t + cond (test_in (refreshes rank) (chosen s traces t k)) 1 0
 refreshed-more s traces k rank t l = count-history_of (refreshes rank) s traces t k l
 
 pub refreshed-none : (s : Config) (traces : List (List Entry)) (k rank : ℕ) → refreshed s traces k rank 0 ≡ 0
-unfolding run channel_rows issued_commands
+unfolding run steps_of_channel issued_commands
 refreshed-none s traces k rank = refl
 
 -- a rank has a refresh due
@@ -42,11 +42,11 @@ choice-lowest : (s : Config) (traces : List (List Entry)) (k t : ℕ) → (reque
     × (chosen s traces t k ≡ choice_between s (history_of s traces t k) t requests (lowest_due s (history_of s traces t k) t))
 unfolding choice
 choice-lowest s traces k t =
-    let rows = rows_of s traces t k in
+    let steps = channel_steps_of s traces t k in
     let mail = inbox s traces (run s traces t) (Channel k) in
-    let e : length rows ≡ t = length-rows_of s traces t k in (
-      candidates s (drains s k rows mail t) (queue_in k rows mail t),
-      ap (λ i. choice_between s (history_of s traces t k) i (candidates s (drains s k rows mail i) (queue_in k rows mail i)) (lowest_due s (history_of s traces t k) i)) e,
+    let e : length steps ≡ t = length-channel_steps_of s traces t k in (
+      candidates s (drains s k steps mail t) (queue_in k steps mail t),
+      ap (λ i. choice_between s (history_of s traces t k) i (candidates s (drains s k steps mail i) (queue_in k steps mail i)) (lowest_due s (history_of s traces t k) i)) e,
     )
 
 pub chosen-refresh : (s : Config) (traces : List (List Entry)) (k t rank : ℕ) → lowest_due s (history_of s traces t k) t ≡ Some rank
@@ -99,18 +99,18 @@ refresh-due s traces k t rank h =
         if_legal-refresh s traces k t rank other (lowest-due s traces k t other e) (ap (test_in (refreshes rank)) (sym (chosen-refresh s traces k t other e)) ∙ h)
 
 -- what is due
-pub due-more : (s : Config) (history : List CommandRow) (rank t : ℕ) → 0 < due s rank history t → count_by (λ (i : CommandRow). refreshes rank i.command) history < t / s.timing.n_refi
+pub due-more : (s : Config) (history : List IssuedCommand) (rank t : ℕ) → 0 < due s rank history t → count_by (λ (i : IssuedCommand). refreshes rank i.command) history < t / s.timing.n_refi
 unfolding due
 due-more s history rank t h = go (eqb s.timing.n_refi 0) h
   where
     count : ℕ
-    count = count_by (λ (i : CommandRow). refreshes rank i.command) history
+    count = count_by (λ (i : IssuedCommand). refreshes rank i.command) history
 
     go : (b : Bool) → 0 < cond b 0 (t / s.timing.n_refi - count) → count < t / s.timing.n_refi
     go true l = absurd (omega arith)
     go false l = omega arith
 
-pub due-from : (s : Config) (history : List CommandRow) (rank t : ℕ) → 0 < s.timing.n_refi → due s rank history t ≡ t / s.timing.n_refi - count_by (λ (i : CommandRow). refreshes rank i.command) history
+pub due-from : (s : Config) (history : List IssuedCommand) (rank t : ℕ) → 0 < s.timing.n_refi → due s rank history t ≡ t / s.timing.n_refi - count_by (λ (i : IssuedCommand). refreshes rank i.command) history
 unfolding due
 due-from s history rank t h = cond-false _ _ _ (ne_eqb s.timing.n_refi 0 (λ e. omega arith))
 
@@ -140,7 +140,7 @@ pub not_early : (s : Config) (traces : List (List Entry)) (k rank : ℕ) → k <
 not_early s traces k rank l t = early_step s traces k rank t l (early_before s traces k rank l t)
 
 -- where there are no refreshes, none is issued
-none_due : (s : Config) (history : List CommandRow) (rank t : ℕ) → s.timing.n_refi ≡ 0 → due s rank history t ≡ 0
+none_due : (s : Config) (history : List IssuedCommand) (rank t : ℕ) → s.timing.n_refi ≡ 0 → due s rank history t ≡ 0
 unfolding due
 none_due s history rank t z = cond-true _ _ _ (eq-eqb s.timing.n_refi 0 z)
 

@@ -8,11 +8,11 @@ use Rattle.std.proofs.lemmas.List.Elements.{All-from_recursion}
 use Rattle.std.proofs.lemmas.List.Sums.{count_by-le-length}
 use Rattle.sim_base.specs.declared.config.Config.{Config}
 use Rattle.sim_base.specs.Config.{request_link, reply_link, credit_link}
-use Rattle.sim_base.specs.Row.{Row, channel_row}
-use Rattle.sim_base.specs.History.{below, core_rows, issued_before, request, request_of, reply, credit, messages, receiver, is_unit, is_to, by_age, inbox}
+use Rattle.sim_base.specs.MachineStep.{MachineStep, step_of_channel}
+use Rattle.sim_base.specs.History.{below, steps_of_core, issued_before, request, request_of, reply, credit, messages, receiver, is_unit, is_to, by_age, inbox}
 use Rattle.sim_base.specs.Sends.{core_sends, channel_sends, sends}
 use Rattle.sim_base.specs.Scheduling.{request_in}
-use Rattle.sim_base.specs.Machine.{next_row, run}
+use Rattle.sim_base.specs.Machine.{next_step, run}
 use Rattle.sim_base.specs.declared.message.Load.{Load}
 use Rattle.sim_base.specs.declared.message.Load.TheVariants as load
 use Rattle.sim_base.specs.declared.message.Message.{Message}
@@ -36,7 +36,7 @@ IsLinkedAs s m (load.Request r) = (r.link ≡ m.link) × (r.arrival ≡ m.arriva
 IsLinkedAs s m (load.Reply entry) = (core : ℕ) × (channel : ℕ) × (channel < s.channels) × (m.link ≡ reply_link s core channel)
 IsLinkedAs s m (load.Credit write entry) = (core : ℕ) × (channel : ℕ) × (channel < s.channels) × (m.link ≡ credit_link s core channel)
 
-messages-linked : (s : Config) (traces : List (List Entry)) (history : List Row) → Each (λ (m : Message). IsLinkedAs s m m.load) (messages s traces history)
+messages-linked : (s : Config) (traces : List (List Entry)) (history : List MachineStep) → Each (λ (m : Message). IsLinkedAs s m m.load) (messages s traces history)
 unfolding request reply credit
 messages-linked s traces history =
     messages-each s (λ (m : Message). IsLinkedAs s m m.load) (λ core cycle entry write address l. (refl, refl))
@@ -47,7 +47,7 @@ Each-both P Q [] h k = tt
 Each-both P Q (x ∷ xs) h k = ((h.0, k.0), Each-both P Q xs h.1 k.1)
 
 -- a message to a channel
-to_channel : (s : Config) (traces : List (List Entry)) (history : List Row) (k : ℕ) (m : Message) (l : Load) → is_unit (receiver s m.link) (Channel k) ≡ true
+to_channel : (s : Config) (traces : List (List Entry)) (history : List MachineStep) (k : ℕ) (m : Message) (l : Load) → is_unit (receiver s m.link) (Channel k) ≡ true
     → IsLinkedAs s m l → IfSome (request_in l) (TracedIn s traces history m) → IsSomeAnd (request_in l) (IsRequestTo s traces history k m)
 to_channel s traces history k m (load.Request r) to linked made =
     let inside : r.place.channel < s.channels = subst (λ (p : Place). p.channel < s.channels) (sym made.traced.place) (place_in s r.address) in
@@ -69,7 +69,7 @@ to_channel s traces history k m (load.Credit write entry) to linked made =
     absurd (false≢true (ap (λ u. is_unit u (Channel k)) (sym (ap (receiver s) linked.3 ∙ receiver_credit s linked.0 linked.1 linked.2)) ∙ to))
 
 -- and one to a core
-to_core : (s : Config) (traces : List (List Entry)) (history : List Row) (c : ℕ) (m : Message) (l : Load) → is_unit (receiver s m.link) (Core c) ≡ true
+to_core : (s : Config) (traces : List (List Entry)) (history : List MachineStep) (c : ℕ) (m : Message) (l : Load) → is_unit (receiver s m.link) (Core c) ≡ true
     → IsLinkedAs s m l → IfSome (request_in l) (TracedIn s traces history m) → FitsCore s c m.link l
 to_core s traces history c m (load.Request r) to linked made =
     let inside : r.place.channel < s.channels = subst (λ (p : Place). p.channel < s.channels) (sym made.traced.place) (place_in s r.address) in
@@ -104,7 +104,7 @@ answers_fit s traces n c l =
     inbox-fits (λ (m : Message). FitsCore s c m.link m.load) s traces n (Core c) (λ m to linked made. to_core s traces (run s traces n) c m m.load to linked made)
 
 -- an entry is not requested before it is issued
-not_issued : (s : Config) (traces : List (List Entry)) (n core entry : ℕ) → issued_before (core_rows core (run s traces n)) ≤ entry
+not_issued : (s : Config) (traces : List (List Entry)) (n core entry : ℕ) → issued_before (steps_of_core core (run s traces n)) ≤ entry
     → count_by (λ (m : Message). is_request_of core entry m.load) (messages s traces (run s traces n)) ≡ 0
 not_issued s traces n core entry h =
     let history = run s traces n in
@@ -117,7 +117,7 @@ not_issued s traces n core entry h =
         let both = and_parts (eqb r.core core) (eqb r.entry entry) e in
         let a : r.core ≡ core = eqb-true _ _ both.0 in
         let b : r.entry ≡ entry = eqb-true _ _ both.1 in
-        let c : r.entry < issued_before (core_rows core (run s traces n)) = subst (λ x. r.entry < issued_before (core_rows x (run s traces n))) a made.traced.issued in
+        let c : r.entry < issued_before (steps_of_core core (run s traces n)) = subst (λ x. r.entry < issued_before (steps_of_core x (run s traces n))) a made.traced.issued in
         omega arith)
     other m (load.Reply e) made = refl
     other m (load.Credit write e) made = refl
@@ -131,23 +131,23 @@ request_of-later s core entry c cycle i (Read address) h =
 request_of-later s core entry c cycle i (Write address) h =
     false_from_ne_true (eqb c core && eqb i entry) (λ e. let both = and_parts (eqb c core) (eqb i entry) e in let l = h (eqb-true _ _ both.0) in let f = eqb-true _ _ both.1 in omega arith)
 
-channels_request : (s : Config) (traces : List (List Entry)) (history : List Row) (core entry k : ℕ)
-    → count_by (λ (m : Message). is_request_of core entry m.load) (channel_sends s history (next_row s traces history) k) ≡ 0
+channels_request : (s : Config) (traces : List (List Entry)) (history : List MachineStep) (core entry k : ℕ)
+    → count_by (λ (m : Message). is_request_of core entry m.load) (channel_sends s history (next_step s traces history) k) ≡ 0
 unfolding channel_sends reply credit
 channels_request s traces history core entry k =
     count-none (λ (m : Message). is_request_of core entry m.load) _
-    (commands-each (λ (m : Message). is_request_of core entry m.load ≡ false) s k (length history) (λ source. refl) (λ write source. refl) (channel_row k (next_row s traces history)))
+    (commands-each (λ (m : Message). is_request_of core entry m.load ≡ false) s k (length history) (λ source. refl) (λ write source. refl) (step_of_channel k (next_step s traces history)))
 
 -- what is sent in a cycle are requests of entries that were not issued before, at most one of a core
-sends-request : (s : Config) (traces : List (List Entry)) (history : List Row) (core entry b : ℕ)
-    → (core < s.cores → count_by (λ (m : Message). is_request_of core entry m.load) (core_sends s traces history (next_row s traces history) core) ≤ b)
-    → count_by (λ (m : Message). is_request_of core entry m.load) (sends s traces history (next_row s traces history)) ≤ b
+sends-request : (s : Config) (traces : List (List Entry)) (history : List MachineStep) (core entry b : ℕ)
+    → (core < s.cores → count_by (λ (m : Message). is_request_of core entry m.load) (core_sends s traces history (next_step s traces history) core) ≤ b)
+    → count_by (λ (m : Message). is_request_of core entry m.load) (sends s traces history (next_step s traces history)) ≤ b
 unfolding sends
 sends-request s traces history core entry b h =
     let p = λ (m : Message). is_request_of core entry m.load in
-    let row = next_row s traces history in
-    let f = core_sends s traces history row in
-    let g = channel_sends s history row in
+    let machine_step = next_step s traces history in
+    let f = core_sends s traces history machine_step in
+    let g = channel_sends s history machine_step in
     let a : count_by p (flat_map f (below s.cores) ++ flat_map g (below s.channels)) ≡ count_by p (flat_map f (below s.cores)) + count_by p (flat_map g (below s.channels)) = count-append p (flat_map f (below s.cores)) _ in
     let z : count_by p (flat_map g (below s.channels)) ≡ 0 = count-flat_map-none p g s.channels (λ k l. channels_request s traces history core entry k) in
     let d : count_by p (flat_map f (below s.cores)) ≤ b =
@@ -155,13 +155,13 @@ sends-request s traces history core entry b h =
     (λ i l ne. count-none p (f i) (issues-each (λ (m : Message). p m ≡ false) s traces history i l (λ j e x y v. request_of-later s core entry i (length history) _ e (λ c. absurd (ne c))))) h in
     omega arith
 
-sends-one_request : (s : Config) (traces : List (List Entry)) (history : List Row) (core entry : ℕ) → count_by (λ (m : Message). is_request_of core entry m.load) (sends s traces history (next_row s traces history)) ≤ 1
+sends-one_request : (s : Config) (traces : List (List Entry)) (history : List MachineStep) (core entry : ℕ) → count_by (λ (m : Message). is_request_of core entry m.load) (sends s traces history (next_step s traces history)) ≤ 1
 sends-one_request s traces history core entry =
     sends-request s traces history core entry 1
-    (λ l. let a = issues-one s traces history core l in let b = count_by-le-length (λ (m : Message). is_request_of core entry m.load) (core_sends s traces history (next_row s traces history) core) in omega arith)
+    (λ l. let a = issues-one s traces history core l in let b = count_by-le-length (λ (m : Message). is_request_of core entry m.load) (core_sends s traces history (next_step s traces history) core) in omega arith)
 
-sends-issued : (s : Config) (traces : List (List Entry)) (history : List Row) (core entry : ℕ) → entry < issued_before (core_rows core history)
-    → count_by (λ (m : Message). is_request_of core entry m.load) (sends s traces history (next_row s traces history)) ≤ 0
+sends-issued : (s : Config) (traces : List (List Entry)) (history : List MachineStep) (core entry : ℕ) → entry < issued_before (steps_of_core core history)
+    → count_by (λ (m : Message). is_request_of core entry m.load) (sends s traces history (next_step s traces history)) ≤ 0
 sends-issued s traces history core entry h =
     sends-request s traces history core entry 0
     (λ l.
@@ -171,12 +171,12 @@ sends-issued s traces history core entry h =
 
 once : (s : Config) (traces : List (List Entry)) (core entry n : ℕ)
     → (count_by (λ (m : Message). is_request_of core entry m.load) (messages s traces (run s traces n)) ≤ 0)
-    ⊎ (count_by (λ (m : Message). is_request_of core entry m.load) (sends s traces (run s traces n) (next_row s traces (run s traces n))) ≤ 0)
-once s traces core entry n = go (cases_lt entry (issued_before (core_rows core (run s traces n))))
+    ⊎ (count_by (λ (m : Message). is_request_of core entry m.load) (sends s traces (run s traces n) (next_step s traces (run s traces n))) ≤ 0)
+once s traces core entry n = go (cases_lt entry (issued_before (steps_of_core core (run s traces n))))
   where
-    go : (entry < issued_before (core_rows core (run s traces n))) ⊎ (issued_before (core_rows core (run s traces n)) ≤ entry)
+    go : (entry < issued_before (steps_of_core core (run s traces n))) ⊎ (issued_before (steps_of_core core (run s traces n)) ≤ entry)
         → (count_by (λ (m : Message). is_request_of core entry m.load) (messages s traces (run s traces n)) ≤ 0)
-        ⊎ (count_by (λ (m : Message). is_request_of core entry m.load) (sends s traces (run s traces n) (next_row s traces (run s traces n))) ≤ 0)
+        ⊎ (count_by (λ (m : Message). is_request_of core entry m.load) (sends s traces (run s traces n) (next_step s traces (run s traces n))) ≤ 0)
     go (inl l) = inr (sends-issued s traces (run s traces n) core entry l)
     go (inr l) = inl (let e = not_issued s traces n core entry l in omega arith)
 
@@ -184,7 +184,7 @@ one_request_of : (s : Config) (traces : List (List Entry)) (core entry n : ℕ) 
 unfolding run
 one_request_of s traces core entry zero = let e = ap (count_by (λ (m : Message). is_request_of core entry m.load)) (messages-none s traces) in omega arith
 one_request_of s traces core entry (suc n) =
-    let e = count-messages (λ (m : Message). is_request_of core entry m.load) s traces (run s traces n) (next_row s traces (run s traces n)) in
+    let e = count-messages (λ (m : Message). is_request_of core entry m.load) s traces (run s traces n) (next_step s traces (run s traces n)) in
     let before : count_by (λ (m : Message). is_request_of core entry m.load) (messages s traces (run s traces n)) ≤ 1 = one_request_of s traces core entry n in
     let now = sends-one_request s traces (run s traces n) core entry in
     let apart = once s traces core entry n in

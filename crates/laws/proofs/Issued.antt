@@ -7,7 +7,7 @@ use Rattle.std.proofs.lemmas.Bool.{true≢false}
 use Rattle.sim_base.specs.declared.config.Config.{Config}
 use Rattle.sim_base.specs.History.{request_of, requests_between, issued_before, retired_before, core_messages}
 use Rattle.sim_base.specs.Windows.{is_memory, is_memory_in, has_memory, meets_memory, lacks_credit, stop_after, has_cause, first_stop, retires, step}
-use Rattle.sim_base.specs.declared.history.CoreRow.{CoreRow}
+use Rattle.sim_base.specs.declared.history.CoreStep.{CoreStep}
 use Rattle.sim_base.specs.declared.message.Message.{Message}
 use Rattle.sim_base.specs.declared.trace.Entry.{Entry}
 use Rattle.sim_base.specs.declared.trace.Entry.TheVariants.{Plain, Read, Write}
@@ -26,18 +26,18 @@ no_stop false false false false true h = absurd (true≢false h)
 no_stop false false false false false h = (refl, refl)
 
 -- the j-th entry after those that were issued meets no memory entry of its cycle, and wants for no credit
-abbrev pub GoesOn : Config → ℕ → List Entry → List CoreRow → List Message → ℕ → Type 0
-GoesOn s core trace rows inbox j =
-    (meets_memory trace (issued_before rows) j ≡ false)
-    × (lacks_credit s core inbox (core_messages s core trace rows) (length rows) (slice_get trace (issued_before rows + j)) ≡ false)
+abbrev pub GoesOn : Config → ℕ → List Entry → List CoreStep → List Message → ℕ → Type 0
+GoesOn s core trace steps inbox j =
+    (meets_memory trace (issued_before steps) j ≡ false)
+    × (lacks_credit s core inbox (core_messages s core trace steps) (length steps) (slice_get trace (issued_before steps + j)) ≡ false)
 
-pub goes_on : (s : Config) (core : ℕ) (trace : List Entry) (rows : List CoreRow) (inbox : List Message) (j : ℕ)
-    → j < (step s core trace rows inbox).0.issued → GoesOn s core trace rows inbox j
+pub goes_on : (s : Config) (core : ℕ) (trace : List Entry) (steps : List CoreStep) (inbox : List Message) (j : ℕ)
+    → j < (step s core trace steps inbox).0.issued → GoesOn s core trace steps inbox j
 unfolding step first_stop has_cause stop_after
-goes_on s core trace rows inbox j l =
-    let gone = retired_before rows + retires s trace rows inbox in
-    let h : has_cause s core trace inbox (core_messages s core trace rows) (length rows) (issued_before rows) gone j ≡ false =
-    fails_before_first (has_cause s core trace inbox (core_messages s core trace rows) (length rows) (issued_before rows) gone) s.width j l in
+goes_on s core trace steps inbox j l =
+    let gone = retired_before steps + retires s trace steps inbox in
+    let h : has_cause s core trace inbox (core_messages s core trace steps) (length steps) (issued_before steps) gone j ≡ false =
+    fails_before_first (has_cause s core trace inbox (core_messages s core trace steps) (length steps) (issued_before steps) gone) s.width j l in
     no_stop _ _ _ _ _ h
 
 -- the entries of a cycle, with their numbers

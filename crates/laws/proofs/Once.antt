@@ -11,14 +11,14 @@ use Rattle.sim_base.specs.History.{trace_of, issued_at, issued_commands}
 use Rattle.sim_base.specs.Scheduling.{serves, is_served, source_of}
 use Rattle.sim_base.specs.declared.command.Command.{Command}
 use Rattle.sim_base.specs.declared.command.Command.TheVariants.{Act, Rd, Wr, Pre, Prea, Ref}
-use Rattle.sim_base.specs.declared.command.CommandRow.{CommandRow}
+use Rattle.sim_base.specs.declared.command.IssuedCommand.{IssuedCommand}
 use Rattle.sim_base.specs.declared.command.Source.{Source}
 use Rattle.sim_base.specs.declared.message.Request.{Request}
 use Rattle.sim_base.specs.declared.place.Place.{Place}
 use Rattle.sim_base.specs.declared.trace.Entry.{Entry}
-use Rattle.laws.specs.Commands.{rows_of, history_of}
+use Rattle.laws.specs.Commands.{channel_steps_of, history_of}
 use Rattle.laws.specs.Requests.{serves_entry, serves_entry_in, IsServedAt, RequestsAreServedOnce}
-use Rattle.laws.proofs.Legal.{chosen, length-rows_of, rows_of-at}
+use Rattle.laws.proofs.Legal.{chosen, length-channel_steps_of, channel_steps_of-at}
 use Rattle.laws.proofs.Traced.{memory_entry, Queued, ServesQueued, chosen-serves}
 
 -- a channel moves the data of an entry in a cycle
@@ -50,14 +50,14 @@ serves-queued s traces core entry k t (Some (Ref rank)) q h = absurd (false≢tr
 at-queued : (s : Config) (traces : List (List Entry)) (core entry k t : ℕ) → ServesAt s traces core entry k t → IsQueuedFor s traces core entry k t
 at-queued s traces core entry k t h = serves-queued s traces core entry k t (chosen s traces t k) (chosen-serves s traces t k) h
 
--- a command of the rows is among the commands that were issued
-any-issued : (core entry k i : ℕ) (rows : List (Option Command)) (t : ℕ) → serves_entry_in core entry (get_or rows t None) ≡ true
-    → list_any (λ (x : CommandRow). serves_entry core entry x.command) (filter_map (λ e. issued_at k e.0 e.1) (enumerate_from i rows)) ≡ true
+-- a command of the steps is among the commands that were issued
+any-issued : (core entry k i : ℕ) (steps : List (Option Command)) (t : ℕ) → serves_entry_in core entry (get_or steps t None) ≡ true
+    → list_any (λ (x : IssuedCommand). serves_entry core entry x.command) (filter_map (λ e. issued_at k e.0 e.1) (enumerate_from i steps)) ≡ true
 any-issued core entry k i [] t h = absurd (false≢true h)
-any-issued core entry k i (None ∷ rows) zero h = absurd (false≢true h)
-any-issued core entry k i (Some c ∷ rows) zero h = or_left (serves_entry core entry c) _ h
-any-issued core entry k i (None ∷ rows) (suc t) h = any-issued core entry k (i + 1) rows t h
-any-issued core entry k i (Some c ∷ rows) (suc t) h = or_right (serves_entry core entry c) _ (any-issued core entry k (i + 1) rows t h)
+any-issued core entry k i (None ∷ steps) zero h = absurd (false≢true h)
+any-issued core entry k i (Some c ∷ steps) zero h = or_left (serves_entry core entry c) _ h
+any-issued core entry k i (None ∷ steps) (suc t) h = any-issued core entry k (i + 1) steps t h
+any-issued core entry k i (Some c ∷ steps) (suc t) h = or_right (serves_entry core entry c) _ (any-issued core entry k (i + 1) steps t h)
 
 serves-same : (r : Request) (c : Command) → serves r c ≡ serves_entry r.core r.entry c
 serves-same r (Rd bank row column source) = refl
@@ -67,7 +67,7 @@ serves-same r (Pre bank source) = refl
 serves-same r (Prea rank) = refl
 serves-same r (Ref rank) = refl
 
-any-same : (r : Request) (xs : List CommandRow) → list_any (λ (x : CommandRow). serves r x.command) xs ≡ list_any (λ (x : CommandRow). serves_entry r.core r.entry x.command) xs
+any-same : (r : Request) (xs : List IssuedCommand) → list_any (λ (x : IssuedCommand). serves r x.command) xs ≡ list_any (λ (x : IssuedCommand). serves_entry r.core r.entry x.command) xs
 any-same r [] = refl
 any-same r (x ∷ xs) = ap₂ (λ a b. a || b) (serves-same r x.command) (any-same r xs)
 
@@ -78,9 +78,9 @@ not_before s traces core entry k t u l b h g = go (at-queued s traces core entry
   where
     go : IsQueuedFor s traces core entry k u → ⊥
     go (r, q, e, f) =
-        let there : serves_entry_in r.core r.entry (get_or (rows_of s traces u k) t None) ≡ true =
-        ap (serves_entry_in r.core r.entry) (rows_of-at s traces k l u t b) ∙ ap₂ (λ x y. serves_entry_in x y (chosen s traces t k)) e f ∙ h in
-        false≢true (sym q.unserved ∙ any-same r (history_of s traces u k) ∙ any-issued r.core r.entry k 0 (rows_of s traces u k) t there)
+        let there : serves_entry_in r.core r.entry (get_or (channel_steps_of s traces u k) t None) ≡ true =
+        ap (serves_entry_in r.core r.entry) (channel_steps_of-at s traces k l u t b) ∙ ap₂ (λ x y. serves_entry_in x y (chosen s traces t k)) e f ∙ h in
+        false≢true (sym q.unserved ∙ any-same r (history_of s traces u k) ∙ any-issued r.core r.entry k 0 (channel_steps_of s traces u k) t there)
 
 pub once_in_channel : (s : Config) (traces : List (List Entry)) (core entry k t u : ℕ) → k < s.channels → ServesAt s traces core entry k t → ServesAt s traces core entry k u → t ≡ u
 once_in_channel s traces core entry k t u l h g = go (cases_order t u)
@@ -117,10 +117,10 @@ served-at : (s : Config) (traces : List (List Entry)) (n core entry k t : ℕ) �
 served-at s traces n core entry k t l h = go (cases_lt t n)
   where
     go : (t < n) ⊎ (n ≤ t) → ServesAt s traces core entry k t
-    go (inl b) = ap (serves_entry_in core entry) (sym (rows_of-at s traces k l n t b)) ∙ h
+    go (inl b) = ap (serves_entry_in core entry) (sym (channel_steps_of-at s traces k l n t b)) ∙ h
     go (inr b) =
-        let long = length-rows_of s traces n k in
-        absurd (false≢true (ap (serves_entry_in core entry) (sym (get_or_past (rows_of s traces n k) t None (omega arith))) ∙ h))
+        let long = length-channel_steps_of s traces n k in
+        absurd (false≢true (ap (serves_entry_in core entry) (sym (get_or_past (channel_steps_of s traces n k) t None (omega arith))) ∙ h))
 
 pub requests_are_served_once : (s : Config) (traces : List (List Entry)) (n : ℕ) → RequestsAreServedOnce s traces n
 requests_are_served_once s traces n core entry k j t u l m h g = served_once s traces core entry k j t u l (served-at s traces n core entry k t l h) (served-at s traces n core entry j u m g)

@@ -5,12 +5,12 @@ use Rattle.std.specs.Option.{IfSome}
 use Rattle.std.specs.List.{AllByRecursion as Each}
 use Rattle.std.proofs.lemmas.Bool.{cond_both}
 use Rattle.sim_base.specs.declared.config.Config.{Config}
-use Rattle.sim_base.specs.History.{below, trace_of, core_rows, channel_rows, core_messages, channel_messages, issued_before, inbox, request_of, reply, credit, messages_of, messages_at, messages_of_core, messages_of_channel, messages, is_before, by_age}
+use Rattle.sim_base.specs.History.{below, trace_of, steps_of_core, steps_of_channel, core_messages, channel_messages, issued_before, inbox, request_of, reply, credit, messages_of, messages_at, messages_of_core, messages_of_channel, messages, is_before, by_age}
 use Rattle.sim_base.specs.Sends.{sender, core_sends, channel_sends, sends}
-use Rattle.sim_base.specs.Row.{Row, core_row}
-use Rattle.sim_base.specs.Machine.{next_row}
+use Rattle.sim_base.specs.MachineStep.{MachineStep, step_of_core}
+use Rattle.sim_base.specs.Machine.{next_step}
 use Rattle.sim_base.specs.Windows.{step}
-use Rattle.sim_base.specs.declared.history.CoreRow.{CoreRow}
+use Rattle.sim_base.specs.declared.history.CoreStep.{CoreStep}
 use Rattle.sim_base.specs.declared.command.Command.{Command}
 use Rattle.sim_base.specs.declared.command.Command.TheVariants.{Act, Rd, Wr, Pre, Prea, Ref}
 use Rattle.sim_base.specs.declared.command.Source.{Source}
@@ -23,7 +23,7 @@ use Rattle.sim_base.proofs.Below.{flat_map_below_more}
 use Rattle.sim_base.proofs.Each.{Each-append, Each-flat_map_below}
 use Rattle.sim_base.proofs.Grows.{SentBy, messages-grow, core_channel_differ, core_sends-by, channel_sends-by, of_core-by, of_channel-by}
 use Rattle.sim_base.proofs.Ordered.{Each-weaker}
-use Rattle.sim_base.proofs.Spans.{core_row-next, has_channels}
+use Rattle.sim_base.proofs.Spans.{step_of_core-next, has_channels}
 use Rattle.laws.proofs.Counting.{count-cons, count-append, count-none, count-flat_map-none, count-flat_map-one, count-flat_map-bound}
 use Rattle.laws.proofs.Issued.{GoesOn, goes_on, between-each, one_request}
 
@@ -65,26 +65,26 @@ Each-unputs P acc (m ∷ ms) h =
     let l = Each-unput P m acc k.0 in
     (l.1, (l.0, k.1))
 
--- with one row more, what was sent is what was sent before and what is sent now
-pub count-messages : (p : Message → Bool) (s : Config) (traces : List (List Entry)) (history : List Row) (row : Row)
-    → count_by p (messages s traces (history ++ row ∷ [])) ≡ count_by p (messages s traces history) + count_by p (sends s traces history row)
-count-messages p s traces history row =
-    let then = messages s traces (history ++ row ∷ []) in
+-- with one machine_step more, what was sent is what was sent before and what is sent now
+pub count-messages : (p : Message → Bool) (s : Config) (traces : List (List Entry)) (history : List MachineStep) (machine_step : MachineStep)
+    → count_by p (messages s traces (history ++ machine_step ∷ [])) ≡ count_by p (messages s traces history) + count_by p (sends s traces history machine_step)
+count-messages p s traces history machine_step =
+    let then = messages s traces (history ++ machine_step ∷ []) in
     let now = messages s traces history in
-    let new = sends s traces history row in
+    let new = sends s traces history machine_step in
     let a : count_by p (puts [] then) ≡ 0 + count_by p then = count-puts p [] then in
     let b : count_by p (puts (puts [] now) new) ≡ count_by p (puts [] now) + count_by p new = count-puts p (puts [] now) new in
     let c : count_by p (puts [] now) ≡ 0 + count_by p now = count-puts p [] now in
-    let d : count_by p (puts [] then) ≡ count_by p (puts (puts [] now) new) = ap (count_by p) (messages-grow s traces history row) in
+    let d : count_by p (puts [] then) ≡ count_by p (puts (puts [] now) new) = ap (count_by p) (messages-grow s traces history machine_step) in
     omega arith
 
-pub Each-messages : (P : Message → Type 0) (s : Config) (traces : List (List Entry)) (history : List Row) (row : Row)
-    → Each P (messages s traces history) → Each P (sends s traces history row) → Each P (messages s traces (history ++ row ∷ []))
-Each-messages P s traces history row h k =
+pub Each-messages : (P : Message → Type 0) (s : Config) (traces : List (List Entry)) (history : List MachineStep) (machine_step : MachineStep)
+    → Each P (messages s traces history) → Each P (sends s traces history machine_step) → Each P (messages s traces (history ++ machine_step ∷ []))
+Each-messages P s traces history machine_step h k =
     let now = messages s traces history in
-    let new = sends s traces history row in
-    (Each-unputs P [] (messages s traces (history ++ row ∷ []))
-    (subst (Each P) (sym (messages-grow s traces history row)) (Each-puts P (puts [] now) new (Each-puts P [] now tt h) k))).1
+    let new = sends s traces history machine_step in
+    (Each-unputs P [] (messages s traces (history ++ machine_step ∷ []))
+    (subst (Each P) (sym (messages-grow s traces history machine_step)) (Each-puts P (puts [] now) new (Each-puts P [] now tt h) k))).1
 
 -- the test passes nothing that another unit sends
 abbrev pub OnlyFrom : Config → MachineUnit → (Message → Bool) → Type 0
@@ -151,73 +151,73 @@ bound-channel s f g h p c b only k =
     count-flat_map-bound p g s.channels c b (λ i m e. none_from s (Channel c) (Channel i) p only (channel_from c i e) (g i) (h.channels i m)) k in
     omega arith
 
-sends-parts : (s : Config) (traces : List (List Entry)) (history : List Row) (row : Row) → Parts s (core_sends s traces history row) (channel_sends s history row)
-sends-parts s traces history row =
-    record { cores = λ i l. core_sends-by s traces history row i (has_channels s); channels = λ i l. channel_sends-by s history row i l }
+sends-parts : (s : Config) (traces : List (List Entry)) (history : List MachineStep) (machine_step : MachineStep) → Parts s (core_sends s traces history machine_step) (channel_sends s history machine_step)
+sends-parts s traces history machine_step =
+    record { cores = λ i l. core_sends-by s traces history machine_step i (has_channels s); channels = λ i l. channel_sends-by s history machine_step i l }
 
-messages-parts : (s : Config) (traces : List (List Entry)) (history : List Row) → Parts s (messages_of_core s traces history) (messages_of_channel s history)
+messages-parts : (s : Config) (traces : List (List Entry)) (history : List MachineStep) → Parts s (messages_of_core s traces history) (messages_of_channel s history)
 messages-parts s traces history =
     record { cores = λ i l. of_core-by s traces history i; channels = λ i l. of_channel-by s history i l }
 
 -- of what is sent in a cycle, only what this core or channel sends passes the test
-pub sends-core : (s : Config) (traces : List (List Entry)) (history : List Row) (row : Row) (p : Message → Bool) (c : ℕ) → c < s.cores → OnlyFrom s (Core c) p
-    → count_by p (sends s traces history row) ≡ count_by p (core_sends s traces history row c)
+pub sends-core : (s : Config) (traces : List (List Entry)) (history : List MachineStep) (machine_step : MachineStep) (p : Message → Bool) (c : ℕ) → c < s.cores → OnlyFrom s (Core c) p
+    → count_by p (sends s traces history machine_step) ≡ count_by p (core_sends s traces history machine_step c)
 unfolding sends
-sends-core s traces history row p c l only = count-core s _ _ (sends-parts s traces history row) p c l only
+sends-core s traces history machine_step p c l only = count-core s _ _ (sends-parts s traces history machine_step) p c l only
 
-pub sends-channel : (s : Config) (traces : List (List Entry)) (history : List Row) (row : Row) (p : Message → Bool) (k : ℕ) → k < s.channels → OnlyFrom s (Channel k) p
-    → count_by p (sends s traces history row) ≡ count_by p (channel_sends s history row k)
+pub sends-channel : (s : Config) (traces : List (List Entry)) (history : List MachineStep) (machine_step : MachineStep) (p : Message → Bool) (k : ℕ) → k < s.channels → OnlyFrom s (Channel k) p
+    → count_by p (sends s traces history machine_step) ≡ count_by p (channel_sends s history machine_step k)
 unfolding sends
-sends-channel s traces history row p k l only = count-channel s _ _ (sends-parts s traces history row) p k l only
+sends-channel s traces history machine_step p k l only = count-channel s _ _ (sends-parts s traces history machine_step) p k l only
 
-pub sends-bound_core : (s : Config) (traces : List (List Entry)) (history : List Row) (row : Row) (p : Message → Bool) (c b : ℕ) → OnlyFrom s (Core c) p
-    → (c < s.cores → count_by p (core_sends s traces history row c) ≤ b) → count_by p (sends s traces history row) ≤ b
+pub sends-bound_core : (s : Config) (traces : List (List Entry)) (history : List MachineStep) (machine_step : MachineStep) (p : Message → Bool) (c b : ℕ) → OnlyFrom s (Core c) p
+    → (c < s.cores → count_by p (core_sends s traces history machine_step c) ≤ b) → count_by p (sends s traces history machine_step) ≤ b
 unfolding sends
-sends-bound_core s traces history row p c b only h = bound-core s _ _ (sends-parts s traces history row) p c b only h
+sends-bound_core s traces history machine_step p c b only h = bound-core s _ _ (sends-parts s traces history machine_step) p c b only h
 
-pub sends-bound_channel : (s : Config) (traces : List (List Entry)) (history : List Row) (row : Row) (p : Message → Bool) (k b : ℕ) → OnlyFrom s (Channel k) p
-    → (k < s.channels → count_by p (channel_sends s history row k) ≤ b) → count_by p (sends s traces history row) ≤ b
+pub sends-bound_channel : (s : Config) (traces : List (List Entry)) (history : List MachineStep) (machine_step : MachineStep) (p : Message → Bool) (k b : ℕ) → OnlyFrom s (Channel k) p
+    → (k < s.channels → count_by p (channel_sends s history machine_step k) ≤ b) → count_by p (sends s traces history machine_step) ≤ b
 unfolding sends
-sends-bound_channel s traces history row p k b only h = bound-channel s _ _ (sends-parts s traces history row) p k b only h
+sends-bound_channel s traces history machine_step p k b only h = bound-channel s _ _ (sends-parts s traces history machine_step) p k b only h
 
 -- the same of what was sent
-pub messages-core : (s : Config) (traces : List (List Entry)) (history : List Row) (p : Message → Bool) (c : ℕ) → c < s.cores → OnlyFrom s (Core c) p
+pub messages-core : (s : Config) (traces : List (List Entry)) (history : List MachineStep) (p : Message → Bool) (c : ℕ) → c < s.cores → OnlyFrom s (Core c) p
     → count_by p (messages s traces history) ≡ count_by p (messages_of_core s traces history c)
 unfolding messages
 messages-core s traces history p c l only = count-core s _ _ (messages-parts s traces history) p c l only
 
-pub messages-channel : (s : Config) (traces : List (List Entry)) (history : List Row) (p : Message → Bool) (k : ℕ) → k < s.channels → OnlyFrom s (Channel k) p
+pub messages-channel : (s : Config) (traces : List (List Entry)) (history : List MachineStep) (p : Message → Bool) (k : ℕ) → k < s.channels → OnlyFrom s (Channel k) p
     → count_by p (messages s traces history) ≡ count_by p (messages_of_channel s history k)
 unfolding messages
 messages-channel s traces history p k l only = count-channel s _ _ (messages-parts s traces history) p k l only
 
 -- what a core issues in the cycle after a history
-pub issues-each : (P : Message → Type 0) (s : Config) (traces : List (List Entry)) (history : List Row) (c : ℕ) → c < s.cores
-    → ((j : ℕ) (e : Entry) → j < (core_row c (next_row s traces history)).issued → slice_get (trace_of traces c) (issued_before (core_rows c history) + j) ≡ Some e
-    → GoesOn s c (trace_of traces c) (core_rows c history) (inbox s traces history (Core c)) j
-    → IfSome (request_of s c (length history) (issued_before (core_rows c history) + j) e) P)
-    → Each P (core_sends s traces history (next_row s traces history) c)
+pub issues-each : (P : Message → Type 0) (s : Config) (traces : List (List Entry)) (history : List MachineStep) (c : ℕ) → c < s.cores
+    → ((j : ℕ) (e : Entry) → j < (step_of_core c (next_step s traces history)).issued → slice_get (trace_of traces c) (issued_before (steps_of_core c history) + j) ≡ Some e
+    → GoesOn s c (trace_of traces c) (steps_of_core c history) (inbox s traces history (Core c)) j
+    → IfSome (request_of s c (length history) (issued_before (steps_of_core c history) + j) e) P)
+    → Each P (core_sends s traces history (next_step s traces history) c)
 unfolding core_sends
 issues-each P s traces history c l h =
     let trace = trace_of traces c in
-    let rows = core_rows c history in
-    let first = issued_before rows in
-    let m = (core_row c (next_row s traces history)).issued in
-    let e : core_row c (next_row s traces history) ≡ (step s c trace rows (inbox s traces history (Core c))).0 = core_row-next s traces history c l in
+    let steps = steps_of_core c history in
+    let first = issued_before steps in
+    let m = (step_of_core c (next_step s traces history)).issued in
+    let e : step_of_core c (next_step s traces history) ≡ (step s c trace steps (inbox s traces history (Core c))).0 = step_of_core-next s traces history c l in
     between-each P s c trace (length history) first (first + m)
     (λ j x b f.
     let k : j < m = omega arith in
-    h j x k f (goes_on s c trace rows (inbox s traces history (Core c)) j (subst (λ (r : CoreRow). j < r.issued) e k)))
+    h j x k f (goes_on s c trace steps (inbox s traces history (Core c)) j (subst (λ (r : CoreStep). j < r.issued) e k)))
 
 -- it sends one request at most
-pub issues-one : (s : Config) (traces : List (List Entry)) (history : List Row) (c : ℕ) → c < s.cores → length (core_sends s traces history (next_row s traces history) c) ≤ 1
+pub issues-one : (s : Config) (traces : List (List Entry)) (history : List MachineStep) (c : ℕ) → c < s.cores → length (core_sends s traces history (next_step s traces history) c) ≤ 1
 unfolding core_sends
 issues-one s traces history c l =
     let trace = trace_of traces c in
-    let rows = core_rows c history in
-    let e : core_row c (next_row s traces history) ≡ (step s c trace rows (inbox s traces history (Core c))).0 = core_row-next s traces history c l in
-    one_request s c trace (length history) (issued_before rows) (core_row c (next_row s traces history)).issued
-    (λ j b. (goes_on s c trace rows (inbox s traces history (Core c)) j (subst (λ (r : CoreRow). j < r.issued) e b)).0)
+    let steps = steps_of_core c history in
+    let e : step_of_core c (next_step s traces history) ≡ (step s c trace steps (inbox s traces history (Core c))).0 = step_of_core-next s traces history c l in
+    one_request s c trace (length history) (issued_before steps) (step_of_core c (next_step s traces history)).issued
+    (λ j b. (goes_on s c trace steps (inbox s traces history (Core c)) j (subst (λ (r : CoreStep). j < r.issued) e b)).0)
 
 -- what holds of each message that a channel sends for a command holds of what it sends in a cycle
 pub commands-each : (P : Message → Type 0) (s : Config) (channel cycle : ℕ) → ((source : Source) → P (reply s channel cycle source))
@@ -231,14 +231,14 @@ commands-each P s channel cycle h k (Some (Pre bank source)) = tt
 commands-each P s channel cycle h k (Some (Prea rank)) = tt
 commands-each P s channel cycle h k (Some (Ref rank)) = tt
 
-pub sends-each : (P : Message → Type 0) (s : Config) (traces : List (List Entry)) (history : List Row) (row : Row)
-    → ((c : ℕ) → c < s.cores → Each P (core_sends s traces history row c)) → ((k : ℕ) → k < s.channels → Each P (channel_sends s history row k))
-    → Each P (sends s traces history row)
+pub sends-each : (P : Message → Type 0) (s : Config) (traces : List (List Entry)) (history : List MachineStep) (machine_step : MachineStep)
+    → ((c : ℕ) → c < s.cores → Each P (core_sends s traces history machine_step c)) → ((k : ℕ) → k < s.channels → Each P (channel_sends s history machine_step k))
+    → Each P (sends s traces history machine_step)
 unfolding sends
-sends-each P s traces history row h k =
-    Each-append P (flat_map (core_sends s traces history row) (below s.cores)) (flat_map (channel_sends s history row) (below s.channels))
-    (Each-flat_map_below P (core_sends s traces history row) s.cores h)
-    (Each-flat_map_below P (channel_sends s history row) s.channels k)
+sends-each P s traces history machine_step h k =
+    Each-append P (flat_map (core_sends s traces history machine_step) (below s.cores)) (flat_map (channel_sends s history machine_step) (below s.channels))
+    (Each-flat_map_below P (core_sends s traces history machine_step) s.cores h)
+    (Each-flat_map_below P (channel_sends s history machine_step) s.channels k)
 
 flat_map-none : (f : ℕ → List Message) → ((i : ℕ) → f i ≡ []) → (n : ℕ) → flat_map f (below n) ≡ []
 flat_map-none f h zero = refl
@@ -246,6 +246,6 @@ flat_map-none f h (suc n) = flat_map_below_more f n ∙ ap₂ (λ x y. x ++ y) (
 
 -- nothing was sent before the first cycle
 pub messages-none : (s : Config) (traces : List (List Entry)) → messages s traces [] ≡ []
-unfolding messages messages_of_core messages_of_channel core_rows channel_rows core_messages channel_messages
+unfolding messages messages_of_core messages_of_channel steps_of_core steps_of_channel core_messages channel_messages
 messages-none s traces =
     ap₂ (λ x y. x ++ y) (flat_map-none (messages_of_core s traces []) (λ i. refl) s.cores) (flat_map-none (messages_of_channel s []) (λ i. refl) s.channels)

@@ -9,10 +9,10 @@ use Rattle.std.proofs.lemmas.List.Sums.{count_by-le-length}
 use Rattle.sim_base.specs.declared.config.Config.{Config}
 use Rattle.sim_base.specs.Config.{credit_link}
 use Rattle.sim_base.specs.Places.{place_of}
-use Rattle.sim_base.specs.Row.{Row, core_row}
-use Rattle.sim_base.specs.History.{trace_of, core_rows, request, request_of, core_messages, messages_of_core, messages, is_to, inbox}
+use Rattle.sim_base.specs.MachineStep.{MachineStep, step_of_core}
+use Rattle.sim_base.specs.History.{trace_of, steps_of_core, request, request_of, core_messages, messages_of_core, messages, is_to, inbox}
 use Rattle.sim_base.specs.Sends.{core_sends, sends}
-use Rattle.sim_base.specs.Machine.{next_row, run}
+use Rattle.sim_base.specs.Machine.{next_step, run}
 use Rattle.sim_base.specs.Windows.{is_request_for, is_credit_on, credit_cap, held, lacks_credit}
 use Rattle.sim_base.specs.declared.message.Message.{Message}
 use Rattle.sim_base.specs.declared.message.Unit.{Unit as MachineUnit}
@@ -26,7 +26,7 @@ use Rattle.laws.proofs.Counting.{count-cons, count-append, count-weaker, count-f
 use Rattle.laws.proofs.Sent.{count-by_age, count-messages, issues-each, issues-one}
 
 -- what passes a test in the inbox of a unit is what passes it of all messages that are sent to the unit
-pub count-inbox : (p : Message → Bool) (s : Config) (traces : List (List Entry)) (history : List Row) (unit : MachineUnit)
+pub count-inbox : (p : Message → Bool) (s : Config) (traces : List (List Entry)) (history : List MachineStep) (unit : MachineUnit)
     → count_by p (inbox s traces history unit) ≡ count_by (λ m. is_to s unit m && p m) (messages s traces history)
 unfolding inbox
 count-inbox p s traces history unit = count-by_age p (filter (is_to s unit) (messages s traces history)) ∙ count-filter (is_to s unit) p (messages s traces history)
@@ -34,26 +34,26 @@ count-inbox p s traces history unit = count-by_age p (filter (is_to s unit) (mes
 -- it grows by what is sent
 pub inbox-more : (p : Message → Bool) (s : Config) (traces : List (List Entry)) (n : ℕ) (unit : MachineUnit)
     → count_by p (inbox s traces (run s traces (suc n)) unit)
-    ≡ count_by p (inbox s traces (run s traces n) unit) + count_by (λ m. is_to s unit m && p m) (sends s traces (run s traces n) (next_row s traces (run s traces n)))
+    ≡ count_by p (inbox s traces (run s traces n) unit) + count_by (λ m. is_to s unit m && p m) (sends s traces (run s traces n) (next_step s traces (run s traces n)))
 unfolding run
 inbox-more p s traces n unit =
     let history = run s traces n in
-    let a = count-inbox p s traces (history ++ next_row s traces history ∷ []) unit in
+    let a = count-inbox p s traces (history ++ next_step s traces history ∷ []) unit in
     let b = count-inbox p s traces history unit in
-    let c = count-messages (λ m. is_to s unit m && p m) s traces history (next_row s traces history) in
+    let c = count-messages (λ m. is_to s unit m && p m) s traces history (next_step s traces history) in
     omega arith
 
 -- what a core sends in a cycle
 unfoldable pub sent_now : Config → List (List Entry) → ℕ → ℕ → ℕ → Bool → ℕ
-sent_now s traces n core channel write = count_by (λ m. is_request_for channel write m.load) (core_sends s traces (run s traces n) (next_row s traces (run s traces n)) core)
+sent_now s traces n core channel write = count_by (λ m. is_request_for channel write m.load) (core_sends s traces (run s traces n) (next_step s traces (run s traces n)) core)
 
 pub requests_sent-more : (s : Config) (traces : List (List Entry)) (n core channel : ℕ) (write : Bool)
     → requests_sent s traces (suc n) core channel write ≡ requests_sent s traces n core channel write + sent_now s traces n core channel write
 unfolding run messages_of_core sent_now
 requests_sent-more s traces n core channel write =
     let p = λ (m : Message). is_request_for channel write m.load in
-    ap (count_by p) (core-grows s traces (run s traces n) (next_row s traces (run s traces n)) core)
-    ∙ count-append p (messages_of_core s traces (run s traces n) core) (core_sends s traces (run s traces n) (next_row s traces (run s traces n)) core)
+    ap (count_by p) (core-grows s traces (run s traces n) (next_step s traces (run s traces n)) core)
+    ∙ count-append p (messages_of_core s traces (run s traces n) core) (core_sends s traces (run s traces n) (next_step s traces (run s traces n)) core)
 
 -- the credits that came back before a cycle of those sent in the first n cycles
 back_by : Config → List (List Entry) → ℕ → ℕ → ℕ → Bool → ℕ → ℕ
@@ -91,18 +91,18 @@ IsPaid s traces n core channel write m =
     is_request_for channel write m.load ≡ true → requests_sent s traces n core channel write + 1 ≤ credit_cap s write + back_by s traces n core channel write (suc n)
 
 paid : (s : Config) (traces : List (List Entry)) (n core channel place : ℕ) (write : Bool) → place ≡ channel
-    → eqb (held s core (inbox s traces (run s traces n) (Core core)) (core_messages s core (trace_of traces core) (core_rows core (run s traces n))) place write (length (core_rows core (run s traces n)) + 1)) 0 ≡ false
+    → eqb (held s core (inbox s traces (run s traces n) (Core core)) (core_messages s core (trace_of traces core) (steps_of_core core (run s traces n))) place write (length (steps_of_core core (run s traces n)) + 1)) 0 ≡ false
     → requests_sent s traces n core channel write + 1 ≤ credit_cap s write + back_by s traces n core channel write (suc n)
-unfolding back_by core_rows
+unfolding back_by steps_of_core
 paid s traces n core channel place write e h =
-    let rows = core_rows core (run s traces n) in
+    let steps = steps_of_core core (run s traces n) in
     let mail = inbox s traces (run s traces n) (Core core) in
-    let sent = core_messages s core (trace_of traces core) rows in
-    let long : length rows + 1 ≡ suc n = let a = length-map (run s traces n) (core_row core) in let b = length-run s traces n in omega arith in
-    has_credit s core mail sent channel write (suc n) (ap (λ u. eqb (held s core mail sent channel write u) 0) (sym long) ∙ ap (λ k. eqb (held s core mail sent k write (length rows + 1)) 0) (sym e) ∙ h)
+    let sent = core_messages s core (trace_of traces core) steps in
+    let long : length steps + 1 ≡ suc n = let a = length-map (run s traces n) (step_of_core core) in let b = length-run s traces n in omega arith in
+    has_credit s core mail sent channel write (suc n) (ap (λ u. eqb (held s core mail sent channel write u) 0) (sym long) ∙ ap (λ k. eqb (held s core mail sent k write (length steps + 1)) 0) (sym e) ∙ h)
 
 entry-paid : (s : Config) (traces : List (List Entry)) (n core channel cycle entry : ℕ) (write : Bool) (e : Entry)
-    → lacks_credit s core (inbox s traces (run s traces n) (Core core)) (core_messages s core (trace_of traces core) (core_rows core (run s traces n))) (length (core_rows core (run s traces n))) (Some e) ≡ false
+    → lacks_credit s core (inbox s traces (run s traces n) (Core core)) (core_messages s core (trace_of traces core) (steps_of_core core (run s traces n))) (length (steps_of_core core (run s traces n))) (Some e) ≡ false
     → IfSome (request_of s core cycle entry e) (IsPaid s traces n core channel write)
 unfolding lacks_credit request
 entry-paid s traces n core channel cycle entry write Plain h = tt
@@ -112,13 +112,13 @@ entry-paid s traces n core channel cycle entry true (Write address) h = λ k. pa
 entry-paid s traces n core channel cycle entry false (Write address) h = λ k. absurd (false≢true (and_parts (eqb (place_of s address).channel channel) false k).1)
 
 core-paid : (s : Config) (traces : List (List Entry)) (n core channel : ℕ) (write : Bool) → core < s.cores
-    → Each (IsPaid s traces n core channel write) (core_sends s traces (run s traces n) (next_row s traces (run s traces n)) core)
+    → Each (IsPaid s traces n core channel write) (core_sends s traces (run s traces n) (next_step s traces (run s traces n)) core)
 core-paid s traces n core channel write l =
     let history = run s traces n in
-    let rows = core_rows core history in
+    let steps = steps_of_core core history in
     issues-each (IsPaid s traces n core channel write) s traces history core l
     (λ j e b f g. entry-paid s traces n core channel (length history) _ write e
-    (ap (lacks_credit s core (inbox s traces history (Core core)) (core_messages s core (trace_of traces core) rows) (length rows)) (sym f) ∙ g.1))
+    (ap (lacks_credit s core (inbox s traces history (Core core)) (core_messages s core (trace_of traces core) steps) (length steps)) (sym f) ∙ g.1))
 
 -- what holds wherever one passes holds where some do
 where_some : (p : Message → Bool) (Q : Type 0) (ms : List Message) → Each (λ m. p m ≡ true → Q) ms → 0 < count_by p ms → Q
@@ -135,7 +135,7 @@ sent-one : (s : Config) (traces : List (List Entry)) (n core channel : ℕ) (wri
 unfolding sent_now
 sent-one s traces n core channel write l =
     let one = issues-one s traces (run s traces n) core l in
-    let b = count_by-le-length (λ (m : Message). is_request_for channel write m.load) (core_sends s traces (run s traces n) (next_row s traces (run s traces n)) core) in
+    let b = count_by-le-length (λ (m : Message). is_request_for channel write m.load) (core_sends s traces (run s traces n) (next_step s traces (run s traces n)) core) in
     omega arith
 
 sent-paid : (s : Config) (traces : List (List Entry)) (n core channel : ℕ) (write : Bool) → core < s.cores → 0 < sent_now s traces n core channel write
@@ -144,10 +144,10 @@ unfolding sent_now
 sent-paid s traces n core channel write l h =
     where_some (λ (m : Message). is_request_for channel write m.load)
     (requests_sent s traces n core channel write + 1 ≤ credit_cap s write + back_by s traces n core channel write (suc n))
-    (core_sends s traces (run s traces n) (next_row s traces (run s traces n)) core) (core-paid s traces n core channel write l) h
+    (core_sends s traces (run s traces n) (next_step s traces (run s traces n)) core) (core-paid s traces n core channel write l) h
 
 requests_sent-none : (s : Config) (traces : List (List Entry)) (core channel : ℕ) (write : Bool) → requests_sent s traces 0 core channel write ≡ 0
-unfolding run core_rows core_messages
+unfolding run steps_of_core core_messages
 requests_sent-none s traces core channel write = refl
 
 spent-more : (s : Config) (traces : List (List Entry)) (core channel : ℕ) (write : Bool) → core < s.cores → (n : ℕ)

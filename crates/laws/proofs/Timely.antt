@@ -9,14 +9,14 @@ use Rattle.std.proofs.lemmas.List.{append-nil}
 use Rattle.std.proofs.Math.Nat.{div-eq_of_lt-le, div-mul-le_self, mul-le-mul_right}
 use Rattle.sim_base.specs.declared.config.Config.{Config}
 use Rattle.sim_base.specs.Config.{refresh_slack}
-use Rattle.sim_base.specs.History.{channel_rows, issued_at, issued_commands}
+use Rattle.sim_base.specs.History.{steps_of_channel, issued_at, issued_commands}
 use Rattle.sim_base.specs.Rules.{has_open_bank, is_legal}
 use Rattle.sim_base.specs.Scheduling.{refreshes, due, lowest_due, refresh_command, if_legal}
 use Rattle.sim_base.specs.Machine.{run}
 use Rattle.sim_base.specs.declared.timing.Timing.{Timing}
 use Rattle.sim_base.specs.declared.command.Command.{Command}
 use Rattle.sim_base.specs.declared.command.Command.TheVariants.{Act, Rd, Wr, Pre, Prea, Ref}
-use Rattle.sim_base.specs.declared.command.CommandRow.{CommandRow}
+use Rattle.sim_base.specs.declared.command.IssuedCommand.{IssuedCommand}
 use Rattle.sim_base.specs.declared.trace.Entry.{Entry}
 use Rattle.sim_base.proofs.Ordered.{Each-weaker}
 use Rattle.laws.specs.Commands.{history_of}
@@ -24,7 +24,7 @@ use Rattle.laws.specs.Refreshes.{refreshes_by, RefreshesAreInTime, RefreshesAreN
 use Rattle.laws.proofs.Cleared.{close_wait, LetsClose, LetsRefresh, close-legal, refresh-legal, closed-prea, closed-ref}
 use Rattle.laws.proofs.Counting.{test_in}
 use Rattle.laws.proofs.Due.{refreshed, refreshed-more, refreshed-by, is_due, chosen-refresh, lowest-due, lowest-at, due-more, due-from, not_early, not_wanted}
-use Rattle.laws.proofs.Legal.{chosen, take-rows_of, history_of-more, Each-history_of}
+use Rattle.laws.proofs.Legal.{chosen, take-channel_steps_of, history_of-more, Each-history_of}
 
 -- Rank j lacks its refresh of interval m for long: from `begin` on m refreshes are due, from `start` on the ranks before it
 -- have theirs, and its last one stands before `old`.
@@ -40,12 +40,12 @@ record Late (s : Config) (traces : List (List Entry)) (k j m begin start old : �
   pub closing : begin + close_wait s.timing ≤ start + 1
 
 -- each command of a history is of a cycle before its end
-cycles-below : (s : Config) (traces : List (List Entry)) (k : ℕ) → k < s.channels → (n : ℕ) → Each (λ (i : CommandRow). i.cycle < n) (history_of s traces n k)
-unfolding run channel_rows issued_commands
+cycles-below : (s : Config) (traces : List (List Entry)) (k : ℕ) → k < s.channels → (n : ℕ) → Each (λ (i : IssuedCommand). i.cycle < n) (history_of s traces n k)
+unfolding run steps_of_channel issued_commands
 cycles-below s traces k l zero = tt
 cycles-below s traces k l (suc n) =
-    Each-history_of (λ (i : CommandRow). i.cycle < suc n) s traces n k l
-    (Each-weaker _ (λ (i : CommandRow). i.cycle < suc n) (λ i h. omega arith) (history_of s traces n k) (cycles-below s traces k l n))
+    Each-history_of (λ (i : IssuedCommand). i.cycle < suc n) s traces n k l
+    (Each-weaker _ (λ (i : IssuedCommand). i.cycle < suc n) (λ i h. omega arith) (history_of s traces n k) (cycles-below s traces k l n))
     (always (chosen s traces n k))
   where
     always : (o : Option Command) → IfSome o (λ command. n < suc n)
@@ -113,7 +113,7 @@ Each-both P Q [] h k = tt
 Each-both P Q (x ∷ xs) h k = ((h.0, k.0), Each-both P Q xs h.1 k.1)
 
 -- what holds of a command that closes a rank and of one that refreshes it holds of what is issued for the rank
-for_rank : (P : Command → Type 0) (s : Config) (history : List CommandRow) (now rank : ℕ) → (has_open_bank s history rank ≡ true → P (Prea rank)) → (has_open_bank s history rank ≡ false → P (Ref rank))
+for_rank : (P : Command → Type 0) (s : Config) (history : List IssuedCommand) (now rank : ℕ) → (has_open_bank s history rank ≡ true → P (Prea rank)) → (has_open_bank s history rank ≡ false → P (Ref rank))
     → IfSome (if_legal s history now (refresh_command s history rank)) P
 unfolding if_legal refresh_command
 for_rank P s history now rank h k =
@@ -126,7 +126,7 @@ where_none p Q None h = tt
 where_none p Q (Some command) h = λ e. absurd (h e)
 
 module _ (s : Config) (traces : List (List Entry)) (k j m begin start old : ℕ) (h : Late s traces k j m begin start old) where
-  abbrev past : ℕ → List CommandRow
+  abbrev past : ℕ → List IssuedCommand
   past t = history_of s traces t k
 
   late-start : begin ≤ start
@@ -173,16 +173,16 @@ module _ (s : Config) (traces : List (List Entry)) (k j m begin start old : ℕ)
       chosen-refresh s traces k t low.0 low.1 ∙ ap (λ i. if_legal s (past t) t (refresh_command s (past t) i)) e
 
   -- from the time on at which the refresh is due, nothing but closing and refreshing is done
-  old-commands : (d : ℕ) → begin + d ≤ start + s.timing.n_rp + 1 → Each (λ (i : CommandRow). IsOldAs begin i.cycle i.command) (past (begin + d))
+  old-commands : (d : ℕ) → begin + d ≤ start + s.timing.n_rp + 1 → Each (λ (i : IssuedCommand). IsOldAs begin i.cycle i.command) (past (begin + d))
   old-commands zero l =
-      subst (λ t. Each (λ (i : CommandRow). IsOldAs begin i.cycle i.command) (past t)) (sym (add-zero begin))
-      (Each-weaker _ (λ (i : CommandRow). IsOldAs begin i.cycle i.command) (λ i b. old-from begin i.cycle i.command b) (past begin) (cycles-below s traces k h.channel begin))
+      subst (λ t. Each (λ (i : IssuedCommand). IsOldAs begin i.cycle i.command) (past t)) (sym (add-zero begin))
+      (Each-weaker _ (λ (i : IssuedCommand). IsOldAs begin i.cycle i.command) (λ i b. old-from begin i.cycle i.command b) (past begin) (cycles-below s traces k h.channel begin))
   old-commands (suc d) l =
       let t = begin + d in
       let e : suc t ≡ begin + suc d = omega arith in
       let rank = serves-refresh t (omega arith) (omega arith) in
-      subst (λ u. Each (λ (i : CommandRow). IsOldAs begin i.cycle i.command) (past u)) e
-      (Each-history_of (λ (i : CommandRow). IsOldAs begin i.cycle i.command) s traces t k h.channel (old-commands d (omega arith))
+      subst (λ u. Each (λ (i : IssuedCommand). IsOldAs begin i.cycle i.command) (past u)) e
+      (Each-history_of (λ (i : IssuedCommand). IsOldAs begin i.cycle i.command) s traces t k h.channel (old-commands d (omega arith))
       (subst (λ o. IfSome o (IsOldAs begin t)) (sym rank.1) (for_rank (IsOldAs begin t) s (past t) t rank.0 (λ f. tt) (λ f. tt))))
 
   -- the rank's last refresh stands before the interval
@@ -194,25 +194,25 @@ module _ (s : Config) (traces : List (List Entry)) (k j m begin start old : ℕ)
       let d = h.before in
       omega arith
 
-  old-refreshes : (d : ℕ) → old + d ≤ start + s.timing.n_rp + 1 → Each (λ (i : CommandRow). IsRefreshedAs j old i.cycle i.command) (past (old + d))
+  old-refreshes : (d : ℕ) → old + d ≤ start + s.timing.n_rp + 1 → Each (λ (i : IssuedCommand). IsRefreshedAs j old i.cycle i.command) (past (old + d))
   old-refreshes zero l =
-      subst (λ t. Each (λ (i : CommandRow). IsRefreshedAs j old i.cycle i.command) (past t)) (sym (add-zero old))
-      (Each-weaker _ (λ (i : CommandRow). IsRefreshedAs j old i.cycle i.command) (λ i b e. b) (past old) (cycles-below s traces k h.channel old))
+      subst (λ t. Each (λ (i : IssuedCommand). IsRefreshedAs j old i.cycle i.command) (past t)) (sym (add-zero old))
+      (Each-weaker _ (λ (i : IssuedCommand). IsRefreshedAs j old i.cycle i.command) (λ i b e. b) (past old) (cycles-below s traces k h.channel old))
   old-refreshes (suc d) l =
       let t = old + d in
       let e : suc t ≡ old + suc d = omega arith in
-      subst (λ u. Each (λ (i : CommandRow). IsRefreshedAs j old i.cycle i.command) (past u)) e
-      (Each-history_of (λ (i : CommandRow). IsRefreshedAs j old i.cycle i.command) s traces t k h.channel (old-refreshes d (omega arith))
+      subst (λ u. Each (λ (i : IssuedCommand). IsRefreshedAs j old i.cycle i.command) (past u)) e
+      (Each-history_of (λ (i : IssuedCommand). IsRefreshedAs j old i.cycle i.command) s traces t k h.channel (old-refreshes d (omega arith))
       (where_none (refreshes j) (λ command. t < old) (chosen s traces t k) (no-refresh t (omega arith) (omega arith))))
 
-  old-at : (t : ℕ) → begin ≤ t → t ≤ start + s.timing.n_rp + 1 → Each (λ (i : CommandRow). IsOldAs begin i.cycle i.command × IsRefreshedAs j old i.cycle i.command) (past t)
+  old-at : (t : ℕ) → begin ≤ t → t ≤ start + s.timing.n_rp + 1 → Each (λ (i : IssuedCommand). IsOldAs begin i.cycle i.command × IsRefreshedAs j old i.cycle i.command) (past t)
   old-at t a b =
       let e : begin + (t - begin) ≡ t = omega arith in
       let c = h.spaced in
       let f : old + (t - old) ≡ t = omega arith in
-      Each-both (λ (i : CommandRow). IsOldAs begin i.cycle i.command) (λ (i : CommandRow). IsRefreshedAs j old i.cycle i.command) (past t)
-      (subst (λ u. Each (λ (i : CommandRow). IsOldAs begin i.cycle i.command) (past u)) e (old-commands (t - begin) (omega arith)))
-      (subst (λ u. Each (λ (i : CommandRow). IsRefreshedAs j old i.cycle i.command) (past u)) f (old-refreshes (t - old) (omega arith)))
+      Each-both (λ (i : IssuedCommand). IsOldAs begin i.cycle i.command) (λ (i : IssuedCommand). IsRefreshedAs j old i.cycle i.command) (past t)
+      (subst (λ u. Each (λ (i : IssuedCommand). IsOldAs begin i.cycle i.command) (past u)) e (old-commands (t - begin) (omega arith)))
+      (subst (λ u. Each (λ (i : IssuedCommand). IsRefreshedAs j old i.cycle i.command) (past u)) f (old-refreshes (t - old) (omega arith)))
 
   -- when its turn comes, its banks can be closed
   can-close : is_legal s (past start) start (Prea j) ≡ true
@@ -220,7 +220,7 @@ module _ (s : Config) (traces : List (List Entry)) (k j m begin start old : ℕ)
       let a = late-start in
       let b = h.spaced in
       close-legal s (past start) start j
-      (Each-weaker _ (λ (i : CommandRow). LetsClose s.timing j start i.cycle i.command)
+      (Each-weaker _ (λ (i : IssuedCommand). LetsClose s.timing j start i.cycle i.command)
       (λ i g. lets-close s.timing j start begin old i.cycle i.command h.closing (omega arith) g.0 g.1)
       (past start) (old-at start a (omega arith)))
 
@@ -266,16 +266,16 @@ module _ (s : Config) (traces : List (List Entry)) (k j m begin start old : ℕ)
       ap (λ u. has_open_bank s (past u) j) e ∙ stays-closed t (closed-after d (omega arith)) (serves-rank t (omega arith) (omega arith))
 
   -- and not closed again
-  shut-after : (d : ℕ) → suc start + d ≤ start + s.timing.n_rp + 1 → Each (λ (i : CommandRow). IsShutAs start i.cycle i.command) (past (suc start + d))
+  shut-after : (d : ℕ) → suc start + d ≤ start + s.timing.n_rp + 1 → Each (λ (i : IssuedCommand). IsShutAs start i.cycle i.command) (past (suc start + d))
   shut-after zero l =
-      subst (λ t. Each (λ (i : CommandRow). IsShutAs start i.cycle i.command) (past t)) (sym (add-zero (suc start)))
-      (Each-weaker _ (λ (i : CommandRow). IsShutAs start i.cycle i.command) (λ i b. shut-from start i.cycle i.command (omega arith)) (past (suc start)) (cycles-below s traces k h.channel (suc start)))
+      subst (λ t. Each (λ (i : IssuedCommand). IsShutAs start i.cycle i.command) (past t)) (sym (add-zero (suc start)))
+      (Each-weaker _ (λ (i : IssuedCommand). IsShutAs start i.cycle i.command) (λ i b. shut-from start i.cycle i.command (omega arith)) (past (suc start)) (cycles-below s traces k h.channel (suc start)))
   shut-after (suc d) l =
       let t = suc start + d in
       let e : suc t ≡ suc start + suc d = omega arith in
       let closed = closed-after d (omega arith) in
-      subst (λ u. Each (λ (i : CommandRow). IsShutAs start i.cycle i.command) (past u)) e
-      (Each-history_of (λ (i : CommandRow). IsShutAs start i.cycle i.command) s traces t k h.channel (shut-after d (omega arith))
+      subst (λ u. Each (λ (i : IssuedCommand). IsShutAs start i.cycle i.command) (past u)) e
+      (Each-history_of (λ (i : IssuedCommand). IsShutAs start i.cycle i.command) s traces t k h.channel (shut-after d (omega arith))
       (subst (λ o. IfSome o (IsShutAs start t)) (sym (serves-rank t (omega arith) (omega arith)))
       (for_rank (IsShutAs start t) s (past t) t j (λ f. absurd (false≢true (sym closed ∙ f))) (λ f. tt))))
 
@@ -289,11 +289,11 @@ module _ (s : Config) (traces : List (List Entry)) (k j m begin start old : ℕ)
       let a = late-start in
       let b = h.spaced in
       let closed : has_open_bank s (past t) j ≡ false = ap (λ u. has_open_bank s (past u) j) (sym e) ∙ closed-after (s.timing.n_rp - 1) (omega arith) in
-      let shut : Each (λ (i : CommandRow). IsShutAs start i.cycle i.command) (past t) =
-      subst (λ u. Each (λ (i : CommandRow). IsShutAs start i.cycle i.command) (past u)) e (shut-after (s.timing.n_rp - 1) (omega arith)) in
+      let shut : Each (λ (i : IssuedCommand). IsShutAs start i.cycle i.command) (past t) =
+      subst (λ u. Each (λ (i : IssuedCommand). IsShutAs start i.cycle i.command) (past u)) e (shut-after (s.timing.n_rp - 1) (omega arith)) in
       let legal : is_legal s (past t) t (Ref j) ≡ true =
       refresh-legal s (past t) t j closed
-      (Each-weaker _ (λ (i : CommandRow). LetsRefresh s.timing j t i.cycle i.command)
+      (Each-weaker _ (λ (i : IssuedCommand). LetsRefresh s.timing j t i.cycle i.command)
       (λ i g. lets-refresh s.timing j t begin start old i.cycle i.command a (omega arith) (omega arith) g.0.0 g.1 g.0.1)
       (past t) (Each-both _ _ (past t) (old-at t (omega arith) (omega arith)) shut)) in
       serves-rank t (omega arith) (omega arith) ∙ ap (if_legal s (past t) t) (cond-false _ _ _ closed) ∙ cond-true _ _ _ legal
@@ -401,7 +401,7 @@ refreshed_in_time s traces k l some (suc m) j h =
 refreshes_by-end : (s : Config) (traces : List (List Entry)) (n k j t : ℕ) → k < s.channels → t < n → refreshes_by s traces n k j t ≡ refreshed s traces k j (suc t)
 refreshes_by-end s traces n k j t l b =
     let f : t + 1 ≡ suc t = omega arith in
-    ap (λ rows. count_by (λ (i : CommandRow). refreshes j i.command) (issued_commands k rows)) (take-rows_of s traces k l n (t + 1) (omega arith)) ∙ ap (refreshed s traces k j) f
+    ap (λ steps. count_by (λ (i : IssuedCommand). refreshes j i.command) (issued_commands k steps)) (take-channel_steps_of s traces k l n (t + 1) (omega arith)) ∙ ap (refreshed s traces k j) f
 
 pub refreshes_are_in_time : (s : Config) (traces : List (List Entry)) (n : ℕ) → RefreshesAreInTime s traces n
 refreshes_are_in_time s traces n k j m l h some b =
@@ -409,7 +409,7 @@ refreshes_are_in_time s traces n k j m l h some b =
     let a = refreshed_in_time s traces k l some m j h in
     let c = refreshed-by s traces k j limit (limit + 1) l (omega arith) in
     let e : refreshes_by s traces n k j limit ≡ refreshed s traces k j (limit + 1) =
-    ap (λ rows. count_by (λ (i : CommandRow). refreshes j i.command) (issued_commands k rows)) (take-rows_of s traces k l n (limit + 1) (omega arith)) in
+    ap (λ steps. count_by (λ (i : IssuedCommand). refreshes j i.command) (issued_commands k steps)) (take-channel_steps_of s traces k l n (limit + 1) (omega arith)) in
     omega arith
 
 pub refreshes_are_not_early : (s : Config) (traces : List (List Entry)) (n : ℕ) → RefreshesAreNotEarly s traces n

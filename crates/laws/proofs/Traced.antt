@@ -10,11 +10,11 @@ use Rattle.std.proofs.lemmas.List.Elements.{All-contains_itself, recursion_from_
 use Rattle.sim_base.specs.declared.config.Config.{Config}
 use Rattle.sim_base.specs.Config.{request_link}
 use Rattle.sim_base.specs.Places.{place_of}
-use Rattle.sim_base.specs.Row.{Row, core_row, channel_row}
-use Rattle.sim_base.specs.History.{trace_of, core_rows, issued_before, request, request_of, reply, credit, messages, receiver, is_unit, is_to, inbox, issued_commands}
+use Rattle.sim_base.specs.MachineStep.{MachineStep, step_of_core, step_of_channel}
+use Rattle.sim_base.specs.History.{trace_of, steps_of_core, issued_before, request, request_of, reply, credit, messages, receiver, is_unit, is_to, inbox, issued_commands}
 use Rattle.sim_base.specs.Sends.{sends, channel_sends}
-use Rattle.sim_base.specs.Scheduling.{request_in, is_served, is_waiting, waiting, queue_in, source_of, needed_at, column_command}
-use Rattle.sim_base.specs.Machine.{next_row, run}
+use Rattle.sim_base.specs.Scheduling.{request_in, is_served, is_queued, queued_requests, queue_in, source_of, needed_at, column_command}
+use Rattle.sim_base.specs.Machine.{next_step, run}
 use Rattle.sim_base.specs.declared.command.Command.{Command}
 use Rattle.sim_base.specs.declared.command.Command.TheVariants.{Act, Rd, Wr, Pre, Prea, Ref}
 use Rattle.sim_base.specs.declared.place.Place.{Place}
@@ -27,9 +27,9 @@ use Rattle.sim_base.proofs.Arrived.{Each-by_age}
 use Rattle.sim_base.proofs.Each.{Each-filter_map}
 use Rattle.sim_base.proofs.Grows.{issued_before-push}
 use Rattle.sim_base.proofs.Ordered.{Each-weaker}
-use Rattle.laws.specs.Commands.{rows_of, history_of}
+use Rattle.laws.specs.Commands.{channel_steps_of, history_of}
 use Rattle.laws.proofs.Chosen.{IfSome-weaker, choice-needed}
-use Rattle.laws.proofs.Legal.{chosen, length-rows_of}
+use Rattle.laws.proofs.Legal.{chosen, length-channel_steps_of}
 use Rattle.laws.proofs.Receivers.{receiver_request, place_in, Each-filter_passes}
 use Rattle.laws.proofs.Sent.{Each-messages, messages-none, issues-each, commands-each, sends-each}
 
@@ -38,72 +38,72 @@ abbrev pub memory_entry : Bool → ℕ → Entry
 memory_entry write address = cond write (Write address) (Read address)
 
 -- a request is that of an entry which its core has issued
-pub record Traced (s : Config) (traces : List (List Entry)) (history : List Row) (r : Request) : Type 0 where
+pub record Traced (s : Config) (traces : List (List Entry)) (history : List MachineStep) (r : Request) : Type 0 where
   pub core : r.core < s.cores
   pub entry : slice_get (trace_of traces r.core) r.entry ≡ Some (memory_entry r.write r.address)
   pub place : r.place ≡ place_of s r.address
-  pub issued : r.entry < issued_before (core_rows r.core history)
+  pub issued : r.entry < issued_before (steps_of_core r.core history)
 
 -- the request of a message is traced, and travels on its link
-pub record TracedIn (s : Config) (traces : List (List Entry)) (history : List Row) (m : Message) (r : Request) : Type 0 where
+pub record TracedIn (s : Config) (traces : List (List Entry)) (history : List MachineStep) (m : Message) (r : Request) : Type 0 where
   pub traced : Traced s traces history r
   pub link : m.link ≡ request_link s r.core r.place.channel
 
-abbrev pub IsTraced : Config → List (List Entry) → List Row → Message → Type 0
+abbrev pub IsTraced : Config → List (List Entry) → List MachineStep → Message → Type 0
 IsTraced s traces history m = IfSome (request_in m.load) (TracedIn s traces history m)
 
 -- entries issued stay issued
-issued-more : (history : List Row) (row : Row) (c : ℕ) → issued_before (core_rows c (history ++ row ∷ [])) ≡ issued_before (core_rows c history) + (core_row c row).issued
-unfolding core_rows
-issued-more history row c = ap issued_before (map-append (core_row c) history (row ∷ [])) ∙ issued_before-push (core_rows c history) (core_row c row)
+issued-more : (history : List MachineStep) (machine_step : MachineStep) (c : ℕ) → issued_before (steps_of_core c (history ++ machine_step ∷ [])) ≡ issued_before (steps_of_core c history) + (step_of_core c machine_step).issued
+unfolding steps_of_core
+issued-more history machine_step c = ap issued_before (map-append (step_of_core c) history (machine_step ∷ [])) ∙ issued_before-push (steps_of_core c history) (step_of_core c machine_step)
 
-traced-more : (s : Config) (traces : List (List Entry)) (history : List Row) (row : Row) (m : Message) → IsTraced s traces history m → IsTraced s traces (history ++ row ∷ []) m
-traced-more s traces history row m h = IfSome-weaker _ _ (λ r k. more r k) (request_in m.load) h
+traced-more : (s : Config) (traces : List (List Entry)) (history : List MachineStep) (machine_step : MachineStep) (m : Message) → IsTraced s traces history m → IsTraced s traces (history ++ machine_step ∷ []) m
+traced-more s traces history machine_step m h = IfSome-weaker _ _ (λ r k. more r k) (request_in m.load) h
   where
-    more : (r : Request) → TracedIn s traces history m r → TracedIn s traces (history ++ row ∷ []) m r
+    more : (r : Request) → TracedIn s traces history m r → TracedIn s traces (history ++ machine_step ∷ []) m r
     more r k =
-        let e = issued-more history row r.core in
+        let e = issued-more history machine_step r.core in
         let i = k.traced.issued in
         record {
           traced = record { core = k.traced.core; entry = k.traced.entry; place = k.traced.place; issued = omega arith };
           link = k.link;
         }
 
-request-traced : (s : Config) (traces : List (List Entry)) (history : List Row) (c cycle entry : ℕ) (write : Bool) (address : ℕ) → c < s.cores
-    → entry < issued_before (core_rows c history) → slice_get (trace_of traces c) entry ≡ Some (memory_entry write address) → IsTraced s traces history (request s c cycle entry write address)
+request-traced : (s : Config) (traces : List (List Entry)) (history : List MachineStep) (c cycle entry : ℕ) (write : Bool) (address : ℕ) → c < s.cores
+    → entry < issued_before (steps_of_core c history) → slice_get (trace_of traces c) entry ≡ Some (memory_entry write address) → IsTraced s traces history (request s c cycle entry write address)
 unfolding request
 request-traced s traces history c cycle entry write address l i e = record { traced = record { core = l; entry = e; place = refl; issued = i }; link = refl }
 
-request_of-traced : (s : Config) (traces : List (List Entry)) (history : List Row) (c cycle entry : ℕ) (e : Entry) → c < s.cores
-    → entry < issued_before (core_rows c history) → slice_get (trace_of traces c) entry ≡ Some e → IfSome (request_of s c cycle entry e) (IsTraced s traces history)
+request_of-traced : (s : Config) (traces : List (List Entry)) (history : List MachineStep) (c cycle entry : ℕ) (e : Entry) → c < s.cores
+    → entry < issued_before (steps_of_core c history) → slice_get (trace_of traces c) entry ≡ Some e → IfSome (request_of s c cycle entry e) (IsTraced s traces history)
 request_of-traced s traces history c cycle entry Plain l i f = tt
 request_of-traced s traces history c cycle entry (Read address) l i f = request-traced s traces history c cycle entry false address l i f
 request_of-traced s traces history c cycle entry (Write address) l i f = request-traced s traces history c cycle entry true address l i f
 
-sends-traced : (s : Config) (traces : List (List Entry)) (history : List Row) → Each (IsTraced s traces (history ++ next_row s traces history ∷ [])) (sends s traces history (next_row s traces history))
+sends-traced : (s : Config) (traces : List (List Entry)) (history : List MachineStep) → Each (IsTraced s traces (history ++ next_step s traces history ∷ [])) (sends s traces history (next_step s traces history))
 unfolding channel_sends reply credit
 sends-traced s traces history =
-    let row = next_row s traces history in
-    let P = IsTraced s traces (history ++ row ∷ []) in
-    sends-each P s traces history row
+    let machine_step = next_step s traces history in
+    let P = IsTraced s traces (history ++ machine_step ∷ []) in
+    sends-each P s traces history machine_step
     (λ c l. issues-each P s traces history c l
     (λ j e b f g.
-    let more = issued-more history row c in
-    request_of-traced s traces (history ++ row ∷ []) c (length history) _ e l (omega arith) f))
-    (λ k l. commands-each P s k (length history) (λ source. tt) (λ write source. tt) (channel_row k row))
+    let more = issued-more history machine_step c in
+    request_of-traced s traces (history ++ machine_step ∷ []) c (length history) _ e l (omega arith) f))
+    (λ k l. commands-each P s k (length history) (λ source. tt) (λ write source. tt) (step_of_channel k machine_step))
 
 pub messages-traced : (s : Config) (traces : List (List Entry)) (n : ℕ) → Each (IsTraced s traces (run s traces n)) (messages s traces (run s traces n))
 unfolding run
 messages-traced s traces zero = subst (Each (IsTraced s traces [])) (sym (messages-none s traces)) tt
 messages-traced s traces (suc n) =
     let history = run s traces n in
-    let row = next_row s traces history in
-    Each-messages (IsTraced s traces (history ++ row ∷ [])) s traces history row
-    (Each-weaker (IsTraced s traces history) _ (traced-more s traces history row) (messages s traces history) (messages-traced s traces n))
+    let machine_step = next_step s traces history in
+    Each-messages (IsTraced s traces (history ++ machine_step ∷ [])) s traces history machine_step
+    (Each-weaker (IsTraced s traces history) _ (traced-more s traces history machine_step) (messages s traces history) (messages-traced s traces n))
     (sends-traced s traces history)
 
 -- a request that was sent to this channel
-abbrev IsTracedTo : Config → List (List Entry) → List Row → ℕ → Request → Type 0
+abbrev IsTracedTo : Config → List (List Entry) → List MachineStep → ℕ → Request → Type 0
 IsTracedTo s traces history k r = Traced s traces history r × r.place.channel ≡ k
 
 inbox-traced : (s : Config) (traces : List (List Entry)) (n k : ℕ)
@@ -142,9 +142,9 @@ Each-both : {X : Type 0} (P Q : X → Type 0) (xs : List X) → Each P xs → Ea
 Each-both P Q [] h k = tt
 Each-both P Q (x ∷ xs) h k = ((h.0, k.0), Each-both P Q xs h.1 k.1)
 
-waiting-queued : (s : Config) (traces : List (List Entry)) (n k : ℕ) → Each (Queued s traces n k) (waiting (history_of s traces n k) (inbox s traces (run s traces n) (Channel k)) (n + 1))
-unfolding waiting
-waiting-queued s traces n k =
+queued_requests-queued : (s : Config) (traces : List (List Entry)) (n k : ℕ) → Each (Queued s traces n k) (queued_requests (history_of s traces n k) (inbox s traces (run s traces n) (Channel k)) (n + 1))
+unfolding queued_requests
+queued_requests-queued s traces n k =
     let requests = requests_to s traces n k in
     let P = λ (r : Request). IsTracedTo s traces (run s traces n) k r × Contains requests r in
     Each-weaker _ (Queued s traces n k)
@@ -152,17 +152,17 @@ waiting-queued s traces n k =
     let both = and_parts (ltb r.arrival (n + 1)) (not (is_served (history_of s traces n k) r)) h.0 in
     let soon = ltb-true _ _ both.0 in
     record { traced = h.1.0.0; channel = h.1.0.1; arrived = omega arith; unserved = not-true _ both.1; among = h.1.1 })
-    _ (Each-filter_passes P (is_waiting (history_of s traces n k) (n + 1)) requests
+    _ (Each-filter_passes P (is_queued (history_of s traces n k) (n + 1)) requests
     (Each-both _ (Contains requests) requests (requests-traced s traces n k) (recursion_from_All (Contains requests) requests (All-contains_itself requests))))
 
 pub queue-queued : (s : Config) (traces : List (List Entry)) (n k : ℕ)
-    → Each (Queued s traces n k) (queue_in k (rows_of s traces n k) (inbox s traces (run s traces n) (Channel k)) (length (rows_of s traces n k)))
+    → Each (Queued s traces n k) (queue_in k (channel_steps_of s traces n k) (inbox s traces (run s traces n) (Channel k)) (length (channel_steps_of s traces n k)))
 unfolding queue_in
 queue-queued s traces n k =
-    let rows = rows_of s traces n k in
-    let long : length rows ≡ n = length-rows_of s traces n k in
-    subst (λ x. Each (Queued s traces n k) (waiting (issued_commands k x) (inbox s traces (run s traces n) (Channel k)) (length rows + 1))) (sym (take-length rows))
-    (subst (λ i. Each (Queued s traces n k) (waiting (issued_commands k rows) (inbox s traces (run s traces n) (Channel k)) (i + 1))) (sym long) (waiting-queued s traces n k))
+    let steps = channel_steps_of s traces n k in
+    let long : length steps ≡ n = length-channel_steps_of s traces n k in
+    subst (λ x. Each (Queued s traces n k) (queued_requests (issued_commands k x) (inbox s traces (run s traces n) (Channel k)) (length steps + 1))) (sym (take-length steps))
+    (subst (λ i. Each (Queued s traces n k) (queued_requests (issued_commands k steps) (inbox s traces (run s traces n) (Channel k)) (i + 1))) (sym long) (queued_requests-queued s traces n k))
 
 -- a command moves data for a request of the queue
 abbrev pub ServesQueued : Config → List (List Entry) → ℕ → ℕ → Command → Type 0
@@ -182,5 +182,5 @@ needed_at-serves s traces n k r (Some row) h =
 
 pub chosen-serves : (s : Config) (traces : List (List Entry)) (n k : ℕ) → IfSome (chosen s traces n k) (ServesQueued s traces n k)
 chosen-serves s traces n k =
-    choice-needed (Queued s traces n k) (ServesQueued s traces n k) s k (rows_of s traces n k) (inbox s traces (run s traces n) (Channel k))
+    choice-needed (Queued s traces n k) (ServesQueued s traces n k) s k (channel_steps_of s traces n k) (inbox s traces (run s traces n) (Channel k))
     (needed_at-serves s traces n k) (λ rank. tt) (λ rank. tt) (queue-queued s traces n k)

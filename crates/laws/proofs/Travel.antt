@@ -9,10 +9,10 @@ use Rattle.std.proofs.lemmas.List.Sums.{count_by-le-length}
 use Rattle.sim_base.specs.declared.config.Config.{Config}
 use Rattle.sim_base.specs.Config.{request_link, latency}
 use Rattle.sim_base.specs.Places.{place_of}
-use Rattle.sim_base.specs.Row.{Row, channel_row}
+use Rattle.sim_base.specs.MachineStep.{MachineStep, step_of_channel}
 use Rattle.sim_base.specs.History.{request, request_of, reply, credit, messages_of, messages_at, messages}
 use Rattle.sim_base.specs.Sends.{sender, core_sends, channel_sends, sends}
-use Rattle.sim_base.specs.Machine.{next_row, run}
+use Rattle.sim_base.specs.Machine.{next_step, run}
 use Rattle.sim_base.specs.declared.command.Command.{Command}
 use Rattle.sim_base.specs.declared.command.Command.TheVariants.{Act, Rd, Wr, Pre, Prea, Ref}
 use Rattle.sim_base.specs.declared.command.Source.{Source}
@@ -73,12 +73,12 @@ request_of-sent s core cycle entry (Read address) = request-sent s core cycle en
 request_of-sent s core cycle entry (Write address) = request-sent s core cycle entry true address
 
 -- what is sent in a cycle arrives as much later as its link says
-sends-sent : (s : Config) (traces : List (List Entry)) (history : List Row) → Each (SentIn s (length history)) (sends s traces history (next_row s traces history))
+sends-sent : (s : Config) (traces : List (List Entry)) (history : List MachineStep) → Each (SentIn s (length history)) (sends s traces history (next_step s traces history))
 unfolding channel_sends
 sends-sent s traces history =
-    sends-each (SentIn s (length history)) s traces history (next_row s traces history)
+    sends-each (SentIn s (length history)) s traces history (next_step s traces history)
     (λ c l. issues-each (SentIn s (length history)) s traces history c l (λ j e b f g. request_of-sent s c (length history) _ e))
-    (λ k l. commands-each (SentIn s (length history)) s k (length history) (reply-sent s k (length history)) (credit-sent s k (length history)) (channel_row k (next_row s traces history)))
+    (λ k l. commands-each (SentIn s (length history)) s k (length history) (reply-sent s k (length history)) (credit-sent s k (length history)) (step_of_channel k (next_step s traces history)))
 
 -- and what was sent before arrives sooner
 messages-sent : (s : Config) (traces : List (List Entry)) (n : ℕ) → Each (λ (m : Message). m.arrival < n + travel s m.link) (messages s traces (run s traces n))
@@ -87,9 +87,9 @@ messages-sent s traces zero = subst (Each (λ (m : Message). m.arrival < 0 + tra
 messages-sent s traces (suc n) =
     let history = run s traces n in
     let long : length history ≡ n = length-run s traces n in
-    Each-messages _ s traces history (next_row s traces history)
+    Each-messages _ s traces history (next_step s traces history)
     (Each-weaker _ (λ (m : Message). m.arrival < suc n + travel s m.link) (λ m h. omega arith) (messages s traces history) (messages-sent s traces n))
-    (Each-weaker _ (λ (m : Message). m.arrival < suc n + travel s m.link) (λ m h. omega arith) (sends s traces history (next_row s traces history)) (sends-sent s traces history))
+    (Each-weaker _ (λ (m : Message). m.arrival < suc n + travel s m.link) (λ m h. omega arith) (sends s traces history (next_step s traces history)) (sends-sent s traces history))
 
 -- in a cycle at most one message is sent on a link
 abbrev is_on : ℕ → Message → Bool
@@ -111,22 +111,22 @@ command-one s link channel cycle (Some (Pre bank source)) = omega arith
 command-one s link channel cycle (Some (Prea rank)) = omega arith
 command-one s link channel cycle (Some (Ref rank)) = omega arith
 
-sends-one : (s : Config) (traces : List (List Entry)) (history : List Row) (link : ℕ) → count_by (is_on link) (sends s traces history (next_row s traces history)) ≤ 1
+sends-one : (s : Config) (traces : List (List Entry)) (history : List MachineStep) (link : ℕ) → count_by (is_on link) (sends s traces history (next_step s traces history)) ≤ 1
 unfolding channel_sends
 sends-one s traces history link = go (sender s link) refl
   where
-    go : (unit : MachineUnit) → sender s link ≡ unit → count_by (is_on link) (sends s traces history (next_row s traces history)) ≤ 1
+    go : (unit : MachineUnit) → sender s link ≡ unit → count_by (is_on link) (sends s traces history (next_step s traces history)) ≤ 1
     go (Core c) e =
-        sends-bound_core s traces history (next_row s traces history) (is_on link) c 1 (on_link s link (Core c) e)
-        (λ l. let one = issues-one s traces history c l in let b = count_by-le-length (is_on link) (core_sends s traces history (next_row s traces history) c) in omega arith)
+        sends-bound_core s traces history (next_step s traces history) (is_on link) c 1 (on_link s link (Core c) e)
+        (λ l. let one = issues-one s traces history c l in let b = count_by-le-length (is_on link) (core_sends s traces history (next_step s traces history) c) in omega arith)
     go (Channel k) e =
-        sends-bound_channel s traces history (next_row s traces history) (is_on link) k 1 (on_link s link (Channel k) e)
-        (λ l. command-one s link k (length history) (channel_row k (next_row s traces history)))
+        sends-bound_channel s traces history (next_step s traces history) (is_on link) k 1 (on_link s link (Channel k) e)
+        (λ l. command-one s link k (length history) (step_of_channel k (next_step s traces history)))
 
-arrives_now : (s : Config) (traces : List (List Entry)) (link cycle : ℕ) (history : List Row) → count_by (arrives_on link cycle) (sends s traces history (next_row s traces history)) ≤ 1
+arrives_now : (s : Config) (traces : List (List Entry)) (link cycle : ℕ) (history : List MachineStep) → count_by (arrives_on link cycle) (sends s traces history (next_step s traces history)) ≤ 1
 arrives_now s traces link cycle history =
-    let a : count_by (arrives_on link cycle) (sends s traces history (next_row s traces history)) ≤ count_by (is_on link) (sends s traces history (next_row s traces history)) =
-    count-weaker (arrives_on link cycle) (is_on link) (λ m h. (and_parts _ _ h).0) (sends s traces history (next_row s traces history)) in
+    let a : count_by (arrives_on link cycle) (sends s traces history (next_step s traces history)) ≤ count_by (is_on link) (sends s traces history (next_step s traces history)) =
+    count-weaker (arrives_on link cycle) (is_on link) (λ m h. (and_parts _ _ h).0) (sends s traces history (next_step s traces history)) in
     let b = sends-one s traces history link in
     omega arith
 
@@ -137,12 +137,12 @@ arrives link cycle m h = let both = and_parts (eqb m.link link) (eqb m.arrival c
 -- what arrives in a cycle was sent before this one, or is sent in it
 arrives_once : (s : Config) (traces : List (List Entry)) (link cycle n : ℕ)
     → (count_by (arrives_on link cycle) (messages s traces (run s traces n)) ≡ 0)
-    ⊎ (count_by (arrives_on link cycle) (sends s traces (run s traces n) (next_row s traces (run s traces n))) ≡ 0)
+    ⊎ (count_by (arrives_on link cycle) (sends s traces (run s traces n) (next_step s traces (run s traces n))) ≡ 0)
 arrives_once s traces link cycle n = go (cases_lt cycle (n + travel s link))
   where
     go : (cycle < n + travel s link) ⊎ (n + travel s link ≤ cycle)
         → (count_by (arrives_on link cycle) (messages s traces (run s traces n)) ≡ 0)
-        ⊎ (count_by (arrives_on link cycle) (sends s traces (run s traces n) (next_row s traces (run s traces n))) ≡ 0)
+        ⊎ (count_by (arrives_on link cycle) (sends s traces (run s traces n) (next_step s traces (run s traces n))) ≡ 0)
     go (inl l) =
         inr (count-none (arrives_on link cycle) _ (Each-weaker _ (λ m. arrives_on link cycle m ≡ false)
         (λ m h. false_from_ne_true _ (λ e.
@@ -162,10 +162,10 @@ unfolding run
 one_arrival s traces link cycle zero = subst (λ ms. count_by (arrives_on link cycle) ms ≤ 1) (sym (messages-none s traces)) (omega arith)
 one_arrival s traces link cycle (suc n) =
     let history = run s traces n in
-    let e = count-messages (arrives_on link cycle) s traces history (next_row s traces history) in
+    let e = count-messages (arrives_on link cycle) s traces history (next_step s traces history) in
     let before : count_by (arrives_on link cycle) (messages s traces history) ≤ 1 = one_arrival s traces link cycle n in
-    let now : count_by (arrives_on link cycle) (sends s traces history (next_row s traces history)) ≤ 1 = arrives_now s traces link cycle history in
-    let one : (count_by (arrives_on link cycle) (messages s traces history) ≡ 0) ⊎ (count_by (arrives_on link cycle) (sends s traces history (next_row s traces history)) ≡ 0) =
+    let now : count_by (arrives_on link cycle) (sends s traces history (next_step s traces history)) ≤ 1 = arrives_now s traces link cycle history in
+    let one : (count_by (arrives_on link cycle) (messages s traces history) ≡ 0) ⊎ (count_by (arrives_on link cycle) (sends s traces history (next_step s traces history)) ≡ 0) =
     arrives_once s traces link cycle n in
     omega arith
 

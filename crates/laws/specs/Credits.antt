@@ -7,18 +7,18 @@
 use Rattle.std.specs.Prelude.{ℕ, ◌+◌, ◌*◌, ◌<◌, ◌≤◌, Bool, List, length, count_by}
 use Rattle.sim_base.specs.declared.config.Config.{Config}
 use Rattle.sim_base.specs.Config.{credit_link}
-use Rattle.sim_base.specs.History.{trace_of, core_rows, core_messages, inbox}
+use Rattle.sim_base.specs.History.{trace_of, steps_of_core, core_messages, inbox}
 use Rattle.sim_base.specs.Machine.{run}
 use Rattle.sim_base.specs.Scheduling.{queue_in}
 use Rattle.sim_base.specs.Windows.{is_request_for, is_credit_on, credit_cap}
 use Rattle.sim_base.specs.declared.message.Unit.TheVariants.{Core, Channel}
 use Rattle.sim_base.specs.declared.trace.Entry.{Entry}
-use Rattle.laws.specs.Commands.{rows_of}
+use Rattle.laws.specs.Commands.{channel_steps_of}
 
 -- the reads, or the writes, that a core sent to a channel in the first n cycles
 abbrev pub requests_sent : Config → List (List Entry) → ℕ → ℕ → ℕ → Bool → ℕ
 requests_sent s traces n core channel write =
-    count_by (λ m. is_request_for channel write m.load) (core_messages s core (trace_of traces core) (core_rows core (run s traces n)))
+    count_by (λ m. is_request_for channel write m.load) (core_messages s core (trace_of traces core) (steps_of_core core (run s traces n)))
 
 -- the credits for them that came back before cycle n
 abbrev pub credits_back : Config → List (List Entry) → ℕ → ℕ → ℕ → Bool → ℕ
@@ -41,5 +41,5 @@ CreditsComeBackOnce s traces n =
 abbrev pub QueuesAreBounded : Config → List (List Entry) → ℕ → Type 0
 QueuesAreBounded s traces n =
     (channel cycle : ℕ) → channel < s.channels → cycle ≤ n →
-    length (queue_in channel (rows_of s traces n channel) (inbox s traces (run s traces n) (Channel channel)) cycle)
+    length (queue_in channel (channel_steps_of s traces n channel) (inbox s traces (run s traces n) (Channel channel)) cycle)
     ≤ s.cores * (s.read_credits + s.write_credits)

@@ -7,7 +7,7 @@ use Rattle.sim_base.specs.declared.config.Config.{Config}
 use Rattle.sim_base.specs.declared.timing.Timing.{Timing}
 use Rattle.sim_base.specs.declared.command.Command.{Command}
 use Rattle.sim_base.specs.declared.command.Command.TheVariants.{Act, Rd, Wr, Pre, Prea, Ref}
-use Rattle.sim_base.specs.declared.command.CommandRow.{CommandRow}
+use Rattle.sim_base.specs.declared.command.IssuedCommand.{IssuedCommand}
 use Rattle.sim_base.specs.declared.trace.Entry.{Entry}
 use Rattle.laws.specs.Commands.{history_of}
 
@@ -25,7 +25,7 @@ moves_data_in t cycle issued (Prea rank) = false
 moves_data_in t cycle issued (Ref rank) = false
 
 -- a command of a history has data on the bus in a cycle
-abbrev pub has_data_in : Timing → ℕ → CommandRow → Bool
+abbrev pub has_data_in : Timing → ℕ → IssuedCommand → Bool
 has_data_in t cycle i = moves_data_in t cycle i.cycle i.command
 
 -- in no cycle two commands of a channel have data on its bus

@@ -8,8 +8,8 @@ use Rattle.std.specs.Prelude.{◌≡◌, ℕ, ◌<◌, ◌≤◌, ◌==◌, Bool
 use Rattle.sim_base.specs.declared.config.Config.{Config}
 use Rattle.sim_base.specs.Config.{request_link, reply_link, credit_link}
 use Rattle.sim_base.specs.Places.{place_of}
-use Rattle.sim_base.specs.Row.{Row}
-use Rattle.sim_base.specs.History.{trace_of, core_rows, issued_before, messages, inbox}
+use Rattle.sim_base.specs.MachineStep.{MachineStep}
+use Rattle.sim_base.specs.History.{trace_of, steps_of_core, issued_before, messages, inbox}
 use Rattle.sim_base.specs.Machine.{run}
 use Rattle.sim_base.specs.Scheduling.{request_in}
 use Rattle.sim_base.specs.declared.message.Load.{Load}
@@ -31,10 +31,10 @@ abbrev pub RequestsAreSentOnce : Config → List (List Entry) → ℕ → Type 0
 RequestsAreSentOnce s traces n = (core entry : ℕ) → count_by (λ m. is_request_of core entry m.load) (messages s traces (run s traces n)) ≤ 1
 
 -- a message carries this request to a channel: that of an entry which its core has issued, with the entry's kind and address
-pub record IsRequestTo (s : Config) (traces : List (List Entry)) (history : List Row) (channel : ℕ) (m : Message) (r : Request) : Type 0 where
+pub record IsRequestTo (s : Config) (traces : List (List Entry)) (history : List MachineStep) (channel : ℕ) (m : Message) (r : Request) : Type 0 where
   pub core : r.core < s.cores
   pub entry : slice_get (trace_of traces r.core) r.entry ≡ Some (if r.write then Write r.address else Read r.address)
-  pub issued : r.entry < issued_before (core_rows r.core history)
+  pub issued : r.entry < issued_before (steps_of_core r.core history)
   pub place : r.place ≡ place_of s r.address
   pub channel_of : r.place.channel ≡ channel
   pub link_of : m.link ≡ request_link s r.core channel

@@ -9,12 +9,12 @@ use Rattle.sim_base.specs.Config.{refresh_slack}
 use Rattle.sim_base.specs.History.{issued_commands}
 use Rattle.sim_base.specs.Scheduling.{refreshes}
 use Rattle.sim_base.specs.declared.trace.Entry.{Entry}
-use Rattle.laws.specs.Commands.{rows_of}
+use Rattle.laws.specs.Commands.{channel_steps_of}
 
 -- how many REFs of a rank a channel issues by the end of a cycle
 abbrev pub refreshes_by : Config → List (List Entry) → ℕ → ℕ → ℕ → ℕ → ℕ
 refreshes_by s traces n channel rank cycle =
-    count_by (λ i. refreshes rank i.command) (issued_commands channel (take (cycle + 1) (rows_of s traces n channel)))
+    count_by (λ i. refreshes rank i.command) (issued_commands channel (take (cycle + 1) (channel_steps_of s traces n channel)))
 
 -- Where there are refreshes, the m-th REF of each rank stands at m * nREFI + refresh_slack or earlier, if that cycle is one of
 -- the run.

@@ -2,18 +2,18 @@
 --     serves_entry core entry command      a command moves the data of an entry of a core
 --     IsServedAt s traces n core entry channel cycle      a channel moves the data of an entry in a cycle
 --     RequestsAreServedOnce s traces n      the data of an entry is moved by one command at most
---     AnswersRead trace rows m      a reply is that of a Read that the core issued before the reply arrives
+--     AnswersRead trace steps m      a reply is that of a Read that the core issued before the reply arrives
 --     RepliesAnswerReads s traces n      each reply is that of such a Read
 --     ReadsAreAnsweredOnce s traces n      no two replies are those of one entry
 --     CommandsNameTheQueue s traces n      a command stands only in the name of an entry whose request is in the queue
 use Rattle.std.specs.Prelude.{◌≡◌, ℕ, ◌<◌, ◌≤◌, ◌==◌, Bool, false, ◌&&◌, IsTrue, List, take, slice_get, slice_index_or, count_by, All, Contains, IfSome, Option, Some, None}
 use Rattle.sim_base.specs.declared.config.Config.{Config}
-use Rattle.sim_base.specs.History.{trace_of, core_rows, issued_before, inbox}
+use Rattle.sim_base.specs.History.{trace_of, steps_of_core, issued_before, inbox}
 use Rattle.sim_base.specs.Counts.{source_in}
 use Rattle.sim_base.specs.Scheduling.{queue_in, source_of}
 use Rattle.sim_base.specs.Machine.{run}
 use Rattle.sim_base.specs.Windows.{is_reply_to}
-use Rattle.sim_base.specs.declared.history.CoreRow.{CoreRow}
+use Rattle.sim_base.specs.declared.history.CoreStep.{CoreStep}
 use Rattle.sim_base.specs.declared.command.Command.{Command}
 use Rattle.sim_base.specs.declared.command.Command.TheVariants.{Act, Rd, Wr, Pre, Prea, Ref}
 use Rattle.sim_base.specs.declared.message.Load.{Load}
@@ -23,7 +23,7 @@ use Rattle.sim_base.specs.declared.message.Request.{Request}
 use Rattle.sim_base.specs.declared.message.Unit.TheVariants.{Core, Channel}
 use Rattle.sim_base.specs.declared.trace.Entry.{Entry}
 use Rattle.sim_base.specs.declared.trace.Entry.TheVariants.{Read}
-use Rattle.laws.specs.Commands.{rows_of}
+use Rattle.laws.specs.Commands.{channel_steps_of}
 
 -- a command moves the data of an entry of a core
 abbrev pub serves_entry : ℕ → ℕ → Command → Bool
@@ -41,7 +41,7 @@ serves_entry_in core entry (Some command) = serves_entry core entry command
 
 -- a channel moves the data of an entry of a core in a cycle
 abbrev pub IsServedAt : Config → List (List Entry) → ℕ → ℕ → ℕ → ℕ → ℕ → Type 0
-IsServedAt s traces n core entry channel cycle = IsTrue (serves_entry_in core entry (slice_index_or (rows_of s traces n channel) cycle None))
+IsServedAt s traces n core entry channel cycle = IsTrue (serves_entry_in core entry (slice_index_or (channel_steps_of s traces n channel) cycle None))
 
 -- the data of an entry of a core is moved by one channel at most, and in one cycle
 abbrev pub RequestsAreServedOnce : Config → List (List Entry) → ℕ → Type 0
@@ -55,20 +55,20 @@ abbrev pub IsRead : List Entry → ℕ → Type 0
 IsRead trace entry = (address : ℕ) × (slice_get trace entry ≡ Some (Read address))
 
 -- a reply to an entry in a cycle is that of a Read that was issued in an earlier cycle
-abbrev pub AnswersReadAs : List Entry → List CoreRow → ℕ → Load → Type 0
-AnswersReadAs trace rows cycle (load.Reply entry) = IsRead trace entry × entry < issued_before (take cycle rows)
-AnswersReadAs trace rows cycle (load.Request r) = Unit {0}
-AnswersReadAs trace rows cycle (load.Credit write entry) = Unit {0}
+abbrev pub AnswersReadAs : List Entry → List CoreStep → ℕ → Load → Type 0
+AnswersReadAs trace steps cycle (load.Reply entry) = IsRead trace entry × entry < issued_before (take cycle steps)
+AnswersReadAs trace steps cycle (load.Request r) = Unit {0}
+AnswersReadAs trace steps cycle (load.Credit write entry) = Unit {0}
 
 -- a message that is a reply is that of a Read that the core issued before the cycle in which the reply arrives
-abbrev pub AnswersRead : List Entry → List CoreRow → Message → Type 0
-AnswersRead trace rows m = AnswersReadAs trace rows m.arrival m.load
+abbrev pub AnswersRead : List Entry → List CoreStep → Message → Type 0
+AnswersRead trace steps m = AnswersReadAs trace steps m.arrival m.load
 
 -- each reply that is sent to a core in the first n cycles is that of such a Read
 abbrev pub RepliesAnswerReads : Config → List (List Entry) → ℕ → Type 0
 RepliesAnswerReads s traces n =
     (core : ℕ) → core < s.cores →
-    All (AnswersRead (trace_of traces core) (core_rows core (run s traces n))) (inbox s traces (run s traces n) (Core core))
+    All (AnswersRead (trace_of traces core) (steps_of_core core (run s traces n))) (inbox s traces (run s traces n) (Core core))
 
 -- to no entry two replies are sent
 abbrev pub ReadsAreAnsweredOnce : Config → List (List Entry) → ℕ → Type 0
@@ -79,6 +79,6 @@ ReadsAreAnsweredOnce s traces n =
 abbrev pub CommandsNameTheQueue : Config → List (List Entry) → ℕ → Type 0
 CommandsNameTheQueue s traces n =
     (channel cycle : ℕ) (command : Command) → channel < s.channels → cycle < n →
-    slice_index_or (rows_of s traces n channel) cycle None ≡ Some command →
-    let queue = queue_in channel (rows_of s traces n channel) (inbox s traces (run s traces n) (Channel channel)) cycle in
+    slice_index_or (channel_steps_of s traces n channel) cycle None ≡ Some command →
+    let queue = queue_in channel (channel_steps_of s traces n channel) (inbox s traces (run s traces n) (Channel channel)) cycle in
     IfSome (source_in command) (λ source. (r : Request) × Contains queue r × (source ≡ source_of r))

@@ -13,32 +13,32 @@ use Rattle.sim_base.specs.History.{commands}
 use Rattle.sim_base.specs.Rules.{is_legal}
 use Rattle.sim_base.specs.Scheduling.{refreshes}
 use Rattle.sim_base.specs.Machine.{run}
-use Rattle.sim_base.specs.declared.command.CommandRow.{CommandRow}
+use Rattle.sim_base.specs.declared.command.IssuedCommand.{IssuedCommand}
 use Rattle.sim_base.specs.declared.trace.Entry.{Entry}
 
 -- the rows of one channel
-abbrev pub rows_on : ℕ → List CommandRow → List CommandRow
+abbrev pub rows_on : ℕ → List IssuedCommand → List IssuedCommand
 rows_on channel table = filter (λ row. row.channel == channel) table
 
 -- a row is of an earlier cycle, or of the same and of a lower channel
-abbrev pub stands_before : CommandRow → CommandRow → Bool
+abbrev pub stands_before : IssuedCommand → IssuedCommand → Bool
 stands_before a b = nat_lt a.cycle b.cycle || (a.cycle == b.cycle && nat_lt a.channel b.channel)
 
 -- each row stands before those after it
-abbrev pub IsOrdered : List CommandRow → Type 0
+abbrev pub IsOrdered : List IssuedCommand → Type 0
 IsOrdered table = AllPairs (λ a b. IsTrue (stands_before a b)) table
 
 -- each row keeps the rules over the rows of its channel before it
-abbrev pub IsLegalTable : Config → List CommandRow → Type 0
+abbrev pub IsLegalTable : Config → List IssuedCommand → Type 0
 IsLegalTable s table =
-    (i : ℕ) (d : CommandRow) → i < length table →
+    (i : ℕ) (d : IssuedCommand) → i < length table →
     let row = slice_index_or table i d in
     IsTrue (is_legal s (rows_on row.channel (take i table)) row.cycle row.command)
 
 -- where there are refreshes, no row comes while a rank of its channel has missed one
-abbrev pub IsRefreshedTable : Config → List CommandRow → Type 0
+abbrev pub IsRefreshedTable : Config → List IssuedCommand → Type 0
 IsRefreshedTable s table =
-    (i : ℕ) (d : CommandRow) (rank : ℕ) → i < length table → rank < s.ranks → 0 < s.timing.n_refi →
+    (i : ℕ) (d : IssuedCommand) (rank : ℕ) → i < length table → rank < s.ranks → 0 < s.timing.n_refi →
     let row = slice_index_or table i d in
     row.cycle ≤ (count_by (λ r. refreshes rank r.command) (rows_on row.channel (take i table)) + 1) * s.timing.n_refi + refresh_slack s
 

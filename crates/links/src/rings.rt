@@ -98,6 +98,7 @@ pub fn put_by_age(ring: &mut Ring, message: &Message)
     if is_before_last(ring, message) {
         put_among(ring, message);
     } else {
+        // there is room, so it is not refused
         let _room = ring.try_push_back(*message);
     }
 }
@@ -215,6 +216,7 @@ fn append(list: &mut Vec<Message>, message: &Message)
     ensures capacity { vec_capacity list.old ≤ vec_capacity list.new }
 {
     if list.len() < list.capacity() {
+        // there is room, so it is not refused
         let _pushed = list.push(*message);
     }
 }

@@ -8,7 +8,7 @@ use Rattle.std.proofs.lemmas.List.Sums.{prefix_len_is, sum_by_more, sum_by-appen
 use Rattle.std.proofs.lemmas.List.FromFn.{length-range_with_len, get_or-range_with_len}
 use Rattle.sim_base.specs.Counts.{is_read, is_write, is_unissued_after, issue_cycle, wait_of, replied_entry}
 use Rattle.sim_base.specs.History.{below, issued_before}
-use Rattle.sim_base.specs.declared.history.CoreRow.{CoreRow}
+use Rattle.sim_base.specs.declared.history.CoreStep.{CoreStep}
 use Rattle.sim_base.specs.declared.message.Message.{Message}
 use Rattle.sim_base.specs.declared.trace.Entry.{Entry}
 use Rattle.statistics.specs.Counts.{one_if}
@@ -22,38 +22,38 @@ pub issued_none : issued_before [] ≡ 0
 unfolding issued_before
 issued_none = refl
 
-pub issued_more : (rows : List CoreRow) (i : ℕ) (d : CoreRow) → i < length rows → issued_before (take (i + 1) rows) ≡ issued_before (take i rows) + (get_or rows i d).issued
+pub issued_more : (past_steps : List CoreStep) (i : ℕ) (d : CoreStep) → i < length past_steps → issued_before (take (i + 1) past_steps) ≡ issued_before (take i past_steps) + (get_or past_steps i d).issued
 unfolding issued_before
-issued_more rows i d h = sum_by_more (λ (r : CoreRow). r.issued) rows i d h
+issued_more past_steps i d h = sum_by_more (λ (r : CoreStep). r.issued) past_steps i d h
 
 -- the first cycle by whose end an entry is issued
-issue_cycle_at : (rows : List CoreRow) (entry n : ℕ) → n ≤ length rows → issued_before (take n rows) ≤ entry → (n < length rows → entry < issued_before (take (n + 1) rows))
-    → issue_cycle rows entry ≡ n
+issue_cycle_at : (past_steps : List CoreStep) (entry n : ℕ) → n ≤ length past_steps → issued_before (take n past_steps) ≤ entry → (n < length past_steps → entry < issued_before (take (n + 1) past_steps))
+    → issue_cycle past_steps entry ≡ n
 unfolding issue_cycle is_unissued_after
-issue_cycle_at rows entry n l before after =
-    let p = is_unissued_after rows entry in
-    let cycles = length rows in
+issue_cycle_at past_steps entry n l before after =
+    let p = is_unissued_after past_steps entry in
+    let cycles = length past_steps in
     let len : length (below cycles) ≡ cycles = length-range_with_len 0 cycles in
     let at : (k : ℕ) → k < cycles → get_or (below cycles) k 0 ≡ k = λ k h. get_or-range_with_len 0 cycles k 0 h ∙ zero-add k in
     length-prefix_len p (below cycles)
     ∙ prefix_len_is p (below cycles) n 0 (omega arith)
-    (λ k h. ap p (at k (omega arith)) ∙ le-leb (issued_before (take (k + 1) rows)) entry (omega (arith, issued_before-take-later rows (k + 1) n (omega arith))))
-    (λ h. ap p (at n (omega arith)) ∙ lt-leb (issued_before (take (n + 1) rows)) entry (after (omega arith)))
+    (λ k h. ap p (at k (omega arith)) ∙ le-leb (issued_before (take (k + 1) past_steps)) entry (omega (arith, issued_before-take-later past_steps (k + 1) n (omega arith))))
+    (λ h. ap p (at n (omega arith)) ∙ lt-leb (issued_before (take (n + 1) past_steps)) entry (after (omega arith)))
 
-pub issue_cycle_found : (rows : List CoreRow) (entry i : ℕ) → i < length rows → issued_before (take i rows) ≤ entry → entry < issued_before (take (i + 1) rows) → issue_cycle rows entry ≡ i
-issue_cycle_found rows entry i l before after = issue_cycle_at rows entry i (omega arith) before (λ h. after)
+pub issue_cycle_found : (past_steps : List CoreStep) (entry i : ℕ) → i < length past_steps → issued_before (take i past_steps) ≤ entry → entry < issued_before (take (i + 1) past_steps) → issue_cycle past_steps entry ≡ i
+issue_cycle_found past_steps entry i l before after = issue_cycle_at past_steps entry i (omega arith) before (λ h. after)
 
-pub issue_cycle_none : (rows : List CoreRow) (entry i : ℕ) → i ≡ length rows → issued_before (take i rows) ≤ entry → issue_cycle rows entry ≡ i
-issue_cycle_none rows entry i e before = issue_cycle_at rows entry i (omega arith) before (λ h. absurd (omega arith))
+pub issue_cycle_none : (past_steps : List CoreStep) (entry i : ℕ) → i ≡ length past_steps → issued_before (take i past_steps) ≤ entry → issue_cycle past_steps entry ≡ i
+issue_cycle_none past_steps entry i e before = issue_cycle_at past_steps entry i (omega arith) before (λ h. absurd (omega arith))
 
-pub waited_none : (rows : List CoreRow) → waited rows [] ≡ 0
+pub waited_none : (past_steps : List CoreStep) → waited past_steps [] ≡ 0
 unfolding waited
-waited_none rows = refl
+waited_none past_steps = refl
 
-pub waited_more : (rows : List CoreRow) (ms : List Message) (i : ℕ) (d : Message) → i < length ms
-    → waited rows (take (i + 1) ms) ≡ waited rows (take i ms) + wait_of rows (get_or ms i d).arrival (replied_entry (get_or ms i d).load)
+pub waited_more : (past_steps : List CoreStep) (ms : List Message) (i : ℕ) (d : Message) → i < length ms
+    → waited past_steps (take (i + 1) ms) ≡ waited past_steps (take i ms) + wait_of past_steps (get_or ms i d).arrival (replied_entry (get_or ms i d).load)
 unfolding waited
-waited_more rows ms i d h = sum_by_more (λ (m : Message). wait_of rows m.arrival (replied_entry m.load)) ms i d h
+waited_more past_steps ms i d h = sum_by_more (λ (m : Message). wait_of past_steps m.arrival (replied_entry m.load)) ms i d h
 
 counted : (p : Option Entry → Bool) (q : Entry → Bool) → p None ≡ false → ((e : Entry) → p (Some e) ≡ q e) → (trace : List Entry) (first m : ℕ)
     → count_by (λ k. p (slice_get trace (first + k))) (below m) ≡ count_by q (take m (drop first trace))

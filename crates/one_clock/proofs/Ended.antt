@@ -6,14 +6,14 @@ use Rattle.sim_base.specs.declared.message.Request.{Request}
 use Rattle.sim_base.specs.declared.message.Unit.TheVariants.{Channel}
 use Rattle.sim_base.specs.declared.trace.Entry.{Entry}
 use Rattle.sim_base.specs.Final.{due_left, banks, queue_left}
-use Rattle.sim_base.specs.History.{below, channel_rows, issued_commands, inbox}
+use Rattle.sim_base.specs.History.{below, steps_of_channel, issued_commands, inbox}
 use Rattle.sim_base.specs.Machine.{run}
 use Rattle.sim_base.specs.Scheduling.{due}
 use Rattle.sim_base.proofs.Spans.{length-run}
 use Rattle.statistics.specs.Runs.{row_of_bank, open_rows_left, channel_last, last_of_channel}
 use Rattle.statistics.specs.Values.{LastChannel}
 use Rattle.plain_steps.specs.Plain.{ChannelView, channel_view, queue_of}
-use Rattle.one_clock.proofs.Next.{length-channel_rows, waiting_is}
+use Rattle.one_clock.proofs.Next.{length-steps_of_channel, waiting_is}
 
 pub channel_left_is : (s : Config) (traces : List (List Entry)) (n channel : ℕ) (view : ChannelView) → view ≡ channel_view s traces (run s traces n) channel
     → last_of_channel s traces (run s traces n) channel
@@ -29,14 +29,14 @@ channel_left_is s traces n channel view e =
       open_rows = filter_map (row_of_bank v.commands) (banks s);
       queue = queue_of v.pending i;
     } in
-    let rows = channel_rows channel (run s traces n) in
-    let h = issued_commands channel rows in
+    let past_steps = steps_of_channel channel (run s traces n) in
+    let h = issued_commands channel past_steps in
     let mail = inbox s traces (run s traces n) (Channel channel) in
     let with_queue : List Request → LastChannel = λ q. record {
-      due = map (λ rank. due s rank h (length rows)) (below s.ranks);
+      due = map (λ rank. due s rank h (length past_steps)) (below s.ranks);
       open_rows = filter_map (row_of_bank h) (banks s);
       queue = q;
     } in
-    ap with_queue (waiting_is h mail (length rows))
-    ∙ ap (λ i. make i (channel_view s traces (run s traces n) channel)) (length-channel_rows channel (run s traces n) ∙ length-run s traces n)
+    ap with_queue (waiting_is h mail (length past_steps))
+    ∙ ap (λ i. make i (channel_view s traces (run s traces n) channel)) (length-steps_of_channel channel (run s traces n) ∙ length-run s traces n)
     ∙ ap (make n) (sym e)

@@ -6,14 +6,14 @@ use Rattle.std.proofs.lemmas.List.{length-take}
 use Rattle.std.proofs.lemmas.List.Sums.{count_by-le-length}
 use Rattle.std.proofs.lemmas.Nat.{mul-le}
 use Rattle.sim_base.specs.declared.config.Config.{Config}
-use Rattle.sim_base.specs.declared.history.CoreRow.{CoreRow}
+use Rattle.sim_base.specs.declared.history.CoreStep.{CoreStep}
 use Rattle.sim_base.specs.declared.message.Message.{Message}
 use Rattle.sim_base.specs.declared.message.Unit.TheVariants.{Core, Channel}
 use Rattle.sim_base.specs.declared.trace.Entry.{Entry}
 use Rattle.sim_base.specs.declared.trace.Stop.{Stop}
 use Rattle.sim_base.specs.declared.trace.Stop.TheVariants as stop
 use Rattle.sim_base.specs.Counts.{is_read, is_write, reads, writes, replies, read_latency, stops, stopped_by, finish, retire_cycle, hits, issued_of_kind, queue_length, queue_lengths, queued, queued_max, idle, has_refresh_due, refreshing, draining}
-use Rattle.sim_base.specs.History.{trace_of, core_rows, channel_rows, issued_commands, retired_before, issued_before, inbox}
+use Rattle.sim_base.specs.History.{trace_of, steps_of_core, steps_of_channel, issued_commands, retired_before, issued_before, inbox}
 use Rattle.sim_base.specs.Machine.{next_command, run}
 use Rattle.sim_base.specs.Scheduling.{lowest_due, drains, choice}
 use Rattle.sim_base.proofs.Arrived.{arrived}
@@ -31,12 +31,12 @@ use Rattle.statistics.proofs.RunSteps.{inbox-next, stats_of_core-next, stats_of_
 use Rattle.plain_steps.specs.declared.scheduling.ChannelStep.{ChannelStep}
 use Rattle.plain_steps.specs.Plain.{CoreView, core_view, ChannelView, channel_view, channel_step_of, queue_of}
 use Rattle.one_clock.specs.Steps.{core_step_of}
-use Rattle.one_clock.proofs.Next.{length-core_rows, length-channel_rows, queue_is, no_mail, run_none}
+use Rattle.one_clock.proofs.Next.{length-steps_of_core, length-steps_of_channel, queue_is, no_mail, run_none}
 
 -- before the first cycle nothing is counted
 
 pub no_core_stats : (s : Config) (traces : List (List Entry)) (core : ℕ) → stats_of_core s traces (run s traces 0) core ≡ core_none
-unfolding stats_of_core core_stats core_rows issued_before retired_before reads writes replies read_latency stopped_by stops finish retire_cycle
+unfolding stats_of_core core_stats steps_of_core issued_before retired_before reads writes replies read_latency stopped_by stops finish retire_cycle
 no_core_stats s traces core =
     ap (λ h. stats_of_core s traces h core) (run_none s traces)
     ∙ ap (core_stats s core (trace_of traces core) []) (no_mail s traces (Core core))
@@ -62,20 +62,20 @@ no_core_stats s traces core =
     by false = refl
 
 pub no_channel_stats : (s : Config) (traces : List (List Entry)) (channel : ℕ) → stats_of_channel s traces (run s traces 0) channel ≡ record channel_none { draining = draining_of s 0 }
-unfolding stats_of_channel channel_stats channel_rows issued_commands issued_of_kind hits queue_lengths queued queued_max idle refreshing draining
+unfolding stats_of_channel channel_stats steps_of_channel issued_commands issued_of_kind hits queue_lengths queued queued_max idle refreshing draining
 no_channel_stats s traces channel = ap (λ h. stats_of_channel s traces h channel) (run_none s traces)
 
 -- a core, one cycle more
 
 pub core_stats_issued : (s : Config) (traces : List (List Entry)) (n core : ℕ) (view : CoreView) (counts : CoreStats)
-    → view ≡ core_view s traces (run s traces n) core → counts ≡ stats_of_core s traces (run s traces n) core → counts.issued ≡ issued_before view.rows
+    → view ≡ core_view s traces (run s traces n) core → counts ≡ stats_of_core s traces (run s traces n) core → counts.issued ≡ issued_before view.past_steps
 unfolding stats_of_core core_stats
-core_stats_issued s traces n core view counts e f = ap (λ (c : CoreStats). c.issued) f ∙ ap (λ (v : CoreView). issued_before v.rows) (sym e)
+core_stats_issued s traces n core view counts e f = ap (λ (c : CoreStats). c.issued) f ∙ ap (λ (v : CoreView). issued_before v.past_steps) (sym e)
 
 pub core_stats_retired : (s : Config) (traces : List (List Entry)) (n core : ℕ) (view : CoreView) (counts : CoreStats)
-    → view ≡ core_view s traces (run s traces n) core → counts ≡ stats_of_core s traces (run s traces n) core → counts.retired ≡ retired_before view.rows
+    → view ≡ core_view s traces (run s traces n) core → counts ≡ stats_of_core s traces (run s traces n) core → counts.retired ≡ retired_before view.past_steps
 unfolding stats_of_core core_stats
-core_stats_retired s traces n core view counts e f = ap (λ (c : CoreStats). c.retired) f ∙ ap (λ (v : CoreView). retired_before v.rows) (sym e)
+core_stats_retired s traces n core view counts e f = ap (λ (c : CoreStats). c.retired) f ∙ ap (λ (v : CoreView). retired_before v.past_steps) (sym e)
 
 pub core_stats_within : (s : Config) (traces : List (List Entry)) (n core : ℕ) (counts : CoreStats)
     → core < s.cores → counts ≡ stats_of_core s traces (run s traces n) core → counts.issued ≤ length (trace_of traces core)
@@ -84,12 +84,12 @@ core_stats_within s traces n core counts l f =
     let keeps = KeepsToTrace-run s traces core l n in
     subst (λ (c : CoreStats). c.issued ≤ length (trace_of traces core)) (sym f) keeps.issued
 
-pub core_stats_next : (s : Config) (traces : List (List Entry)) (n core : ℕ) (view : CoreView) (step : CoreRow × Stop) (counts more : CoreStats)
+pub core_stats_next : (s : Config) (traces : List (List Entry)) (n core : ℕ) (view : CoreView) (step : CoreStep × Stop) (counts more : CoreStats)
     → core < s.cores
     → view ≡ core_view s traces (run s traces n) core
     → step ≡ core_step_of s traces (run s traces n) core
     → counts ≡ stats_of_core s traces (run s traces n) core
-    → more ≡ core_cycle_with (trace_of traces core) view.rows step.0 step.1 (replies_in (length view.rows) view.inbox)
+    → more ≡ core_cycle_with (trace_of traces core) view.past_steps step.0 step.1 (replies_in (length view.past_steps) view.inbox)
     → core_joined counts more ≡ stats_of_core s traces (run s traces (n + 1)) core
 unfolding core_cycle core_step_of
 core_stats_next s traces n core view step counts more l e f g h =
@@ -97,79 +97,79 @@ core_stats_next s traces n core view step counts more l e f g h =
     let kept = core_view s traces (run s traces n) core in
     ap₂ core_joined g
     (h
-    ∙ ap (λ (v : CoreView). core_cycle_with trace v.rows step.0 step.1 (replies_in (length v.rows) v.inbox)) e
-    ∙ ap (λ (x : CoreRow × Stop). core_cycle_with trace kept.rows x.0 x.1 (replies_in (length kept.rows) kept.inbox)) f)
+    ∙ ap (λ (v : CoreView). core_cycle_with trace v.past_steps step.0 step.1 (replies_in (length v.past_steps) v.inbox)) e
+    ∙ ap (λ (x : CoreStep × Stop). core_cycle_with trace kept.past_steps x.0 x.1 (replies_in (length kept.past_steps) kept.inbox)) f)
     ∙ sym (stats_of_core-next s traces n core l)
     ∙ ap (λ i. stats_of_core s traces (run s traces i) core) (sym (add-one n))
 
 count-take-le : (p : Entry → Bool) (n : ℕ) (trace : List Entry) → count_by p (take n trace) ≤ n
 count-take-le p n trace = omega (arith, count_by-le-length p (take n trace), length-take n trace)
 
-fits : (s : Config) (core : ℕ) (trace : List Entry) (rows : List CoreRow) (mail : List Message) → length rows ≤ 2 ^ 62 → KeepsToTrace trace rows → length trace < 2 ^ 64
-    → length (replies rows mail) < 2 ^ 64 → CoreFits (core_stats s core trace rows mail)
+fits : (s : Config) (core : ℕ) (trace : List Entry) (past_steps : List CoreStep) (mail : List Message) → length past_steps ≤ 2 ^ 62 → KeepsToTrace trace past_steps → length trace < 2 ^ 64
+    → length (replies past_steps mail) < 2 ^ 64 → CoreFits (core_stats s core trace past_steps mail)
 unfolding core_stats reads writes
-fits s core trace rows mail cycles keeps short replied =
-    let most : length (replies rows mail) * length rows ≤ 2 ^ 64 * 2 ^ 62 = mul-le _ _ (2 ^ 64) (2 ^ 62) (omega arith) cycles in
-    let issued : issued_before rows ≤ length trace = keeps.issued in
-    let retired : retired_before rows ≤ issued_before rows = keeps.retired in
+fits s core trace past_steps mail cycles keeps short replied =
+    let most : length (replies past_steps mail) * length past_steps ≤ 2 ^ 64 * 2 ^ 62 = mul-le _ _ (2 ^ 64) (2 ^ 62) (omega arith) cycles in
+    let issued : issued_before past_steps ≤ length trace = keeps.issued in
+    let retired : retired_before past_steps ≤ issued_before past_steps = keeps.retired in
     record {
       issued = omega arith;
       retired = omega arith;
-      reads = omega (arith, count-take-le is_read (issued_before rows) trace);
-      writes = omega (arith, count-take-le is_write (issued_before rows) trace);
+      reads = omega (arith, count-take-le is_read (issued_before past_steps) trace);
+      writes = omega (arith, count-take-le is_write (issued_before past_steps) trace);
       replies = omega arith;
-      read_latency = omega (arith, read_latency-le rows mail);
-      stop_end = omega (arith, stopped_by-le s core trace rows mail stop.End);
-      stop_width = omega (arith, stopped_by-le s core trace rows mail stop.Width);
-      stop_window = omega (arith, stopped_by-le s core trace rows mail stop.Window);
-      stop_memory = omega (arith, stopped_by-le s core trace rows mail stop.Memory);
-      stop_credit = omega (arith, stopped_by-le s core trace rows mail stop.Credit);
+      read_latency = omega (arith, read_latency-le past_steps mail);
+      stop_end = omega (arith, stopped_by-le s core trace past_steps mail stop.End);
+      stop_width = omega (arith, stopped_by-le s core trace past_steps mail stop.Width);
+      stop_window = omega (arith, stopped_by-le s core trace past_steps mail stop.Window);
+      stop_memory = omega (arith, stopped_by-le s core trace past_steps mail stop.Memory);
+      stop_credit = omega (arith, stopped_by-le s core trace past_steps mail stop.Credit);
     }
 
-pub core_stats_fit : (s : Config) (traces : List (List Entry)) (n core : ℕ) (view : CoreView) (step : CoreRow × Stop) (counts more : CoreStats)
+pub core_stats_fit : (s : Config) (traces : List (List Entry)) (n core : ℕ) (view : CoreView) (step : CoreStep × Stop) (counts more : CoreStats)
     → core < s.cores
     → view ≡ core_view s traces (run s traces n) core
     → step ≡ core_step_of s traces (run s traces n) core
     → counts ≡ stats_of_core s traces (run s traces n) core
-    → more ≡ core_cycle_with (trace_of traces core) view.rows step.0 step.1 (replies_in (length view.rows) view.inbox)
+    → more ≡ core_cycle_with (trace_of traces core) view.past_steps step.0 step.1 (replies_in (length view.past_steps) view.inbox)
     → n ≤ 10 ^ 12
     → length (trace_of traces core) < 2 ^ 64
     → length view.inbox < 2 ^ 64
     → CoreFits (core_joined counts more)
 unfolding stats_of_core
 core_stats_fit s traces n core view step counts more l e f g h early short few =
-    let rows = core_rows core (run s traces (suc n)) in
+    let past_steps = steps_of_core core (run s traces (suc n)) in
     let mail = inbox s traces (run s traces n) (Core core) in
     let then = inbox s traces (run s traces (suc n)) (Core core) in
-    let len : length rows ≡ n + 1 = length-core_rows core (run s traces (suc n)) ∙ length-run s traces (suc n) ∙ sym (add-one n) in
-    let same : replies rows then ≡ replies rows mail = replies-same rows then mail (subst (λ i. arrived then i ≡ arrived mail i) (sym len) (inbox-next s traces n (Core core))) in
+    let len : length past_steps ≡ n + 1 = length-steps_of_core core (run s traces (suc n)) ∙ length-run s traces (suc n) ∙ sym (add-one n) in
+    let same : replies past_steps then ≡ replies past_steps mail = replies-same past_steps then mail (subst (λ i. arrived then i ≡ arrived mail i) (sym len) (inbox-next s traces n (Core core))) in
     let kept : length view.inbox ≡ length mail = ap (λ (v : CoreView). length v.inbox) e in
-    let replied : length (replies rows then) ≤ length mail = subst (λ x. length x ≤ length mail) (sym same) (replies-le rows mail) in
+    let replied : length (replies past_steps then) ≤ length mail = subst (λ x. length x ≤ length mail) (sym same) (replies-le past_steps mail) in
     subst CoreFits (ap (λ i. stats_of_core s traces (run s traces i) core) (sym (add-one n)) ∙ sym (core_stats_next s traces n core view step counts more l e f g h))
-    (fits s core (trace_of traces core) rows then (omega arith) (KeepsToTrace-run s traces core l (suc n)) short (omega arith))
+    (fits s core (trace_of traces core) past_steps then (omega arith) (KeepsToTrace-run s traces core l (suc n)) short (omega arith))
 
 -- a channel, one cycle more
 
 cycle_is : (s : Config) (traces : List (List Entry)) (n channel : ℕ)
-    → let rows = channel_rows channel (run s traces n) in
+    → let past_steps = steps_of_channel channel (run s traces n) in
     let mail = inbox s traces (run s traces n) (Channel channel) in
     let view = channel_view s traces (run s traces n) channel in
     let step = channel_step_of s traces (run s traces n) channel in
     channel_cycle_with s view.commands (length (queue_of view.pending (n + 1))) (is_some (lowest_due s view.commands n)) step.draining step.command
-    ≡ channel_cycle s channel rows mail (choice s channel rows mail)
+    ≡ channel_cycle s channel past_steps mail (choice s channel past_steps mail)
 unfolding channel_cycle queue_length has_refresh_due next_command
 cycle_is s traces n channel =
     let history = run s traces n in
-    let rows = channel_rows channel history in
+    let past_steps = steps_of_channel channel history in
     let mail = inbox s traces history (Channel channel) in
     let view = channel_view s traces history channel in
-    let o = choice s channel rows mail in
+    let o = choice s channel past_steps mail in
     let past = length-run s traces n in
-    let len : length rows ≡ n = length-channel_rows channel history ∙ past in
-    ap (λ i. channel_cycle_with s view.commands (length (queue_of view.pending (i + 1))) (is_some (lowest_due s view.commands i)) (drains s channel rows mail (length history)) o) (sym len)
-    ∙ ap (λ i. channel_cycle_with s view.commands (length (queue_of view.pending (length rows + 1))) (is_some (lowest_due s view.commands (length rows))) (drains s channel rows mail i) o) (past ∙ sym len)
-    ∙ ap₂ (λ q x. channel_cycle_with s view.commands (length q) (is_some (lowest_due s (issued_commands channel x) (length rows))) (drains s channel rows mail (length rows)) o)
-    (sym (queue_is channel rows mail)) (sym (take-length rows))
+    let len : length past_steps ≡ n = length-steps_of_channel channel history ∙ past in
+    ap (λ i. channel_cycle_with s view.commands (length (queue_of view.pending (i + 1))) (is_some (lowest_due s view.commands i)) (drains s channel past_steps mail (length history)) o) (sym len)
+    ∙ ap (λ i. channel_cycle_with s view.commands (length (queue_of view.pending (length past_steps + 1))) (is_some (lowest_due s view.commands (length past_steps))) (drains s channel past_steps mail i) o) (past ∙ sym len)
+    ∙ ap₂ (λ q x. channel_cycle_with s view.commands (length q) (is_some (lowest_due s (issued_commands channel x) (length past_steps))) (drains s channel past_steps mail (length past_steps)) o)
+    (sym (queue_is channel past_steps mail)) (sym (take-length past_steps))
 
 pub channel_stats_next : (s : Config) (traces : List (List Entry)) (n channel : ℕ) (view : ChannelView) (step : ChannelStep) (counts more : ChannelStats)
     → channel < s.channels
@@ -200,9 +200,9 @@ pub channel_stats_fit : (s : Config) (traces : List (List Entry)) (n channel : �
     → ChannelFits (channel_joined counts more)
 unfolding stats_of_channel channel_stats
 channel_stats_fit s traces n channel view step counts more l e f g h early before now =
-    let rows = channel_rows channel (run s traces (n + 1)) in
+    let past_steps = steps_of_channel channel (run s traces (n + 1)) in
     let mail = inbox s traces (run s traces (n + 1)) (Channel channel) in
-    let len : length rows ≡ n + 1 = length-channel_rows channel (run s traces (n + 1)) ∙ length-run s traces (n + 1) in
+    let len : length past_steps ≡ n + 1 = length-steps_of_channel channel (run s traces (n + 1)) ∙ length-run s traces (n + 1) in
     let joined = channel_stats_next s traces n channel view step counts more l e f g h in
-    let most : max counts.queued_max more.queued_max ≡ queued_max channel rows mail = ap (λ (c : ChannelStats). c.queued_max) joined in
-    subst ChannelFits (sym joined) (channel_stats-fit s channel rows mail (omega arith) (omega arith))
+    let most : max counts.queued_max more.queued_max ≡ queued_max channel past_steps mail = ap (λ (c : ChannelStats). c.queued_max) joined in
+    subst ChannelFits (sym joined) (channel_stats-fit s channel past_steps mail (omega arith) (omega arith))

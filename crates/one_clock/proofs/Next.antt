@@ -16,15 +16,15 @@ use Rattle.sim_base.specs.Ranges.{LatencyInRange}
 use Rattle.sim_base.specs.declared.overrides.Override.{Override}
 use Rattle.sim_base.proofs.LinkNumbers.{found_in_range}
 use Rattle.sim_base.specs.Locality.{TravelsFor}
-use Rattle.sim_base.specs.Row.{Row, core_row, channel_row}
-use Rattle.sim_base.specs.History.{below, core_rows, channel_rows, issued_at, issued_commands, commands_in, commands, core_messages, channel_messages, messages, messages_of_core, messages_of_channel, is_to, is_before, by_age, insert_by_age, inbox}
+use Rattle.sim_base.specs.MachineStep.{MachineStep, step_of_core, step_of_channel}
+use Rattle.sim_base.specs.History.{below, steps_of_core, steps_of_channel, issued_at, issued_commands, commands_in, commands, core_messages, channel_messages, messages, messages_of_core, messages_of_channel, is_to, is_before, by_age, insert_by_age, inbox}
 use Rattle.sim_base.specs.Sends.{core_sends, sends}
-use Rattle.sim_base.specs.Scheduling.{request_in, serves, is_served, is_waiting, waiting, queue_in, writes_in, drains_with, drains_before, drains, candidates, lowest_due, choice_between, choice}
-use Rattle.sim_base.specs.Machine.{next_core_row, next_command, next_row, run, is_delivered}
+use Rattle.sim_base.specs.Scheduling.{request_in, serves, is_served, is_queued, queued_requests, queue_in, writes_in, drains_with, drains_before, drains, candidates, lowest_due, choice_between, choice}
+use Rattle.sim_base.specs.Machine.{next_core_step, next_command, next_step, run, is_delivered}
 use Rattle.sim_base.specs.Counts.{is_in_flight, in_flight}
 use Rattle.sim_base.specs.declared.command.Command.{Command}
-use Rattle.sim_base.specs.declared.command.CommandRow.{CommandRow}
-use Rattle.sim_base.specs.declared.history.CoreRow.{CoreRow}
+use Rattle.sim_base.specs.declared.command.IssuedCommand.{IssuedCommand}
+use Rattle.sim_base.specs.declared.history.CoreStep.{CoreStep}
 use Rattle.sim_base.specs.declared.message.Message.{Message}
 use Rattle.sim_base.specs.declared.message.Request.{Request}
 use Rattle.sim_base.specs.declared.message.Unit.{Unit as MachineUnit}
@@ -37,7 +37,7 @@ use Rattle.sim_base.proofs.Arrived.{put, puts, by_age-puts, fold-puts}
 use Rattle.sim_base.proofs.Ordered.{Sorted, Sorted-puts, filter-puts, filter-by_age}
 use Rattle.sim_base.proofs.Grows.{core-grows, inbox-grows, by_age-filter-grows}
 use Rattle.sim_base.proofs.Same.{drains-same}
-use Rattle.sim_base.proofs.Spans.{length-run, core_row-next, channel_row-next, inbox-run, inbox-stamped, has_channels}
+use Rattle.sim_base.proofs.Spans.{length-run, step_of_core-next, step_of_channel-next, inbox-run, inbox-stamped, has_channels}
 use Rattle.plain_steps.specs.declared.scheduling.ChannelStep.{ChannelStep}
 use Rattle.one_clock.proofs.Units.{filter_map_below_more}
 use Rattle.plain_steps.specs.Plain.{CoreView, core_view, ChannelView, channel_view, channel_step_of, queue_of, is_request_left, is_left, is_passed_over, is_left_by, is_late}
@@ -60,24 +60,24 @@ enumerate-append i (x ∷ xs) ys =
     let e : i + 1 + length xs ≡ i + suc (length xs) = omega arith in
     ap (λ l. (i, x) ∷ l) (enumerate-append (i + 1) xs ys ∙ ap (λ n. enumerate_from (i + 1) xs ++ enumerate_from n ys) e)
 
-pub issued-push : (k : ℕ) (rows : List (Option Command)) (o : Option Command)
-    → issued_commands k (rows ++ o ∷ []) ≡ issued_commands k rows ++ option_to_list (issued_at k (length rows) o)
+pub issued-push : (k : ℕ) (past_steps : List (Option Command)) (o : Option Command)
+    → issued_commands k (past_steps ++ o ∷ []) ≡ issued_commands k past_steps ++ option_to_list (issued_at k (length past_steps) o)
 unfolding issued_commands
-issued-push k rows o =
+issued-push k past_steps o =
     let f = λ (e : ℕ × Option Command). issued_at k e.0 e.1 in
-    ap (filter_map f) (enumerate-append 0 rows (o ∷ []))
-    ∙ filter_map-append f (enumerate_from 0 rows) (enumerate_from (0 + length rows) (o ∷ []))
-    ∙ ap (λ n. filter_map f (enumerate_from 0 rows) ++ cons_option (issued_at k n o) []) (zero-add (length rows))
-    ∙ ap (λ l. filter_map f (enumerate_from 0 rows) ++ l) (as_list (issued_at k (length rows) o))
+    ap (filter_map f) (enumerate-append 0 past_steps (o ∷ []))
+    ∙ filter_map-append f (enumerate_from 0 past_steps) (enumerate_from (0 + length past_steps) (o ∷ []))
+    ∙ ap (λ n. filter_map f (enumerate_from 0 past_steps) ++ cons_option (issued_at k n o) []) (zero-add (length past_steps))
+    ∙ ap (λ l. filter_map f (enumerate_from 0 past_steps) ++ l) (as_list (issued_at k (length past_steps) o))
   where
-    as_list : (r : Option CommandRow) → cons_option r [] ≡ option_to_list r
+    as_list : (r : Option IssuedCommand) → cons_option r [] ≡ option_to_list r
     as_list None = refl
     as_list (Some r) = refl
 
-pub commands-push : (history : List Row) (row : Row) → commands (history ++ row ∷ []) ≡ commands history ++ commands_in (length history) row
+pub commands-push : (history : List MachineStep) (row : MachineStep) → commands (history ++ row ∷ []) ≡ commands history ++ commands_in (length history) row
 unfolding commands
 commands-push history row =
-    let f = λ (e : ℕ × Row). commands_in e.0 e.1 in
+    let f = λ (e : ℕ × MachineStep). commands_in e.0 e.1 in
     ap (flat_map f) (enumerate-append 0 history (row ∷ []))
     ∙ flat_map-append f (enumerate_from 0 history) (enumerate_from (0 + length history) (row ∷ []))
     ∙ ap (λ l. flat_map f (enumerate_from 0 history) ++ l) (append-nil (commands_in (0 + length history) row) ∙ ap (λ n. commands_in n row) (zero-add (length history)))
@@ -100,38 +100,38 @@ not_or : (a b : Bool) → not (a || b) ≡ (not a && not b)
 not_or true b = refl
 not_or false b = refl
 
-served-push : (h : List CommandRow) (i : CommandRow) (r : Request) → is_served (h ++ i ∷ []) r ≡ (is_served h r || serves r i.command)
+served-push : (h : List IssuedCommand) (i : IssuedCommand) (r : Request) → is_served (h ++ i ∷ []) r ≡ (is_served h r || serves r i.command)
 unfolding is_served
 served-push h i r =
-    let p = λ (i : CommandRow). serves r i.command in
+    let p = λ (i : IssuedCommand). serves r i.command in
     list_any-append p h (i ∷ []) ∙ ap (λ b. list_any p h || b) (or_false (serves r i.command))
 
-request_left-push : (h : List CommandRow) (k n : ℕ) (c : Command) (o : Option Request)
+request_left-push : (h : List IssuedCommand) (k n : ℕ) (c : Command) (o : Option Request)
     → is_request_left (h ++ (record { cycle = n; channel = k; command = c }) ∷ []) o ≡ (is_request_left h o && is_passed_over (Some c) o)
 request_left-push h k n c None = refl
 request_left-push h k n c (Some r) = ap not (served-push h (record { cycle = n; channel = k; command = c }) r) ∙ not_or (is_served h r) (serves r c)
 
-left-push : (h : List CommandRow) (k n : ℕ) (o : Option Command) (m : Message)
+left-push : (h : List IssuedCommand) (k n : ℕ) (o : Option Command) (m : Message)
     → is_left (h ++ option_to_list (issued_at k n o)) m ≡ (is_left h m && is_left_by o m)
 left-push h k n None m = ap (λ x. is_left x m) (append-nil h) ∙ sym (and_true (is_left h m))
 left-push h k n (Some c) m = request_left-push h k n c (request_in m.load)
 
-pub left_after : (h : List CommandRow) (k n : ℕ) (o : Option Command) (mail : List Message)
+pub left_after : (h : List IssuedCommand) (k n : ℕ) (o : Option Command) (mail : List Message)
     → filter (is_left (h ++ option_to_list (issued_at k n o))) mail ≡ filter (is_left_by o) (filter (is_left h) mail)
 left_after h k n o mail = filter-same _ (λ m. is_left h m && is_left_by o m) (left-push h k n o) mail ∙ filter-both (is_left h) (is_left_by o) mail
 
-one_waiting : (h : List CommandRow) (until : ℕ) (rs ts : List Request) → filter (is_waiting h until) rs ≡ filter (λ r. ltb r.arrival until) ts → (o : Option Request)
-    → filter (is_waiting h until) (cons_option o rs) ≡ filter (λ r. ltb r.arrival until) (cond (is_request_left h o) (cons_option o ts) ts)
+one_waiting : (h : List IssuedCommand) (until : ℕ) (rs ts : List Request) → filter (is_queued h until) rs ≡ filter (λ r. ltb r.arrival until) ts → (o : Option Request)
+    → filter (is_queued h until) (cons_option o rs) ≡ filter (λ r. ltb r.arrival until) (cond (is_request_left h o) (cons_option o ts) ts)
 one_waiting h until rs ts e None = e
 one_waiting h until rs ts e (Some r) =
     let late = λ (r : Request). ltb r.arrival until in
     let a = late r in
-    cond_both (not (is_served h r)) (r ∷ ts) ts (λ y. cond (a && not (is_served h r)) (r ∷ filter (is_waiting h until) rs) (filter (is_waiting h until) rs) ≡ filter late y)
-    (λ f. ap (λ b. cond (a && b) (r ∷ filter (is_waiting h until) rs) (filter (is_waiting h until) rs)) f
-    ∙ ap (λ b. cond b (r ∷ filter (is_waiting h until) rs) (filter (is_waiting h until) rs)) (and_true a)
+    cond_both (not (is_served h r)) (r ∷ ts) ts (λ y. cond (a && not (is_served h r)) (r ∷ filter (is_queued h until) rs) (filter (is_queued h until) rs) ≡ filter late y)
+    (λ f. ap (λ b. cond (a && b) (r ∷ filter (is_queued h until) rs) (filter (is_queued h until) rs)) f
+    ∙ ap (λ b. cond b (r ∷ filter (is_queued h until) rs) (filter (is_queued h until) rs)) (and_true a)
     ∙ ap (λ l. cond a (r ∷ l) l) e)
-    (λ f. ap (λ b. cond (a && b) (r ∷ filter (is_waiting h until) rs) (filter (is_waiting h until) rs)) f
-    ∙ ap (λ b. cond b (r ∷ filter (is_waiting h until) rs) (filter (is_waiting h until) rs)) (and_false a)
+    (λ f. ap (λ b. cond (a && b) (r ∷ filter (is_queued h until) rs) (filter (is_queued h until) rs)) f
+    ∙ ap (λ b. cond b (r ∷ filter (is_queued h until) rs) (filter (is_queued h until) rs)) (and_false a)
     ∙ e)
 
 requests-cond : (b : Bool) (m : Message) (ms : List Message)
@@ -139,68 +139,68 @@ requests-cond : (b : Bool) (m : Message) (ms : List Message)
 requests-cond true m ms = refl
 requests-cond false m ms = refl
 
-waiting-left : (h : List CommandRow) (until : ℕ) (mail : List Message)
-    → filter (is_waiting h until) (filter_map (λ m. request_in m.load) mail) ≡ filter (λ r. ltb r.arrival until) (filter_map (λ m. request_in m.load) (filter (is_left h) mail))
-waiting-left h until [] = refl
-waiting-left h until (m ∷ ms) =
-    one_waiting h until (filter_map (λ m. request_in m.load) ms) (filter_map (λ m. request_in m.load) (filter (is_left h) ms)) (waiting-left h until ms) (request_in m.load)
+queued_requests-left : (h : List IssuedCommand) (until : ℕ) (mail : List Message)
+    → filter (is_queued h until) (filter_map (λ m. request_in m.load) mail) ≡ filter (λ r. ltb r.arrival until) (filter_map (λ m. request_in m.load) (filter (is_left h) mail))
+queued_requests-left h until [] = refl
+queued_requests-left h until (m ∷ ms) =
+    one_waiting h until (filter_map (λ m. request_in m.load) ms) (filter_map (λ m. request_in m.load) (filter (is_left h) ms)) (queued_requests-left h until ms) (request_in m.load)
     ∙ ap (filter (λ r. ltb r.arrival until)) (sym (requests-cond (is_left h m) m (filter (is_left h) ms)))
 
-pub waiting_is : (h : List CommandRow) (mail : List Message) (until : ℕ) → waiting h mail until ≡ queue_of (filter (is_left h) mail) until
-unfolding waiting queue_of
-waiting_is h mail until = waiting-left h until mail
+pub waiting_is : (h : List IssuedCommand) (mail : List Message) (until : ℕ) → queued_requests h mail until ≡ queue_of (filter (is_left h) mail) until
+unfolding queued_requests queue_of
+waiting_is h mail until = queued_requests-left h until mail
 
 -- the queue of the next cycle
-pub queue_is : (k : ℕ) (rows : List (Option Command)) (mail : List Message) → queue_in k rows mail (length rows) ≡ queue_of (filter (is_left (issued_commands k rows)) mail) (length rows + 1)
+pub queue_is : (k : ℕ) (past_steps : List (Option Command)) (mail : List Message) → queue_in k past_steps mail (length past_steps) ≡ queue_of (filter (is_left (issued_commands k past_steps)) mail) (length past_steps + 1)
 unfolding queue_in
-queue_is k rows mail = ap (λ x. waiting (issued_commands k x) mail (length rows + 1)) (take-length rows) ∙ waiting_is (issued_commands k rows) mail (length rows + 1)
+queue_is k past_steps mail = ap (λ x. queued_requests (issued_commands k x) mail (length past_steps + 1)) (take-length past_steps) ∙ waiting_is (issued_commands k past_steps) mail (length past_steps + 1)
 
-drains_next : (s : Config) (k : ℕ) (rows : List (Option Command)) (mail : List Message)
-    → drains s k rows mail (length rows) ≡ drains_with s (drains_before s k rows mail (length rows)) (count_by (λ r. r.write) (queue_of (filter (is_left (issued_commands k rows)) mail) (length rows + 1)))
+drains_next : (s : Config) (k : ℕ) (past_steps : List (Option Command)) (mail : List Message)
+    → drains s k past_steps mail (length past_steps) ≡ drains_with s (drains_before s k past_steps mail (length past_steps)) (count_by (λ r. r.write) (queue_of (filter (is_left (issued_commands k past_steps)) mail) (length past_steps + 1)))
 unfolding drains_before writes_in
-drains_next s k rows mail =
-    ap (λ n. drains_before s k rows mail n) (add-one (length rows))
-    ∙ ap (λ q. drains_with s (drains_before s k rows mail (length rows)) (count_by (λ r. r.write) q)) (queue_is k rows mail)
+drains_next s k past_steps mail =
+    ap (λ n. drains_before s k past_steps mail n) (add-one (length past_steps))
+    ∙ ap (λ q. drains_with s (drains_before s k past_steps mail (length past_steps)) (count_by (λ r. r.write) q)) (queue_is k past_steps mail)
 
-choice_next : (s : Config) (k : ℕ) (rows : List (Option Command)) (mail : List Message)
-    → choice s k rows mail
-    ≡ choice_between s (issued_commands k rows) (length rows)
-    (candidates s (drains s k rows mail (length rows)) (queue_of (filter (is_left (issued_commands k rows)) mail) (length rows + 1)))
-    (lowest_due s (issued_commands k rows) (length rows))
+choice_next : (s : Config) (k : ℕ) (past_steps : List (Option Command)) (mail : List Message)
+    → choice s k past_steps mail
+    ≡ choice_between s (issued_commands k past_steps) (length past_steps)
+    (candidates s (drains s k past_steps mail (length past_steps)) (queue_of (filter (is_left (issued_commands k past_steps)) mail) (length past_steps + 1)))
+    (lowest_due s (issued_commands k past_steps) (length past_steps))
 unfolding choice
-choice_next s k rows mail =
-    ap (λ q. choice_between s (issued_commands k rows) (length rows) (candidates s (drains s k rows mail (length rows)) q) (lowest_due s (issued_commands k rows) (length rows))) (queue_is k rows mail)
+choice_next s k past_steps mail =
+    ap (λ q. choice_between s (issued_commands k past_steps) (length past_steps) (candidates s (drains s k past_steps mail (length past_steps)) q) (lowest_due s (issued_commands k past_steps) (length past_steps))) (queue_is k past_steps mail)
 
-pub length-channel_rows : (k : ℕ) (history : List Row) → length (channel_rows k history) ≡ length history
-unfolding channel_rows
-length-channel_rows k history = length-map history (channel_row k)
+pub length-steps_of_channel : (k : ℕ) (history : List MachineStep) → length (steps_of_channel k history) ≡ length history
+unfolding steps_of_channel
+length-steps_of_channel k history = length-map history (step_of_channel k)
 
-pub length-core_rows : (core : ℕ) (history : List Row) → length (core_rows core history) ≡ length history
-unfolding core_rows
-length-core_rows core history = length-map history (core_row core)
+pub length-steps_of_core : (core : ℕ) (history : List MachineStep) → length (steps_of_core core history) ≡ length history
+unfolding steps_of_core
+length-steps_of_core core history = length-map history (step_of_core core)
 
 -- what a channel does next follows from what is kept of it
-pub step_draining : (s : Config) (traces : List (List Entry)) (history : List Row) (k : ℕ)
+pub step_draining : (s : Config) (traces : List (List Entry)) (history : List MachineStep) (k : ℕ)
     → (channel_step_of s traces history k).draining
     ≡ drains_with s (channel_view s traces history k).draining (count_by (λ r. r.write) (queue_of (channel_view s traces history k).pending (length history + 1)))
 step_draining s traces history k =
-    let rows = channel_rows k history in
+    let past_steps = steps_of_channel k history in
     let mail = inbox s traces history (Channel k) in
-    subst (λ n. drains s k rows mail n ≡ drains_with s (drains_before s k rows mail n) (count_by (λ r. r.write) (queue_of (filter (is_left (issued_commands k rows)) mail) (n + 1))))
-    (length-channel_rows k history) (drains_next s k rows mail)
+    subst (λ n. drains s k past_steps mail n ≡ drains_with s (drains_before s k past_steps mail n) (count_by (λ r. r.write) (queue_of (filter (is_left (issued_commands k past_steps)) mail) (n + 1))))
+    (length-steps_of_channel k history) (drains_next s k past_steps mail)
 
-pub step_command : (s : Config) (traces : List (List Entry)) (history : List Row) (k : ℕ)
+pub step_command : (s : Config) (traces : List (List Entry)) (history : List MachineStep) (k : ℕ)
     → (channel_step_of s traces history k).command
     ≡ choice_between s (channel_view s traces history k).commands (length history)
     (candidates s (channel_step_of s traces history k).draining (queue_of (channel_view s traces history k).pending (length history + 1)))
     (lowest_due s (channel_view s traces history k).commands (length history))
 unfolding next_command
 step_command s traces history k =
-    let rows = channel_rows k history in
+    let past_steps = steps_of_channel k history in
     let mail = inbox s traces history (Channel k) in
-    subst (λ n. choice s k rows mail
-    ≡ choice_between s (issued_commands k rows) n (candidates s (drains s k rows mail n) (queue_of (filter (is_left (issued_commands k rows)) mail) (n + 1))) (lowest_due s (issued_commands k rows) n))
-    (length-channel_rows k history) (choice_next s k rows mail)
+    subst (λ n. choice s k past_steps mail
+    ≡ choice_between s (issued_commands k past_steps) n (candidates s (drains s k past_steps mail n) (queue_of (filter (is_left (issued_commands k past_steps)) mail) (n + 1))) (lowest_due s (issued_commands k past_steps) n))
+    (length-steps_of_channel k history) (choice_next s k past_steps mail)
 
 -- each latency is a cycle at least
 pub travels_one : (s : Config) → TravelsFor s 1
@@ -218,46 +218,46 @@ travels_one s link l = latency_from (find (λ o. eqb o.link link) s.overrides) (
     latency_from (Some o) h = h.0
 
 -- what a channel did and was sent later does not change whether it drained its writes
-drains-push : (s : Config) (k : ℕ) (rows : List (Option Command)) (o : Option Command) (mail : List Message) (m : ℕ) → m ≤ length rows + 1
-    → drains_before s k (rows ++ o ∷ []) mail m ≡ drains_before s k rows mail m
+drains-push : (s : Config) (k : ℕ) (past_steps : List (Option Command)) (o : Option Command) (mail : List Message) (m : ℕ) → m ≤ length past_steps + 1
+    → drains_before s k (past_steps ++ o ∷ []) mail m ≡ drains_before s k past_steps mail m
 unfolding drains_before writes_in queue_in
-drains-push s k rows o mail zero h = refl
-drains-push s k rows o mail (suc m) h =
-    ap₂ (λ d x. drains_with s d (count_by (λ r. r.write) (waiting (issued_commands k x) mail (m + 1))))
-    (drains-push s k rows o mail m (omega arith))
-    (take-append-le m rows (o ∷ []) (omega arith))
+drains-push s k past_steps o mail zero h = refl
+drains-push s k past_steps o mail (suc m) h =
+    ap₂ (λ d x. drains_with s d (count_by (λ r. r.write) (queued_requests (issued_commands k x) mail (m + 1))))
+    (drains-push s k past_steps o mail m (omega arith))
+    (take-append-le m past_steps (o ∷ []) (omega arith))
 
-channel_rows-next : (s : Config) (traces : List (List Entry)) (n k : ℕ) → k < s.channels
-    → channel_rows k (run s traces (n + 1)) ≡ channel_rows k (run s traces n) ++ next_command s traces (run s traces n) k ∷ []
-unfolding run channel_rows next_command
-channel_rows-next s traces n k l =
+steps_of_channel-next : (s : Config) (traces : List (List Entry)) (n k : ℕ) → k < s.channels
+    → steps_of_channel k (run s traces (n + 1)) ≡ steps_of_channel k (run s traces n) ++ next_command s traces (run s traces n) k ∷ []
+unfolding run steps_of_channel next_command
+steps_of_channel-next s traces n k l =
     let history = run s traces n in
-    ap (λ i. map (channel_row k) (run s traces i)) (add-one n)
-    ∙ map-append (channel_row k) history (next_row s traces history ∷ [])
-    ∙ ap (λ o. map (channel_row k) history ++ o ∷ []) (channel_row-next s traces history k l)
+    ap (λ i. map (step_of_channel k) (run s traces i)) (add-one n)
+    ∙ map-append (step_of_channel k) history (next_step s traces history ∷ [])
+    ∙ ap (λ o. map (step_of_channel k) history ++ o ∷ []) (step_of_channel-next s traces history k l)
 
-run_next : (s : Config) (traces : List (List Entry)) (n : ℕ) → run s traces (n + 1) ≡ run s traces n ++ next_row s traces (run s traces n) ∷ []
+run_next : (s : Config) (traces : List (List Entry)) (n : ℕ) → run s traces (n + 1) ≡ run s traces n ++ next_step s traces (run s traces n) ∷ []
 unfolding run
 run_next s traces n = ap (λ i. run s traces i) (add-one n)
 
 draining_next : (s : Config) (traces : List (List Entry)) (n k : ℕ) → k < s.channels
-    → drains_before s k (channel_rows k (run s traces (n + 1))) (inbox s traces (run s traces (n + 1)) (Channel k)) (n + 1)
-    ≡ drains s k (channel_rows k (run s traces n)) (inbox s traces (run s traces n) (Channel k)) n
+    → drains_before s k (steps_of_channel k (run s traces (n + 1))) (inbox s traces (run s traces (n + 1)) (Channel k)) (n + 1)
+    ≡ drains s k (steps_of_channel k (run s traces n)) (inbox s traces (run s traces n) (Channel k)) n
 draining_next s traces n k l =
-    let rows = channel_rows k (run s traces n) in
-    let e : length rows ≡ n = length-channel_rows k (run s traces n) ∙ length-run s traces n in
+    let past_steps = steps_of_channel k (run s traces n) in
+    let e : length past_steps ≡ n = length-steps_of_channel k (run s traces n) ∙ length-run s traces n in
     let now = inbox s traces (run s traces n) (Channel k) in
     let then = inbox s traces (run s traces (n + 1)) (Channel k) in
-    ap (λ x. drains_before s k x then (n + 1)) (channel_rows-next s traces n k l)
-    ∙ drains-push s k rows (next_command s traces (run s traces n) k) then (n + 1) (omega arith)
-    ∙ drains-same s k rows then now (n + 1)
+    ap (λ x. drains_before s k x then (n + 1)) (steps_of_channel-next s traces n k l)
+    ∙ drains-push s k past_steps (next_command s traces (run s traces n) k) then (n + 1) (omega arith)
+    ∙ drains-same s k past_steps then now (n + 1)
     (record {
       one = inbox-stamped s traces (run s traces (n + 1)) (Channel k);
       other = inbox-stamped s traces (run s traces n) (Channel k);
       same = λ u h. inbox-run s traces n 1 (Channel k) u (has_channels s) (travels_one s) h 1;
     })
 
-inbox-sorted : (s : Config) (traces : List (List Entry)) (history : List Row) (unit : MachineUnit) → Sorted (inbox s traces history unit)
+inbox-sorted : (s : Config) (traces : List (List Entry)) (history : List MachineStep) (unit : MachineUnit) → Sorted (inbox s traces history unit)
 unfolding inbox
 inbox-sorted s traces history unit =
     let mine = filter (is_to s unit) (messages s traces history) in
@@ -265,31 +265,31 @@ inbox-sorted s traces history unit =
 
 view_same : (a b : ChannelView) → a.commands ≡ b.commands → a.pending ≡ b.pending → a.draining ≡ b.draining → a ≡ b
 view_same a b e f g =
-    let view : List CommandRow → List Message → Bool → ChannelView = λ x y z. record { commands = x; pending = y; draining = z } in
+    let view : List IssuedCommand → List Message → Bool → ChannelView = λ x y z. record { commands = x; pending = y; draining = z } in
     ap (λ x. view x a.pending a.draining) e ∙ ap (λ y. view b.commands y a.draining) f ∙ ap (λ z. view b.commands b.pending z) g
 
-core_view_same : (a b : CoreView) → a.rows ≡ b.rows → a.sent ≡ b.sent → a.inbox ≡ b.inbox → a ≡ b
+core_view_same : (a b : CoreView) → a.past_steps ≡ b.past_steps → a.sent ≡ b.sent → a.inbox ≡ b.inbox → a ≡ b
 core_view_same a b e f g =
-    let view : List CoreRow → List Message → List Message → CoreView = λ x y z. record { rows = x; sent = y; inbox = z } in
-    ap (λ x. view x a.sent a.inbox) e ∙ ap (λ y. view b.rows y a.inbox) f ∙ ap (λ z. view b.rows b.sent z) g
+    let view : List CoreStep → List Message → List Message → CoreView = λ x y z. record { past_steps = x; sent = y; inbox = z } in
+    ap (λ x. view x a.sent a.inbox) e ∙ ap (λ y. view b.past_steps y a.inbox) f ∙ ap (λ z. view b.past_steps b.sent z) g
 
-rows-push : (c : ℕ) (history : List Row) (row : Row) → core_rows c (history ++ row ∷ []) ≡ core_rows c history ++ core_row c row ∷ []
-unfolding core_rows
-rows-push c history row = map-append (core_row c) history (row ∷ [])
+past_steps-push : (c : ℕ) (history : List MachineStep) (row : MachineStep) → steps_of_core c (history ++ row ∷ []) ≡ steps_of_core c history ++ step_of_core c row ∷ []
+unfolding steps_of_core
+past_steps-push c history row = map-append (step_of_core c) history (row ∷ [])
 
-pub core_row_is : (s : Config) (traces : List (List Entry)) (history : List Row) (c : ℕ) → c < s.cores → core_row c (next_row s traces history) ≡ next_core_row s traces history c
-unfolding next_core_row
-core_row_is s traces history c l = core_row-next s traces history c l
+pub core_step_is : (s : Config) (traces : List (List Entry)) (history : List MachineStep) (c : ℕ) → c < s.cores → step_of_core c (next_step s traces history) ≡ next_core_step s traces history c
+unfolding next_core_step
+core_step_is s traces history c l = step_of_core-next s traces history c l
 
-pub channel_row_is : (s : Config) (traces : List (List Entry)) (history : List Row) (k : ℕ) → k < s.channels → channel_row k (next_row s traces history) ≡ (channel_step_of s traces history k).command
+pub channel_step_is : (s : Config) (traces : List (List Entry)) (history : List MachineStep) (k : ℕ) → k < s.channels → step_of_channel k (next_step s traces history) ≡ (channel_step_of s traces history k).command
 unfolding next_command
-channel_row_is s traces history k l = channel_row-next s traces history k l
+channel_step_is s traces history k l = step_of_channel-next s traces history k l
 
 pub length_run : (s : Config) (traces : List (List Entry)) (n : ℕ) → length (run s traces n) ≡ n
 length_run s traces n = length-run s traces n
 
-pub length_rows : (s : Config) (traces : List (List Entry)) (n c : ℕ) (view : CoreView) → view ≡ core_view s traces (run s traces n) c → length view.rows ≡ n
-length_rows s traces n c view e = ap (λ v. length v.rows) e ∙ length-core_rows c (run s traces n) ∙ length-run s traces n
+pub length_steps : (s : Config) (traces : List (List Entry)) (n c : ℕ) (view : CoreView) → view ≡ core_view s traces (run s traces n) c → length view.past_steps ≡ n
+length_steps s traces n c view e = ap (λ v. length v.past_steps) e ∙ length-steps_of_core c (run s traces n) ∙ length-run s traces n
 
 -- the channel's part of the run, one cycle more
 pub channel_view_next : (s : Config) (traces : List (List Entry)) (n k : ℕ) → k < s.channels
@@ -299,23 +299,23 @@ pub channel_view_next : (s : Config) (traces : List (List Entry)) (n k : ℕ) �
     let issued = view.commands ++ option_to_list (issued_at k n step.command) in
     record {
       commands = issued;
-      pending = fold insert_by_age (filter (is_left_by step.command) view.pending) (filter (is_left issued) (filter (is_to s (Channel k)) (sends s traces (run s traces n) (next_row s traces (run s traces n)))));
+      pending = fold insert_by_age (filter (is_left_by step.command) view.pending) (filter (is_left issued) (filter (is_to s (Channel k)) (sends s traces (run s traces n) (next_step s traces (run s traces n)))));
       draining = step.draining;
     })
 channel_view_next s traces n k l =
     let history = run s traces n in
-    let rows = channel_rows k history in
+    let past_steps = steps_of_channel k history in
     let o = next_command s traces history k in
     let mail = inbox s traces history (Channel k) in
-    let fresh = filter (is_to s (Channel k)) (sends s traces history (next_row s traces history)) in
-    let e : length rows ≡ n = length-channel_rows k history ∙ length-run s traces n in
-    let h = issued_commands k rows in
+    let fresh = filter (is_to s (Channel k)) (sends s traces history (next_step s traces history)) in
+    let e : length past_steps ≡ n = length-steps_of_channel k history ∙ length-run s traces n in
+    let h = issued_commands k past_steps in
     let issued = h ++ option_to_list (issued_at k n o) in
-    let commands_are : issued_commands k (channel_rows k (run s traces (n + 1))) ≡ issued =
-    ap (issued_commands k) (channel_rows-next s traces n k l) ∙ issued-push k rows o ∙ ap (λ i. h ++ option_to_list (issued_at k i o)) e in
+    let commands_are : issued_commands k (steps_of_channel k (run s traces (n + 1))) ≡ issued =
+    ap (issued_commands k) (steps_of_channel-next s traces n k l) ∙ issued-push k past_steps o ∙ ap (λ i. h ++ option_to_list (issued_at k i o)) e in
     let mail_is : inbox s traces (run s traces (n + 1)) (Channel k) ≡ fold insert_by_age mail fresh =
-    ap (λ x. inbox s traces x (Channel k)) (run_next s traces n) ∙ inbox-grows s traces history (next_row s traces history) (Channel k) in
-    let pending_is : filter (is_left (issued_commands k (channel_rows k (run s traces (n + 1))))) (inbox s traces (run s traces (n + 1)) (Channel k))
+    ap (λ x. inbox s traces x (Channel k)) (run_next s traces n) ∙ inbox-grows s traces history (next_step s traces history) (Channel k) in
+    let pending_is : filter (is_left (issued_commands k (steps_of_channel k (run s traces (n + 1))))) (inbox s traces (run s traces (n + 1)) (Channel k))
     ≡ fold insert_by_age (filter (is_left_by o) (filter (is_left h) mail)) (filter (is_left issued) fresh) =
     ap₂ (λ a b. filter (is_left a) b) commands_are (mail_is ∙ fold-puts mail fresh)
     ∙ filter-puts (is_left issued) mail fresh (inbox-sorted s traces history (Channel k))
@@ -324,25 +324,25 @@ channel_view_next s traces n k l =
     let f : length (run s traces (n + 1)) ≡ n + 1 = length-run s traces (n + 1) in
     let g : length history ≡ n = length-run s traces n in
     view_same _ _ commands_are pending_is
-    (ap (λ i. drains_before s k (channel_rows k (run s traces (n + 1))) (inbox s traces (run s traces (n + 1)) (Channel k)) i) f
+    (ap (λ i. drains_before s k (steps_of_channel k (run s traces (n + 1))) (inbox s traces (run s traces (n + 1)) (Channel k)) i) f
     ∙ draining_next s traces n k l
-    ∙ ap (λ i. drains s k rows mail i) (sym g))
+    ∙ ap (λ i. drains s k past_steps mail i) (sym g))
 
 -- the core's part of the run, one cycle more
 pub core_view_next : (s : Config) (traces : List (List Entry)) (n c : ℕ) → c < s.cores
     → core_view s traces (run s traces (n + 1)) c
     ≡ (let view = core_view s traces (run s traces n) c in
-    let row = next_core_row s traces (run s traces n) c in
+    let row = next_core_step s traces (run s traces n) c in
     record {
-      rows = view.rows ++ row ∷ [];
-      sent = view.sent ++ core_sends s traces (run s traces n) (next_row s traces (run s traces n)) c;
-      inbox = fold insert_by_age view.inbox (filter (is_to s (Core c)) (sends s traces (run s traces n) (next_row s traces (run s traces n))));
+      past_steps = view.past_steps ++ row ∷ [];
+      sent = view.sent ++ core_sends s traces (run s traces n) (next_step s traces (run s traces n)) c;
+      inbox = fold insert_by_age view.inbox (filter (is_to s (Core c)) (sends s traces (run s traces n) (next_step s traces (run s traces n))));
     })
 core_view_next s traces n c l =
     let history = run s traces n in
-    let row = next_row s traces history in
+    let row = next_step s traces history in
     core_view_same _ _
-    (ap (core_rows c) (run_next s traces n) ∙ rows-push c history row ∙ ap (λ r. core_rows c history ++ r ∷ []) (core_row_is s traces history c l))
+    (ap (steps_of_core c) (run_next s traces n) ∙ past_steps-push c history row ∙ ap (λ r. steps_of_core c history ++ r ∷ []) (core_step_is s traces history c l))
     (ap (λ x. messages_of_core s traces x c) (run_next s traces n) ∙ core-grows s traces history row c)
     (ap (λ x. inbox s traces x (Core c)) (run_next s traces n) ∙ inbox-grows s traces history row (Core c))
 
@@ -352,11 +352,11 @@ late_twice now m = grind (arith, nat_tests)
 -- the messages in flight, one cycle more
 pub flight_next : (s : Config) (traces : List (List Entry)) (n : ℕ)
     → in_flight s traces (run s traces (n + 1))
-    ≡ fold insert_by_age (filter (is_late (n + 1)) (in_flight s traces (run s traces n))) (filter (is_late (n + 1)) (sends s traces (run s traces n) (next_row s traces (run s traces n))))
+    ≡ fold insert_by_age (filter (is_late (n + 1)) (in_flight s traces (run s traces n))) (filter (is_late (n + 1)) (sends s traces (run s traces n) (next_step s traces (run s traces n))))
 unfolding in_flight
 flight_next s traces n =
     let history = run s traces n in
-    let row = next_row s traces history in
+    let row = next_step s traces history in
     let fresh = filter (is_late (n + 1)) (sends s traces history row) in
     ap (λ i. by_age (filter (is_late i) (messages s traces (run s traces (n + 1))))) (length-run s traces (n + 1))
     ∙ ap (λ x. by_age (filter (is_late (n + 1)) (messages s traces x))) (run_next s traces n)
@@ -395,7 +395,7 @@ step_is s traces n k view step e f g =
     d
 
 -- the commands of the first channels in a cycle
-abbrev pub issued_below : Config → List (List Entry) → ℕ → ℕ → List CommandRow
+abbrev pub issued_below : Config → List (List Entry) → ℕ → ℕ → List IssuedCommand
 issued_below s traces n k = filter_map (λ i. issued_at i n (channel_step_of s traces (run s traces n) i).command) (below k)
 
 pub issued_none : (s : Config) (traces : List (List Entry)) (n : ℕ) → commands (run s traces n) ++ issued_below s traces n 0 ≡ commands (run s traces n)
@@ -415,12 +415,12 @@ numbered f g a (suc m) = ap (λ l. cons_option (f a (g a)) l) (numbered f g (a +
 
 pub issued_all : (s : Config) (traces : List (List Entry)) (n : ℕ)
     → commands (run s traces n) ++ issued_below s traces n s.channels ≡ commands (run s traces (n + 1))
-unfolding next_row
+unfolding next_step
 issued_all s traces n =
     let history = run s traces n in
     ap (λ l. commands history ++ l) (sym (numbered (λ i o. issued_at i n o) (next_command s traces history) 0 s.channels))
     ∙ ap (λ i. commands history ++ filter_map (λ (e : ℕ × Option Command). issued_at e.0 i e.1) (enumerate_from 0 (map (next_command s traces history) (below s.channels)))) (sym (length-run s traces n))
-    ∙ sym (commands-push history (next_row s traces history))
+    ∙ sym (commands-push history (next_step s traces history))
     ∙ ap commands (sym (run_next s traces n))
 
 -- before the first cycle nothing is kept
@@ -430,11 +430,11 @@ flat_map_nothing f zero h = refl
 flat_map_nothing f (suc n) h = flat_map_below_suc f n ∙ ap₂ (λ a b. a ++ b) (flat_map_nothing f n h) (h n)
 
 no_core_messages : (s : Config) (traces : List (List Entry)) (c : ℕ) → messages_of_core s traces [] c ≡ []
-unfolding messages_of_core core_rows core_messages
+unfolding messages_of_core steps_of_core core_messages
 no_core_messages s traces c = refl
 
 no_channel_messages : (s : Config) (k : ℕ) → messages_of_channel s [] k ≡ []
-unfolding messages_of_channel channel_rows channel_messages
+unfolding messages_of_channel steps_of_channel channel_messages
 no_channel_messages s k = refl
 
 no_messages : (s : Config) (traces : List (List Entry)) → messages s traces [] ≡ []
@@ -450,14 +450,14 @@ pub run_none : (s : Config) (traces : List (List Entry)) → run s traces 0 ≡ 
 unfolding run
 run_none s traces = refl
 
-pub core_view_none : (s : Config) (traces : List (List Entry)) (c : ℕ) → core_view s traces (run s traces 0) c ≡ record { rows = []; sent = []; inbox = [] }
-unfolding core_rows
+pub core_view_none : (s : Config) (traces : List (List Entry)) (c : ℕ) → core_view s traces (run s traces 0) c ≡ record { past_steps = []; sent = []; inbox = [] }
+unfolding steps_of_core
 core_view_none s traces c =
     ap (λ h. core_view s traces h c) (run_none s traces)
-    ∙ core_view_same (core_view s traces [] c) (record { rows = []; sent = []; inbox = [] }) refl (no_core_messages s traces c) (no_mail s traces (Core c))
+    ∙ core_view_same (core_view s traces [] c) (record { past_steps = []; sent = []; inbox = [] }) refl (no_core_messages s traces c) (no_mail s traces (Core c))
 
 pub channel_view_none : (s : Config) (traces : List (List Entry)) (k : ℕ) → channel_view s traces (run s traces 0) k ≡ record { commands = []; pending = []; draining = false }
-unfolding channel_rows issued_commands drains_before
+unfolding steps_of_channel issued_commands drains_before
 channel_view_none s traces k =
     ap (λ h. channel_view s traces h k) (run_none s traces)
     ∙ view_same (channel_view s traces [] k) (record { commands = []; pending = []; draining = false }) refl (ap (filter (is_left [])) (no_mail s traces (Channel k))) refl
@@ -504,7 +504,7 @@ none-late p (m ∷ ms) =
     suc_not_zero : (n : ℕ) → eqb (suc n) 0 ≡ false
     suc_not_zero n = grind (arith, nat_tests)
 
-pub delivered_is : (s : Config) (traces : List (List Entry)) (history : List Row) → is_delivered s traces history ≡ eqb (length (in_flight s traces history)) 0
+pub delivered_is : (s : Config) (traces : List (List Entry)) (history : List MachineStep) → is_delivered s traces history ≡ eqb (length (in_flight s traces history)) 0
 unfolding is_delivered in_flight
 delivered_is s traces history =
     none-late (λ m. ltb m.arrival (length history)) (messages s traces history)
@@ -515,7 +515,7 @@ map-steps g f [] = refl
 map-steps g f (x ∷ xs) = ap (λ l. g (f x) ∷ l) (map-steps g f xs)
 
 -- what the cores do, without why they stop
-pub rows_of_steps : (s : Config) (traces : List (List Entry)) (n : ℕ)
-    → map (λ (x : CoreRow × Stop). x.0) (map (core_step_of s traces (run s traces n)) (below s.cores)) ≡ map (next_core_row s traces (run s traces n)) (below s.cores)
-unfolding core_step_of next_core_row
-rows_of_steps s traces n = map-steps (λ (x : CoreRow × Stop). x.0) (core_step_of s traces (run s traces n)) (below s.cores)
+pub steps_alone : (s : Config) (traces : List (List Entry)) (n : ℕ)
+    → map (λ (x : CoreStep × Stop). x.0) (map (core_step_of s traces (run s traces n)) (below s.cores)) ≡ map (next_core_step s traces (run s traces n)) (below s.cores)
+unfolding core_step_of next_core_step
+steps_alone s traces n = map-steps (λ (x : CoreStep × Stop). x.0) (core_step_of s traces (run s traces n)) (below s.cores)

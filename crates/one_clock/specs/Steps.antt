@@ -4,17 +4,17 @@
 use Rattle.std.specs.Prelude.{ℕ, Bool, false, List, Option, Some, None}
 use Rattle.sim_base.specs.declared.config.Config.{Config}
 use Rattle.sim_base.specs.Counts.{is_read, is_write}
-use Rattle.sim_base.specs.History.{trace_of, core_rows, inbox}
-use Rattle.sim_base.specs.Row.{Row}
+use Rattle.sim_base.specs.History.{trace_of, steps_of_core, inbox}
+use Rattle.sim_base.specs.MachineStep.{MachineStep}
 use Rattle.sim_base.specs.Windows.{step}
-use Rattle.sim_base.specs.declared.history.CoreRow.{CoreRow}
+use Rattle.sim_base.specs.declared.history.CoreStep.{CoreStep}
 use Rattle.sim_base.specs.declared.message.Unit.TheVariants.{Core}
 use Rattle.sim_base.specs.declared.trace.Entry.{Entry}
 use Rattle.sim_base.specs.declared.trace.Stop.{Stop}
 
 -- what a core of the machine does in the cycle after a history, and why it stops
-unfoldable pub core_step_of : Config → List (List Entry) → List Row → ℕ → CoreRow × Stop
-core_step_of s traces history core = step s core (trace_of traces core) (core_rows core history) (inbox s traces history (Core core))
+unfoldable pub core_step_of : Config → List (List Entry) → List MachineStep → ℕ → CoreStep × Stop
+core_step_of s traces history core = step s core (trace_of traces core) (steps_of_core core history) (inbox s traces history (Core core))
 
 -- an entry that reads memory, where there may be none
 abbrev pub is_read_in : Option Entry → Bool

@@ -14,9 +14,9 @@ ghost use Rattle.one_clock.specs.Steps.{is_read_in, is_write_in};
 use cpu_trace::trace::Trace;
 use plain_steps::cores::entry_of;
 use plain_steps::scheduling::{self, ChannelStep};
-use sim_base::command::{Command, CommandRow, Kind, Source};
+use sim_base::command::{Command, IssuedCommand, Kind, Source};
 use sim_base::config::Config;
-use sim_base::history::CoreRow;
+use sim_base::history::CoreStep;
 use sim_base::message::{Load, Message};
 use sim_base::trace::{Entry, Stop};
 use statistics::channels::ChannelStats;
@@ -96,13 +96,13 @@ fn replies_now(alloc: Global, now: u64, inbox: &[Message]) -> Result<Vec<Message
 
 /// The cycle in which an entry issues; the number of cycles, where it does not.
 #[tactic(auto, using(crate::proofs::Counted::issue_cycle_found, crate::proofs::Counted::issue_cycle_none, crate::proofs::Counted::issued_none, crate::proofs::Counted::issued_more))]
-fn cycle_of_issue(rows: &[CoreRow], entry: u64) -> u64
-    requires { length rows.now < 2 ^ 40 }
-    ensures { result ≡ issue_cycle rows.now entry }
+fn cycle_of_issue(past_steps: &[CoreStep], entry: u64) -> u64
+    requires { length past_steps.now < 2 ^ 40 }
+    ensures { result ≡ issue_cycle past_steps.now entry }
 {
     let mut issued = 0u64;
     let mut cycle = 0u64;
-    for row in rows {
+    for row in past_steps {
         issued += u64::from(row.issued);
         if entry < issued {
             return cycle;
@@ -113,25 +113,25 @@ fn cycle_of_issue(rows: &[CoreRow], entry: u64) -> u64
 }
 
 /// How long a reply's entry waited for it.
-fn wait(rows: &[CoreRow], m: Message) -> u64
-    requires { length rows.now < 2 ^ 40 }
-    ensures { result ≡ wait_of rows.now m.arrival (replied_entry m.load) }
+fn wait(past_steps: &[CoreStep], m: Message) -> u64
+    requires { length past_steps.now < 2 ^ 40 }
+    ensures { result ≡ wait_of past_steps.now m.arrival (replied_entry m.load) }
 {
     match entry_replied(m.load) {
-        Some(entry) => m.arrival.saturating_sub(cycle_of_issue(rows, entry)),
+        Some(entry) => m.arrival.saturating_sub(cycle_of_issue(past_steps, entry)),
         None => 0,
     }
 }
 
 /// How long the entries of these replies waited for them.
 #[tactic(auto, using(crate::proofs::Counted::waited_none, crate::proofs::Counted::waited_more))]
-fn total_wait(rows: &[CoreRow], arrived: &[Message]) -> u128
-    requires { length rows.now < 2 ^ 40 }
-    ensures { result ≡ waited rows.now arrived.now }
+fn total_wait(past_steps: &[CoreStep], arrived: &[Message]) -> u128
+    requires { length past_steps.now < 2 ^ 40 }
+    ensures { result ≡ waited past_steps.now arrived.now }
 {
     let mut total = 0u128;
     for m in arrived {
-        total += u128::from(wait(rows, *m));
+        total += u128::from(wait(past_steps, *m));
     }
     total
 }
@@ -160,28 +160,28 @@ fn is_same_stop(a: Stop, b: Stop) -> bool
     }
 }
 
-/// The statistics of the cycle after these rows, in which a core that has issued and retired so much does this and stops
+/// The statistics of the cycle after these steps, in which a core that has issued and retired so much does this and stops
 /// for this cause.
 #[tactic(auto, unfolding(statistics::specs::Cores::core_cycle_with, statistics::specs::Cores::finish_in), using(crate::proofs::Counted::reads_are, crate::proofs::Counted::writes_are))]
 pub fn core_cycle_stats(
     alloc: Global,
     trace: &Trace,
-    rows: &[CoreRow],
+    past_steps: &[CoreStep],
     inbox: &[Message],
     issued: u64,
     retired: u64,
-    step: (CoreRow, Stop),
+    step: (CoreStep, Stop),
 ) -> Result<CoreStats, AllocError>
-    requires few { length rows.now < 2 ^ 40 }
-    requires issued { issued ≡ issued_before rows.now }
-    requires retired { retired ≡ retired_before rows.now }
+    requires few { length past_steps.now < 2 ^ 40 }
+    requires issued { issued ≡ issued_before past_steps.now }
+    requires retired { retired ≡ retired_before past_steps.now }
     requires within { issued ≤ length trace.now }
-    ensures value { IfOk result (λ c. c ≡ core_cycle_with trace.now rows.now step.0 step.1 (replies_in (length rows.now) inbox.now)) }
+    ensures value { IfOk result (λ c. c ≡ core_cycle_with trace.now past_steps.now step.0 step.1 (replies_in (length past_steps.now) inbox.now)) }
     ensures trace_fits { length trace.now ≤ 2 ^ 62 }
     ensures inbox_fits { length inbox.now < 2 ^ 64 }
 {
     let (row, why) = step;
-    let now = rows.len() as u64;
+    let now = past_steps.len() as u64;
     let entries = trace.len();
     let arrived = replies_now(alloc, now, inbox)?;
     Ok(CoreStats {
@@ -190,7 +190,7 @@ pub fn core_cycle_stats(
         reads: read_count(trace, issued, row.issued) as u64,
         writes: write_count(trace, issued, row.issued) as u64,
         replies: arrived.len() as u64,
-        read_latency: total_wait(rows, &arrived),
+        read_latency: total_wait(past_steps, &arrived),
         stop_end: one_where(is_same_stop(Stop::End, why)),
         stop_width: one_where(is_same_stop(Stop::Width, why)),
         stop_window: one_where(is_same_stop(Stop::Window, why)),
@@ -220,13 +220,13 @@ fn opens_for(source: Source, command: Command) -> bool
     }
 }
 
-fn was_opened_for(source: Source, history: &[CommandRow]) -> bool
+fn was_opened_for(source: Source, history: &[IssuedCommand]) -> bool
     ensures { result ≡ list_any (λ i. is_act_for source i.command) history.now }
 {
     history.iter().any(|i| opens_for(source, i.command))
 }
 
-fn needs_no_act(history: &[CommandRow], source: Option<Source>) -> bool
+fn needs_no_act(history: &[IssuedCommand], source: Option<Source>) -> bool
     ensures { result ≡ is_hit_of history.now source }
 {
     match source {
@@ -235,14 +235,14 @@ fn needs_no_act(history: &[CommandRow], source: Option<Source>) -> bool
     }
 }
 
-fn is_command_hit(history: &[CommandRow], command: Command) -> bool
+fn is_command_hit(history: &[IssuedCommand], command: Command) -> bool
     ensures { result ≡ is_hit history.now command }
 {
     command.is_column() && needs_no_act(history, command.source())
 }
 
 /// Whether the channel moves data for a request that no ACT was issued for.
-fn does_hit(history: &[CommandRow], command: Option<Command>) -> bool
+fn does_hit(history: &[IssuedCommand], command: Option<Command>) -> bool
     ensures { result ≡ moves_hit history.now command }
 {
     match command {
@@ -277,7 +277,7 @@ pub fn no_channel_stats(s: &Config) -> ChannelStats
 pub fn channel_cycle_stats(
     alloc: Global,
     s: &Config,
-    history: &[CommandRow],
+    history: &[IssuedCommand],
     pending: &[Message],
     now: u64,
     step: ChannelStep,

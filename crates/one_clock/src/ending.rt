@@ -12,7 +12,7 @@ ghost use Rattle.plain_steps.specs.Plain.{core_view, channel_view};
 use crate::state::{ChannelPast, CorePast};
 use cpu_trace::trace::Trace;
 use plain_steps::{cores, rules, scheduling};
-use sim_base::command::CommandRow;
+use sim_base::command::IssuedCommand;
 use sim_base::config::Config;
 use sim_base::message::{ChannelId, CoreId, Message};
 use sim_base::place::BankId;
@@ -52,7 +52,7 @@ fn all_credits_held(
 }
 
 /// The state in which a core is left after so many cycles.
-#[tactic(auto, unfolding(statistics::specs::Runs::last_of_core, statistics::specs::Runs::core_last, statistics::specs::Runs::credits_of, sim_base::specs::Final::credits_left, sim_base::specs::History::messages_of_core), using(crate::proofs::Next::length_rows))]
+#[tactic(auto, unfolding(statistics::specs::Runs::last_of_core, statistics::specs::Runs::core_last, statistics::specs::Runs::credits_of, sim_base::specs::Final::credits_left, sim_base::specs::History::messages_of_core), using(crate::proofs::Next::length_steps))]
 pub fn core_left(
     alloc: Global,
     s: &Config,
@@ -65,18 +65,18 @@ pub fn core_left(
     requires past { past.now ≡ core_view s.now traces.now (run s.now traces.now cycle) core }
     ensures { IfOk result (λ c. c ≡ last_of_core s.now traces.now (run s.now traces.now cycle) core) }
 {
-    let rows = past.rows();
+    let past_steps = past.past_steps();
     Ok(CoreState {
-        issued: cores::issued_count(rows),
-        retired: cores::retired_count(rows),
-        credits: all_credits_held(alloc, s, core, past.inbox(), past.sent(), rows.len())?,
+        issued: cores::issued_count(past_steps),
+        retired: cores::retired_count(past_steps),
+        credits: all_credits_held(alloc, s, core, past.inbox(), past.sent(), past_steps.len())?,
     })
 }
 
 fn all_due(
     alloc: Global,
     s: &Config,
-    history: &[CommandRow],
+    history: &[IssuedCommand],
     now: u64,
 ) -> Result<Vec<u64>, AllocError>
     ensures { IfOk result (λ v. v.items ≡ map (λ rank. due s.now rank history.now now) (below s.now.ranks)) }
@@ -116,7 +116,7 @@ fn all_banks(alloc: Global, s: &Config) -> Result<Vec<BankId>, AllocError>
     Ok(banks)
 }
 
-fn open_row_of(history: &[CommandRow], bank: BankId) -> Option<OpenRow>
+fn open_row_of(history: &[IssuedCommand], bank: BankId) -> Option<OpenRow>
     ensures { result ≡ row_of_bank history.now bank }
 {
     match rules::row_of_bank(bank, history) {
@@ -127,7 +127,7 @@ fn open_row_of(history: &[CommandRow], bank: BankId) -> Option<OpenRow>
 
 fn open_rows_of(
     alloc: Global,
-    history: &[CommandRow],
+    history: &[IssuedCommand],
     banks: &[BankId],
 ) -> Result<Vec<OpenRow>, AllocError>
     ensures { IfOk result (λ v. v.items ≡ filter_map (row_of_bank history.now) banks.now) }

@@ -3,7 +3,7 @@
 ghost use Rattle.std.specs.Prelude.{◌≡◌, ◌+◌, ◌<◌, ◌≤◌, ◌^◌, ◌&&◌, length, map, filter, IfOk, OnOk};
 ghost use Rattle.std.specs.List.{list_all};
 ghost use Rattle.sim_base.specs.History.{below, commands};
-ghost use Rattle.sim_base.specs.Machine.{next_core_row, next_row, run, is_retired, has_served, is_delivered, is_over, cycles_run};
+ghost use Rattle.sim_base.specs.Machine.{next_core_step, next_step, run, is_retired, has_served, is_delivered, is_over, cycles_run};
 ghost use Rattle.sim_base.specs.Sends.{sends};
 ghost use Rattle.sim_base.specs.Counts.{in_flight};
 ghost use Rattle.plain_steps.specs.Plain.{core_view, channel_view, channel_step_of, is_late};
@@ -16,15 +16,15 @@ ghost use Rattle.one_clock.specs.Steps.{core_step_of};
 ghost use Rattle.one_clock.specs.Held.{HoldsRun};
 
 use crate::sending::{self, trace_of_core};
-use crate::state::{ChannelPast, CorePast, issued_row, push_row};
+use crate::state::{ChannelPast, CorePast, issued_command, push_command};
 use crate::{ending, tally};
 use command_table::table::CommandTable;
 use cpu_trace::trace::Trace;
 use plain_steps::scheduling::ChannelStep;
 use plain_steps::{cores, mail, scheduling};
-use sim_base::command::CommandRow;
+use sim_base::command::IssuedCommand;
 use sim_base::config::Config;
-use sim_base::history::CoreRow;
+use sim_base::history::CoreStep;
 use sim_base::message::{ChannelId, CoreId, Message, Unit};
 use sim_base::trace::Stop;
 use statistics::channels::ChannelStats;
@@ -42,18 +42,18 @@ pub struct Machine {
     pub channels: Vec<ChannelPast>,
     pub core_counts: Vec<CoreStats>,
     pub channel_counts: Vec<ChannelStats>,
-    pub commands: Vec<CommandRow>,
+    pub commands: Vec<IssuedCommand>,
     pub flight: Vec<Message>,
 }
 
-#[tactic(auto, unfolding(crate::specs::Steps::core_step_of, sim_base::specs::History::messages_of_core), using(crate::proofs::Next::length_rows))]
+#[tactic(auto, unfolding(crate::specs::Steps::core_step_of, sim_base::specs::History::messages_of_core), using(crate::proofs::Next::length_steps))]
 fn next_step_of_core(
     s: &Config,
     traces: &[Trace],
     cycle: u64,
     core: CoreId,
     past: &CorePast,
-) -> (CoreRow, Stop)
+) -> (CoreStep, Stop)
     requires core_in { core < s.now.cores }
     requires traces { length traces.now ≡ s.now.cores }
     requires early { cycle ≤ 10 ^ 12 }
@@ -61,7 +61,7 @@ fn next_step_of_core(
     ensures { result ≡ core_step_of s.now traces.now (run s.now traces.now cycle) core }
 {
     let trace = trace_of_core(traces, core);
-    cores::core_step(s, core, trace, past.rows(), past.sent(), past.inbox())
+    cores::core_step(s, core, trace, past.past_steps(), past.sent(), past.inbox())
 }
 
 fn next_steps_of_cores(
@@ -70,7 +70,7 @@ fn next_steps_of_cores(
     traces: &[Trace],
     cycle: u64,
     cores: &[CorePast],
-) -> Result<Vec<(CoreRow, Stop)>, AllocError>
+) -> Result<Vec<(CoreStep, Stop)>, AllocError>
     requires traces { length traces.now ≡ s.now.cores }
     requires early { cycle ≤ 10 ^ 12 }
     requires cores { cores.now ≡ map (core_view s.now traces.now (run s.now traces.now cycle)) (below s.now.cores) }
@@ -84,25 +84,25 @@ fn next_steps_of_cores(
     Ok(steps)
 }
 
-fn rows_of_steps(alloc: Global, steps: &[(CoreRow, Stop)]) -> Result<Vec<CoreRow>, AllocError>
+fn steps_alone(alloc: Global, steps: &[(CoreStep, Stop)]) -> Result<Vec<CoreStep>, AllocError>
     ensures { IfOk result (λ v. v.items ≡ map (λ step. step.0) steps.now) }
 {
     steps.iter().map(|step| step.0).collect(alloc)
 }
 
 /// What each core does, without why it stops.
-#[tactic(auto, using(crate::proofs::Next::rows_of_steps))]
-fn rows_of_cores(
+#[tactic(auto, using(crate::proofs::Next::steps_alone))]
+fn steps_of_cores(
     alloc: Global,
     s: &Config,
     traces: &[Trace],
     cycle: u64,
-    steps: &[(CoreRow, Stop)],
-) -> Result<Vec<CoreRow>, AllocError>
+    steps: &[(CoreStep, Stop)],
+) -> Result<Vec<CoreStep>, AllocError>
     requires { steps.now ≡ map (core_step_of s.now traces.now (run s.now traces.now cycle)) (below s.now.cores) }
-    ensures { IfOk result (λ v. v.items ≡ map (next_core_row s.now traces.now (run s.now traces.now cycle)) (below s.now.cores)) }
+    ensures { IfOk result (λ v. v.items ≡ map (next_core_step s.now traces.now (run s.now traces.now cycle)) (below s.now.cores)) }
 {
-    rows_of_steps(alloc, steps)
+    steps_alone(alloc, steps)
 }
 
 #[tactic(auto, using(crate::proofs::Next::step_is))]
@@ -158,7 +158,7 @@ fn count_cores(
     traces: &[Trace],
     cycle: u64,
     cores: &[CorePast],
-    steps: &[(CoreRow, Stop)],
+    steps: &[(CoreStep, Stop)],
     counts: &mut Vec<CoreStats>,
 ) -> Result<(), AllocError>
     requires traces { length traces.now ≡ s.now.cores }
@@ -198,15 +198,15 @@ fn note_core(
     traces: &[Trace],
     cycle: u64,
     core: CoreId,
-    row: CoreRow,
+    row: CoreStep,
     fresh: &[Message],
     past: &mut CorePast,
 ) -> Result<(), AllocError>
     requires core_in { core < s.now.cores }
     requires traces { length traces.now ≡ s.now.cores }
     requires early { cycle ≤ 10 ^ 12 }
-    requires row { row ≡ next_core_row s.now traces.now (run s.now traces.now cycle) core }
-    requires fresh { fresh.now ≡ sends s.now traces.now (run s.now traces.now cycle) (next_row s.now traces.now (run s.now traces.now cycle)) }
+    requires row { row ≡ next_core_step s.now traces.now (run s.now traces.now cycle) core }
+    requires fresh { fresh.now ≡ sends s.now traces.now (run s.now traces.now cycle) (next_step s.now traces.now (run s.now traces.now cycle)) }
     requires past { past.old ≡ core_view s.now traces.now (run s.now traces.now cycle) core }
     ensures { OnOk result (past.new ≡ core_view s.now traces.now (run s.now traces.now (cycle + 1)) core) }
 {
@@ -220,20 +220,29 @@ fn note_cores(
     s: &Config,
     traces: &[Trace],
     cycle: u64,
-    rows: &[CoreRow],
+    past_steps: &[CoreStep],
     fresh: &[Message],
     cores: &mut Vec<CorePast>,
 ) -> Result<(), AllocError>
     requires traces { length traces.now ≡ s.now.cores }
     requires early { cycle ≤ 10 ^ 12 }
-    requires rows { rows.now ≡ map (next_core_row s.now traces.now (run s.now traces.now cycle)) (below s.now.cores) }
-    requires fresh { fresh.now ≡ sends s.now traces.now (run s.now traces.now cycle) (next_row s.now traces.now (run s.now traces.now cycle)) }
+    requires past_steps { past_steps.now ≡ map (next_core_step s.now traces.now (run s.now traces.now cycle)) (below s.now.cores) }
+    requires fresh { fresh.now ≡ sends s.now traces.now (run s.now traces.now cycle) (next_step s.now traces.now (run s.now traces.now cycle)) }
     requires cores { cores.old.items ≡ map (core_view s.now traces.now (run s.now traces.now cycle)) (below s.now.cores) }
     ensures { OnOk result (cores.new.items ≡ map (core_view s.now traces.now (run s.now traces.now (cycle + 1))) (below s.now.cores)) }
 {
     for core in 0..s.cores {
         let i = core as usize;
-        note_core(alloc, s, traces, cycle, core, rows[i], fresh, &mut cores[i])?;
+        note_core(
+            alloc,
+            s,
+            traces,
+            cycle,
+            core,
+            past_steps[i],
+            fresh,
+            &mut cores[i],
+        )?;
     }
     Ok(())
 }
@@ -251,7 +260,7 @@ fn note_channel(
 ) -> Result<(), AllocError>
     requires channel_in { channel < s.now.channels }
     requires step { step ≡ channel_step_of s.now traces.now (run s.now traces.now cycle) channel }
-    requires fresh { fresh.now ≡ sends s.now traces.now (run s.now traces.now cycle) (next_row s.now traces.now (run s.now traces.now cycle)) }
+    requires fresh { fresh.now ≡ sends s.now traces.now (run s.now traces.now cycle) (next_step s.now traces.now (run s.now traces.now cycle)) }
     requires past { past.old ≡ channel_view s.now traces.now (run s.now traces.now cycle) channel }
     ensures { OnOk result (past.new ≡ channel_view s.now traces.now (run s.now traces.now (cycle + 1)) channel) }
 {
@@ -269,7 +278,7 @@ fn note_channels(
     channels: &mut Vec<ChannelPast>,
 ) -> Result<(), AllocError>
     requires steps { steps.now ≡ map (channel_step_of s.now traces.now (run s.now traces.now cycle)) (below s.now.channels) }
-    requires fresh { fresh.now ≡ sends s.now traces.now (run s.now traces.now cycle) (next_row s.now traces.now (run s.now traces.now cycle)) }
+    requires fresh { fresh.now ≡ sends s.now traces.now (run s.now traces.now cycle) (next_step s.now traces.now (run s.now traces.now cycle)) }
     requires channels { channels.old.items ≡ map (channel_view s.now traces.now (run s.now traces.now cycle)) (below s.now.channels) }
     ensures { OnOk result (channels.new.items ≡ map (channel_view s.now traces.now (run s.now traces.now (cycle + 1))) (below s.now.channels)) }
 {
@@ -310,7 +319,7 @@ fn note_flight(
     flight: &mut Vec<Message>,
 ) -> Result<(), AllocError>
     requires early { cycle ≤ 10 ^ 12 }
-    requires fresh { fresh.now ≡ sends s.now traces.now (run s.now traces.now cycle) (next_row s.now traces.now (run s.now traces.now cycle)) }
+    requires fresh { fresh.now ≡ sends s.now traces.now (run s.now traces.now cycle) (next_step s.now traces.now (run s.now traces.now cycle)) }
     requires flight { flight.old.items ≡ in_flight s.now traces.now (run s.now traces.now cycle) }
     ensures { OnOk result (flight.new.items ≡ in_flight s.now traces.now (run s.now traces.now (cycle + 1))) }
 {
@@ -327,7 +336,7 @@ fn note_commands(
     traces: &[Trace],
     cycle: u64,
     steps: &[ChannelStep],
-    issued: &mut Vec<CommandRow>,
+    issued: &mut Vec<IssuedCommand>,
 ) -> Result<(), AllocError>
     requires steps { steps.now ≡ map (channel_step_of s.now traces.now (run s.now traces.now cycle)) (below s.now.channels) }
     requires issued { issued.old.items ≡ commands (run s.now traces.now cycle) }
@@ -335,12 +344,12 @@ fn note_commands(
 {
     for channel in 0..u32::from(s.channels) {
         let step = steps[channel as usize];
-        push_row(issued, issued_row(channel, cycle, step.command))?;
+        push_command(issued, issued_command(channel, cycle, step.command))?;
     }
     Ok(())
 }
 
-#[tactic(auto, unfolding(sim_base::specs::Machine::is_retired), using(crate::proofs::Next::length_rows))]
+#[tactic(auto, unfolding(sim_base::specs::Machine::is_retired), using(crate::proofs::Next::length_steps))]
 fn is_core_retired(s: &Config, traces: &[Trace], cycle: u64, core: CoreId, past: &CorePast) -> bool
     requires core_in { core < s.now.cores }
     requires traces { length traces.now ≡ s.now.cores }
@@ -348,7 +357,7 @@ fn is_core_retired(s: &Config, traces: &[Trace], cycle: u64, core: CoreId, past:
     requires past { past.now ≡ core_view s.now traces.now (run s.now traces.now cycle) core }
     ensures { result ≡ is_retired traces.now (run s.now traces.now cycle) core }
 {
-    cores::retired_count(past.rows()) == trace_of_core(traces, core).len()
+    cores::retired_count(past.past_steps()) == trace_of_core(traces, core).len()
 }
 
 fn are_cores_retired(s: &Config, traces: &[Trace], cycle: u64, cores: &[CorePast]) -> bool
@@ -377,8 +386,8 @@ fn has_channel_served(
     requires past { past.now ≡ channel_view s.now traces.now (run s.now traces.now cycle) channel }
     ensures { IfOk result (λ b. b ≡ has_served s.now traces.now (run s.now traces.now cycle) channel) }
 {
-    let waiting = scheduling::queue(alloc, past.pending(), cycle)?;
-    Ok(waiting.len() == 0)
+    let queued_requests = scheduling::queue(alloc, past.pending(), cycle)?;
+    Ok(queued_requests.len() == 0)
 }
 
 fn have_channels_served(
@@ -513,17 +522,17 @@ impl Machine {
         s: &Config,
         traces: &[Trace],
         cycle: u64,
-        core_steps: &[(CoreRow, Stop)],
-        rows: &[CoreRow],
+        core_steps: &[(CoreStep, Stop)],
+        past_steps: &[CoreStep],
         steps: &[ChannelStep],
         fresh: &[Message],
     ) -> Result<(), AllocError>
         requires traces { length traces.now ≡ s.now.cores }
         requires early { cycle ≤ 10 ^ 12 }
         requires core_steps { core_steps.now ≡ map (core_step_of s.now traces.now (run s.now traces.now cycle)) (below s.now.cores) }
-        requires rows { rows.now ≡ map (next_core_row s.now traces.now (run s.now traces.now cycle)) (below s.now.cores) }
+        requires past_steps { past_steps.now ≡ map (next_core_step s.now traces.now (run s.now traces.now cycle)) (below s.now.cores) }
         requires steps { steps.now ≡ map (channel_step_of s.now traces.now (run s.now traces.now cycle)) (below s.now.channels) }
-        requires fresh { fresh.now ≡ sends s.now traces.now (run s.now traces.now cycle) (next_row s.now traces.now (run s.now traces.now cycle)) }
+        requires fresh { fresh.now ≡ sends s.now traces.now (run s.now traces.now cycle) (next_step s.now traces.now (run s.now traces.now cycle)) }
         requires machine { HoldsRun s.now traces.now cycle self.old }
         ensures { OnOk result (HoldsRun s.now traces.now (cycle + 1) self.new) }
     {
@@ -545,7 +554,7 @@ impl Machine {
             steps,
             &mut self.channel_counts,
         )?;
-        note_cores(alloc, s, traces, cycle, rows, fresh, &mut self.cores)?;
+        note_cores(alloc, s, traces, cycle, past_steps, fresh, &mut self.cores)?;
         note_channels(alloc, s, traces, cycle, steps, fresh, &mut self.channels)?;
         note_commands(s, traces, cycle, steps, &mut self.commands)?;
         note_flight(alloc, s, traces, cycle, fresh, &mut self.flight)
@@ -567,10 +576,19 @@ impl Machine {
         ensures { OnOk result (HoldsRun s.now traces.now (cycle + 1) self.new) }
     {
         let core_steps = next_steps_of_cores(alloc, s, traces, cycle, &self.cores)?;
-        let rows = rows_of_cores(alloc, s, traces, cycle, &core_steps)?;
+        let past_steps = steps_of_cores(alloc, s, traces, cycle, &core_steps)?;
         let steps = next_steps_of_channels(alloc, s, gaps, traces, cycle, &self.channels)?;
-        let fresh = sending::all_sends(alloc, s, traces, cycle, &self.cores, &rows, &steps)?;
-        self.note(alloc, s, traces, cycle, &core_steps, &rows, &steps, &fresh)
+        let fresh = sending::all_sends(alloc, s, traces, cycle, &self.cores, &past_steps, &steps)?;
+        self.note(
+            alloc,
+            s,
+            traces,
+            cycle,
+            &core_steps,
+            &past_steps,
+            &steps,
+            &fresh,
+        )
     }
 
     /// What the run leaves, where it ends after so many cycles.
@@ -631,7 +649,7 @@ fn run_machine(
 /// Runs the one-clock machine, cycle by cycle, and gives the commands that all channels issue, by cycle and then by channel,
 /// the statistics of the run and the state in which it ends. The run has as many cycles as the limit, or, where the
 /// configuration ends it drained, as many as it takes until all is retired, served and delivered. There is one trace for each
-/// core, and the limit is at most 10^12 cycles. The only error is want of memory.
+/// core, and the limit is at most 10^12 cycles. The only error is out of memory.
 ///
 /// The commands stand in order, and each keeps the timing rules over those of its channel before it. No cycle of a channel's
 /// data bus belongs to two of them. Where ranks are refreshed, the n-th REF of each stands at cycle `n * nREFI` and the slack,

@@ -2,7 +2,7 @@
 
 ghost use Rattle.std.specs.Prelude.{◌≡◌, ◌<◌, ◌≤◌, ◌^◌, length, map, flat_map, IfOk};
 ghost use Rattle.sim_base.specs.History.{below, reply, credit, messages_of, messages_at, trace_of};
-ghost use Rattle.sim_base.specs.Machine.{next_core_row, next_row, run};
+ghost use Rattle.sim_base.specs.Machine.{next_core_step, next_step, run};
 ghost use Rattle.sim_base.specs.Sends.{core_sends, channel_sends, sends};
 ghost use Rattle.plain_steps.specs.Plain.{core_view, channel_step_of};
 
@@ -12,7 +12,7 @@ use plain_steps::cores;
 use plain_steps::scheduling::ChannelStep;
 use sim_base::command::{Command, Source};
 use sim_base::config::Config;
-use sim_base::history::CoreRow;
+use sim_base::history::CoreStep;
 use sim_base::message::{ChannelId, CoreId, Load, Message};
 use std::alloc::{AllocError, Global};
 
@@ -25,7 +25,7 @@ pub fn trace_of_core(traces: &[Trace], core: CoreId) -> &Trace
 }
 
 /// The requests that a core sends in a cycle in which it does this.
-#[tactic(auto, unfolding(sim_base::specs::Sends::core_sends), using(crate::proofs::Next::core_row_is, crate::proofs::Next::length_run))]
+#[tactic(auto, unfolding(sim_base::specs::Sends::core_sends), using(crate::proofs::Next::core_step_is, crate::proofs::Next::length_run))]
 pub fn requests_of_core(
     alloc: Global,
     s: &Config,
@@ -33,16 +33,16 @@ pub fn requests_of_core(
     cycle: u64,
     core: CoreId,
     past: &CorePast,
-    row: CoreRow,
+    row: CoreStep,
 ) -> Result<Vec<Message>, AllocError>
     requires core_in { core < s.now.cores }
     requires traces { length traces.now ≡ s.now.cores }
     requires early { cycle ≤ 10 ^ 12 }
     requires past { past.now ≡ core_view s.now traces.now (run s.now traces.now cycle) core }
-    requires row { row ≡ next_core_row s.now traces.now (run s.now traces.now cycle) core }
-    ensures { IfOk result (λ v. v.items ≡ core_sends s.now traces.now (run s.now traces.now cycle) (next_row s.now traces.now (run s.now traces.now cycle)) core) }
+    requires row { row ≡ next_core_step s.now traces.now (run s.now traces.now cycle) core }
+    ensures { IfOk result (λ v. v.items ≡ core_sends s.now traces.now (run s.now traces.now cycle) (next_step s.now traces.now (run s.now traces.now cycle)) core) }
 {
-    let first = cores::issued_count(past.rows());
+    let first = cores::issued_count(past.past_steps());
     cores::requests_of_entries(
         alloc,
         s,
@@ -60,18 +60,18 @@ fn requests_of_cores(
     traces: &[Trace],
     cycle: u64,
     cores: &[CorePast],
-    rows: &[CoreRow],
+    past_steps: &[CoreStep],
 ) -> Result<Vec<Message>, AllocError>
     requires traces { length traces.now ≡ s.now.cores }
     requires early { cycle ≤ 10 ^ 12 }
     requires cores { cores.now ≡ map (core_view s.now traces.now (run s.now traces.now cycle)) (below s.now.cores) }
-    requires rows { rows.now ≡ map (next_core_row s.now traces.now (run s.now traces.now cycle)) (below s.now.cores) }
-    ensures { IfOk result (λ v. v.items ≡ flat_map (core_sends s.now traces.now (run s.now traces.now cycle) (next_row s.now traces.now (run s.now traces.now cycle))) (below s.now.cores)) }
+    requires past_steps { past_steps.now ≡ map (next_core_step s.now traces.now (run s.now traces.now cycle)) (below s.now.cores) }
+    ensures { IfOk result (λ v. v.items ≡ flat_map (core_sends s.now traces.now (run s.now traces.now cycle) (next_step s.now traces.now (run s.now traces.now cycle))) (below s.now.cores)) }
 {
     let mut sent = Vec::new(alloc);
     for core in 0..s.cores {
         let i = core as usize;
-        let more = requests_of_core(alloc, s, traces, cycle, core, &cores[i], rows[i])?;
+        let more = requests_of_core(alloc, s, traces, cycle, core, &cores[i], past_steps[i])?;
         sent.extend_from_slice(&more)?;
     }
     Ok(sent)
@@ -164,7 +164,7 @@ fn messages_of_channels(
 ) -> Result<Vec<Message>, AllocError>
     requires early { cycle ≤ 10 ^ 12 }
     requires steps { steps.now ≡ map (channel_step_of s.now traces.now (run s.now traces.now cycle)) (below s.now.channels) }
-    ensures { IfOk result (λ v. v.items ≡ flat_map (channel_sends s.now (run s.now traces.now cycle) (next_row s.now traces.now (run s.now traces.now cycle))) (below s.now.channels)) }
+    ensures { IfOk result (λ v. v.items ≡ flat_map (channel_sends s.now (run s.now traces.now cycle) (next_step s.now traces.now (run s.now traces.now cycle))) (below s.now.channels)) }
 {
     let mut sent = Vec::new(alloc);
     for channel in 0..u32::from(s.channels) {
@@ -183,17 +183,17 @@ pub fn all_sends(
     traces: &[Trace],
     cycle: u64,
     cores: &[CorePast],
-    rows: &[CoreRow],
+    past_steps: &[CoreStep],
     steps: &[ChannelStep],
 ) -> Result<Vec<Message>, AllocError>
     requires traces { length traces.now ≡ s.now.cores }
     requires early { cycle ≤ 10 ^ 12 }
     requires cores { cores.now ≡ map (core_view s.now traces.now (run s.now traces.now cycle)) (below s.now.cores) }
-    requires rows { rows.now ≡ map (next_core_row s.now traces.now (run s.now traces.now cycle)) (below s.now.cores) }
+    requires past_steps { past_steps.now ≡ map (next_core_step s.now traces.now (run s.now traces.now cycle)) (below s.now.cores) }
     requires steps { steps.now ≡ map (channel_step_of s.now traces.now (run s.now traces.now cycle)) (below s.now.channels) }
-    ensures { IfOk result (λ v. v.items ≡ sends s.now traces.now (run s.now traces.now cycle) (next_row s.now traces.now (run s.now traces.now cycle))) }
+    ensures { IfOk result (λ v. v.items ≡ sends s.now traces.now (run s.now traces.now cycle) (next_step s.now traces.now (run s.now traces.now cycle))) }
 {
-    let mut sent = requests_of_cores(alloc, s, traces, cycle, cores, rows)?;
+    let mut sent = requests_of_cores(alloc, s, traces, cycle, cores, past_steps)?;
     let more = messages_of_channels(alloc, s, traces, cycle, steps)?;
     sent.extend_from_slice(&more)?;
     Ok(sent)

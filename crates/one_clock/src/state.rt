@@ -7,8 +7,8 @@ ghost use Rattle.plain_steps.specs.Plain.{is_left, is_passed_over, is_left_by};
 
 use plain_steps::scheduling::ChannelStep;
 use plain_steps::{mail, scheduling};
-use sim_base::command::{Command, CommandRow};
-use sim_base::history::CoreRow;
+use sim_base::command::{Command, IssuedCommand};
+use sim_base::history::CoreStep;
 use sim_base::message::{ChannelId, Message, Request};
 use std::alloc::{AllocError, Global};
 use std::marker::Model;
@@ -16,7 +16,7 @@ use std::marker::Model;
 /// The past of a core: what it did in each cycle, what it sent, and what was sent to it, by age.
 #[derive(Drop)]
 pub struct CorePast {
-    rows: Vec<CoreRow>,
+    past_steps: Vec<CoreStep>,
     sent: Vec<Message>,
     inbox: Vec<Message>,
 }
@@ -26,25 +26,25 @@ impl Model for CorePast {
 
     ghost Value = { CoreView };
 
-    ghost view = { λ p. record { rows = p.rows.items; sent = p.sent.items; inbox = p.inbox.items } };
+    ghost view = { λ p. record { past_steps = p.past_steps.items; sent = p.sent.items; inbox = p.inbox.items } };
 }
 
 impl CorePast {
     /// The past of no cycle.
     pub fn new(alloc: Global) -> Self
-        ensures { result ≡ record { rows = []; sent = []; inbox = [] } }
+        ensures { result ≡ record { past_steps = []; sent = []; inbox = [] } }
     {
         CorePast {
-            rows: Vec::new(alloc),
+            past_steps: Vec::new(alloc),
             sent: Vec::new(alloc),
             inbox: Vec::new(alloc),
         }
     }
 
-    pub fn rows(&self) -> &[CoreRow]
-        ensures { result.now ≡ self.now.rows }
+    pub fn past_steps(&self) -> &[CoreStep]
+        ensures { result.now ≡ self.now.past_steps }
     {
-        &self.rows
+        &self.past_steps
     }
 
     pub fn sent(&self) -> &[Message]
@@ -62,13 +62,13 @@ impl CorePast {
     /// Adds a cycle: what the core did and sent in it, and what was sent to it.
     pub fn note(
         &mut self,
-        row: CoreRow,
+        row: CoreStep,
         requests: &[Message],
         arrivals: &[Message],
     ) -> Result<(), AllocError>
-        ensures { OnOk result (self.new ≡ record { rows = self.old.rows ++ row ∷ []; sent = self.old.sent ++ requests.now; inbox = fold insert_by_age self.old.inbox arrivals.now }) }
+        ensures { OnOk result (self.new ≡ record { past_steps = self.old.past_steps ++ row ∷ []; sent = self.old.sent ++ requests.now; inbox = fold insert_by_age self.old.inbox arrivals.now }) }
     {
-        self.rows.push(row)?;
+        self.past_steps.push(row)?;
         self.sent.extend_from_slice(requests)?;
         mail::insert_all(&mut self.inbox, arrivals)
     }
@@ -77,7 +77,7 @@ impl CorePast {
 /// The past of a channel: its commands, the requests that it is still to serve, by age, and whether it drained its writes last.
 #[derive(Drop)]
 pub struct ChannelPast {
-    commands: Vec<CommandRow>,
+    commands: Vec<IssuedCommand>,
     pending: Vec<Message>,
     draining: bool,
 }
@@ -102,7 +102,7 @@ impl ChannelPast {
         }
     }
 
-    pub fn commands(&self) -> &[CommandRow]
+    pub fn commands(&self) -> &[IssuedCommand]
         ensures { result.now ≡ self.now.commands }
     {
         &self.commands
@@ -131,19 +131,26 @@ impl ChannelPast {
     ) -> Result<(), AllocError>
         ensures { OnOk result (self.new ≡ (let issued = self.old.commands ++ option_to_list (issued_at channel now step.command) in record { commands = issued; pending = fold insert_by_age (filter (is_left_by step.command) self.old.pending) (filter (is_left issued) arrivals.now); draining = step.draining })) }
     {
-        push_row(&mut self.commands, issued_row(channel, now, step.command))?;
+        push_command(
+            &mut self.commands,
+            issued_command(channel, now, step.command),
+        )?;
         self.pending = pending_next(alloc, step.command, &self.pending, &self.commands, arrivals)?;
         self.draining = step.draining;
         Ok(())
     }
 }
 
-pub fn issued_row(channel: ChannelId, now: u64, command: Option<Command>) -> Option<CommandRow>
+pub fn issued_command(
+    channel: ChannelId,
+    now: u64,
+    command: Option<Command>,
+) -> Option<IssuedCommand>
     ensures { result ≡ issued_at channel now command }
 {
     match command {
         None => None,
-        Some(command) => Some(CommandRow {
+        Some(command) => Some(IssuedCommand {
             cycle: now,
             channel,
             command,
@@ -151,11 +158,14 @@ pub fn issued_row(channel: ChannelId, now: u64, command: Option<Command>) -> Opt
     }
 }
 
-pub fn push_row(rows: &mut Vec<CommandRow>, row: Option<CommandRow>) -> Result<(), AllocError>
-    ensures { OnOk result (rows.new.items ≡ rows.old.items ++ option_to_list row) }
+pub fn push_command(
+    past_steps: &mut Vec<IssuedCommand>,
+    row: Option<IssuedCommand>,
+) -> Result<(), AllocError>
+    ensures { OnOk result (past_steps.new.items ≡ past_steps.old.items ++ option_to_list row) }
 {
     if let Some(row) = row {
-        rows.push(row)?;
+        past_steps.push(row)?;
     }
     Ok(())
 }
@@ -194,7 +204,7 @@ fn pending_next(
     alloc: Global,
     command: Option<Command>,
     pending: &[Message],
-    commands: &[CommandRow],
+    commands: &[IssuedCommand],
     arrivals: &[Message],
 ) -> Result<Vec<Message>, AllocError>
     ensures { IfOk result (λ v. v.items ≡ fold insert_by_age (filter (is_left_by command) pending.now) (filter (is_left commands.now) arrivals.now)) }

@@ -13,7 +13,7 @@ use crate::state::{ChannelPast, CorePast};
 use cpu_trace::trace::Trace;
 use plain_steps::scheduling::ChannelStep;
 use sim_base::config::Config;
-use sim_base::history::CoreRow;
+use sim_base::history::CoreStep;
 use sim_base::message::{ChannelId, CoreId};
 use sim_base::trace::Stop;
 use statistics::channels::ChannelStats;
@@ -50,7 +50,7 @@ pub fn no_channel_counts(
     Ok(counts)
 }
 
-#[tactic(auto, using(crate::proofs::Joined::core_stats_next, crate::proofs::Next::length_rows))]
+#[tactic(auto, using(crate::proofs::Joined::core_stats_next, crate::proofs::Next::length_steps))]
 fn count_core(
     alloc: Global,
     s: &Config,
@@ -58,7 +58,7 @@ fn count_core(
     cycle: u64,
     core: CoreId,
     past: &CorePast,
-    step: (CoreRow, Stop),
+    step: (CoreStep, Stop),
     counts: CoreStats,
 ) -> Result<CoreStats, AllocError>
     requires core_in { core < s.now.cores }
@@ -70,12 +70,12 @@ fn count_core(
     ensures { IfOk result (λ c. c ≡ stats_of_core s.now traces.now (run s.now traces.now (cycle + 1)) core) }
 {
     let trace = trace_of_core(traces, core);
-    let rows = past.rows();
+    let past_steps = past.past_steps();
     let inbox = past.inbox();
     let more = core_cycle_stats(
         alloc,
         trace,
-        rows,
+        past_steps,
         inbox,
         counts.issued,
         counts.retired,
@@ -91,7 +91,7 @@ pub fn core_counts(
     traces: &[Trace],
     cycle: u64,
     cores: &[CorePast],
-    steps: &[(CoreRow, Stop)],
+    steps: &[(CoreStep, Stop)],
     counts: &[CoreStats],
 ) -> Result<Vec<CoreStats>, AllocError>
     requires traces { length traces.now ≡ s.now.cores }

@@ -1,19 +1,19 @@
 use Rattle.std.specs.Prelude.{ℕ, List, ◌<◌, length, slice_get, IfSome, IsSomeAnd}
-use Rattle.sim_base.specs.declared.command.CommandRow.{CommandRow}
+use Rattle.sim_base.specs.declared.command.IssuedCommand.{IssuedCommand}
 use Rattle.statistics.specs.Values.{RunStats}
 use Rattle.page.specs.declared.fault.PageFault.{PageFault}
 use Rattle.page.specs.declared.fault.PageFault.TheVariants.{Command, Memory, Write}
 
 -- the run has the channel and the cycle of a command
-abbrev pub IsOfRun : RunStats → CommandRow → Type 0
+abbrev pub IsOfRun : RunStats → IssuedCommand → Type 0
 IsOfRun s row = (row.cycle < s.cycles) × (row.channel < length s.channels)
 
 -- a command at this place, if there is one, is of the run
-abbrev pub IsOfRunAt : RunStats → List CommandRow → ℕ → Type 0
+abbrev pub IsOfRunAt : RunStats → List IssuedCommand → ℕ → Type 0
 IsOfRunAt s rows place = IfSome (slice_get rows place) (IsOfRun s)
 
 -- where a fault names a command, that is there and is none of the run
-abbrev pub IsReason : RunStats → List CommandRow → PageFault → Type 0
+abbrev pub IsReason : RunStats → List IssuedCommand → PageFault → Type 0
 IsReason s rows (Command place) = IsSomeAnd (slice_get rows place) (λ row. ¬ IsOfRun s row)
 IsReason _ _ Memory = Unit {0}
 IsReason _ _ Write = Unit {0}

@@ -5,11 +5,11 @@ ghost use Rattle.page.specs.Rows.{IsOfRun, IsOfRunAt, IsReason};
 
 use crate::fault::PageFault;
 use command_table::list::CommandList;
-use sim_base::command::CommandRow;
+use sim_base::command::IssuedCommand;
 use statistics::stats::Stats;
 
 // Whether the run has the channel and the cycle of a command.
-fn is_of_run(stats: &Stats, row: &CommandRow) -> bool
+fn is_of_run(stats: &Stats, row: &IssuedCommand) -> bool
     ensures { IsTrue result ↔ IsOfRun stats.now row.now }
 {
     row.cycle < stats.cycles && (row.channel as usize) < stats.channels.len()

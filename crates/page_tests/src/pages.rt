@@ -4,7 +4,7 @@
 use crate::runs::{SOURCE, assert_page, bank_of, one_read, page_of, row_of};
 use page::fault::PageFault;
 use page::window::Window;
-use sim_base::command::{Command, CommandRow};
+use sim_base::command::{Command, IssuedCommand};
 use std::test::Fail;
 
 const WHOLE: Window = Window {
@@ -121,7 +121,7 @@ fn a_command_of_a_rank_spans_its_banks(rt: HostRuntime) -> Result<(), Fail> {
 
 #[test]
 fn an_empty_run_says_so(rt: HostRuntime) -> Result<(), Fail> {
-    let none: [CommandRow; 0] = [];
+    let none: [IssuedCommand; 0] = [];
     assert_page(
         &rt,
         rt.alloc(),
@@ -153,7 +153,7 @@ fn an_empty_run_says_so(rt: HostRuntime) -> Result<(), Fail> {
 #[test]
 fn a_command_of_another_run_is_refused(rt: HostRuntime) -> Result<(), Fail> {
     let [act, rd, pre] = one_read();
-    let other = CommandRow { channel: 1, ..rd };
+    let other = IssuedCommand { channel: 1, ..rd };
     let (text, ended) = page_of(rt.alloc(), 1000, &[act, other, pre], WHOLE)?;
     assert_eq!(rt; ended, Err(PageFault::Command(1)));
     assert_eq!(rt; text.len(), 0);

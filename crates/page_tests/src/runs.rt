@@ -4,7 +4,7 @@ use command_table::list::CommandList;
 use page::fault::PageFault;
 use page::page::write_page;
 use page::window::Window;
-use sim_base::command::{Command, CommandRow, Source};
+use sim_base::command::{Command, IssuedCommand, Source};
 use sim_base::place::BankId;
 use statistics::channels::ChannelStats;
 use statistics::cores::CoreStats;
@@ -26,8 +26,8 @@ pub(crate) fn bank_of(rank: u32, bank: u32) -> BankId {
 pub(crate) const SOURCE: Source = Source { core: 0, entry: 3 };
 
 /// A command of channel 0.
-pub(crate) fn row_of(cycle: u64, command: Command) -> CommandRow {
-    CommandRow {
+pub(crate) fn row_of(cycle: u64, command: Command) -> IssuedCommand {
+    IssuedCommand {
         cycle,
         channel: 0,
         command,
@@ -35,7 +35,7 @@ pub(crate) fn row_of(cycle: u64, command: Command) -> CommandRow {
 }
 
 /// ACT of row 7 in cycle 10, RD of column 5 in cycle 26 and PRE in cycle 60, in bank 0 of rank 0.
-pub(crate) fn one_read() -> [CommandRow; 3] {
+pub(crate) fn one_read() -> [IssuedCommand; 3] {
     let bank = bank_of(0, 0);
     let act = Command::Act {
         bank,
@@ -82,7 +82,7 @@ pub(crate) fn stats_of(alloc: Global, cycles: u64) -> Result<Stats, AllocError> 
 }
 
 /// A list of commands.
-pub(crate) fn list_of(alloc: Global, rows: &[CommandRow]) -> Result<CommandList, AllocError> {
+pub(crate) fn list_of(alloc: Global, rows: &[IssuedCommand]) -> Result<CommandList, AllocError> {
     let mut list = CommandList::new(alloc);
     for row in rows {
         list.push(*row)?;
@@ -94,7 +94,7 @@ pub(crate) fn list_of(alloc: Global, rows: &[CommandRow]) -> Result<CommandList,
 pub(crate) fn page_of(
     alloc: Global,
     cycles: u64,
-    rows: &[CommandRow],
+    rows: &[IssuedCommand],
     window: Window,
 ) -> Result<(Vec<u8>, Result<(), PageFault>), AllocError> {
     let stats = stats_of(alloc, cycles)?;
@@ -108,7 +108,7 @@ pub(crate) fn page_of(
 pub(crate) fn assert_page(
     rt: &impl Abort,
     alloc: Global,
-    (cycles, rows, window): (u64, &[CommandRow], Window),
+    (cycles, rows, window): (u64, &[IssuedCommand], Window),
     present: &[&str],
     absent: &[&str],
 ) -> Result<(), Fail> {

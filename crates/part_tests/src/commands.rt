@@ -6,7 +6,7 @@ ghost use Rattle.command_table.specs.Tables.{IsRising};
 use crate::expect::expect;
 use command_table::list::CommandList;
 use command_table::table::{CommandTable, Rows};
-use sim_base::command::{Command, CommandRow, Source};
+use sim_base::command::{Command, IssuedCommand, Source};
 use sim_base::place::BankId;
 use std::alloc::{AllocError, Global};
 use std::process::Abort;
@@ -28,7 +28,7 @@ const LARGE: Source = Source {
 };
 
 /// Two commands of the first channel, and two of the second.
-const ACT: CommandRow = CommandRow {
+const ACT: IssuedCommand = IssuedCommand {
     cycle: 3,
     channel: 0,
     command: Command::Act {
@@ -38,7 +38,7 @@ const ACT: CommandRow = CommandRow {
     },
 };
 
-const RD: CommandRow = CommandRow {
+const RD: IssuedCommand = IssuedCommand {
     cycle: 9,
     channel: 0,
     command: Command::Rd {
@@ -49,7 +49,7 @@ const RD: CommandRow = CommandRow {
     },
 };
 
-const PRE: CommandRow = CommandRow {
+const PRE: IssuedCommand = IssuedCommand {
     cycle: 3,
     channel: 1,
     command: Command::Pre {
@@ -58,13 +58,17 @@ const PRE: CommandRow = CommandRow {
     },
 };
 
-const REF: CommandRow = CommandRow {
+const REF: IssuedCommand = IssuedCommand {
     cycle: 5,
     channel: 1,
     command: Command::Ref { rank: 1 },
 };
 
-fn list_of(alloc: Global, first: CommandRow, second: CommandRow) -> Result<CommandList, AllocError>
+fn list_of(
+    alloc: Global,
+    first: IssuedCommand,
+    second: IssuedCommand,
+) -> Result<CommandList, AllocError>
     requires { first.cycle ≤ second.cycle }
     ensures { IfOk result IsRising }
 {
@@ -86,7 +90,7 @@ fn table_of(
 }
 
 // Three commands, where there are so many.
-type Three = [Option<CommandRow>; 3];
+type Three = [Option<IssuedCommand>; 3];
 
 // The commands in the first three places.
 fn three_of(list: &CommandList) -> Three {
@@ -95,7 +99,7 @@ fn three_of(list: &CommandList) -> Three {
 
 static KEPT: Three = [Some(ACT), Some(RD), None];
 
-static BOTH: [CommandRow; 2] = [ACT, RD];
+static BOTH: [IssuedCommand; 2] = [ACT, RD];
 
 // Asserts how many commands a list has, and whether it has none; those of two commands, and all of them.
 fn assert_kept(rt: &impl Abort, alloc: Global, list: &CommandList) -> Result<(), AllocError> {
@@ -138,7 +142,7 @@ fn table_of_two(alloc: Global) -> Result<CommandTable, AllocError> {
 // The commands of two lists by cycle, three and three; of one cycle, the command of the first list comes first.
 const BY_CYCLE: (Three, Three) = ([Some(ACT), Some(PRE), Some(REF)], [Some(RD), None, None]);
 
-static ALL: [CommandRow; 4] = [ACT, PRE, REF, RD];
+static ALL: [IssuedCommand; 4] = [ACT, PRE, REF, RD];
 
 fn assert_by_cycle(rt: &impl Abort, alloc: Global, table: &CommandTable) -> Result<(), AllocError> {
     let mut rows = table.rows(alloc)?;
@@ -153,7 +157,7 @@ fn assert_all(
     rt: &impl Abort,
     alloc: Global,
     table: &CommandTable,
-    want: &[CommandRow],
+    want: &[IssuedCommand],
 ) -> Result<(), AllocError> {
     let all = table.to_vec(alloc)?;
     expect(rt, &all.as_slice(), &want);
@@ -172,14 +176,14 @@ fn reads_two_lists_by_cycle(rt: HostRuntime) -> Result<(), Fail> {
 }
 
 // Two commands of one cycle.
-const REF_TOO: CommandRow = CommandRow { cycle: 3, ..REF };
+const REF_TOO: IssuedCommand = IssuedCommand { cycle: 3, ..REF };
 
-static OF_A_CYCLE: [CommandRow; 2] = [PRE, REF_TOO];
+static OF_A_CYCLE: [IssuedCommand; 2] = [PRE, REF_TOO];
 
 fn table_of_rows(
     alloc: Global,
-    first: CommandRow,
-    second: CommandRow,
+    first: IssuedCommand,
+    second: IssuedCommand,
 ) -> Result<CommandTable, AllocError>
     requires { first.cycle ≤ second.cycle }
 {

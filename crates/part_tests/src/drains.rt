@@ -35,23 +35,23 @@ fn drains_from_three_writes_down_to_one(rt: HostRuntime) -> Result<(), Fail> {
     let mut queue = Queue::with_room(rt.alloc(), 8, 3, 1)?;
     queue.arrive(write(0));
     queue.arrive(write(1));
-    queue.settle();
+    queue.decide_drain();
     let of_two = queue.draining();
     queue.arrive(write(2));
-    queue.settle();
+    queue.decide_drain();
     let of_three = queue.draining();
     queue.serve(0);
-    queue.settle();
+    queue.decide_drain();
     let then_of_two = queue.draining();
     queue.serve(0);
     queue.arrive(write(3));
-    queue.settle();
+    queue.decide_drain();
     let of_two_still = queue.draining();
     queue.serve(0);
-    queue.settle();
+    queue.decide_drain();
     let of_one = queue.draining();
     queue.arrive(write(4));
-    queue.settle();
+    queue.decide_drain();
     expect(
         &rt,
         &[

@@ -6,13 +6,13 @@
 --     is_late now m      a message that is still to arrive at a cycle
 use Rattle.std.specs.Prelude.{ℕ, nat_lt, Bool, true, not, List, length, filter, filter_map, Option, Some, None}
 use Rattle.sim_base.specs.declared.config.Config.{Config}
-use Rattle.sim_base.specs.Row.{Row}
-use Rattle.sim_base.specs.History.{core_rows, channel_rows, issued_commands, messages_of_core, inbox}
+use Rattle.sim_base.specs.MachineStep.{MachineStep}
+use Rattle.sim_base.specs.History.{steps_of_core, steps_of_channel, issued_commands, messages_of_core, inbox}
 use Rattle.sim_base.specs.Machine.{next_command}
 use Rattle.sim_base.specs.Scheduling.{request_in, serves, is_served, drains, drains_before}
 use Rattle.sim_base.specs.declared.command.Command.{Command}
-use Rattle.sim_base.specs.declared.command.CommandRow.{CommandRow}
-use Rattle.sim_base.specs.declared.history.CoreRow.{CoreRow}
+use Rattle.sim_base.specs.declared.command.IssuedCommand.{IssuedCommand}
+use Rattle.sim_base.specs.declared.history.CoreStep.{CoreStep}
 use Rattle.sim_base.specs.declared.message.Message.{Message}
 use Rattle.sim_base.specs.declared.message.Request.{Request}
 use Rattle.sim_base.specs.declared.message.Unit.TheVariants.{Core, Channel}
@@ -21,28 +21,28 @@ use Rattle.plain_steps.specs.declared.scheduling.ChannelStep.{ChannelStep}
 
 -- what a core did, row by row, what it sent, and what was sent to it, by age
 pub record CoreView : Type 0 where
-  pub rows : List CoreRow
+  pub past_steps : List CoreStep
   pub sent : List Message
   pub inbox : List Message
 
 -- a core of the machine after a history
-abbrev pub core_view : Config → List (List Entry) → List Row → ℕ → CoreView
+abbrev pub core_view : Config → List (List Entry) → List MachineStep → ℕ → CoreView
 core_view s traces history core =
-    record { rows = core_rows core history; sent = messages_of_core s traces history core; inbox = inbox s traces history (Core core) }
+    record { past_steps = steps_of_core core history; sent = messages_of_core s traces history core; inbox = inbox s traces history (Core core) }
 
 -- the commands that a channel issued, the requests sent to it that are not served, by age, and whether it drained its writes last
 pub record ChannelView : Type 0 where
-  pub commands : List CommandRow
+  pub commands : List IssuedCommand
   pub pending : List Message
   pub draining : Bool
 
 -- a request that is not served yet
-abbrev pub is_request_left : List CommandRow → Option Request → Bool
+abbrev pub is_request_left : List IssuedCommand → Option Request → Bool
 is_request_left history (Some r) = not (is_served history r)
 is_request_left history None = true
 
 -- a message whose request is not served yet
-abbrev pub is_left : List CommandRow → Message → Bool
+abbrev pub is_left : List IssuedCommand → Message → Bool
 is_left history m = is_request_left history (request_in m.load)
 
 -- a message whose request this command does not serve
@@ -56,22 +56,22 @@ abbrev pub is_left_by : Option Command → Message → Bool
 is_left_by command m = is_passed_over command (request_in m.load)
 
 -- what a channel of the machine does in the cycle after a history
-abbrev pub channel_step_of : Config → List (List Entry) → List Row → ℕ → ChannelStep
+abbrev pub channel_step_of : Config → List (List Entry) → List MachineStep → ℕ → ChannelStep
 channel_step_of s traces history channel =
     record {
       command = next_command s traces history channel;
-      draining = drains s channel (channel_rows channel history) (inbox s traces history (Channel channel)) (length history);
+      draining = drains s channel (steps_of_channel channel history) (inbox s traces history (Channel channel)) (length history);
     }
 
 -- a channel of the machine after a history
-abbrev pub channel_view : Config → List (List Entry) → List Row → ℕ → ChannelView
+abbrev pub channel_view : Config → List (List Entry) → List MachineStep → ℕ → ChannelView
 channel_view s traces history channel =
-    let rows = channel_rows channel history in
+    let past_steps = steps_of_channel channel history in
     let mail = inbox s traces history (Channel channel) in
     record {
-      commands = issued_commands channel rows;
-      pending = filter (is_left (issued_commands channel rows)) mail;
-      draining = drains_before s channel rows mail (length history);
+      commands = issued_commands channel past_steps;
+      pending = filter (is_left (issued_commands channel past_steps)) mail;
+      draining = drains_before s channel past_steps mail (length history);
     }
 
 -- the requests among these messages that arrived before a cycle

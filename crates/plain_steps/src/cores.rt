@@ -10,7 +10,7 @@ ghost use Rattle.sim_base.specs.Windows.{is_memory, is_memory_in, has_memory, me
 use address_map::place_of;
 use cpu_trace::trace::Trace;
 use sim_base::config::Config;
-use sim_base::history::CoreRow;
+use sim_base::history::CoreStep;
 use sim_base::message::{CoreId, Load, Message, Request};
 use sim_base::trace::{Entry, Stop};
 use std::alloc::{AllocError, Global};
@@ -59,13 +59,13 @@ fn request_for(s: &Config, core: CoreId, cycle: usize, number: u64, entry: Entry
 
 /// How many entries were retired.
 #[tactic(auto, unfolding(sim_base::specs::History::retired_before))]
-pub fn retired_count(rows: &[CoreRow]) -> u64
-    requires { length rows.now < 2 ^ 40 }
-    ensures value { result ≡ retired_before rows.now }
+pub fn retired_count(past_steps: &[CoreStep]) -> u64
+    requires { length past_steps.now < 2 ^ 40 }
+    ensures value { result ≡ retired_before past_steps.now }
     ensures small { result < 2 ^ 63 }
 {
     let mut total = 0u64;
-    for row in rows {
+    for row in past_steps {
         total += u64::from(row.retired);
     }
     total
@@ -73,13 +73,13 @@ pub fn retired_count(rows: &[CoreRow]) -> u64
 
 /// How many entries were issued.
 #[tactic(auto, unfolding(sim_base::specs::History::issued_before))]
-pub fn issued_count(rows: &[CoreRow]) -> u64
-    requires { length rows.now < 2 ^ 40 }
-    ensures value { result ≡ issued_before rows.now }
+pub fn issued_count(past_steps: &[CoreStep]) -> u64
+    requires { length past_steps.now < 2 ^ 40 }
+    ensures value { result ≡ issued_before past_steps.now }
     ensures small { result < 2 ^ 63 }
 {
     let mut total = 0u64;
-    for row in rows {
+    for row in past_steps {
         total += u64::from(row.issued);
     }
     total
@@ -188,14 +188,14 @@ fn done_count(trace: &Trace, inbox: &[Message], now: usize, n: u16, first: u64) 
 
 /// How many entries retire in the next cycle.
 #[tactic(auto, unfolding(sim_base::specs::Windows::retires))]
-fn retire_count(s: &Config, trace: &Trace, rows: &[CoreRow], inbox: &[Message]) -> u16
-    requires { length rows.now < 2 ^ 40 }
-    ensures value { result ≡ retires s.now trace.now rows.now inbox.now }
+fn retire_count(s: &Config, trace: &Trace, past_steps: &[CoreStep], inbox: &[Message]) -> u16
+    requires { length past_steps.now < 2 ^ 40 }
+    ensures value { result ≡ retires s.now trace.now past_steps.now inbox.now }
 {
-    let first = retired_count(rows);
-    let issued = issued_count(rows);
+    let first = retired_count(past_steps);
+    let issued = issued_count(past_steps);
     let most = u64::from(s.width).min(issued.saturating_sub(first)) as u16;
-    done_count(trace, inbox, rows.len(), most, first)
+    done_count(trace, inbox, past_steps.len(), most, first)
 }
 
 fn is_request(channel: u32, write: bool, load: Load) -> bool
@@ -429,10 +429,10 @@ fn issue_count(
     first_cause(s, core, trace, inbox, sent, now, first, gone).unwrap_or(s.width)
 }
 
-fn step_from(retired: u16, m: u16, why: Option<Stop>) -> (CoreRow, Stop)
+fn step_from(retired: u16, m: u16, why: Option<Stop>) -> (CoreStep, Stop)
     ensures { result ≡ step_with retired m why }
 {
-    (CoreRow { retired, issued: m }, why.unwrap_or(Stop::Width))
+    (CoreStep { retired, issued: m }, why.unwrap_or(Stop::Width))
 }
 
 /// What a core does in the next cycle, and why it stops.
@@ -441,18 +441,18 @@ pub fn core_step(
     s: &Config,
     core: CoreId,
     trace: &Trace,
-    rows: &[CoreRow],
+    past_steps: &[CoreStep],
     sent: &[Message],
     inbox: &[Message],
-) -> (CoreRow, Stop)
-    requires few { length rows.now < 2 ^ 40 }
-    requires sent { sent.now ≡ core_messages s.now core trace.now rows.now }
-    ensures { result ≡ step s.now core trace.now rows.now inbox.now }
+) -> (CoreStep, Stop)
+    requires few { length past_steps.now < 2 ^ 40 }
+    requires sent { sent.now ≡ core_messages s.now core trace.now past_steps.now }
+    ensures { result ≡ step s.now core trace.now past_steps.now inbox.now }
 {
-    let now = rows.len();
-    let retired = retire_count(s, trace, rows, inbox);
-    let first = issued_count(rows);
-    let gone = retired_count(rows) + u64::from(retired);
+    let now = past_steps.len();
+    let retired = retire_count(s, trace, past_steps, inbox);
+    let first = issued_count(past_steps);
+    let gone = retired_count(past_steps) + u64::from(retired);
     let m = issue_count(s, core, trace, inbox, sent, now, first, gone);
     let why = stop_cause(s, core, trace, inbox, sent, now, first, gone, m);
     step_from(retired, m, why)

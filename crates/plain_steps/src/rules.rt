@@ -4,7 +4,7 @@ ghost use Rattle.std.specs.Prelude.{◌≡◌, ◌+◌, ◌==◌, ◌&&◌, nat_
 ghost use Rattle.sim_base.specs.Rules.{is_kind, kind_of, rank_of};
 ghost use Rattle.sim_base.specs.Rules.{open_row, recent_acts, is_past_gap, is_allowed, keeps_distances, is_open, has_open_bank_in_group, has_open_bank, finds_its_banks, is_legal};
 
-use sim_base::command::{Command, CommandRow, Kind};
+use sim_base::command::{Command, IssuedCommand, Kind};
 use sim_base::config::Config;
 use sim_base::place::{BankId, is_row};
 use sim_base::timing::Timing;
@@ -13,7 +13,7 @@ use timing::rules::relation;
 
 /// The row that is open in a bank.
 #[tactic(auto, unfolding(sim_base::specs::Rules::open_row))]
-pub fn row_of_bank(bank: BankId, history: &[CommandRow]) -> Option<u32>
+pub fn row_of_bank(bank: BankId, history: &[IssuedCommand]) -> Option<u32>
     ensures { result ≡ open_row bank history.now }
 {
     history
@@ -33,7 +33,7 @@ fn is_ahead(cycle: u64, distance: u64, now: u64) -> bool
     !has_passed(cycle, distance, now)
 }
 
-fn is_recent_act(t: Timing, of_rank: u32, now: u64, i: CommandRow) -> bool
+fn is_recent_act(t: Timing, of_rank: u32, now: u64, i: IssuedCommand) -> bool
     ensures { result ≡ (is_kind (kind_of i.command) Kind.Act && (rank_of i.command == of_rank) && nat_lt now (i.cycle + t.n_faw)) }
 {
     i.command.kind().is_kind(Kind::Act)
@@ -42,7 +42,7 @@ fn is_recent_act(t: Timing, of_rank: u32, now: u64, i: CommandRow) -> bool
 }
 
 /// How many ACTs of a rank count against one more at this cycle.
-pub fn recent_act_count(t: Timing, of_rank: u32, now: u64, history: &[CommandRow]) -> usize
+pub fn recent_act_count(t: Timing, of_rank: u32, now: u64, history: &[IssuedCommand]) -> usize
     ensures { result ≡ recent_acts t of_rank now history.now }
 {
     history
@@ -53,7 +53,7 @@ pub fn recent_act_count(t: Timing, of_rank: u32, now: u64, history: &[CommandRow
 
 /// Whether an earlier command does not hold this one back any more.
 #[tactic(auto, unfolding(sim_base::specs::Rules::is_past_gap))]
-fn has_passed_gap(gaps: &GapTable, now: u64, command: Command, i: CommandRow) -> bool
+fn has_passed_gap(gaps: &GapTable, now: u64, command: Command, i: IssuedCommand) -> bool
     ensures { result ≡ is_past_gap gaps.now now command i }
 {
     let earlier = i.command.kind();
@@ -64,7 +64,12 @@ fn has_passed_gap(gaps: &GapTable, now: u64, command: Command, i: CommandRow) ->
 }
 
 /// Whether the command keeps its distance from each one before it.
-fn keeps_all_distances(gaps: &GapTable, history: &[CommandRow], now: u64, command: Command) -> bool
+fn keeps_all_distances(
+    gaps: &GapTable,
+    history: &[IssuedCommand],
+    now: u64,
+    command: Command,
+) -> bool
     ensures { result ≡ keeps_distances gaps.now history.now now command }
 {
     history
@@ -77,7 +82,7 @@ fn keeps_all_distances(gaps: &GapTable, history: &[CommandRow], now: u64, comman
 pub fn is_command_allowed(
     s: &Config,
     gaps: &GapTable,
-    history: &[CommandRow],
+    history: &[IssuedCommand],
     now: u64,
     command: Command,
 ) -> bool
@@ -89,26 +94,26 @@ pub fn is_command_allowed(
             || recent_act_count(s.timing, command.rank(), now, history) <= 3)
 }
 
-pub fn is_bank_open(history: &[CommandRow], bank: BankId) -> bool
+pub fn is_bank_open(history: &[IssuedCommand], bank: BankId) -> bool
     ensures { result ≡ is_open history.now bank }
 {
     row_of_bank(bank, history).is_some()
 }
 
-fn has_open_bank_of_group(history: &[CommandRow], rank: u32, group: u32) -> bool
+fn has_open_bank_of_group(history: &[IssuedCommand], rank: u32, group: u32) -> bool
     ensures { result ≡ has_open_bank_in_group history.now rank group }
 {
     (0..4).any(|bank| is_bank_open(history, BankId { rank, group, bank }))
 }
 
 #[tactic(auto, unfolding(sim_base::specs::Rules::has_open_bank))]
-pub fn has_open_bank_of_rank(s: &Config, history: &[CommandRow], rank: u32) -> bool
+pub fn has_open_bank_of_rank(s: &Config, history: &[IssuedCommand], rank: u32) -> bool
     ensures { result ≡ has_open_bank s.now history.now rank }
 {
     (0..s.groups).any(|group| has_open_bank_of_group(history, rank, group))
 }
 
-pub fn finds_banks(s: &Config, history: &[CommandRow], command: Command) -> bool
+pub fn finds_banks(s: &Config, history: &[IssuedCommand], command: Command) -> bool
     ensures { result ≡ finds_its_banks s.now history.now command }
 {
     match command {
@@ -126,7 +131,7 @@ pub fn finds_banks(s: &Config, history: &[CommandRow], command: Command) -> bool
 pub fn is_legal_now(
     s: &Config,
     gaps: &GapTable,
-    history: &[CommandRow],
+    history: &[IssuedCommand],
     now: u64,
     command: Command,
 ) -> bool

@@ -6,7 +6,7 @@ ghost use Rattle.sim_base.specs.Scheduling.{asks_for_line, first_of_lines, is_fa
 ghost use Rattle.plain_steps.specs.Plain.{queue_of, is_request_left, is_left};
 
 use crate::rules;
-use sim_base::command::{Command, CommandRow, Kind, Source};
+use sim_base::command::{Command, IssuedCommand, Kind, Source};
 use sim_base::config::Config;
 use sim_base::message::{Load, Message, Request};
 use sim_base::place::{BankId, Place, is_row};
@@ -38,13 +38,13 @@ pub fn does_serve(r: Request, command: Command) -> bool
 }
 
 #[tactic(auto, unfolding(sim_base::specs::Scheduling::is_served))]
-fn is_request_served(history: &[CommandRow], r: Request) -> bool
+fn is_request_served(history: &[IssuedCommand], r: Request) -> bool
     ensures { result ≡ is_served history.now r }
 {
     history.iter().any(|i| does_serve(r, i.command))
 }
 
-fn is_request_unserved(history: &[CommandRow], request: Option<Request>) -> bool
+fn is_request_unserved(history: &[IssuedCommand], request: Option<Request>) -> bool
     ensures { result ≡ is_request_left history.now request }
 {
     match request {
@@ -53,7 +53,7 @@ fn is_request_unserved(history: &[CommandRow], request: Option<Request>) -> bool
     }
 }
 
-fn is_unserved(history: &[CommandRow], m: Message) -> bool
+fn is_unserved(history: &[IssuedCommand], m: Message) -> bool
     ensures { result ≡ is_left history.now m }
 {
     is_request_unserved(history, request_of_load(m.load))
@@ -62,7 +62,7 @@ fn is_unserved(history: &[CommandRow], m: Message) -> bool
 /// The messages whose requests are not served yet.
 pub fn unserved(
     alloc: Global,
-    history: &[CommandRow],
+    history: &[IssuedCommand],
     messages: &[Message],
 ) -> Result<Vec<Message>, AllocError>
     ensures { IfOk result (λ v. v.items ≡ filter (is_left history.now) messages.now) }
@@ -161,7 +161,7 @@ fn candidate_requests(
 
 /// The command that a request needs next.
 #[tactic(auto, unfolding(sim_base::specs::Scheduling::needed))]
-fn needed_command(history: &[CommandRow], r: Request) -> Command
+fn needed_command(history: &[IssuedCommand], r: Request) -> Command
     ensures { result ≡ needed history.now r }
 {
     r.needed_at(rules::row_of_bank(r.place.bank_id(), history))
@@ -173,7 +173,7 @@ fn hits_row(r: Request, bank: BankId, open_row: Option<u32>) -> bool
     r.place.bank_id().is_bank(bank) && is_row(r.place.row, open_row)
 }
 
-fn is_hit_in(history: &[CommandRow], requests: &[Request], bank: BankId) -> bool
+fn is_hit_in(history: &[IssuedCommand], requests: &[Request], bank: BankId) -> bool
     ensures { result ≡ has_hit history.now requests.now bank }
 {
     let open_row = rules::row_of_bank(bank, history);
@@ -182,7 +182,7 @@ fn is_hit_in(history: &[CommandRow], requests: &[Request], bank: BankId) -> bool
 
 /// Whether a row hit among the requests keeps the command's bank from being closed.
 #[tactic(auto, unfolding(sim_base::specs::Scheduling::is_withheld))]
-fn is_command_withheld(history: &[CommandRow], requests: &[Request], command: Command) -> bool
+fn is_command_withheld(history: &[IssuedCommand], requests: &[Request], command: Command) -> bool
     ensures { result ≡ is_withheld history.now requests.now command }
 {
     match command {
@@ -192,7 +192,13 @@ fn is_command_withheld(history: &[CommandRow], requests: &[Request], command: Co
 }
 
 #[tactic(auto, unfolding(sim_base::specs::Scheduling::ready_hit))]
-fn is_ready_hit(s: &Config, gaps: &GapTable, history: &[CommandRow], now: u64, r: Request) -> bool
+fn is_ready_hit(
+    s: &Config,
+    gaps: &GapTable,
+    history: &[IssuedCommand],
+    now: u64,
+    r: Request,
+) -> bool
     requires { gaps.now ≡ s.now.timing }
     ensures { result ≡ ready_hit s.now history.now now r }
 {
@@ -204,7 +210,7 @@ fn is_ready_hit(s: &Config, gaps: &GapTable, history: &[CommandRow], now: u64, r
 fn is_ready_row(
     s: &Config,
     gaps: &GapTable,
-    history: &[CommandRow],
+    history: &[IssuedCommand],
     now: u64,
     requests: &[Request],
     r: Request,
@@ -221,7 +227,7 @@ fn is_ready_row(
 fn first_hit(
     s: &Config,
     gaps: &GapTable,
-    history: &[CommandRow],
+    history: &[IssuedCommand],
     now: u64,
     requests: &[Request],
 ) -> Option<Request>
@@ -237,7 +243,7 @@ fn first_hit(
 fn first_row(
     s: &Config,
     gaps: &GapTable,
-    history: &[CommandRow],
+    history: &[IssuedCommand],
     now: u64,
     requests: &[Request],
 ) -> Option<Request>
@@ -255,7 +261,7 @@ fn first_row(
 fn first_ready_command(
     s: &Config,
     gaps: &GapTable,
-    history: &[CommandRow],
+    history: &[IssuedCommand],
     now: u64,
     requests: &[Request],
 ) -> Option<Command>
@@ -277,7 +283,7 @@ fn is_refresh_of(rank: u32, command: Command) -> bool
     command.kind().is_kind(Kind::Ref) && command.rank() == rank
 }
 
-fn refresh_count(rank: u32, history: &[CommandRow]) -> usize
+fn refresh_count(rank: u32, history: &[IssuedCommand]) -> usize
     ensures { result ≡ count_by (λ i. refreshes rank i.command) history.now }
 {
     history
@@ -288,7 +294,7 @@ fn refresh_count(rank: u32, history: &[CommandRow]) -> usize
 
 /// How many refreshes of a rank are due.
 #[tactic(auto, unfolding(sim_base::specs::Scheduling::due))]
-pub fn due_count(s: &Config, rank: u32, history: &[CommandRow], now: u64) -> u64
+pub fn due_count(s: &Config, rank: u32, history: &[IssuedCommand], now: u64) -> u64
     ensures { result ≡ due s.now rank history.now now }
 {
     if s.timing.n_refi == 0 {
@@ -300,14 +306,14 @@ pub fn due_count(s: &Config, rank: u32, history: &[CommandRow], now: u64) -> u64
 
 /// The lowest rank with a refresh that is due.
 #[tactic(auto, unfolding(sim_base::specs::Scheduling::lowest_due))]
-pub fn lowest_rank_due(s: &Config, history: &[CommandRow], now: u64) -> Option<u32>
+pub fn lowest_rank_due(s: &Config, history: &[IssuedCommand], now: u64) -> Option<u32>
     ensures { result ≡ lowest_due s.now history.now now }
 {
     (0..s.ranks).find(|rank| 0 < due_count(s, *rank, history, now))
 }
 
 #[tactic(auto, unfolding(sim_base::specs::Scheduling::refresh_command))]
-fn refresh_command_of(s: &Config, history: &[CommandRow], rank: u32) -> Command
+fn refresh_command_of(s: &Config, history: &[IssuedCommand], rank: u32) -> Command
     ensures { result ≡ refresh_command s.now history.now rank }
 {
     if rules::has_open_bank_of_rank(s, history, rank) {
@@ -321,7 +327,7 @@ fn refresh_command_of(s: &Config, history: &[CommandRow], rank: u32) -> Command
 fn command_if_legal(
     s: &Config,
     gaps: &GapTable,
-    history: &[CommandRow],
+    history: &[IssuedCommand],
     now: u64,
     command: Command,
 ) -> Option<Command>
@@ -339,7 +345,7 @@ fn command_if_legal(
 fn choice_of(
     s: &Config,
     gaps: &GapTable,
-    history: &[CommandRow],
+    history: &[IssuedCommand],
     now: u64,
     requests: &[Request],
     due: Option<u32>,
@@ -367,7 +373,7 @@ pub fn channel_step(
     s: &Config,
     gaps: &GapTable,
     now: u64,
-    history: &[CommandRow],
+    history: &[IssuedCommand],
     pending: &[Message],
     drained: bool,
 ) -> Result<ChannelStep, AllocError>

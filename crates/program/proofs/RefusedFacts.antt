@@ -62,7 +62,7 @@ right_run document texts cycles workers run ran = ap is_ok ran.read
 
 -- ---- what is read
 
--- a fault is want of memory, or what it is where memory is given
+-- a fault is out of memory, or what it is where memory is given
 unless_memory : (P : Fault → Type 0) (fault : Fault) → (fault ≢ Memory → P fault) → (fault ≡ Memory) ⊎ P fault
 unless_memory P Memory other = inl refl
 unless_memory P fault other = inr (other (λ e. cc e))

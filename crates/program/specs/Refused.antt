@@ -21,7 +21,7 @@ use Rattle.config_reader.specs.Document.{document_of}
 use Rattle.rule_check.specs.Verdict.{records_of, verdict}
 use Rattle.rule_check.specs.declared.verdict.Verdict.{Verdict}
 use Rattle.reports.specs.Stats.{stats_header, stats_rows}
-use Rattle.sim_base.specs.declared.command.CommandRow.{CommandRow}
+use Rattle.sim_base.specs.declared.command.IssuedCommand.{IssuedCommand}
 use Rattle.simulation.specs.Runs.{input_of, IsRefusal}
 use Rattle.statistics.specs.Values.{RunStats}
 use Rattle.command_line.specs.Ask.{is_taken, command_of, IsCallForHelp, IsCallForVersion, HasBadAddress, IsAskedBy}
@@ -125,7 +125,7 @@ IsPageFault _ fault = ⊥
 -- the tables are those of a run
 pub record AreRunTables (stats_table commands_table : List ℕ) : Type 0 where
   pub stats : RunStats
-  pub commands : List CommandRow
+  pub commands : List IssuedCommand
   pub tables : AreTablesIn stats_table commands_table stats commands
 
 abbrev pub IsRightPage : List (List ℕ) → Type 0

@@ -1,14 +1,13 @@
-//! Runs whose workers pass a gate: that several of them are at work at once, and claim their jobs.
+//! Runs whose workers pass a gate: that several of them are at work at once.
 //!
-//! No gate waits for ever. A phase is cut into as many groups as it has jobs, and into fewer only where that is still several for
-//! each worker. A worker whose job is held takes no other, and each worker takes groups until there is none; so as many workers
-//! come as the phase has jobs, or all of them.
+//! No gate waits for ever. A phase has a part for each worker that is of use, and no worker takes a part while it holds another; so a part
+//! that is held is held by one worker, and the others take all other parts.
 
 use crate::expect::{expect, expect_at};
 use crate::outcomes::{Run, Texts, is_plain, plain_tables, tables_by};
+use epochs::task::TaskName;
 use sim_base::fault::Fault;
-use sim_base::job::JobName;
-use sim_base::message::Unit;
+use sim_base::message::Cycle;
 use std::alloc::{AllocError, Global};
 use std::process::Abort;
 use std::sync::Wait;
@@ -18,20 +17,34 @@ use std::thread;
 use std::thread::Threads;
 use workers::gate::Gate;
 
-/// How often a job that is held looks whether it may go on, where something is wrong.
+/// How often a part that is held looks whether it may go on, where something is wrong.
 const TURNS: u64 = 1_000_000;
 
-/// Holds each job that enters until as many of its phase have entered as there are workers, or as it has jobs. A phase has jobs of
-/// two cores and one channel.
+/// The phases of two cores that read a line each, of the same row. The requests are sent in cycle 0 and come in 2, where the row is opened.
+/// The lines are read in the cycles 5 and 10, as they lie in one group. The credits come in 7 and 12, and the replies in 15 and 20. In
+/// the other cycles nothing happens.
+static SPANS: [(Cycle, Cycle); 8] = [
+    (0, 2),
+    (2, 4),
+    (5, 7),
+    (7, 9),
+    (10, 12),
+    (12, 14),
+    (15, 17),
+    (20, 22),
+];
+
+/// Holds each part that enters until as many of its phase have entered as it has parts.
 #[derive(Drop)]
 struct Meeting {
-    workers: u64,
-    /// How many jobs each phase has, as far as is known.
-    jobs: Vec<u64>,
-    /// How often each job was entered, and left: three of each phase.
+    /// How many parts each phase has.
+    parts: usize,
+    /// How many parts of each phase have entered.
+    come: Vec<AtomicU64>,
+    /// How often each part was entered, and left, phase by phase.
     entered: Vec<AtomicU64>,
     left: Vec<AtomicU64>,
-    /// Jobs of no unit, and jobs that were held for ever.
+    /// Parts of no such phase, and parts that were held for ever.
     faults: AtomicU64,
 }
 
@@ -43,79 +56,64 @@ fn zeros(alloc: Global, count: usize) -> Result<Vec<AtomicU64>, AllocError> {
     Ok(zeros)
 }
 
-/// The place of a job, if it is of one of the units.
-fn place_of(job: JobName) -> Option<usize> {
-    let unit = match job.unit {
-        Unit::Core(0) => 0,
-        Unit::Core(1) => 1,
-        Unit::Channel(0) => 2,
-        _ => return None,
-    };
-    let phase = usize::try_from(job.phase).ok()?;
-    phase.checked_mul(3)?.checked_add(unit)
+/// Whether each thing was counted once.
+fn are_one(counts: &[AtomicU64]) -> bool {
+    for count in counts {
+        if count.load(Ordering::SeqCst) != 1 {
+            return false;
+        }
+    }
+    true
 }
 
-/// The counts of a phase's three jobs.
-fn counts_of(counts: &[AtomicU64], phase: usize) -> [u64; 3] {
-    let first = phase.saturating_mul(3);
-    [0, 1, 2].map(|unit: usize| match counts.get(first.saturating_add(unit)) {
-        Some(count) => count.load(Ordering::SeqCst),
-        None => 0,
-    })
-}
-
-fn sum_of(counts: [u64; 3]) -> u64 {
-    let [first, second, third] = counts;
-    first.wrapping_add(second).wrapping_add(third)
+/// The number of a phase, if it is one of those, with its cycles.
+fn phase_of(part: TaskName) -> Option<usize> {
+    let phase = usize::try_from(part.phase).ok()?;
+    let (from, until) = *SPANS.get(phase)?;
+    if part.from == from && part.until == until {
+        Some(phase)
+    } else {
+        None
+    }
 }
 
 impl Meeting {
-    /// A gate for phases of so many jobs each.
-    fn new(alloc: Global, workers: u64, jobs: &[u64]) -> Result<Self, AllocError> {
-        let count = jobs.len().saturating_mul(3);
-        let jobs = jobs.to_vec(alloc)?;
+    /// A gate for phases of so many parts each.
+    fn new(alloc: Global, parts: usize) -> Result<Self, AllocError> {
+        let count = parts.saturating_mul(SPANS.len());
+        let come = zeros(alloc, SPANS.len())?;
         let entered = zeros(alloc, count)?;
         Ok(Meeting {
-            workers,
-            jobs,
+            parts,
+            come,
             entered,
             left: zeros(alloc, count)?,
             faults: AtomicU64::new(0),
         })
     }
 
-    /// How many jobs were entered of each phase.
-    fn jobs(&self, alloc: Global) -> Result<Vec<u64>, AllocError> {
-        let mut jobs = Vec::new(alloc);
-        for phase in 0..self.jobs.len() {
-            jobs.push(sum_of(counts_of(&self.entered, phase)))?;
+    /// The place of a part, if it is one of those.
+    fn place_of(&self, part: TaskName) -> Option<usize> {
+        let phase = phase_of(part)?;
+        if part.shard >= self.parts {
+            return None;
         }
-        Ok(jobs)
+        phase.checked_mul(self.parts)?.checked_add(part.shard)
     }
 
     fn faults(&self) -> u64 {
         self.faults.load(Ordering::SeqCst)
     }
 
-    /// Whether each job of a phase was entered once and left once.
-    fn is_whole(&self, phase: usize, jobs: u64) -> bool {
-        let entered = counts_of(&self.entered, phase);
-        let once = entered.iter().all(|count| *count <= 1);
-        once && entered == counts_of(&self.left, phase) && sum_of(entered) == jobs
+    /// Whether each part of each phase was entered once and left once.
+    fn is_whole(&self) -> bool {
+        are_one(&self.entered) && are_one(&self.left)
     }
 
-    fn are_whole(&self) -> bool {
-        for (phase, jobs) in self.jobs.iter().enumerate() {
-            if !self.is_whole(phase, *jobs) {
-                return false;
-            }
-        }
-        true
-    }
-
-    fn is_met(&self, phase: usize, jobs: u64) -> bool {
+    /// Whether all parts of a phase come.
+    fn is_met(&self, come: &AtomicU64) -> bool {
         for _ in 0..TURNS {
-            if sum_of(counts_of(&self.entered, phase)) >= self.workers.min(jobs) {
+            if come.load(Ordering::SeqCst) >= self.parts as u64 {
                 return true;
             }
             thread::yield_now();
@@ -123,18 +121,18 @@ impl Meeting {
         false
     }
 
-    /// Whether a job is of a unit, and goes on.
-    fn enters(&self, job: JobName) -> Option<bool> {
-        let phase = usize::try_from(job.phase).ok()?;
-        let jobs = *self.jobs.get(phase)?;
-        let place = self.entered.get(place_of(job)?)?;
+    /// Whether a part is one of those, and goes on.
+    fn enters(&self, part: TaskName) -> Option<bool> {
+        let come = self.come.get(phase_of(part)?)?;
+        let place = self.entered.get(self.place_of(part)?)?;
         place.fetch_add(1, Ordering::SeqCst);
-        Some(self.is_met(phase, jobs))
+        come.fetch_add(1, Ordering::SeqCst);
+        Some(self.is_met(come))
     }
 
-    /// Whether a job is of a unit, and has left.
-    fn leaves(&self, job: JobName) -> Option<bool> {
-        let place = self.left.get(place_of(job)?)?;
+    /// Whether a part is one of those, and has left.
+    fn leaves(&self, part: TaskName) -> Option<bool> {
+        let place = self.left.get(self.place_of(part)?)?;
         place.fetch_add(1, Ordering::SeqCst);
         Some(true)
     }
@@ -151,75 +149,27 @@ impl Gate for Meeting {
         true
     }
 
-    fn enter(&self, _worker: usize, job: JobName) {
-        self.note(self.enters(job));
+    fn enter(&self, _worker: usize, part: TaskName) {
+        self.note(self.enters(part));
     }
 
-    fn leave(&self, _worker: usize, job: JobName) {
-        self.note(self.leaves(job));
+    fn leave(&self, _worker: usize, part: TaskName) {
+        self.note(self.leaves(part));
     }
 }
 
-/// How many jobs were entered of each phase of a run by one worker, who is held by nothing.
-fn jobs_entered<R: Threads + Wait + Sync>(
-    rt: &R,
-    alloc: Global,
-    gate: &Meeting,
-    run: &Run<'_>,
-) -> Result<Vec<u64>, Fault> {
-    tables_by(rt, alloc, gate, run, 1)?;
-    Ok(gate.jobs(alloc)?)
-}
-
-/// How many jobs each phase of a run has, of its first phases.
-fn jobs_of_phases<R: Threads + Wait + Sync>(
-    rt: &R,
-    alloc: Global,
-    run: &Run<'_>,
-) -> Result<Vec<u64>, Fault> {
-    let gate = Meeting::new(alloc, 1, &[0; 32])?;
-    jobs_entered(rt, alloc, &gate, run)
-}
-
-/// What a gate saw of a run: whether the tables are the plain machine's, the faults, and whether each job was run once.
-fn met<R: Threads + Wait + Sync>(
-    rt: &R,
-    alloc: Global,
-    gate: &Meeting,
-    run: &Run<'_>,
-    plain: &[u8],
-) -> Result<(bool, u64, bool), Fault> {
-    let same = is_plain(rt, alloc, gate, run, gate.workers, plain)?;
-    Ok((same, gate.faults(), gate.are_whole()))
-}
-
-/// So many workers are at work at once in each phase, and each job is run once.
+/// What a gate saw of a run by so many workers, whose phases have so many parts: whether the tables are the plain machine's, the faults,
+/// and whether each part was run once.
 fn met_by<R: Threads + Wait + Sync>(
     rt: &R,
     alloc: Global,
     run: &Run<'_>,
-    workers: u64,
-    jobs: &[u64],
+    (workers, parts): (u64, usize),
     plain: &[u8],
 ) -> Result<(bool, u64, bool), Fault> {
-    let gate = Meeting::new(alloc, workers, jobs)?;
-    met(rt, alloc, &gate, run, plain)
-}
-
-/// Some phase has a job for each of the three units.
-fn assert_all_met<R: Abort + Threads + Wait + Sync>(
-    rt: &R,
-    alloc: Global,
-    run: &Run<'_>,
-    jobs: &[u64],
-    plain: &[u8],
-) -> Result<(), Fail> {
-    expect(rt, &jobs.iter().any(|count| *count == 3), &true);
-    for workers in [1, 2, 3] {
-        let saw = met_by(rt, alloc, run, workers, jobs, plain)?;
-        expect_at(rt, &("workers", workers), &saw, &(true, 0, true));
-    }
-    Ok(())
+    let gate = Meeting::new(alloc, parts)?;
+    let same = is_plain(rt, alloc, &gate, run, workers, plain)?;
+    Ok((same, gate.faults(), gate.is_whole()))
 }
 
 fn assert_meetings<R: Abort + Threads + Wait + Sync>(
@@ -227,24 +177,51 @@ fn assert_meetings<R: Abort + Threads + Wait + Sync>(
     alloc: Global,
     run: &Run<'_>,
 ) -> Result<(), Fail> {
-    let jobs = jobs_of_phases(rt, alloc, run)?;
     let plain = plain_tables(rt, alloc, run)?;
-    assert_all_met(rt, alloc, run, &jobs, &plain)
+    for case in [(1, 1), (2, 2), (3, 3), (7, 3)] {
+        let saw = met_by(rt, alloc, run, case, &plain)?;
+        expect_at(rt, &("workers and parts", case), &saw, &(true, 0, true));
+    }
+    Ok(())
 }
 
+/// In each phase so many workers are at work at once, as many as there are units at most: two cores and a channel. Each part is run
+/// once.
 #[test]
 fn workers_meet_in_every_phase(rt: HostRuntime) -> Result<(), Fail> {
     let texts = Texts::of(rt.alloc(), &["cores = 2"], "", &["0 0\n", "0 64\n"])?;
     assert_meetings(&rt, rt.alloc(), &texts.run(32))
 }
 
-/// Holds the first job of phase 0 until so many others of it have left. Each job is a group of its own, so that none waits behind it.
+/// Holds the first part of phase 0 until so many others of it have left.
 #[derive(Drop)]
-struct Holding {
+pub(crate) struct Holding {
     others: u64,
     entered: AtomicU64,
     left: AtomicU64,
     released: AtomicU64,
+}
+
+/// How often the parts of phase 0 were entered and left, and whether the first was released.
+pub(crate) type Held = (u64, u64, u64);
+
+impl Holding {
+    pub(crate) fn new(others: u64) -> Self {
+        Holding {
+            others,
+            entered: AtomicU64::new(0),
+            left: AtomicU64::new(0),
+            released: AtomicU64::new(0),
+        }
+    }
+
+    pub(crate) fn seen(&self) -> Held {
+        (
+            self.entered.load(Ordering::SeqCst),
+            self.left.load(Ordering::SeqCst),
+            self.released.load(Ordering::SeqCst),
+        )
+    }
 }
 
 impl Gate for Holding {
@@ -252,8 +229,8 @@ impl Gate for Holding {
         true
     }
 
-    fn enter(&self, _worker: usize, job: JobName) {
-        if job.phase != 0 || self.entered.fetch_add(1, Ordering::SeqCst) != 0 {
+    fn enter(&self, _worker: usize, part: TaskName) {
+        if part.phase != 0 || self.entered.fetch_add(1, Ordering::SeqCst) != 0 {
             return;
         }
         for _ in 0..TURNS {
@@ -265,65 +242,95 @@ impl Gate for Holding {
         }
     }
 
-    fn leave(&self, _worker: usize, job: JobName) {
-        if job.phase == 0 {
+    fn leave(&self, _worker: usize, part: TaskName) {
+        if part.phase == 0 {
             self.left.fetch_add(1, Ordering::SeqCst);
         }
     }
 }
 
-/// How often the jobs of phase 0 were entered and left, and whether the first was released.
-type Held = (u64, u64, u64);
-
-/// What a gate saw that held the first job of a run, whose tables are the plain machine's.
+/// What a gate saw that held the first part of a run, whose tables are the plain machine's.
 fn held<R: Abort + Threads + Wait + Sync>(
     rt: &R,
     alloc: Global,
     run: &Run<'_>,
     workers: u64,
-    others: u64,
     plain: &[u8],
 ) -> Result<Held, Fault> {
-    let gate = Holding {
-        others,
-        entered: AtomicU64::new(0),
-        left: AtomicU64::new(0),
-        released: AtomicU64::new(0),
-    };
+    let gate = Holding::new(workers.saturating_sub(1));
     let same = is_plain(rt, alloc, &gate, run, workers, plain)?;
     expect_at(rt, &("workers", workers), &same, &true);
-    Ok((
-        gate.entered.load(Ordering::SeqCst),
-        gate.left.load(Ordering::SeqCst),
-        gate.released.load(Ordering::SeqCst),
-    ))
+    Ok(gate.seen())
 }
 
-fn assert_claims<R: Abort + Threads + Wait + Sync>(
+/// There are no more workers than units.
+fn assert_held<R: Abort + Threads + Wait + Sync>(
     rt: &R,
     alloc: Global,
     run: &Run<'_>,
 ) -> Result<(), Fail> {
     let plain = plain_tables(rt, alloc, run)?;
-    let (jobs, _, _) = held(rt, alloc, run, 1, 0, &plain)?;
-    expect(rt, &(jobs >= 4), &true);
-    for workers in [2, 3] {
-        let others = jobs.saturating_sub(1);
-        let saw = held(rt, alloc, run, workers, others, &plain)?;
-        expect_at(rt, &("workers", workers), &saw, &(jobs, jobs, 1));
+    for workers in [1, 2, 3, 6] {
+        let saw = held(rt, alloc, run, workers, &plain)?;
+        expect_at(rt, &("workers", workers), &saw, &(workers, workers, 1));
     }
     Ok(())
 }
 
-/// While one of several workers holds its first job, the others take all others: jobs are not shared out in advance. There are four
-/// cores and two channels.
+/// While one of several workers holds its part, the others run theirs. There are four cores and two channels.
 #[test]
-fn workers_claim_their_jobs(rt: HostRuntime) -> Result<(), Fail> {
+fn no_worker_waits_for_another_part(rt: HostRuntime) -> Result<(), Fail> {
     let texts = Texts::of(
         rt.alloc(),
         &["cores = 4", "channels = 2"],
         "",
         &["0 0\n"; 4],
     )?;
-    assert_claims(&rt, rt.alloc(), &texts.run(32))
+    assert_held(&rt, rt.alloc(), &texts.run(32))
+}
+
+/// Counts the parts, and does not watch: the machine is run as it is where nothing watches.
+#[derive(Drop)]
+struct Counting {
+    parts: AtomicU64,
+}
+
+impl Gate for Counting {
+    fn watches(&self) -> bool {
+        false
+    }
+
+    fn enter(&self, _worker: usize, _part: TaskName) {
+        self.parts.fetch_add(1, Ordering::SeqCst);
+    }
+
+    fn leave(&self, _worker: usize, _part: TaskName) {}
+}
+
+/// Four lines, which a core asks for in its first two cycles.
+const FOUR_LINES: &str = "0 0\n0 64\n0 128\n0 192\n";
+
+/// Whether two workers share the units of a machine out where nothing watches. The requests are on their way for 5,000 cycles.
+fn is_shared_out<R: Threads + Wait + Sync>(
+    rt: &R,
+    alloc: Global,
+    cores: &str,
+    traces: &[&str],
+) -> Result<bool, Fault> {
+    let changes = [cores, "channels = 2", "request_latency = 5000"];
+    let texts = Texts::of(alloc, &changes, "", traces)?;
+    let gate = Counting {
+        parts: AtomicU64::new(0),
+    };
+    tables_by(rt, alloc, &gate, &texts.run(6_000), 2)?;
+    Ok(gate.parts.load(Ordering::SeqCst) > 0)
+}
+
+/// All requests of 24 cores are in flight for a long time, so the units are shared out. Where there are few units, the caller runs them.
+#[test]
+fn a_large_machine_is_shared_out(rt: HostRuntime) -> Result<(), Fail> {
+    let large = is_shared_out(&rt, rt.alloc(), "cores = 24", &[FOUR_LINES; 24])?;
+    let small = is_shared_out(&rt, rt.alloc(), "cores = 14", &[FOUR_LINES; 14])?;
+    expect(&rt, &(large, small), &(true, false));
+    Ok(())
 }

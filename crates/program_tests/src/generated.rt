@@ -39,17 +39,28 @@ const WRITES: &str = "3 64 128\n0 8192\n";
 
 const LATE: &str = "40 128 4096\n";
 
-static TRACES: [&str; 24] = [
+pub(crate) static TRACES: [&str; 24] = [
     READS, WRITES, LATE, READS, WRITES, LATE, READS, WRITES, LATE, READS, WRITES, LATE, READS,
     WRITES, LATE, READS, WRITES, LATE, READS, WRITES, LATE, READS, WRITES, LATE,
 ];
 
-/// Twenty-four cores and two channels: in some phases so many units wake that each has a job, in others the caller runs them.
+/// Twenty-four cores and two channels.
 #[test]
 fn a_large_machine_does_not_show_its_workers(rt: HostRuntime) -> Result<(), Fail> {
     let changes = ["cores = 24", "channels = 2"];
     let texts = Texts::of(rt.alloc(), &changes, "", &TRACES)?;
     let same = assert_same(&rt, rt.alloc(), &texts.run(400), &[1, 2, 3, 7]);
+    drop(texts);
+    Ok(same?)
+}
+
+/// The requests of the same machine are on their way for 5,000 cycles: 56 of them at least, from cycle 50 on. So the caller, who runs it
+/// alone while less is in flight, shares it out before they come.
+#[test]
+fn a_busy_machine_does_not_show_its_workers(rt: HostRuntime) -> Result<(), Fail> {
+    let changes = ["cores = 24", "channels = 2", "request_latency = 5000"];
+    let texts = Texts::of(rt.alloc(), &changes, "", &TRACES)?;
+    let same = assert_same(&rt, rt.alloc(), &texts.run(6_000), &[2, 3]);
     drop(texts);
     Ok(same?)
 }

@@ -40,6 +40,8 @@ mod result_orders;
 #[cfg(test)]
 mod same;
 #[cfg(test)]
+mod shards;
+#[cfg(test)]
 mod shows;
 #[cfg(test)]
 mod table_lines;

@@ -15,7 +15,7 @@ use epochs::phase::Phase;
 use epochs::planning::{Planned, plan};
 use epochs::sim::Sim;
 use fixtures::small::{RANK_FIELD, small};
-use sim_base::command::CommandRow;
+use sim_base::command::IssuedCommand;
 use sim_base::config::Config;
 use sim_base::fault::{Fault, MergeFault};
 use sim_base::message::{Cycle, Message, Unit};
@@ -253,7 +253,7 @@ fn lost_results_stop_a_run(rt: HostRuntime) -> Result<(), Fail> {
 }
 
 /// The commands of a run, what it counted of cores, and its messages in flight.
-type Did = (Vec<CommandRow>, Vec<CoreStats>, Vec<Message>);
+type Did = (Vec<IssuedCommand>, Vec<CoreStats>, Vec<Message>);
 
 fn did(alloc: Global, outcome: &Outcome) -> Result<Did, Fault> {
     let commands = outcome.commands.to_vec(alloc)?;

@@ -1,11 +1,11 @@
 //! Outcomes of runs, compared by the tables that are written of them.
 
 use crate::expect::expect_at;
+use epochs::task::TaskName;
 use fixtures::small::small_text;
 use fixtures::texts::texts_of;
 use reports::{write_commands, write_final, write_stats};
 use sim_base::fault::Fault;
-use sim_base::job::JobName;
 use sim_base::message::Cycle;
 use simulation::runs::{simulate, simulate_plain};
 use statistics::outcome::Outcome;
@@ -16,7 +16,7 @@ use std::thread::Threads;
 use workers::gate::{Gate, Open};
 use workers::watch::{Unwatched, Watch};
 
-/// A gate that watches and does nothing: each unit that wakes in a phase has a job, also in a machine that is too small to be worth it.
+/// A gate that watches and does nothing: the units are shared out in shards, also where that is not worth it.
 pub(crate) struct Watching;
 
 impl Gate for Watching {
@@ -24,13 +24,13 @@ impl Gate for Watching {
         true
     }
 
-    fn enter(&self, _worker: usize, _job: JobName) {}
+    fn enter(&self, _worker: usize, _part: TaskName) {}
 
-    fn leave(&self, _worker: usize, _job: JobName) {}
+    fn leave(&self, _worker: usize, _part: TaskName) {}
 }
 
 /// The bytes of an outcome's tables, one behind the other.
-fn tables_of(alloc: Global, outcome: &Outcome) -> Result<Vec<u8>, Fault> {
+pub(crate) fn tables_of(alloc: Global, outcome: &Outcome) -> Result<Vec<u8>, Fault> {
     let mut tables = Vec::new(alloc);
     write_commands(alloc, outcome.ranks, &outcome.commands, &mut tables)?;
     write_stats(alloc, &outcome.stats, &mut tables)?;
@@ -137,7 +137,7 @@ pub(crate) fn is_plain<R: Threads + Wait + Sync, G: Gate + Sync>(
     Ok(tables.as_slice() == plain)
 }
 
-/// The same by each of these numbers of workers, by jobs and as it is run where nothing watches.
+/// The same by each of these numbers of workers, in shards and as it is run where nothing watches.
 fn assert_plain<R: Abort + Threads + Wait + Sync>(
     rt: &R,
     alloc: Global,
@@ -146,19 +146,19 @@ fn assert_plain<R: Abort + Threads + Wait + Sync>(
     plain: &[u8],
 ) -> Result<(), Fault> {
     for count in workers {
-        let by_jobs = is_plain(rt, alloc, &Watching, run, *count, plain)?;
+        let in_shards = is_plain(rt, alloc, &Watching, run, *count, plain)?;
         let unwatched = is_plain(rt, alloc, &Open, run, *count, plain)?;
         expect_at(
             rt,
             &(count, run.cycles, run.config),
-            &[by_jobs, unwatched],
+            &[in_shards, unwatched],
             &[true, true],
         );
     }
     Ok(())
 }
 
-/// A run has the same tables by each of these numbers of workers as by the plain machine, by jobs and as it is run where nothing
+/// A run has the same tables by each of these numbers of workers as by the plain machine, in shards and as it is run where nothing
 /// watches.
 pub(crate) fn assert_same<R: Abort + Threads + Wait + Sync>(
     rt: &R,

@@ -4,6 +4,7 @@ ghost use Rattle.std.specs.Prelude.{◌≡◌, ◌+◌, ◌<◌, ◌≤◌, ◌^
 ghost use Rattle.crew.specs.Rule.{put_view};
 
 use crate::expect::{expect, expect_at};
+use crate::gates::{Held, Holding};
 use crate::outcomes::{Texts, assert_same};
 use cpu_trace::trace::Trace;
 use crew::bell::Patience;
@@ -13,15 +14,14 @@ use crew::rule::Room;
 use crew::run::{Course, Refused, with_crew};
 use crew::seats::{Board, PutSeat, TakeSeat};
 use crew::work::{DoneOf, Work};
-use epochs::job::Job;
-use epochs::planning::{Planned, plan};
+use epochs::fleet::Leg;
 use epochs::sim::Sim;
+use epochs::task::{Task, TaskDone, TaskName};
 use fixtures::small::{RANK_FIELD, small};
-use sim_base::command::CommandRow;
+use sim_base::command::IssuedCommand;
 use sim_base::config::Config;
 use sim_base::fault::Fault;
-use sim_base::job::JobName;
-use sim_base::message::{Cycle, Unit};
+use sim_base::message::Cycle;
 use sim_base::trace::Entry;
 use statistics::outcome::Outcome;
 use std::alloc::{AllocError, Global};
@@ -30,8 +30,7 @@ use std::sync::Wait;
 use std::sync::atomic::{AtomicU64, Ordering};
 use std::test::Fail;
 use std::thread::Threads;
-use workers::gate::{Gate, Open};
-use workers::group::{AtGate, Group, Results};
+use workers::gate::{AtGate, Gate, Open};
 use workers::machine::run_machine;
 use workers::runner::{Claims, Runner};
 use workers::watch::Unwatched;
@@ -66,38 +65,41 @@ fn start(alloc: Global, config: &Config) -> Result<Sim, Fault>
     Ok(Sim::start(alloc, config, traces)?)
 }
 
-/// The jobs of the first phase of a machine that is before its first cycle.
-fn jobs_of(alloc: Global, sim: Sim) -> Result<Vec<Job>, AllocError>
+/// The parts of the first phase of a machine that is before its first cycle, one for each of so many shards.
+fn parts_of(alloc: Global, sim: Sim, shards: usize) -> Result<Vec<Task>, AllocError>
     requires early { sim.now ≡ 0 }
+    requires some { 0 < shards }
 {
-    match plan(sim, alloc, 16)? {
-        Planned::Quiet(_) => Ok(Vec::new(alloc)),
-        Planned::Work(_, jobs) => Ok(jobs),
+    match sim.shared_out(alloc, shards)?.further(alloc, 16)? {
+        Leg::Done(_) => Ok(Vec::new(alloc)),
+        Leg::Phase(_, tasks) => Ok(tasks),
     }
 }
 
-/// The jobs of its first phase.
-fn first_jobs(alloc: Global, changes: &[&str]) -> Result<Vec<Job>, Fault> {
+/// The parts of its first phase.
+fn first_parts(alloc: Global, changes: &[&str], shards: usize) -> Result<Vec<Task>, Fault>
+    requires { 0 < shards }
+{
     let sim = machine(alloc, changes)?;
-    Ok(jobs_of(alloc, sim)?)
+    Ok(parts_of(alloc, sim, shards)?)
 }
 
 /// One phase, of which the number of results is told.
 #[derive(Drop)]
 struct OnePhase {
-    jobs: Vec<Job>,
+    tasks: Vec<Task>,
 }
 
-impl Course<Group, Results, usize> for OnePhase {
+impl Course<Task, TaskDone, usize> for OnePhase {
     ghost leads = { λ c n. Unit {0} };
 
-    fn run<P: Phases<Group, Results>>(
+    fn run<P: Phases<Task, TaskDone>>(
         self,
-        alloc: Global,
+        _alloc: Global,
         crew: &mut P,
     ) -> Result<usize, AllocError> {
-        let mut claims = Claims::new(alloc, crew, 16);
-        match claims.run_phase(self.jobs) {
+        let mut claims = Claims::new(crew);
+        match claims.run_phase(self.tasks) {
             Ok(results) => Ok(results.len()),
             Err(_) => Err(AllocError),
         }
@@ -108,22 +110,44 @@ impl Course<Group, Results, usize> for OnePhase {
 fn any_number_of_workers_runs_a_phase(rt: HostRuntime) -> Result<(), Fail> {
     let work = AtGate { gate: &Open };
     for workers in [1, 2, 5, 64] {
-        let jobs = first_jobs(rt.alloc(), &FOUR_CORES)?;
+        let tasks = first_parts(rt.alloc(), &FOUR_CORES, 6)?;
         let results = with_crew(
             &rt,
             rt.alloc(),
             &work,
-            16,
+            6,
             workers,
             PATIENCE,
-            OnePhase { jobs },
+            OnePhase { tasks },
         );
         expect(&rt, &results, &Ok(6));
     }
     Ok(())
 }
 
-/// Counts the phases that have a job.
+/// What a gate saw that held the first part of a phase until five others had left.
+fn held_by<R: Threads + Wait + Sync>(rt: &R, alloc: Global, workers: usize) -> Result<Held, Fault> {
+    let gate = Holding::new(5);
+    let work = AtGate { gate: &gate };
+    let tasks = first_parts(alloc, &FOUR_CORES, 6)?;
+    match with_crew(rt, alloc, &work, 6, workers, PATIENCE, OnePhase { tasks }) {
+        Ok(_) => Ok(gate.seen()),
+        Err(Refused::Memory) => Err(Fault::Memory),
+        Err(Refused::Start) => Err(Fault::WorkerStart),
+    }
+}
+
+/// While one of several workers holds the first part, the others take all others: six parts are not shared out in advance.
+#[test]
+fn workers_claim_their_parts(rt: HostRuntime) -> Result<(), Fail> {
+    for workers in [2, 3, 5, 6] {
+        let saw = held_by(&rt, rt.alloc(), workers)?;
+        expect_at(&rt, &("workers", workers), &saw, &(6, 6, 1));
+    }
+    Ok(())
+}
+
+/// Counts the phases.
 #[derive(Drop)]
 struct Counting {
     next: AtomicU64,
@@ -135,19 +159,19 @@ impl Gate for Counting {
         true
     }
 
-    fn enter(&self, _worker: usize, job: JobName) {
-        if self.next.load(Ordering::SeqCst) <= job.phase {
+    fn enter(&self, _worker: usize, part: TaskName) {
+        if self.next.load(Ordering::SeqCst) <= part.phase {
             self.next
-                .store(job.phase.saturating_add(1), Ordering::SeqCst);
+                .store(part.phase.saturating_add(1), Ordering::SeqCst);
             self.phases.fetch_add(1, Ordering::SeqCst);
         }
     }
 
-    fn leave(&self, _worker: usize, _job: JobName) {}
+    fn leave(&self, _worker: usize, _part: TaskName) {}
 }
 
 /// The commands of a run, its cycles, and how many messages it leaves in flight.
-type Did = (Vec<CommandRow>, Cycle, usize);
+type Did = (Vec<IssuedCommand>, Cycle, usize);
 
 fn did(alloc: Global, outcome: &Outcome) -> Result<Did, Fault> {
     let commands = outcome.commands.to_vec(alloc)?;
@@ -193,7 +217,7 @@ fn did_by<R: Threads + Wait + Sync, G: Gate + Sync>(
     did_under(rt, alloc, gate, workers, &config, limit)
 }
 
-/// How many cycles a run has, and how many phases with a job.
+/// How many cycles a run has, and how many phases.
 fn phases_of<R: Threads + Wait + Sync>(
     rt: &R,
     alloc: Global,
@@ -214,7 +238,7 @@ fn phases_of<R: Threads + Wait + Sync>(
 /// 30. Where nothing happens, there is no phase: a phase begins in the cycles 0, 2, 5, 7, 10, 12, 15, 17, 20, 22, 25 and 30.
 #[test]
 fn a_machine_works_where_something_happens(rt: HostRuntime) -> Result<(), Fail> {
-    for (limit, phases) in [(16, 7), (1_000_000_000_000, 12)] {
+    for (limit, phases) in [(16, 7), (60_000, 12)] {
         let found = phases_of(&rt, rt.alloc(), limit)?;
         expect(&rt, &found, &(limit, phases));
     }
@@ -245,7 +269,7 @@ fn a_machine_ends_drained(rt: HostRuntime) -> Result<(), Fail> {
     Ok(())
 }
 
-/// A core and a channel, with more workers than they have jobs in all phases.
+/// A core and a channel, with more workers than units.
 #[test]
 fn most_workers_have_nothing_to_do(rt: HostRuntime) -> Result<(), Fail> {
     let texts = Texts::of(rt.alloc(), &[], "", &["0 0\n7 4096\n3 64 128\n0 8192\n"])?;
@@ -383,60 +407,60 @@ fn refused_memory_ends_the_run(rt: HostRuntime) -> Result<(), Fail> {
     Ok(())
 }
 
-/// Puts all jobs on a board.
+/// Puts all tasks on a board.
 fn put_all<R: Wait, B: Room>(
     rt: &R,
-    board: &Board<Job, B>,
-    seat: &mut PutSeat<Job, B>,
-    jobs: Vec<Job>,
+    board: &Board<Task, B>,
+    seat: &mut PutSeat<Task, B>,
+    tasks: Vec<Task>,
 )
-    requires room { vec_len jobs ≤ board.now }
+    requires room { vec_len tasks ≤ board.now }
     requires seat { seat.old ≡ put_view [] [] }
-    ensures { seat.new ≡ put_view jobs.items [] }
+    ensures { seat.new ≡ put_view tasks.items [] }
 {
-    for job in jobs {
-        let Ok(()) = board.put(rt, seat, job) else {
+    for task in tasks {
+        let Ok(()) = board.put(rt, seat, task) else {
             unreachable!()
         };
     }
 }
 
-/// The unit of the job in front, and how many the seat has then taken.
-fn take_unit<R: Wait, B: Room>(
+/// The shard of the task in front, and how many the seat has then taken.
+fn take_shard<R: Wait, B: Room>(
     rt: &R,
-    board: &Board<Job, B>,
-    seat: &mut TakeSeat<Job, B>,
+    board: &Board<Task, B>,
+    seat: &mut TakeSeat<Task, B>,
     taken: usize,
-) -> (usize, Option<Unit>)
+) -> (usize, Option<usize>)
     requires { (taken ≡ length seat.old) × (taken < 10) }
     ensures { (result.0 ≡ length seat.new) × (result.0 ≤ taken + 1) }
 {
     match board.take(rt, seat) {
-        Some(job) => (taken + 1, Some(job.name().unit)),
+        Some(task) => (taken + 1, Some(task.name().shard)),
         None => (taken, None),
     }
 }
 
-/// Jobs are put and taken by two seats in turn, and once more by each; then both come home. The units of what was taken, and how
+/// Tasks are put and taken by two seats in turn, and once more by each; then both come home. The shards of what was taken, and how
 /// many were missing before, between and after.
 fn take_in_turn<R: Wait, B: Room>(
     rt: &R,
-    blank: Blank<Job>,
-    jobs: Vec<Job>,
-) -> ([Option<Unit>; 5], [usize; 3])
-    requires { (blank.name ≡ B.table) × (vec_len jobs ≤ blank.room) }
+    blank: Blank<Task>,
+    tasks: Vec<Task>,
+) -> ([Option<usize>; 5], [usize; 3])
+    requires { (blank.name ≡ B.table) × (vec_len tasks ≤ blank.room) }
 {
     let (board, mut seat) = blank.named::<B>();
-    let put = jobs.len();
-    put_all(rt, &board, &mut seat, jobs);
+    let put = tasks.len();
+    put_all(rt, &board, &mut seat, tasks);
     let before = board.missing(&mut seat, put, 0);
     let mut one = board.deal(&mut seat);
     let mut two = board.deal(&mut seat);
-    let (ones, first) = take_unit(rt, &board, &mut one, 0);
-    let (twos, second) = take_unit(rt, &board, &mut two, 0);
-    let (ones, third) = take_unit(rt, &board, &mut one, ones);
-    let (twos, fourth) = take_unit(rt, &board, &mut two, twos);
-    let (ones, fifth) = take_unit(rt, &board, &mut one, ones);
+    let (ones, first) = take_shard(rt, &board, &mut one, 0);
+    let (twos, second) = take_shard(rt, &board, &mut two, 0);
+    let (ones, third) = take_shard(rt, &board, &mut one, ones);
+    let (twos, fourth) = take_shard(rt, &board, &mut two, twos);
+    let (ones, fifth) = take_shard(rt, &board, &mut one, ones);
     board.bring_home(&mut seat, one);
     let between = board.missing(&mut seat, put, ones);
     board.bring_home(&mut seat, two);
@@ -447,23 +471,14 @@ fn take_in_turn<R: Wait, B: Room>(
     )
 }
 
+/// Two cores and a channel, each a shard.
 #[test]
-fn seats_take_jobs_in_their_order(rt: HostRuntime) -> Result<(), Fail> {
-    let jobs = first_jobs(rt.alloc(), &["cores = 2"])?;
-    let room = jobs.len().max(1);
+fn seats_take_parts_in_their_order(rt: HostRuntime) -> Result<(), Fail> {
+    let tasks = first_parts(rt.alloc(), &["cores = 2"], 3)?;
+    let room = tasks.len().max(1);
     let blank = Blank::open(rt.alloc(), room)?;
-    let (units, missing) = take_in_turn::<HostRuntime, Brand>(&rt, blank, jobs);
+    let (shards, missing) = take_in_turn::<HostRuntime, Brand>(&rt, blank, tasks);
     expect(&rt, &missing, &[3, 1, 0]);
-    expect(
-        &rt,
-        &units,
-        &[
-            Some(Unit::Core(0)),
-            Some(Unit::Core(1)),
-            Some(Unit::Channel(0)),
-            None,
-            None,
-        ],
-    );
+    expect(&rt, &shards, &[Some(0), Some(1), Some(2), None, None]);
     Ok(())
 }

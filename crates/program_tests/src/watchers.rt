@@ -76,7 +76,7 @@ static CASES: [(u64, Cycle); 10] = [
     (3, Cycle::MAX),
 ];
 
-/// A run that is watched has the tables of the plain machine, by jobs and in place, and its watcher is told once of its end.
+/// A run that is watched has the tables of the plain machine, in shards and in place, and its watcher is told once of its end.
 fn assert_same_watched<R: Abort + Threads + Wait + Sync>(
     rt: &R,
     alloc: Global,
@@ -84,9 +84,14 @@ fn assert_same_watched<R: Abort + Threads + Wait + Sync>(
     plain: &[u8],
 ) -> Result<(), Fault> {
     for case in &CASES {
-        let by_jobs = is_same(rt, alloc, &Watching, run, *case, plain)?;
+        let in_shards = is_same(rt, alloc, &Watching, run, *case, plain)?;
         let in_place = is_same(rt, alloc, &Open, run, *case, plain)?;
-        expect_at(rt, &(case, run.config), &[by_jobs, in_place], &[true, true]);
+        expect_at(
+            rt,
+            &(case, run.config),
+            &[in_shards, in_place],
+            &[true, true],
+        );
     }
     Ok(())
 }

@@ -8,7 +8,7 @@ use Rattle.sim_base.specs.Scheduling.{asks_for_line}
 use Rattle.sim_base.specs.declared.message.Request.{Request}
 use Rattle.std.specs.Simd.Lanes.{zip2}
 use Rattle.queue_columns.specs.Marks.{mark, is_marked}
-use Rattle.queue_columns.specs.Columns.{eligible_column, tag_column, tag_of, tags_of, waiting_count, write_count}
+use Rattle.queue_columns.specs.Columns.{eligible_column, tag_column, tag_of, tags_of, blocked_count, write_count}
 use Rattle.queue_columns.proofs.Eligible.{eligible_push}
 
 pub eligible_pushed : (column longer : List ℕ) (rs more : List Request) (r : Request) (word : ℕ) (asked : Bool) → column ≡ eligible_column rs → longer ≡ column ++ word ∷ []
@@ -101,33 +101,33 @@ first_marked word rest none = elim (cases_Bool (eqb word 1)) [
       absurd (omega (arith, none, one))
 ]
 
-waiting-cons : (word : ℕ) (marks : List ℕ) → waiting_count (word ∷ marks) ≡ cond (not (eqb word 1)) 1 0 + waiting_count marks
-waiting-cons word marks = sum_by-cons (λ x. cond (not (is_marked x)) 1 0) word marks
+blocked-cons : (word : ℕ) (marks : List ℕ) → blocked_count (word ∷ marks) ≡ cond (not (eqb word 1)) 1 0 + blocked_count marks
+blocked-cons word marks = sum_by-cons (λ x. cond (not (is_marked x)) 1 0) word marks
 
 -- where all are marked, a mark more changes nothing
-pub set_marked : (marks : List ℕ) (p : ℕ) → waiting_count marks ≡ 0 → set marks p 1 ≡ marks
+pub set_marked : (marks : List ℕ) (p : ℕ) → blocked_count marks ≡ 0 → set marks p 1 ≡ marks
 set_marked [] p none = refl
-set_marked (m ∷ marks) zero none = ap (λ x. x ∷ marks) (sym (first_marked m (waiting_count marks) (sym (waiting-cons m marks) ∙ none)).0)
+set_marked (m ∷ marks) zero none = ap (λ x. x ∷ marks) (sym (first_marked m (blocked_count marks) (sym (blocked-cons m marks) ∙ none)).0)
 set_marked (m ∷ marks) (suc p) none =
-    ap (λ xs. m ∷ xs) (set_marked marks p (first_marked m (waiting_count marks) (sym (waiting-cons m marks) ∙ none)).1)
+    ap (λ xs. m ∷ xs) (set_marked marks p (first_marked m (blocked_count marks) (sym (blocked-cons m marks) ∙ none)).1)
 
 waits_marked : (asked : Bool) → cond (not (is_marked (mark (not asked)))) 1 0 ≡ bool_byte asked
 waits_marked true = refl
 waits_marked false = refl
 
-pub waiting_pushed : (marks more : List ℕ) (waiting byte word : ℕ) (asked : Bool) → waiting ≡ waiting_count marks → more ≡ marks ++ word ∷ [] → word ≡ mark (not asked)
-    → byte ≡ bool_byte asked → waiting + byte ≡ waiting_count more
-waiting_pushed marks more waiting byte word asked is more_is word_is byte_is_one =
+pub blocked_pushed : (marks more : List ℕ) (blocked byte word : ℕ) (asked : Bool) → blocked ≡ blocked_count marks → more ≡ marks ++ word ∷ [] → word ≡ mark (not asked)
+    → byte ≡ bool_byte asked → blocked + byte ≡ blocked_count more
+blocked_pushed marks more blocked byte word asked is more_is word_is byte_is_one =
     (λ i. is i + (byte_is_one ∙ sym (waits_marked asked) ∙ ap (λ x. cond (not (is_marked x)) 1 0) (sym word_is)) i)
     ∙ sym (sum_by_push (λ x. cond (not (is_marked x)) 1 0) marks word)
-    ∙ ap waiting_count (sym more_is)
+    ∙ ap blocked_count (sym more_is)
 
 pub mark_le : (b : Bool) → cond b 1 0 ≤ 1
 mark_le true = omega arith
 mark_le false = omega arith
 
 -- one request less
-pub waiting_removed : (marks left : List ℕ) (n word : ℕ) → n < length marks → word ≡ get_or marks n word → left ≡ remove marks n
-    → waiting_count left + cond (not (eqb word 1)) 1 0 ≡ waiting_count marks
-waiting_removed marks left n word below here left_is =
-    (λ i. waiting_count (left_is i) + cond (not (eqb (here i) 1)) 1 0) ∙ sum_by-remove (λ x. cond (not (is_marked x)) 1 0) marks n word below
+pub blocked_removed : (marks left : List ℕ) (n word : ℕ) → n < length marks → word ≡ get_or marks n word → left ≡ remove marks n
+    → blocked_count left + cond (not (eqb word 1)) 1 0 ≡ blocked_count marks
+blocked_removed marks left n word below here left_is =
+    (λ i. blocked_count (left_is i) + cond (not (eqb (here i) 1)) 1 0) ∙ sum_by-remove (λ x. cond (not (is_marked x)) 1 0) marks n word below

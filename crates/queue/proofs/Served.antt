@@ -5,13 +5,13 @@ use Rattle.std.specs.List.{remove, position_or_len}
 use Rattle.sim_base.specs.Places.{is_line}
 use Rattle.sim_base.specs.declared.message.Request.{Request}
 use Rattle.queue.specs.declared.Queue.TheInside.{Inside}
-use Rattle.queue_columns.specs.Columns.{eligible_column, waiting_count, slot_count, AreCounted}
+use Rattle.queue_columns.specs.Columns.{eligible_column, blocked_count, slot_count, AreCounted}
 use Rattle.queue.specs.Kept.{AreKept}
 use Rattle.queue.specs.View.{drains_by}
 use Rattle.queue_columns.proofs.Eligible.{served}
 use Rattle.queue.proofs.Kept.{writes_removed}
 
--- s is q without its n-th request r, whose mark was a word, where so many are still counted as waiting that wait no more
+-- s is q without its n-th request r, whose mark was a word, where so many are still counted as blocked that are so no more
 pub record IsServed (q s : Inside) (n : ℕ) (r : Request) (word done : ℕ) : Type 0 where
   pub exists : n < length q.aged.requests
   pub request : r ≡ get_or q.aged.requests n r
@@ -21,7 +21,7 @@ pub record IsServed (q s : Inside) (n : ℕ) (r : Request) (word done : ℕ) : T
   pub writes : s.writes ≡ q.writes
   pub high : s.high ≡ q.high
   pub low : s.low ≡ q.low
-  pub settled : s.settled ≡ q.settled
+  pub drain_decided : s.drain_decided ≡ q.drain_decided
   pub drains : s.drains ≡ q.drains
   pub requests : s.aged.requests ≡ remove q.aged.requests n
   pub turn : eqb word 1 ≡ true → s.aged.marks ≡ set (remove q.aged.marks n) (n + position_or_len (λ x. is_line x.place r.place) (drop n (remove q.aged.requests n))) 1
@@ -29,7 +29,7 @@ pub record IsServed (q s : Inside) (n : ℕ) (r : Request) (word done : ℕ) : T
   pub mask : s.mask ≡ q.mask
   pub long : length s.lines.items ≡ length q.lines.items
   pub counted : AreCounted q.mask s.lines.items (remove q.aged.requests n)
-  pub waited : waiting_count s.aged.marks + done ≡ s.waiting
+  pub waited : blocked_count s.aged.marks + done ≡ s.blocked
 
 eligible_left : (q s : Inside) (n : ℕ) (r : Request) (word done : ℕ) → AreKept q → IsServed q s n r word done → s.aged.marks ≡ eligible_column s.aged.requests
 eligible_left q s n r word done kept left =
@@ -41,11 +41,11 @@ eligible_left q s n r word done kept left =
     ∙ ap eligible_column (sym left.requests)
 
 pub served_kept : (q s : Inside) (n : ℕ) (r : Request) (word done writes : ℕ) (drains : Bool) → AreKept q → IsServed q s n r word done → writes + cond r.write 1 0 ≡ s.writes
-    → drains ≡ drains_by s.high s.low s.settled writes
-    → AreKept (record s { waiting = s.waiting - done; writes = writes; drains = drains })
+    → drains ≡ drains_by s.high s.low s.drain_decided writes
+    → AreKept (record s { blocked = s.blocked - done; writes = writes; drains = drains })
 served_kept q s n r word done writes drains kept left fewer drains_is = record {
   eligible_are = eligible_left q s n r word done kept left;
-  waiting_are = omega (arith, left.waited);
+  blocked_are = omega (arith, left.waited);
   masked = omega (arith, kept.masked, left.mask, left.long);
   lines_are = λ slot below. left.counted slot below ∙ (λ i. slot_count (sym left.mask i) (sym left.requests i) slot);
   writes_are = omega (arith, writes_removed q.aged.requests s.aged.requests r n q.writes left.exists left.request kept.writes_are left.requests, fewer, left.writes);
@@ -56,6 +56,6 @@ served_kept q s n r word done writes drains kept left fewer drains_is = record {
 }
 
 -- where no write went, nothing is new of the drain
-pub drains_still : (q s : Inside) (n : ℕ) (r : Request) (word done : ℕ) → AreKept q → IsServed q s n r word done → s.drains ≡ drains_by s.high s.low s.settled s.writes
+pub drains_still : (q s : Inside) (n : ℕ) (r : Request) (word done : ℕ) → AreKept q → IsServed q s n r word done → s.drains ≡ drains_by s.high s.low s.drain_decided s.writes
 drains_still q s n r word done kept left =
-    left.drains ∙ kept.drains_are ∙ (λ i. drains_by (sym left.high i) (sym left.low i) (sym left.settled i) (sym left.writes i))
+    left.drains ∙ kept.drains_are ∙ (λ i. drains_by (sym left.high i) (sym left.low i) (sym left.drain_decided i) (sym left.writes i))

@@ -7,13 +7,13 @@ use Rattle.sim_base.specs.declared.message.Request.{Request}
 use Rattle.queue_columns.specs.Columns.{write_count}
 
 -- the requests that there is room for, the numbers of writes with which a drain begins and ends, the requests by age, and
--- whether it drained when that was settled last
+-- whether it drained when that was decided last
 pub record QueueView : Type 0 where
   pub room : ℕ
   pub high : ℕ
   pub low : ℕ
   pub requests : List Request
-  pub settled : Bool
+  pub drain_decided : Bool
 
 -- A drain begins with `high` writes or more, if that is not 0, and goes on with more than `low`.
 abbrev pub drains_by : ℕ → ℕ → Bool → ℕ → Bool
@@ -21,4 +21,4 @@ drains_by high low drained writes = (nat_lt 0 high && nat_le high writes) || (dr
 
 -- whether a queue drains with the requests that it has
 abbrev pub is_draining : QueueView → Bool
-is_draining view = drains_by view.high view.low view.settled (write_count view.requests)
+is_draining view = drains_by view.high view.low view.drain_decided (write_count view.requests)

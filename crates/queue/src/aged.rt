@@ -308,7 +308,7 @@ impl Aged {
 
     /// Marks the request at a place.
     #[inline(always)]
-    pub(crate) fn give_turn(&mut self, at: usize)
+    pub(crate) fn unblock_next(&mut self, at: usize)
         requires { at < length self.old.requests }
         ensures requests { self.new.requests ≡ self.old.requests }
         ensures marks { self.new.marks ≡ slice_set self.old.marks at 1 }

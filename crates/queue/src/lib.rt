@@ -12,7 +12,7 @@ ghost use Rattle.queue_columns.specs.Columns.{eligible_column, tag_column, marke
 ghost use Rattle.queue.specs.View.{QueueView, drains_by, is_draining};
 
 use crate::aged::Aged;
-use crate::lines::{counters, give_turn, is_line_asked};
+use crate::lines::{counters, is_line_asked, unblock_next};
 use queue_columns::Columns;
 use queue_columns::words::line_slot;
 use sim_base::message::Request;
@@ -21,12 +21,12 @@ use std::marker::Model;
 
 /// Whether a queue with so many writes drains, which drained before or not.
 #[inline(always)]
-fn drains(high: u32, low: u32, settled: bool, writes: usize) -> bool
-    ensures { result ≡ drains_by high low settled writes }
+fn drains(high: u32, low: u32, drain_decided: bool, writes: usize) -> bool
+    ensures { result ≡ drains_by high low drain_decided writes }
 {
     let high = high as usize;
     let low = low as usize;
-    (0 < high && high <= writes) || (settled && low < writes)
+    (0 < high && high <= writes) || (drain_decided && low < writes)
 }
 
 /// The requests that wait in a channel, by age.
@@ -37,14 +37,14 @@ pub struct Queue {
     high: u32,
     /// Writes with which a drain ends.
     low: u32,
-    /// Whether it drained when that was settled last.
-    settled: bool,
+    /// Whether it drained when that was decided last.
+    drain_decided: bool,
     /// Writes among the requests.
     writes: usize,
     /// Whether it drains with these writes.
     drains: bool,
-    /// Requests that wait for an older one of the same line.
-    waiting: usize,
+    /// Requests that are blocked by an older one of the same line.
+    blocked: usize,
     aged: Aged,
     /// How many requests are for the lines of each counter.
     lines: Vec<u16>,
@@ -59,7 +59,7 @@ impl Model for Queue {
 
     ghost use Rattle.queue.specs.Kept.{AreKept};
 
-    ghost view = { λ q. record { room = q.room; high = q.high; low = q.low; requests = q.aged.requests; settled = q.settled } };
+    ghost view = { λ q. record { room = q.room; high = q.high; low = q.low; requests = q.aged.requests; drain_decided = q.drain_decided } };
 
     ghost invariant = { AreKept };
 }
@@ -70,17 +70,17 @@ impl Queue {
     #[tactic(auto, unfolding(queue_columns::specs::Columns::eligible_column, queue_columns::specs::Columns::tag_column))]
     pub fn with_room(alloc: Global, room: usize, high: u32, low: u32) -> Result<Self, AllocError>
         requires room { room < 2 ^ 16 - 1 }
-        ensures { IfOk result (λ queue. queue ≡ record { room = room; high = high; low = low; requests = []; settled = false }) }
+        ensures { IfOk result (λ queue. queue ≡ record { room = room; high = high; low = low; requests = []; drain_decided = false }) }
     {
         let (lines, mask) = counters(alloc, room)?;
         Ok(Queue {
             room,
             high,
             low,
-            settled: false,
+            drain_decided: false,
             writes: 0,
             drains: false,
-            waiting: 0,
+            blocked: 0,
             aged: Aged::with_room(alloc, room)?,
             lines,
             mask,
@@ -105,10 +105,10 @@ impl Queue {
         let asked = is_line_asked(request.place, alike, self.aged.requests());
         self.aged.push(request, !asked);
         self.lines[line] = alike + 1;
-        self.waiting += usize::from(asked);
+        self.blocked += usize::from(asked);
         if request.write {
             self.writes += 1;
-            self.drains = drains(self.high, self.low, self.settled, self.writes);
+            self.drains = drains(self.high, self.low, self.drain_decided, self.writes);
         }
     }
 
@@ -125,25 +125,25 @@ impl Queue {
         let alike = self.lines[line] - 1;
         self.lines[line] = alike;
         let waited = if was_first {
-            give_turn(request.place, slot, self.waiting, alike, &mut self.aged)
+            unblock_next(request.place, slot, self.blocked, alike, &mut self.aged)
         } else {
             true
         };
-        self.waiting -= usize::from(waited);
+        self.blocked -= usize::from(waited);
         if request.write {
             self.writes -= 1;
-            self.drains = drains(self.high, self.low, self.settled, self.writes);
+            self.drains = drains(self.high, self.low, self.drain_decided, self.writes);
         }
         request
     }
 
-    /// Settles whether the queue drains with the requests that it has, as it does once in each cycle.
+    /// Decides whether the queue drains with the requests that it has, as it does once in each cycle.
     #[inline(always)]
-    pub fn settle(&mut self)
-        ensures value { self.new ≡ record self.old { settled = is_draining self.old } }
+    pub fn decide_drain(&mut self)
+        ensures value { self.new ≡ record self.old { drain_decided = is_draining self.old } }
         ensures same { is_draining self.new ≡ is_draining self.old }
     {
-        self.settled = self.drains;
+        self.drain_decided = self.drains;
     }
 
     /// Whether the queue drains its writes with the requests that it has; settling that now changes nothing of it.

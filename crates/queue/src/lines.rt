@@ -4,7 +4,7 @@ ghost use Rattle.std.specs.Prelude.{◌≡◌, ◌+◌, ◌<◌, ◌≤◌, [], 
 ghost use Rattle.std.specs.List.{position_or_len};
 ghost use Rattle.sim_base.specs.Places.{is_line};
 ghost use Rattle.sim_base.specs.Scheduling.{asks_for_line};
-ghost use Rattle.queue_columns.specs.Columns.{waiting_count, AreCounted};
+ghost use Rattle.queue_columns.specs.Columns.{blocked_count, AreCounted};
 ghost use Rattle.queue_columns.specs.Marks.{mark};
 
 use crate::aged::Aged;
@@ -42,25 +42,25 @@ pub(crate) fn counters(alloc: Global, room: usize) -> Result<(Vec<u16>, usize), 
     Ok((vec![in alloc; 0; mask + 1]?, mask))
 }
 
-/// Marks the first request for a line from a place on, if there is one, and says whether it was not marked. `waiting` is how many
+/// Marks the first request for a line from a place on, if there is one, and says whether it was not marked. `blocked` is how many
 /// are not marked, and `alike` is 0 only where none asks for the line.
-pub(crate) fn give_turn(
+pub(crate) fn unblock_next(
     place: Place,
     from: usize,
-    waiting: usize,
+    blocked: usize,
     alike: u16,
     aged: &mut Aged,
 ) -> bool
     requires from { from ≤ length aged.old.requests }
-    requires waiting { waiting ≡ waiting_count aged.old.marks }
+    requires blocked { blocked ≡ blocked_count aged.old.marks }
     requires alike { alike ≡ 0 → asks_for_line place aged.old.requests ≡ false }
     requires same_length { length aged.old.marks ≡ length aged.old.requests }
     ensures requests { aged.new.requests ≡ aged.old.requests }
     ensures marks { aged.new.marks ≡ slice_set aged.old.marks (from + position_or_len (λ q. is_line q.place place) (drop from aged.old.requests)) 1 }
-    ensures waited { waiting_count aged.new.marks + mark result ≡ waiting_count aged.old.marks }
+    ensures waited { blocked_count aged.new.marks + mark result ≡ blocked_count aged.old.marks }
     ensures room { aged.new.room ≡ aged.old.room }
 {
-    if waiting == 0 {
+    if blocked == 0 {
         return false;
     }
     if alike == 0 {
@@ -71,6 +71,6 @@ pub(crate) fn give_turn(
     };
     let next = from + next;
     let waited = aged.eligible()[next] != 1;
-    aged.give_turn(next);
+    aged.unblock_next(next);
     waited
 }

@@ -4,7 +4,7 @@
 --     tag_word eligible write bank      one byte that tells whether a request may be served and whether it writes, and its bank modulo 64
 --     tag_of eligible r, tags_of requests marks      the tag of a request, and those of some, of which those that are marked may be served
 --     tag_column requests      the tags of all
---     waiting_count marks      how many are not marked
+--     blocked_count marks      how many are not marked
 --     line_slot mask place      the counter that counts the requests for the line of a place, and for some others
 --     slot_count mask requests slot, AreCounted mask counts requests      how many requests a counter counts, and that each says so many
 --     marked_items items marks      the items at the places that are marked
@@ -41,9 +41,9 @@ tags_of requests marks = zip2 (λ r eligible. tag_of (is_marked eligible) r) req
 unfoldable pub tag_column : List Request → List ℕ
 tag_column requests = tags_of requests (eligible_column requests)
 
--- how many of these words are no marks: of the eligible ones, how many requests wait for an older one of their line
-abbrev pub waiting_count : List ℕ → ℕ
-waiting_count marks = count_by (λ word. not (is_marked word)) marks
+-- how many of these words are no marks: of the eligible ones, how many requests are blocked by an older one of their line
+abbrev pub blocked_count : List ℕ → ℕ
+blocked_count marks = count_by (λ word. not (is_marked word)) marks
 
 -- one of the counters up to `mask`, the same for all places of a line
 unfoldable pub line_slot : ℕ → Place → ℕ

@@ -8,14 +8,14 @@ use Rattle.std.proofs.Math.Nat.{div-lt_iff_lt-mul}
 use Rattle.std.specs.Prelude.{find, count_by, slice_index, slice_set, IsSome, is_some}
 use Rattle.std.specs.List.{range_with_len}
 use Rattle.sim_base.specs.declared.config.Config.{Config}
-use Rattle.sim_base.specs.declared.command.CommandRow.{CommandRow}
+use Rattle.sim_base.specs.declared.command.IssuedCommand.{IssuedCommand}
 use Rattle.sim_base.specs.declared.command.Command.TheVariants.{Ref}
 use Rattle.sim_base.specs.History.{below}
 use Rattle.sim_base.specs.Scheduling.{due, lowest_due, refreshes}
 use Rattle.refresh.specs.Refreshes.{RefreshCounts, owed, lowest_owed, IsFirstDue, IsDueFrom, IsFewest, IsCountable, IsQuietTo, IsCounted, IsNoRefresh, StandsFor}
 
 -- what is due to a rank
-pub due_from_owed : (counts : RefreshCounts) (s : Config) (rank : ℕ) (history : List CommandRow) (now : ℕ) → StandsFor counts s history → rank < counts.ranks
+pub due_from_owed : (counts : RefreshCounts) (s : Config) (rank : ℕ) (history : List IssuedCommand) (now : ℕ) → StandsFor counts s history → rank < counts.ranks
     → due s rank history now ≡ owed counts rank now
 unfolding due
 due_from_owed counts s rank history now stands exists =
@@ -27,7 +27,7 @@ find_same p q a zero same = refl
 find_same p q a (suc n) same = λ i. cond (same a (omega arith) i) (Some a) (find_same p q (a + 1) n (λ k l. same k (omega arith)) i)
 
 -- the lowest rank to which something is due
-pub lowest_due_from_owed : (counts : RefreshCounts) (s : Config) (history : List CommandRow) (now : ℕ) → StandsFor counts s history
+pub lowest_due_from_owed : (counts : RefreshCounts) (s : Config) (history : List IssuedCommand) (now : ℕ) → StandsFor counts s history
     → lowest_due s history now ≡ lowest_owed counts now
 unfolding lowest_due
 lowest_due_from_owed counts s history now stands =
@@ -81,7 +81,7 @@ first_due counts now fewest next some least is =
     }
 
 -- the same by the commands that the counts stand for
-pub first_due_from_owed : (counts : RefreshCounts) (s : Config) (history : List CommandRow) (now next : ℕ) → StandsFor counts s history → IsFirstDue (lowest_owed counts) now next
+pub first_due_from_owed : (counts : RefreshCounts) (s : Config) (history : List IssuedCommand) (now next : ℕ) → StandsFor counts s history → IsFirstDue (lowest_owed counts) now next
     → IsFirstDue (lowest_due s history) now next
 first_due_from_owed counts s history now next stands first = record {
   from_now = first.from_now;
@@ -119,7 +119,7 @@ rank_never_due counts rank now none = record {
 }
 
 -- the same by the commands that the counts stand for
-pub rank_due_from_owed : (counts : RefreshCounts) (s : Config) (history : List CommandRow) (rank now : ℕ) (first : Option ℕ) → StandsFor counts s history → rank < counts.ranks
+pub rank_due_from_owed : (counts : RefreshCounts) (s : Config) (history : List IssuedCommand) (rank now : ℕ) (first : Option ℕ) → StandsFor counts s history → rank < counts.ranks
     → IsDueFrom (owed counts rank) now first → IsDueFrom (due s rank history) now first
 rank_due_from_owed counts s history rank now first stands exists is = record {
   from_now = is.from_now;
@@ -130,7 +130,7 @@ one_more : {X : Type 0} (p : X → Bool) (xs : List X) (x : X) → count_by p (x
 one_more p xs x = sum_by_push (λ y. cond (p y) 1 0) xs x
 
 -- A refresh is counted to its rank.
-pub stands_with_refresh : (counts : RefreshCounts) (s : Config) (history : List CommandRow) (i : CommandRow) (rank : ℕ) → rank < length counts.issued → i.command ≡ Ref rank
+pub stands_with_refresh : (counts : RefreshCounts) (s : Config) (history : List IssuedCommand) (i : IssuedCommand) (rank : ℕ) → rank < length counts.issued → i.command ≡ Ref rank
     → StandsFor counts s history
     → StandsFor (record counts { issued = slice_set counts.issued rank (slice_index counts.issued rank + 1) }) s (history ++ i ∷ [])
 stands_with_refresh counts s history i rank exists is stands = record {
@@ -154,7 +154,7 @@ stands_with_refresh counts s history i rank exists is stands = record {
 }
 
 -- Any other command leaves the counts as they are.
-pub stands_without_refresh : (counts : RefreshCounts) (s : Config) (history : List CommandRow) (i : CommandRow)
+pub stands_without_refresh : (counts : RefreshCounts) (s : Config) (history : List IssuedCommand) (i : IssuedCommand)
     → IsNoRefresh s i.command → StandsFor counts s history → StandsFor counts s (history ++ i ∷ [])
 stands_without_refresh counts s history i other stands = record {
   interval_is = stands.interval_is;

@@ -10,7 +10,7 @@
 use Rattle.std.specs.Prelude.{◌≡◌, ℕ, ◌+◌, ◌-◌, ◌*◌, ◌^◌, ◌/◌, ◌<◌, ◌≤◌, ◌==◌, nat_lt, nat_le, Bool, List, slice_index, find, count_by, false, Option, IsSome, IfSome, Some, None, if◌then◌else◌}
 use Rattle.sim_base.specs.declared.config.Config.{Config}
 use Rattle.sim_base.specs.declared.command.Command.{Command}
-use Rattle.sim_base.specs.declared.command.CommandRow.{CommandRow}
+use Rattle.sim_base.specs.declared.command.IssuedCommand.{IssuedCommand}
 use Rattle.sim_base.specs.History.{below}
 use Rattle.sim_base.specs.Scheduling.{refreshes}
 
@@ -50,7 +50,7 @@ pub record IsFewest (counts : RefreshCounts) (fewest : ℕ) : Type 0 where
   pub reached : (rank : ℕ) × (rank < counts.ranks) × (slice_index counts.issued rank ≡ fewest)
 
 -- The refreshes that a list of commands has for each rank of a configuration were counted, and no others.
-pub record StandsFor (counts : RefreshCounts) (s : Config) (history : List CommandRow) : Type 0 where
+pub record StandsFor (counts : RefreshCounts) (s : Config) (history : List IssuedCommand) : Type 0 where
   pub interval_is : counts.interval ≡ s.timing.n_refi
   pub ranks_are : counts.ranks ≡ s.ranks
   pub issued_are : (rank : ℕ) → rank < s.ranks → slice_index counts.issued rank ≡ count_by (λ i. refreshes rank i.command) history

@@ -7,7 +7,7 @@ ghost use Rattle.sim_base.specs.Ranges.{Within};
 ghost use Rattle.sim_base.specs.Scheduling.{due, lowest_due};
 ghost use Rattle.sim_base.specs.declared.config.Config.{Config};
 ghost use Rattle.sim_base.specs.declared.command.Command.TheVariants.{Ref};
-ghost use Rattle.sim_base.specs.declared.command.CommandRow.{CommandRow};
+ghost use Rattle.sim_base.specs.declared.command.IssuedCommand.{IssuedCommand};
 ghost use Rattle.refresh.specs.Refreshes.{RefreshCounts, owed, lowest_owed, IsFirstDue, IsDueFrom, IsCounted, StandsFor, IsNoRefresh};
 
 use sim_base::message::Cycle;
@@ -106,7 +106,7 @@ impl Refresh {
     pub fn due(&self, now: Cycle, rank: u32) -> u64
         requires { rank < self.now.ranks }
         ensures value { result ≡ owed self.now rank now }
-        ensures stands { (s : Config) (history : List CommandRow) → StandsFor self.now s history → result ≡ due s rank history now }
+        ensures stands { (s : Config) (history : List IssuedCommand) → StandsFor self.now s history → result ≡ due s rank history now }
     {
         self.owed(now, rank)
     }
@@ -115,7 +115,7 @@ impl Refresh {
     #[tactic(auto, using(crate::proofs::Due::lowest_due_from_owed))]
     pub fn lowest_due(&self, now: Cycle) -> Option<u32>
         ensures value { result ≡ lowest_owed self.now now }
-        ensures stands { (s : Config) (history : List CommandRow) → StandsFor self.now s history → result ≡ lowest_due s history now }
+        ensures stands { (s : Config) (history : List IssuedCommand) → StandsFor self.now s history → result ≡ lowest_due s history now }
     {
         self.lowest_owed(now)
     }
@@ -125,7 +125,7 @@ impl Refresh {
     pub fn next_due(&self, now: Cycle) -> Option<Cycle>
         ensures none { IsNone result ↔ (self.now.interval ≡ 0) }
         ensures next { IfSome result (IsFirstDue (lowest_owed self.now) now) }
-        ensures stands { (s : Config) (history : List CommandRow) → StandsFor self.now s history → IfSome result (IsFirstDue (lowest_due s history) now) }
+        ensures stands { (s : Config) (history : List IssuedCommand) → StandsFor self.now s history → IfSome result (IsFirstDue (lowest_due s history) now) }
     {
         if self.refresh_interval == 0 {
             return None;
@@ -154,7 +154,7 @@ impl Refresh {
         requires { rank < self.now.ranks }
         ensures none { IsNone result ↔ (self.now.interval ≡ 0) }
         ensures value { IsDueFrom (owed self.now rank) now result }
-        ensures stands { (s : Config) (history : List CommandRow) → StandsFor self.now s history → IsDueFrom (due s rank history) now result }
+        ensures stands { (s : Config) (history : List IssuedCommand) → StandsFor self.now s history → IsDueFrom (due s rank history) now result }
     {
         if self.refresh_interval == 0 {
             return None;
@@ -169,7 +169,7 @@ impl Refresh {
         requires now { now < 2 ^ 62 }
         requires due { 0 < owed self.old rank now }
         ensures value { self.new ≡ record self.old { issued = slice_set self.old.issued rank (slice_index self.old.issued rank + 1) } }
-        ensures stands { (s : Config) (history : List CommandRow) (i : CommandRow) → i.command ≡ Ref rank → StandsFor self.old s history → StandsFor self.new s (history ++ i ∷ []) }
+        ensures stands { (s : Config) (history : List IssuedCommand) (i : IssuedCommand) → i.command ≡ Ref rank → StandsFor self.old s history → StandsFor self.new s (history ++ i ∷ []) }
     {
         self.issued[rank as usize] += 1;
         let fewest = fewest(&self.issued[..self.ranks as usize]);
@@ -180,5 +180,5 @@ impl Refresh {
 /// A law about the counts: a command that refreshes no rank leaves them as they stand.
 #[tactic(auto, using(crate::proofs::Due::stands_without_refresh))]
 pub fn other_commands_change_nothing()
-    ensures { (counts : RefreshCounts) (s : Config) (history : List CommandRow) (i : CommandRow) → IsNoRefresh s i.command → StandsFor counts s history → StandsFor counts s (history ++ i ∷ []) }
+    ensures { (counts : RefreshCounts) (s : Config) (history : List IssuedCommand) (i : IssuedCommand) → IsNoRefresh s i.command → StandsFor counts s history → StandsFor counts s (history ++ i ∷ []) }
 {}

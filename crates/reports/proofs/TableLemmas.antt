@@ -12,7 +12,7 @@ use Rattle.reports.specs.Final.{final_header, final_rows, final_text, progress_r
 use Rattle.reports.specs.Stats.{stats_header, value_fields, core_rows, usual_values, draining_values, channel_rows, stats_rows, stats_text}
 use Rattle.statistics.specs.Values.{RunStats, LastState}
 use Rattle.statistics.specs.declared.channels.ChannelStats.{ChannelStats}
-use Rattle.sim_base.specs.declared.command.CommandRow.{CommandRow}
+use Rattle.sim_base.specs.declared.command.IssuedCommand.{IssuedCommand}
 
 -- rows after rows
 pub rows_text-append : (rows more : List (List (List ℕ))) → rows_text (rows ++ more) ≡ rows_text rows ++ rows_text more
@@ -109,7 +109,7 @@ unfolding commands_text table_text
 commands_text-none ranks = rows_text-one (header ranks)
 
 -- one row more
-pub commands_text-more : (ranks : ℕ) (rows : List CommandRow) (row : CommandRow) → commands_text ranks (rows ++ row ∷ []) ≡ commands_text ranks rows ++ row_text (command_fields ranks row)
+pub commands_text-more : (ranks : ℕ) (rows : List IssuedCommand) (row : IssuedCommand) → commands_text ranks (rows ++ row ∷ []) ≡ commands_text ranks rows ++ row_text (command_fields ranks row)
 unfolding commands_text table_text
 commands_text-more ranks rows row =
     let fields = command_fields ranks in

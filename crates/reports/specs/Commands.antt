@@ -10,7 +10,7 @@ use Rattle.sim_base.specs.declared.command.Kind.{Kind}
 use Rattle.sim_base.specs.declared.command.Kind.TheVariants as kind
 use Rattle.sim_base.specs.declared.command.Command.{Command}
 use Rattle.sim_base.specs.declared.command.Command.TheVariants.{Act, Rd, Wr, Pre, Prea, Ref}
-use Rattle.sim_base.specs.declared.command.CommandRow.{CommandRow}
+use Rattle.sim_base.specs.declared.command.IssuedCommand.{IssuedCommand}
 
 -- a field of the column of the rank, which is there where there are several ranks
 abbrev pub rank_field : ℕ → List ℕ → List (List ℕ)
@@ -45,11 +45,11 @@ operand_fields (Prea rank) = [] ∷ [] ∷ [] ∷ [] ∷ [] ∷ [] ∷ []
 operand_fields (Ref rank) = [] ∷ [] ∷ [] ∷ [] ∷ [] ∷ [] ∷ []
 
 -- the fields of a row
-abbrev pub command_fields : ℕ → CommandRow → List (List ℕ)
+abbrev pub command_fields : ℕ → IssuedCommand → List (List ℕ)
 command_fields ranks row =
     decimal row.cycle ∷ decimal row.channel ∷ kind_word (kind_of row.command)
     ∷ (rank_field ranks (decimal (rank_of row.command)) ++ operand_fields row.command)
 
 -- the table of commands, in this order
-unfoldable pub commands_text : ℕ → List CommandRow → List ℕ
+unfoldable pub commands_text : ℕ → List IssuedCommand → List ℕ
 commands_text ranks rows = table_text (header ranks) (map (command_fields ranks) rows)

@@ -10,7 +10,7 @@ ghost use Rattle.reports.specs.Commands.{header, kind_word, operand_fields, comm
 use crate::line::{Line, put, put_last, put_last_word, put_rank, put_word};
 use crate::table::Table;
 use command_table::table::CommandTable;
-use sim_base::command::{Command, CommandRow, Kind, Source};
+use sim_base::command::{Command, IssuedCommand, Kind, Source};
 use sim_base::fault::Fault;
 use sim_base::place::BankId;
 use std::alloc::Global;
@@ -103,7 +103,7 @@ fn write_header<W: Write>(table: &mut Table, ranks: u32, writer: &mut W) -> Resu
 
 // The fields of a row, from the last to the first.
 #[inline(always)]
-fn put_command(line: &mut Line, ranks: u32, row: &CommandRow) -> usize
+fn put_command(line: &mut Line, ranks: u32, row: &IssuedCommand) -> usize
     ensures text { drop result line.new ≡ join_with_byte comma (command_fields ranks row.now) }
     ensures some { result < 256 }
 {
@@ -117,7 +117,7 @@ fn put_command(line: &mut Line, ranks: u32, row: &CommandRow) -> usize
 fn write_command<W: Write>(
     table: &mut Table,
     ranks: u32,
-    row: &CommandRow,
+    row: &IssuedCommand,
     writer: &mut W,
 ) -> Result<(), Fault>
     ensures written { OnOk result (Appends (held W.contents writer.old table.old) (held W.contents writer.new table.new) (row_text (command_fields ranks row.now))) }

@@ -15,7 +15,7 @@ use Rattle.sim_base.specs.declared.command.Relation.TheVariants.{SameBank, SameG
 use Rattle.sim_base.specs.declared.command.Kind.TheVariants as kind
 use Rattle.sim_base.specs.declared.command.Command.{Command}
 use Rattle.sim_base.specs.declared.command.Command.TheVariants.{Act, Rd, Wr, Pre, Prea, Ref}
-use Rattle.sim_base.specs.declared.command.CommandRow.{CommandRow}
+use Rattle.sim_base.specs.declared.command.IssuedCommand.{IssuedCommand}
 use Rattle.sim_base.specs.Rules.{rules, is_kind, kind_of, rank_of, bank_of, relation_of, relation_in_rank, covers, row_after, open_row, has_open_bank, has_open_bank_in_group, is_row, finds_its_banks}
 use Rattle.rule_check.specs.Fields.{BankFits, CommandFits, RowFits}
 use Rattle.rule_check.specs.Broken.{is_too_close, breaks_distance, breaks_window, breaks_refresh, is_overdue, breaks_in_channel}
@@ -34,29 +34,29 @@ use Rattle.rule_check.proofs.Deadlines.{deadline-overdue}
 
 -- ONE ROW MORE
 
-latest_where-more : (p : Command → Bool) (history : List CommandRow) (i : CommandRow)
+latest_where-more : (p : Command → Bool) (history : List IssuedCommand) (i : IssuedCommand)
     → latest_where p (history ++ i ∷ []) ≡ noted_where (p i.command) (kind_of i.command) i.cycle (latest_where p history)
 unfolding latest_where
-latest_where-more p history i = fold-append (λ l (j : CommandRow). noted_where (p j.command) (kind_of j.command) j.cycle l) nothing history (i ∷ [])
+latest_where-more p history i = fold-append (λ l (j : IssuedCommand). noted_where (p j.command) (kind_of j.command) j.cycle l) nothing history (i ∷ [])
 
-open_row-more : (bank : BankId) (history : List CommandRow) (i : CommandRow) → open_row bank (history ++ i ∷ []) ≡ row_after bank (open_row bank history) i.command
+open_row-more : (bank : BankId) (history : List IssuedCommand) (i : IssuedCommand) → open_row bank (history ++ i ∷ []) ≡ row_after bank (open_row bank history) i.command
 unfolding open_row
-open_row-more bank history i = fold-append (λ row (j : CommandRow). row_after bank row j.command) None history (i ∷ [])
+open_row-more bank history i = fold-append (λ row (j : IssuedCommand). row_after bank row j.command) None history (i ∷ [])
 
-window_from-more : (t : Timing) (rank : ℕ) (history : List CommandRow) (i : CommandRow)
+window_from-more : (t : Timing) (rank : ℕ) (history : List IssuedCommand) (i : IssuedCommand)
     → window_from t rank (history ++ i ∷ []) ≡ window_where (activates rank i.command) (i.cycle + t.n_faw) (window_from t rank history)
 unfolding window_from
-window_from-more t rank history i = fold-append (λ w (j : CommandRow). window_where (activates rank j.command) (j.cycle + t.n_faw) w) _ history (i ∷ [])
+window_from-more t rank history i = fold-append (λ w (j : IssuedCommand). window_where (activates rank j.command) (j.cycle + t.n_faw) w) _ history (i ∷ [])
 
-deadline_from-more : (s : Config) (rank : ℕ) (history : List CommandRow) (i : CommandRow)
+deadline_from-more : (s : Config) (rank : ℕ) (history : List IssuedCommand) (i : IssuedCommand)
     → deadline_from s rank (history ++ i ∷ []) ≡ deadline_where (refreshes rank i.command) s.timing.n_refi (deadline_from s rank history)
 unfolding deadline_from
-deadline_from-more s rank history i = fold-append (λ d (j : CommandRow). deadline_where (refreshes rank j.command) s.timing.n_refi d) _ history (i ∷ [])
+deadline_from-more s rank history i = fold-append (λ d (j : IssuedCommand). deadline_where (refreshes rank j.command) s.timing.n_refi d) _ history (i ∷ [])
 
-bank-more : (history : List CommandRow) (i : CommandRow) (b : BankId) → bank_after b i.cycle i.command (bank_past history b) ≡ bank_past (history ++ i ∷ []) b
+bank-more : (history : List IssuedCommand) (i : IssuedCommand) (b : BankId) → bank_after b i.cycle i.command (bank_past history b) ≡ bank_past (history ++ i ∷ []) b
 bank-more history i b = λ x. record { latest = sym (latest_where-more (lies InBank b.rank (Some b)) history i) x; row = sym (open_row-more b history i) x }
 
-group-more : (history : List CommandRow) (i : CommandRow) (rank group : ℕ)
+group-more : (history : List IssuedCommand) (i : IssuedCommand) (rank group : ℕ)
     → group_after rank group i.cycle i.command (group_past history rank group) ≡ group_past (history ++ i ∷ []) rank group
 group-more history i rank group =
     λ x. record {
@@ -64,7 +64,7 @@ group-more history i rank group =
       across = sym (latest_where-more (lies AcrossGroups rank (any_bank rank group)) history i) x;
     }
 
-rank-more : (s : Config) (history : List CommandRow) (i : CommandRow) (rank : ℕ)
+rank-more : (s : Config) (history : List IssuedCommand) (i : IssuedCommand) (rank : ℕ)
     → rank_after s.timing rank i.cycle i.command (rank_past s history rank) ≡ rank_past s (history ++ i ∷ []) rank
 rank-more s history i rank =
     λ x. record {
@@ -75,7 +75,7 @@ rank-more s history i rank =
     }
 
 -- what noting a row in each bank, group and rank makes of a channel
-pub record IsNoted (c after : Channel) (s : Config) (i : CommandRow) : Type 0 where
+pub record IsNoted (c after : Channel) (s : Config) (i : IssuedCommand) : Type 0 where
   pub all_banks : length after.banks.items ≡ length c.banks.items
   pub all_groups : length after.groups.items ≡ length c.groups.items
   pub all_ranks : length after.ranks.items ≡ length c.ranks.items
@@ -83,7 +83,7 @@ pub record IsNoted (c after : Channel) (s : Config) (i : CommandRow) : Type 0 wh
   pub each_group : (k : ℕ) (d : Group) → k < length c.groups.items → get_or after.groups.items k d ≡ group_after (k / 4) (k % 4) i.cycle i.command (get_or c.groups.items k d)
   pub each_rank : (k : ℕ) (d : Rank) → k < length c.ranks.items → get_or after.ranks.items k d ≡ rank_after s.timing k i.cycle i.command (get_or c.ranks.items k d)
 
-pub kept-more : (c after : Channel) (s : Config) (history : List CommandRow) (i : CommandRow) → IsNoted c after s i → IsKept c s history → IsKept after s (history ++ i ∷ [])
+pub kept-more : (c after : Channel) (s : Config) (history : List IssuedCommand) (i : IssuedCommand) → IsNoted c after s i → IsKept c s history → IsKept after s (history ++ i ∷ [])
 kept-more c after s history i n h =
     record {
       bank_count = n.all_banks ∙ h.bank_count;
@@ -109,7 +109,7 @@ bank_numbered-number_of bank g b =
     let last : number_of bank % 4 ≡ bank.bank = omega arith in
     λ i. record { rank = rank i; group = group i; bank = last i }
 
-bank-read : (c : Channel) (s : Config) (history : List CommandRow) (b : BankId) → IsKept c s history → BankFits s b
+bank-read : (c : Channel) (s : Config) (history : List IssuedCommand) (b : BankId) → IsKept c s history → BankFits s b
     → slice_get c.banks.items (number_of b) ≡ Some (bank_past history b)
 bank-read c s history b k f =
     let few = s.memory_in_range.groups_in.1 in
@@ -121,7 +121,7 @@ bank-read c s history b k f =
     slice_get-get_or c.banks.items (number_of b) d (omega (arith, k.bank_count))
     ∙ ap Some (k.banks (number_of b) d inside ∙ ap (bank_past history) (bank_numbered-number_of b (omega arith) last))
 
-group-read : (c : Channel) (s : Config) (history : List CommandRow) (b : BankId) → IsKept c s history → BankFits s b
+group-read : (c : Channel) (s : Config) (history : List IssuedCommand) (b : BankId) → IsKept c s history → BankFits s b
     → slice_get c.groups.items (group_number b) ≡ Some (group_past history b.rank b.group)
 group-read c s history b k f =
     let few = s.memory_in_range.groups_in.1 in
@@ -134,7 +134,7 @@ group-read c s history b k f =
     slice_get-get_or c.groups.items (group_number b) d (omega (arith, k.group_count))
     ∙ ap Some (k.groups (group_number b) d inside ∙ (λ x. group_past history (high x) (low x)))
 
-rank-read : (c : Channel) (s : Config) (history : List CommandRow) (rank : ℕ) → IsKept c s history → rank < s.ranks
+rank-read : (c : Channel) (s : Config) (history : List IssuedCommand) (rank : ℕ) → IsKept c s history → rank < s.ranks
     → slice_get c.ranks.items rank ≡ Some (rank_past s history rank)
 rank-read c s history rank k l =
     let d = rank_past s history rank in
@@ -242,14 +242,14 @@ lies-across_groups rank b e =
       | false ↦ refl
     ]
 
-latest_where-same : (p q : Command → Bool) (history : List CommandRow) → ((e : Command) → p e ≡ q e) → latest_where p history ≡ latest_where q history
+latest_where-same : (p q : Command → Bool) (history : List IssuedCommand) → ((e : Command) → p e ≡ q e) → latest_where p history ≡ latest_where q history
 latest_where-same p q history h = λ x. latest_where (λ e. h e x) history
 
-fold-never : (history : List CommandRow) (l : Latest) → fold (λ l (i : CommandRow). noted_where false (kind_of i.command) i.cycle l) l history ≡ l
+fold-never : (history : List IssuedCommand) (l : Latest) → fold (λ l (i : IssuedCommand). noted_where false (kind_of i.command) i.cycle l) l history ≡ l
 fold-never [] l = refl
 fold-never (i ∷ history) l = fold-never history l
 
-latest_where-never : (history : List CommandRow) → latest_where (λ e. false) history ≡ nothing
+latest_where-never : (history : List IssuedCommand) → latest_where (λ e. false) history ≡ nothing
 unfolding latest_where
 latest_where-never history = fold-never history nothing
 
@@ -263,32 +263,32 @@ latest_of-nothing kind.Ref = refl
 
 -- THE LATEST COMMAND OF EACH SCOPE
 
-in_rank-kept : (c : Channel) (s : Config) (history : List CommandRow) (which : Kind) (rank : ℕ) → IsKept c s history → rank < s.ranks
+in_rank-kept : (c : Channel) (s : Config) (history : List IssuedCommand) (which : Kind) (rank : ℕ) → IsKept c s history → rank < s.ranks
     → kept_in_rank c.ranks.items rank which ≡ latest_of (latest_where (lies InRank rank None) history) which
 in_rank-kept c s history which rank k l = ap (option_and_then (λ (state : Rank). latest_of state.within which)) (rank-read c s history rank k l)
 
-across_ranks-kept : (c : Channel) (s : Config) (history : List CommandRow) (which : Kind) (rank : ℕ) → IsKept c s history → rank < s.ranks
+across_ranks-kept : (c : Channel) (s : Config) (history : List IssuedCommand) (which : Kind) (rank : ℕ) → IsKept c s history → rank < s.ranks
     → kept_across_ranks c.ranks.items rank which ≡ latest_of (latest_where (lies AcrossRanks rank None) history) which
 across_ranks-kept c s history which rank k l = ap (option_and_then (λ (state : Rank). latest_of state.across which)) (rank-read c s history rank k l)
 
-in_bank-kept : (c : Channel) (s : Config) (history : List CommandRow) (which : Kind) (b : BankId) → IsKept c s history → BankFits s b
+in_bank-kept : (c : Channel) (s : Config) (history : List IssuedCommand) (which : Kind) (b : BankId) → IsKept c s history → BankFits s b
     → kept_in_bank c.banks.items b which ≡ latest_of (latest_where (lies InBank b.rank (Some b)) history) which
 in_bank-kept c s history which b k f = ap (option_and_then (λ (state : Bank). latest_of state.latest which)) (bank-read c s history b k f)
 
-in_group-kept : (c : Channel) (s : Config) (history : List CommandRow) (which : Kind) (b : BankId) → IsKept c s history → BankFits s b
+in_group-kept : (c : Channel) (s : Config) (history : List IssuedCommand) (which : Kind) (b : BankId) → IsKept c s history → BankFits s b
     → kept_in_group c.groups.items b which ≡ latest_of (latest_where (lies InGroup b.rank (Some b)) history) which
 in_group-kept c s history which b k f =
     ap (option_and_then (λ (state : Group). latest_of state.within which)) (group-read c s history b k f)
     ∙ ap (λ l. latest_of l which) (latest_where-same _ _ history (lies-in_group b.rank b))
 
-across_groups-kept : (c : Channel) (s : Config) (history : List CommandRow) (which : Kind) (b : BankId) → IsKept c s history → BankFits s b
+across_groups-kept : (c : Channel) (s : Config) (history : List IssuedCommand) (which : Kind) (b : BankId) → IsKept c s history → BankFits s b
     → kept_across_groups c.groups.items b which ≡ latest_of (latest_where (lies AcrossGroups b.rank (Some b)) history) which
 across_groups-kept c s history which b k f =
     ap (option_and_then (λ (state : Group). latest_of state.across which)) (group-read c s history b k f)
     ∙ ap (λ l. latest_of l which) (latest_where-same _ _ history (lies-across_groups b.rank b))
 
 -- of a command that names a bank
-kept-bank : (c : Channel) (s : Config) (history : List CommandRow) (scope : Scope) (which : Kind) (b : BankId) → IsKept c s history → BankFits s b
+kept-bank : (c : Channel) (s : Config) (history : List IssuedCommand) (scope : Scope) (which : Kind) (b : BankId) → IsKept c s history → BankFits s b
     → kept c scope which b.rank (Some b) ≡ latest_of (latest_where (lies scope b.rank (Some b)) history) which
 unfolding kept
 kept-bank c s history InBank which b k f = in_bank-kept c s history which b k f
@@ -300,7 +300,7 @@ kept-bank c s history AcrossRanks which b k f =
     across_ranks-kept c s history which b.rank k f.rank_in_range ∙ ap (λ l. latest_of l which) (latest_where-same _ _ history (lies-across_ranks b.rank None (Some b)))
 
 -- of one that names none
-kept-none : (c : Channel) (s : Config) (history : List CommandRow) (scope : Scope) (which : Kind) (rank : ℕ) → IsKept c s history → rank < s.ranks
+kept-none : (c : Channel) (s : Config) (history : List IssuedCommand) (scope : Scope) (which : Kind) (rank : ℕ) → IsKept c s history → rank < s.ranks
     → kept c scope which rank None ≡ latest_of (latest_where (lies scope rank None) history) which
 unfolding kept
 kept-none c s history InBank which rank k l =
@@ -317,7 +317,7 @@ bank-fits s b command f same named =
     let parts = rw named at f.bank_in_range in
     record { rank_in_range = rw same at f.rank_in_range; group_in_range = parts.0; bank_in_range = parts.1 }
 
-kept-is : (c : Channel) (s : Config) (history : List CommandRow) (scope : Scope) (which : Kind) (command : Command) → IsKept c s history → CommandFits s command
+kept-is : (c : Channel) (s : Config) (history : List IssuedCommand) (scope : Scope) (which : Kind) (command : Command) → IsKept c s history → CommandFits s command
     → kept c scope which (rank_of command) (bank_of command) ≡ latest_of (latest_where (λ e. covers scope (relation_of e command)) history) which
 kept-is c s history scope which (Act bank row source) k f = kept-bank c s history scope which bank k (bank-fits s bank (Act bank row source) f refl refl)
 kept-is c s history scope which (Rd bank row column source) k f = kept-bank c s history scope which bank k (bank-fits s bank (Rd bank row column source) f refl refl)
@@ -328,20 +328,20 @@ kept-is c s history scope which (Ref rank) k f = kept-none c s history scope whi
 
 -- THE RULES
 
-too_soon-is : (c : Channel) (s : Config) (history : List CommandRow) (row : CommandRow) (r : Rule) → IsKept c s history → RowFits s row
+too_soon-is : (c : Channel) (s : Config) (history : List IssuedCommand) (row : IssuedCommand) (r : Rule) → IsKept c s history → RowFits s row
     → is_too_soon c r row ≡ list_any (λ e. is_too_close r e row) history
 unfolding is_too_soon
 too_soon-is c s history row r k f =
     ap (λ o. is_kind r.later (kind_of row.command) && is_ahead row.cycle r.cycles o) (kept-is c s history r.scope r.earlier row.command k f.command_in_range)
     ∙ too_close-any r row history
 
-distance-is : (c : Channel) (s : Config) (history : List CommandRow) (row : CommandRow) (number : ℕ) → IsKept c s history → RowFits s row
+distance-is : (c : Channel) (s : Config) (history : List IssuedCommand) (row : IssuedCommand) (number : ℕ) → IsKept c s history → RowFits s row
     → kept_breaks_distance (rules s.timing) c row number ≡ breaks_distance s.timing number history row
 unfolding kept_breaks_distance breaks_distance
 distance-is c s history row number k f =
     λ x. list_any (λ (r : Rule). (r.number == number) && too_soon-is c s history row r k f x) (rules s.timing)
 
-window-is : (c : Channel) (s : Config) (history : List CommandRow) (row : CommandRow) → IsKept c s history → RowFits s row
+window-is : (c : Channel) (s : Config) (history : List IssuedCommand) (row : IssuedCommand) → IsKept c s history → RowFits s row
     → kept_breaks_window c row ≡ breaks_window s.timing history row
 window-is c s history row k f =
     ap (λ o. is_kind (kind_of row.command) kind.Act && nat_lt row.cycle (unwrap_or (option_map (λ (state : Rank). state.window.fourth) o) 0))
@@ -355,7 +355,7 @@ any-range p q a (suc n) h =
     ap (λ b. b || list_any p (range_with_len (a + 1) n)) (h a (omega arith) (omega arith))
     ∙ ap (λ b. q a || b) (any-range p q (a + 1) n (λ k l m. h k (omega arith) (omega arith)))
 
-refresh-is : (c : Channel) (s : Config) (history : List CommandRow) (row : CommandRow) → IsKept c s history → RowFits s row
+refresh-is : (c : Channel) (s : Config) (history : List IssuedCommand) (row : IssuedCommand) → IsKept c s history → RowFits s row
     → kept_breaks_refresh s c row ≡ breaks_refresh s history row
 refresh-is c s history row k f =
     ap (λ b. nat_lt 0 s.timing.n_refi && b)
@@ -364,10 +364,10 @@ refresh-is c s history row k f =
     ap (λ o. unwrap_or (option_map (λ (state : Rank). nat_lt state.deadline row.cycle) o) false) (rank-read c s history rank k (omega arith))
     ∙ deadline-overdue s rank row.cycle history f.cycle_in_range))
 
-row-is : (c : Channel) (s : Config) (history : List CommandRow) (b : BankId) → IsKept c s history → BankFits s b → kept_row c.banks.items b ≡ open_row b history
+row-is : (c : Channel) (s : Config) (history : List IssuedCommand) (b : BankId) → IsKept c s history → BankFits s b → kept_row c.banks.items b ≡ open_row b history
 row-is c s history b k f = ap (option_and_then (λ (state : Bank). state.row)) (bank-read c s history b k f)
 
-open-is : (c : Channel) (s : Config) (history : List CommandRow) (rank : ℕ) → IsKept c s history → rank < s.ranks → has_kept_open s c.banks.items rank ≡ has_open_bank s history rank
+open-is : (c : Channel) (s : Config) (history : List IssuedCommand) (rank : ℕ) → IsKept c s history → rank < s.ranks → has_kept_open s c.banks.items rank ≡ has_open_bank s history rank
 unfolding has_kept_open has_open_bank
 open-is c s history rank k f =
     any-range (has_kept_open_in_group c.banks.items rank) (has_open_bank_in_group history rank) 0 s.groups
@@ -375,7 +375,7 @@ open-is c s history rank k f =
     any-range _ _ 0 4
     (λ bank i j. ap is_some (row-is c s history (record { rank = rank; group = group; bank = bank }) k (record { rank_in_range = f; group_in_range = omega arith; bank_in_range = omega arith }))))
 
-banks-is : (c : Channel) (s : Config) (history : List CommandRow) (command : Command) → IsKept c s history → CommandFits s command
+banks-is : (c : Channel) (s : Config) (history : List IssuedCommand) (command : Command) → IsKept c s history → CommandFits s command
     → kept_finds_banks s c.banks.items command ≡ finds_its_banks s history command
 banks-is c s history (Act bank row source) k f = ap (λ o. not (is_some o)) (row-is c s history bank k (bank-fits s bank (Act bank row source) f refl refl))
 banks-is c s history (Rd bank row column source) k f = ap (is_row row) (row-is c s history bank k (bank-fits s bank (Rd bank row column source) f refl refl))
@@ -385,7 +385,7 @@ banks-is c s history (Prea rank) k f = refl
 banks-is c s history (Ref rank) k f = ap not (open-is c s history rank k f.rank_in_range)
 
 -- a row breaks just the rules that it breaks by what is kept
-pub breaks-is : (c : Channel) (s : Config) (history : List CommandRow) (row : CommandRow) (number : ℕ) → IsKept c s history → RowFits s row
+pub breaks-is : (c : Channel) (s : Config) (history : List IssuedCommand) (row : IssuedCommand) (number : ℕ) → IsKept c s history → RowFits s row
     → kept_breaks s (rules s.timing) c row number ≡ breaks_in_channel s history row number
 unfolding kept_breaks
 breaks-is c s history row number k f =

@@ -4,7 +4,7 @@ use Rattle.std.specs.Prelude.{find}
 use Rattle.std.specs.List.{range_with_len}
 use Rattle.std.proofs.lemmas.Bool.{cases_eq}
 use Rattle.sim_base.specs.declared.config.Config.{Config}
-use Rattle.sim_base.specs.declared.command.CommandRow.{CommandRow}
+use Rattle.sim_base.specs.declared.command.IssuedCommand.{IssuedCommand}
 use Rattle.sim_base.specs.declared.fault.Fault.{Fault}
 use Rattle.sim_base.specs.declared.fault.Fault.TheVariants.{CheckRow}
 use Rattle.rule_check.specs.Fields.{is_header, row_in}
@@ -33,57 +33,57 @@ found-none p a (suc n) h =
     ∙ found-none p (a + 1) n (λ k l m. h k (omega arith) (omega arith))
 
 -- a row keeps every rule after these rows
-abbrev Keeps : Config → List CommandRow → CommandRow → Type 0
+abbrev Keeps : Config → List IssuedCommand → IssuedCommand → Type 0
 Keeps s before row = (number : ℕ) → 1 ≤ number → number ≤ 21 → breaks s before row number ≡ false
 
-none-keeps : (s : Config) (before : List CommandRow) (row : CommandRow) → lowest_broken s before row ≡ None → Keeps s before row
+none-keeps : (s : Config) (before : List IssuedCommand) (row : IssuedCommand) → lowest_broken s before row ≡ None → Keeps s before row
 unfolding lowest_broken
 none-keeps s before row e number a b = none-found (breaks s before row) 1 21 e number a (omega arith)
 
-keeps-none : (s : Config) (before : List CommandRow) (row : CommandRow) → Keeps s before row → lowest_broken s before row ≡ None
+keeps-none : (s : Config) (before : List IssuedCommand) (row : IssuedCommand) → Keeps s before row → lowest_broken s before row ≡ None
 unfolding lowest_broken
 keeps-none s before row h = found-none (breaks s before row) 1 21 (λ k l m. h k l (omega arith))
 
 -- each of these rows keeps every rule after those before it
-abbrev KeepAll : Config → List CommandRow → List CommandRow → Type 0
+abbrev KeepAll : Config → List IssuedCommand → List IssuedCommand → Type 0
 KeepAll s before rows =
-    (i number : ℕ) (d : CommandRow) → i < length rows → 1 ≤ number → number ≤ 21 → breaks s (before ++ take i rows) (get_or rows i d) number ≡ false
+    (i number : ℕ) (d : IssuedCommand) → i < length rows → 1 ≤ number → number ≤ 21 → breaks s (before ++ take i rows) (get_or rows i d) number ≡ false
 
-keep-cons : (s : Config) (before : List CommandRow) (row : CommandRow) (rows : List CommandRow) → Keeps s before row → KeepAll s (before ++ row ∷ []) rows → KeepAll s before (row ∷ rows)
+keep-cons : (s : Config) (before : List IssuedCommand) (row : IssuedCommand) (rows : List IssuedCommand) → Keeps s before row → KeepAll s (before ++ row ∷ []) rows → KeepAll s before (row ∷ rows)
 keep-cons s before row rows f k zero number d l a b = ap (λ t. breaks s t row number) (append-nil before) ∙ f number a b
 keep-cons s before row rows f k (suc i) number d l a b =
     ap (λ t. breaks s t (get_or rows i d) number) (sym (append_assoc before (row ∷ []) (take i rows))) ∙ k i number d (omega arith) a b
 
-keep-head : (s : Config) (before : List CommandRow) (row : CommandRow) (rows : List CommandRow) → KeepAll s before (row ∷ rows) → Keeps s before row
+keep-head : (s : Config) (before : List IssuedCommand) (row : IssuedCommand) (rows : List IssuedCommand) → KeepAll s before (row ∷ rows) → Keeps s before row
 keep-head s before row rows k number a b = ap (λ t. breaks s t row number) (sym (append-nil before)) ∙ k 0 number row (omega arith) a b
 
-keep-tail : (s : Config) (before : List CommandRow) (row : CommandRow) (rows : List CommandRow) → KeepAll s before (row ∷ rows) → KeepAll s (before ++ row ∷ []) rows
+keep-tail : (s : Config) (before : List IssuedCommand) (row : IssuedCommand) (rows : List IssuedCommand) → KeepAll s before (row ∷ rows) → KeepAll s (before ++ row ∷ []) rows
 keep-tail s before row rows k i number d l a b =
     ap (λ t. breaks s t (get_or rows i d) number) (append_assoc before (row ∷ []) (take i rows)) ∙ k (suc i) number d (omega arith) a b
 
 -- some records write rows that keep every rule after others
-abbrev AreKept : Config → List CommandRow → List (List (List ℕ)) → Type 0
-AreKept s before others = (rows : List CommandRow) × (map (row_in s) others ≡ map Some rows) × KeepAll s before rows
+abbrev AreKept : Config → List IssuedCommand → List (List (List ℕ)) → Type 0
+AreKept s before others = (rows : List IssuedCommand) × (map (row_in s) others ≡ map Some rows) × KeepAll s before rows
 
 rule-none : (n : ℕ) (o : Option ℕ) (rest : Result Verdict Fault) → decided_by_rule n o rest ≡ Ok Legal → (o ≡ None) × (rest ≡ Ok Legal)
 rule-none n None rest h = (refl, h)
 rule-none n (Some rule) rest h = cc h
 
-row-kept : (s : Config) (before : List CommandRow) (n : ℕ) (fields : List (List ℕ)) (others : List (List (List ℕ))) (o : Option CommandRow) → row_in s fields ≡ o
+row-kept : (s : Config) (before : List IssuedCommand) (n : ℕ) (fields : List (List ℕ)) (others : List (List (List ℕ))) (o : Option IssuedCommand) → row_in s fields ≡ o
     → decided_by_row n (lowest_broken s before) (λ row. verdict_after s (before ++ row ∷ []) (n + 1) others) o ≡ Ok Legal
-    → ((row : CommandRow) → verdict_after s (before ++ row ∷ []) (n + 1) others ≡ Ok Legal → AreKept s (before ++ row ∷ []) others) → AreKept s before (fields ∷ others)
+    → ((row : IssuedCommand) → verdict_after s (before ++ row ∷ []) (n + 1) others ≡ Ok Legal → AreKept s (before ++ row ∷ []) others) → AreKept s before (fields ∷ others)
 row-kept s before n fields others None e h more = cc h
 row-kept s before n fields others (Some row) e h more =
     let p = rule-none n (lowest_broken s before row) (verdict_after s (before ++ row ∷ []) (n + 1) others) h in
     let r = more row p.1 in
     (row ∷ r.0, (λ x. e x ∷ r.1 x), keep-cons s before row r.0 (none-keeps s before row p.0) r.2)
 
-legal-kept : (s : Config) (before : List CommandRow) (n : ℕ) (others : List (List (List ℕ))) → verdict_after s before n others ≡ Ok Legal → AreKept s before others
+legal-kept : (s : Config) (before : List IssuedCommand) (n : ℕ) (others : List (List (List ℕ))) → verdict_after s before n others ≡ Ok Legal → AreKept s before others
 unfolding verdict_after
 legal-kept s before n [] h = ([], refl, λ i number d l a b. absurd (omega arith))
 legal-kept s before n (fields ∷ others) h = row-kept s before n fields others (row_in s fields) refl h (λ row e. legal-kept s (before ++ row ∷ []) (n + 1) others e)
 
-kept-legal : (s : Config) (before : List CommandRow) (n : ℕ) (others : List (List (List ℕ))) (rows : List CommandRow) → map (row_in s) others ≡ map Some rows → KeepAll s before rows
+kept-legal : (s : Config) (before : List IssuedCommand) (n : ℕ) (others : List (List (List ℕ))) (rows : List IssuedCommand) → map (row_in s) others ≡ map Some rows → KeepAll s before rows
     → verdict_after s before n others ≡ Ok Legal
 unfolding verdict_after
 kept-legal s before n [] rows e k = refl

@@ -8,7 +8,7 @@ use Rattle.sim_base.specs.declared.rule.Rule.{Rule}
 use Rattle.sim_base.specs.declared.command.Kind.{Kind}
 use Rattle.sim_base.specs.declared.command.Kind.TheVariants as kind
 use Rattle.sim_base.specs.declared.command.Command.{Command}
-use Rattle.sim_base.specs.declared.command.CommandRow.{CommandRow}
+use Rattle.sim_base.specs.declared.command.IssuedCommand.{IssuedCommand}
 use Rattle.sim_base.specs.Rules.{is_kind, kind_of, covers, relation_of}
 use Rattle.rule_check.specs.Broken.{is_too_close}
 use Rattle.rule_check.specs.Kept.{later_cycle, nothing, latest_of, noted, noted_where, latest_where, is_ahead}
@@ -53,12 +53,12 @@ ahead-where true which k c now d l =
       | false ↦ or_none _
     ])
 
-ahead-fold : (p : Command → Bool) (which : Kind) (now d : ℕ) (l : Latest) (history : List CommandRow)
-    → is_ahead now d (latest_of (fold (λ l (i : CommandRow). noted_where (p i.command) (kind_of i.command) i.cycle l) l history) which)
+ahead-fold : (p : Command → Bool) (which : Kind) (now d : ℕ) (l : Latest) (history : List IssuedCommand)
+    → is_ahead now d (latest_of (fold (λ l (i : IssuedCommand). noted_where (p i.command) (kind_of i.command) i.cycle l) l history) which)
     ≡ (is_ahead now d (latest_of l which) || list_any (λ i. p i.command && is_kind which (kind_of i.command) && nat_lt now (i.cycle + d)) history)
 ahead-fold p which now d l [] = or_none _
 ahead-fold p which now d l (i ∷ history) =
-    let rest = list_any (λ (j : CommandRow). p j.command && is_kind which (kind_of j.command) && nat_lt now (j.cycle + d)) history in
+    let rest = list_any (λ (j : IssuedCommand). p j.command && is_kind which (kind_of j.command) && nat_lt now (j.cycle + d)) history in
     ahead-fold p which now d (noted_where (p i.command) (kind_of i.command) i.cycle l) history
     ∙ ap (λ b. b || rest) (ahead-where (p i.command) which (kind_of i.command) i.cycle now d l)
     ∙ or_assoc (is_ahead now d (latest_of l which)) _ rest
@@ -71,18 +71,18 @@ latest_of-nothing kind.Pre = refl
 latest_of-nothing kind.Prea = refl
 latest_of-nothing kind.Ref = refl
 
-ahead-any : (p : Command → Bool) (which : Kind) (now d : ℕ) (history : List CommandRow)
+ahead-any : (p : Command → Bool) (which : Kind) (now d : ℕ) (history : List IssuedCommand)
     → is_ahead now d (latest_of (latest_where p history) which) ≡ list_any (λ i. p i.command && is_kind which (kind_of i.command) && nat_lt now (i.cycle + d)) history
 unfolding latest_where
 ahead-any p which now d history =
     ahead-fold p which now d nothing history
-    ∙ ap (λ o. is_ahead now d o || list_any (λ (i : CommandRow). p i.command && is_kind which (kind_of i.command) && nat_lt now (i.cycle + d)) history) (latest_of-nothing which)
+    ∙ ap (λ o. is_ahead now d o || list_any (λ (i : IssuedCommand). p i.command && is_kind which (kind_of i.command) && nat_lt now (i.cycle + d)) history) (latest_of-nothing which)
 
-none-any : (history : List CommandRow) → list_any (λ (i : CommandRow). false) history ≡ false
+none-any : (history : List IssuedCommand) → list_any (λ (i : IssuedCommand). false) history ≡ false
 none-any [] = refl
 none-any (i ∷ history) = none-any history
 
-and-any : (q : Bool) (f : CommandRow → Bool) (history : List CommandRow) → (q && list_any f history) ≡ list_any (λ i. q && f i) history
+and-any : (q : Bool) (f : IssuedCommand → Bool) (history : List IssuedCommand) → (q && list_any f history) ≡ list_any (λ i. q && f i) history
 and-any true f history = refl
 and-any false f history = sym (none-any history)
 
@@ -95,14 +95,14 @@ turned false true b c = refl
 turned false false b c = refl
 
 -- a rule is broken by some earlier command just where it is by the latest of those that it binds
-pub too_close-any : (r : Rule) (row : CommandRow) (history : List CommandRow)
+pub too_close-any : (r : Rule) (row : IssuedCommand) (history : List IssuedCommand)
     → (is_kind r.later (kind_of row.command) && is_ahead row.cycle r.cycles (latest_of (latest_where (λ e. covers r.scope (relation_of e row.command)) history) r.earlier))
     ≡ list_any (λ e. is_too_close r e row) history
 too_close-any r row history =
     let q = is_kind r.later (kind_of row.command) in
-    let b = λ (e : CommandRow). covers r.scope (relation_of e.command row.command) in
-    let a = λ (e : CommandRow). is_kind r.earlier (kind_of e.command) in
-    let c = λ (e : CommandRow). nat_lt row.cycle (e.cycle + r.cycles) in
+    let b = λ (e : IssuedCommand). covers r.scope (relation_of e.command row.command) in
+    let a = λ (e : IssuedCommand). is_kind r.earlier (kind_of e.command) in
+    let c = λ (e : IssuedCommand). nat_lt row.cycle (e.cycle + r.cycles) in
     ap (λ x. q && x) (ahead-any (λ e. covers r.scope (relation_of e row.command)) r.earlier row.cycle r.cycles history)
     ∙ and-any q (λ e. b e && a e && c e) history
     ∙ (λ x. list_any (λ e. turned q (a e) (b e) (c e) x) history)

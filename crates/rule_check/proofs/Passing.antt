@@ -8,7 +8,7 @@ use Rattle.std.specs.List.{All}
 use Rattle.std.proofs.lemmas.List.Elements.{filter-append, All-get_or}
 use Rattle.std.proofs.lemmas.List.Sums.{fold-append}
 use Rattle.sim_base.specs.declared.config.Config.{Config}
-use Rattle.sim_base.specs.declared.command.CommandRow.{CommandRow}
+use Rattle.sim_base.specs.declared.command.IssuedCommand.{IssuedCommand}
 use Rattle.sim_base.specs.Rules.{rules}
 use Rattle.rule_check.specs.Fields.{RowFits}
 use Rattle.rule_check.specs.Broken.{rows_on, last_row, stands_wrongly, breaks, lowest_broken}
@@ -18,12 +18,12 @@ use Rattle.rule_check.specs.declared.state.Channel.{Channel}
 use Rattle.rule_check.specs.declared.state.Past.{Past}
 use Rattle.rule_check.proofs.Keeping.{breaks-is}
 
-channel-kept : (past : Past) (s : Config) (rows : List CommandRow) (row : CommandRow) (c : Channel) → IsPast past s rows → RowFits s row
+channel-kept : (past : Past) (s : Config) (rows : List IssuedCommand) (row : IssuedCommand) (c : Channel) → IsPast past s rows → RowFits s row
     → c ≡ get_or past.channels.items row.channel c → IsKept c s (rows_on row.channel rows)
 channel-kept past s rows row c h f read = subst (λ (x : Channel). IsKept x s (rows_on row.channel rows)) (sym read) (h.channels row.channel c f.channel_in_range)
 
 -- the lowest rule by what is kept is the lowest rule
-pub lowest-is : (past : Past) (s : Config) (rows : List CommandRow) (row : CommandRow) (c : Channel) → IsPast past s rows → RowFits s row
+pub lowest-is : (past : Past) (s : Config) (rows : List IssuedCommand) (row : IssuedCommand) (c : Channel) → IsPast past s rows → RowFits s row
     → c ≡ get_or past.channels.items row.channel c
     → find (past_breaks s (rules s.timing) past.last c row) (range_with_len 1 21) ≡ lowest_broken s rows row
 unfolding lowest_broken breaks
@@ -31,25 +31,25 @@ lowest-is past s rows row c h f read =
     let k = channel-kept past s rows row c h f read in
     λ x. find (λ number. cond (number == 1) (stands_wrongly (h.last x) row) (breaks-is c s (rows_on row.channel rows) row number k f x)) (range_with_len 1 21)
 
-last_row-more : (rows : List CommandRow) (row : CommandRow) → last_row (rows ++ row ∷ []) ≡ Some row
+last_row-more : (rows : List IssuedCommand) (row : IssuedCommand) → last_row (rows ++ row ∷ []) ≡ Some row
 unfolding last_row
-last_row-more rows row = fold-append (λ last (i : CommandRow). Some i) None rows (row ∷ [])
+last_row-more rows row = fold-append (λ last (i : IssuedCommand). Some i) None rows (row ∷ [])
 
-rows_on-own : (rows : List CommandRow) (row : CommandRow) → rows_on row.channel (rows ++ row ∷ []) ≡ rows_on row.channel rows ++ row ∷ []
+rows_on-own : (rows : List IssuedCommand) (row : IssuedCommand) → rows_on row.channel (rows ++ row ∷ []) ≡ rows_on row.channel rows ++ row ∷ []
 rows_on-own rows row =
-    filter-append (λ (i : CommandRow). i.channel == row.channel) rows (row ∷ [])
+    filter-append (λ (i : IssuedCommand). i.channel == row.channel) rows (row ∷ [])
     ∙ ap (λ t. rows_on row.channel rows ++ t) (cond-true (row.channel == row.channel) (row ∷ []) [] (eq-eqb row.channel row.channel refl))
 
-rows_on-other : (rows : List CommandRow) (row : CommandRow) (k : ℕ) → k ≢ row.channel → rows_on k (rows ++ row ∷ []) ≡ rows_on k rows
+rows_on-other : (rows : List IssuedCommand) (row : IssuedCommand) (k : ℕ) → k ≢ row.channel → rows_on k (rows ++ row ∷ []) ≡ rows_on k rows
 rows_on-other rows row k h =
-    filter-append (λ (i : CommandRow). i.channel == k) rows (row ∷ [])
+    filter-append (λ (i : IssuedCommand). i.channel == k) rows (row ∷ [])
     ∙ ap (λ t. rows_on k rows ++ t) (cond-false (row.channel == k) (row ∷ []) [] (ne_eqb row.channel k (λ e. h (sym e))))
     ∙ append-nil (rows_on k rows)
 
 -- one row more
-pub past-more : (past after : Past) (s : Config) (rows : List CommandRow) (row : CommandRow) (c c' : Channel) → IsPast past s rows → RowFits s row
+pub past-more : (past after : Past) (s : Config) (rows : List IssuedCommand) (row : IssuedCommand) (c c' : Channel) → IsPast past s rows → RowFits s row
     → c ≡ get_or past.channels.items row.channel c → after.last ≡ Some row → after.channels.items ≡ set past.channels.items row.channel c'
-    → ((history : List CommandRow) → IsKept c s history → IsKept c' s (history ++ row ∷ [])) → IsPast after s (rows ++ row ∷ [])
+    → ((history : List IssuedCommand) → IsKept c s history → IsKept c' s (history ++ row ∷ [])) → IsPast after s (rows ++ row ∷ [])
 past-more past after s rows row c c' h f read last put more =
     let kept = more (rows_on row.channel rows) (channel-kept past s rows row c h f read) in
     record {
@@ -62,12 +62,12 @@ past-more past after s rows row c c' h f read last put more =
                 ap (λ (xs : List Channel). get_or xs k d) put ∙ ap (λ n. get_or (set past.channels.items row.channel c') n d) same
                 ∙ get_or-set_same past.channels.items row.channel c' d (omega (arith, h.channel_count, f.channel_in_range)) in
                 let those : rows_on k (rows ++ row ∷ []) ≡ rows_on row.channel rows ++ row ∷ [] = ap (λ n. rows_on n (rows ++ row ∷ [])) same ∙ rows_on-own rows row in
-                subst (λ (x : Channel). IsKept x s (rows_on k (rows ++ row ∷ []))) (sym value) (subst (λ (t : List CommandRow). IsKept c' s t) (sym those) kept)
+                subst (λ (x : Channel). IsKept x s (rows_on k (rows ++ row ∷ []))) (sym value) (subst (λ (t : List IssuedCommand). IsKept c' s t) (sym those) kept)
             | inr apart ↦
                 let value : get_or after.channels.items k d ≡ get_or past.channels.items k d =
                 ap (λ (xs : List Channel). get_or xs k d) put ∙ get_or-set_other past.channels.items row.channel k c' d apart in
                 subst (λ (x : Channel). IsKept x s (rows_on k (rows ++ row ∷ []))) (sym value)
-                (subst (λ (t : List CommandRow). IsKept (get_or past.channels.items k d) s t) (sym (rows_on-other rows row k apart)) (h.channels k d l))
+                (subst (λ (t : List IssuedCommand). IsKept (get_or past.channels.items k d) s t) (sym (rows_on-other rows row k apart)) (h.channels k d l))
           ];
     }
 

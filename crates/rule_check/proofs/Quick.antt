@@ -4,7 +4,7 @@ use Rattle.std.specs.Prelude.{find}
 use Rattle.std.specs.List.{list_any}
 use Rattle.sim_base.specs.declared.config.Config.{Config}
 use Rattle.sim_base.specs.declared.rule.Rule.{Rule}
-use Rattle.sim_base.specs.declared.command.CommandRow.{CommandRow}
+use Rattle.sim_base.specs.declared.command.IssuedCommand.{IssuedCommand}
 use Rattle.rule_check.specs.Broken.{stands_wrongly}
 use Rattle.rule_check.specs.Kept.{is_too_soon, comes_too_soon, keeps_each, kept_breaks_distance, kept_breaks}
 use Rattle.rule_check.specs.Past.{past_breaks}
@@ -35,7 +35,7 @@ fewer : (p a : Rule → Bool) (rs : List Rule) → list_any p rs ≡ false → l
 fewer p a [] h = refl
 fewer p a (r ∷ rs) h = or-none (a r && p r) _ (and-none (a r) (p r) (first (p r) _ h)) (fewer p a rs (others (p r) _ h))
 
-distances : (table : List Rule) (c : Channel) (row : CommandRow) (number : ℕ) → comes_too_soon table c row ≡ false → kept_breaks_distance table c row number ≡ false
+distances : (table : List Rule) (c : Channel) (row : IssuedCommand) (number : ℕ) → comes_too_soon table c row ≡ false → kept_breaks_distance table c row number ≡ false
 unfolding kept_breaks_distance
 distances table c row number soon = fewer (λ r. is_too_soon c r row) (λ r. r.number == number) table soon
 
@@ -52,7 +52,7 @@ no true h = sym h
 no false h = refl
 
 -- a row that keeps each rule of its channel breaks none of them by its number
-none-broken : (s : Config) (table : List Rule) (c : Channel) (row : CommandRow) (number : ℕ) → keeps_each s table c row ≡ true
+none-broken : (s : Config) (table : List Rule) (c : Channel) (row : IssuedCommand) (number : ℕ) → keeps_each s table c row ≡ true
     → kept_breaks s table c row number ≡ false
 unfolding kept_breaks
 none-broken s table c row number keeps =
@@ -70,7 +70,7 @@ find-nothing p [] h = refl
 find-nothing p (k ∷ xs) h = ap (λ b. cond b (Some k) (find p xs)) (h k) ∙ find-nothing p xs h
 
 -- then there is no lowest one
-pub none-found : (s : Config) (table : List Rule) (last : Option CommandRow) (c : Channel) (row : CommandRow) (numbers : List ℕ) → stands_wrongly last row ≡ false
+pub none-found : (s : Config) (table : List Rule) (last : Option IssuedCommand) (c : Channel) (row : IssuedCommand) (numbers : List ℕ) → stands_wrongly last row ≡ false
     → keeps_each s table c row ≡ true → find (past_breaks s table last c row) numbers ≡ None
 none-found s table last c row numbers order keeps =
     find-nothing _ numbers (λ number. neither (number == 1) _ _ order (none-broken s table c row number keeps))

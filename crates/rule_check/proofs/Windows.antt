@@ -4,7 +4,7 @@ use Rattle.std.specs.Prelude.{fold, nat_lt, count_by}
 use Rattle.std.proofs.lemmas.Bool.{cases_lt, lt-ltb, le-ltb}
 use Rattle.std.proofs.lemmas.List.Sums.{sum_by-cons}
 use Rattle.sim_base.specs.declared.timing.Timing.{Timing}
-use Rattle.sim_base.specs.declared.command.CommandRow.{CommandRow}
+use Rattle.sim_base.specs.declared.command.IssuedCommand.{IssuedCommand}
 use Rattle.sim_base.specs.Rules.{recent_acts}
 use Rattle.rule_check.specs.Kept.{no_window, window_after, window_where, window_from, activates}
 use Rattle.rule_check.specs.declared.window.Window.{Window}
@@ -67,11 +67,11 @@ ahead-where true now n end w h =
       | inr l ↦ ahead-same now (0 + n) _ _ (ap (λ b. cond b 1 0 + n) (sym (le-ltb now end l))) (ahead-none now n end w h l)
     ]
 
-abbrev counted : Timing → ℕ → ℕ → CommandRow → Bool
+abbrev counted : Timing → ℕ → ℕ → IssuedCommand → Bool
 counted t rank now i = activates rank i.command && nat_lt now (i.cycle + t.n_faw)
 
-ahead-fold : (t : Timing) (rank now n : ℕ) (w : Window) (history : List CommandRow) → Ahead now n w
-    → Ahead now (n + count_by (counted t rank now) history) (fold (λ w (i : CommandRow). window_where (activates rank i.command) (i.cycle + t.n_faw) w) w history)
+ahead-fold : (t : Timing) (rank now n : ℕ) (w : Window) (history : List IssuedCommand) → Ahead now n w
+    → Ahead now (n + count_by (counted t rank now) history) (fold (λ w (i : IssuedCommand). window_where (activates rank i.command) (i.cycle + t.n_faw) w) w history)
 ahead-fold t rank now n w [] h = ahead-same now n _ w (omega arith) h
 ahead-fold t rank now n w (i ∷ history) h =
     let one = cond (counted t rank now i) 1 0 in
@@ -104,7 +104,7 @@ same_tests now x n f g =
           ])
     ]
 
-pub window-recent : (t : Timing) (rank now : ℕ) (history : List CommandRow) → nat_lt now (window_from t rank history).fourth ≡ nat_lt 3 (recent_acts t rank now history)
+pub window-recent : (t : Timing) (rank now : ℕ) (history : List IssuedCommand) → nat_lt now (window_from t rank history).fourth ≡ nat_lt 3 (recent_acts t rank now history)
 unfolding window_from
 window-recent t rank now history =
     let h = ahead-fold t rank now 0 no_window history (ahead-start now) in

@@ -12,55 +12,55 @@ use Rattle.sim_base.specs.declared.config.Config.{Config}
 use Rattle.sim_base.specs.declared.timing.Timing.{Timing}
 use Rattle.sim_base.specs.declared.rule.Rule.{Rule}
 use Rattle.sim_base.specs.declared.command.Kind.TheVariants as kind
-use Rattle.sim_base.specs.declared.command.CommandRow.{CommandRow}
+use Rattle.sim_base.specs.declared.command.IssuedCommand.{IssuedCommand}
 use Rattle.sim_base.specs.Config.{refresh_slack}
 use Rattle.sim_base.specs.History.{below}
 use Rattle.sim_base.specs.Rules.{rules, is_kind, binds, kind_of, rank_of, relation_of, recent_acts, finds_its_banks}
 use Rattle.sim_base.specs.Scheduling.{refreshes}
 
 -- the rows of a channel
-abbrev pub rows_on : ℕ → List CommandRow → List CommandRow
+abbrev pub rows_on : ℕ → List IssuedCommand → List IssuedCommand
 rows_on channel rows = filter (λ i. i.channel == channel) rows
 
 -- a row is of an earlier cycle, or of the same and of a lower channel
-abbrev pub stands_before : CommandRow → CommandRow → Bool
+abbrev pub stands_before : IssuedCommand → IssuedCommand → Bool
 stands_before a b = nat_lt a.cycle b.cycle || ((a.cycle == b.cycle) && nat_lt a.channel b.channel)
 
 -- the last of some rows, if there is one
-unfoldable pub last_row : List CommandRow → Option CommandRow
+unfoldable pub last_row : List IssuedCommand → Option IssuedCommand
 last_row rows = fold (λ last row. Some row) None rows
 
 -- the row before it, if there is one, does not stand before it
-abbrev pub stands_wrongly : Option CommandRow → CommandRow → Bool
+abbrev pub stands_wrongly : Option IssuedCommand → IssuedCommand → Bool
 stands_wrongly None row = false
 stands_wrongly (Some last) row = not (stands_before last row)
 
-abbrev pub breaks_order : List CommandRow → CommandRow → Bool
+abbrev pub breaks_order : List IssuedCommand → IssuedCommand → Bool
 breaks_order rows row = stands_wrongly (last_row rows) row
 
 -- a rule of the table binds two commands of a channel, and the later one comes too soon
-abbrev pub is_too_close : Rule → CommandRow → CommandRow → Bool
+abbrev pub is_too_close : Rule → IssuedCommand → IssuedCommand → Bool
 is_too_close r earlier row =
     binds r (kind_of earlier.command) (kind_of row.command) (relation_of earlier.command row.command) && nat_lt row.cycle (earlier.cycle + r.cycles)
 
 -- a row comes too soon after some earlier one of its channel, by a rule of this number
-unfoldable pub breaks_distance : Timing → ℕ → List CommandRow → CommandRow → Bool
+unfoldable pub breaks_distance : Timing → ℕ → List IssuedCommand → IssuedCommand → Bool
 breaks_distance t number history row = list_any (λ r. (r.number == number) && list_any (λ earlier. is_too_close r earlier row) history) (rules t)
 
 -- an ACT with more than three earlier ones of its rank in the window before it
-abbrev pub breaks_window : Timing → List CommandRow → CommandRow → Bool
+abbrev pub breaks_window : Timing → List IssuedCommand → IssuedCommand → Bool
 breaks_window t history row = is_kind (kind_of row.command) kind.Act && nat_lt 3 (recent_acts t (rank_of row.command) row.cycle history)
 
 -- The next refresh of a rank is overdue in a cycle: it comes by refresh_slack after the end of its interval of nREFI cycles.
-abbrev pub is_overdue : Config → List CommandRow → ℕ → ℕ → Bool
+abbrev pub is_overdue : Config → List IssuedCommand → ℕ → ℕ → Bool
 is_overdue s history now rank = nat_lt ((count_by (λ i. refreshes rank i.command) history + 1) * s.timing.n_refi + refresh_slack s) now
 
 -- where there are refreshes, a row comes while a rank of its channel has missed one
-abbrev pub breaks_refresh : Config → List CommandRow → CommandRow → Bool
+abbrev pub breaks_refresh : Config → List IssuedCommand → IssuedCommand → Bool
 breaks_refresh s history row = nat_lt 0 s.timing.n_refi && list_any (is_overdue s history row.cycle) (below s.ranks)
 
 -- a row breaks a rule of its channel, after the rows of the channel before it
-abbrev pub breaks_in_channel : Config → List CommandRow → CommandRow → ℕ → Bool
+abbrev pub breaks_in_channel : Config → List IssuedCommand → IssuedCommand → ℕ → Bool
 breaks_in_channel s history row number =
     if number == 2 then not (finds_its_banks s history row.command)
     else (if number == 16 then breaks_window s.timing history row
@@ -68,9 +68,9 @@ breaks_in_channel s history row number =
     else breaks_distance s.timing number history row))
 
 -- a row breaks the rule with this number, after all rows before it
-unfoldable pub breaks : Config → List CommandRow → CommandRow → ℕ → Bool
+unfoldable pub breaks : Config → List IssuedCommand → IssuedCommand → ℕ → Bool
 breaks s rows row number = if number == 1 then breaks_order rows row else breaks_in_channel s (rows_on row.channel rows) row number
 
 -- the lowest rule that a row breaks; rules are numbered from 1 to 21
-unfoldable pub lowest_broken : Config → List CommandRow → CommandRow → Option ℕ
+unfoldable pub lowest_broken : Config → List IssuedCommand → IssuedCommand → Option ℕ
 lowest_broken s rows row = find (breaks s rows row) (range_with_len 1 21)

@@ -11,7 +11,7 @@ use Rattle.sim_base.specs.declared.config.Config.{Config}
 use Rattle.sim_base.specs.declared.place.BankId.{BankId}
 use Rattle.sim_base.specs.declared.command.Command.{Command}
 use Rattle.sim_base.specs.declared.command.Command.TheVariants.{Act, Rd, Wr, Pre, Prea, Ref}
-use Rattle.sim_base.specs.declared.command.CommandRow.{CommandRow}
+use Rattle.sim_base.specs.declared.command.IssuedCommand.{IssuedCommand}
 use Rattle.sim_base.specs.declared.command.Source.{Source}
 use Rattle.rule_check.specs.Numbers.{number_limit, number_below}
 use Rattle.sim_base.specs.Rules.{rank_of, bank_of}
@@ -166,7 +166,7 @@ pub record CommandFits (s : Config) (command : Command) : Type 0 where
   pub bank_in_range : IfSome (bank_of command) (λ bank. (bank.group < s.groups) × (bank.bank < 4))
 
 -- the row that a record of the right number of fields writes
-unfoldable pub row_from : Config → List (List ℕ) → Option CommandRow
+unfoldable pub row_from : Config → List (List ℕ) → Option IssuedCommand
 row_from s fields = do
   cycle ← number_below number_limit (text_at fields 0)
   channel ← number_below s.channels (text_at fields 1)
@@ -174,11 +174,11 @@ row_from s fields = do
   Some (record { cycle = cycle; channel = channel; command = command })
 
 -- the row that a record writes, if it is well-formed
-unfoldable pub row_in : Config → List (List ℕ) → Option CommandRow
+unfoldable pub row_in : Config → List (List ℕ) → Option IssuedCommand
 row_in s fields = if length fields == column_count s.ranks then row_from s fields else None
 
 -- a row is one of the configuration, in a cycle below the limit of numbers
-pub record RowFits (s : Config) (row : CommandRow) : Type 0 where
+pub record RowFits (s : Config) (row : IssuedCommand) : Type 0 where
   pub cycle_in_range : row.cycle < number_limit
   pub channel_in_range : row.channel < s.channels
   pub command_in_range : CommandFits s row.command

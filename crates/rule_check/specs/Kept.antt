@@ -18,7 +18,7 @@ use Rattle.sim_base.specs.declared.command.Kind.{Kind}
 use Rattle.sim_base.specs.declared.command.Kind.TheVariants as kind
 use Rattle.sim_base.specs.declared.command.Command.{Command}
 use Rattle.sim_base.specs.declared.command.Command.TheVariants.{Act, Rd, Wr, Pre, Prea, Ref}
-use Rattle.sim_base.specs.declared.command.CommandRow.{CommandRow}
+use Rattle.sim_base.specs.declared.command.IssuedCommand.{IssuedCommand}
 use Rattle.sim_base.specs.Config.{refresh_slack}
 use Rattle.sim_base.specs.History.{below}
 use Rattle.sim_base.specs.Rules.{is_kind, kind_of, rank_of, bank_of, covers, row_after, open_row, is_row}
@@ -68,7 +68,7 @@ abbrev pub noted_where : Bool → Kind → ℕ → Latest → Latest
 noted_where counts which cycle l = if counts then noted which cycle l else l
 
 -- the latest cycle of each kind of command, among those of which p holds
-unfoldable pub latest_where : (Command → Bool) → List CommandRow → Latest
+unfoldable pub latest_where : (Command → Bool) → List IssuedCommand → Latest
 latest_where p history = fold (λ l i. noted_where (p i.command) (kind_of i.command) i.cycle l) nothing history
 
 -- no ACT so far
@@ -89,7 +89,7 @@ abbrev pub window_where : Bool → ℕ → Window → Window
 window_where counts end w = if counts then window_after end w else w
 
 -- the four latest of the cycles from which on an ACT of a rank no longer counts
-unfoldable pub window_from : Timing → ℕ → List CommandRow → Window
+unfoldable pub window_from : Timing → ℕ → List IssuedCommand → Window
 window_from t rank history = fold (λ w i. window_where (activates rank i.command) (i.cycle + t.n_faw) w) no_window history
 
 -- the cycle after which the next refresh of a rank is overdue, after one refresh more; it moves no further once no number is later
@@ -105,7 +105,7 @@ abbrev pub first_deadline : Config → ℕ
 first_deadline s = s.timing.n_refi + refresh_slack s
 
 -- the cycle after which the next refresh of a rank is overdue
-unfoldable pub deadline_from : Config → ℕ → List CommandRow → ℕ
+unfoldable pub deadline_from : Config → ℕ → List IssuedCommand → ℕ
 deadline_from s rank history = fold (λ d i. deadline_where (refreshes rank i.command) s.timing.n_refi d) (first_deadline s) history
 
 -- a bank of a group, which stands for all of them
@@ -113,7 +113,7 @@ abbrev pub any_bank : ℕ → ℕ → Option BankId
 any_bank rank group = Some (record { rank = rank; group = group; bank = 0 })
 
 -- what the rows of a channel make of a bank
-abbrev pub bank_past : List CommandRow → BankId → Bank
+abbrev pub bank_past : List IssuedCommand → BankId → Bank
 bank_past history b = record { latest = latest_where (lies InBank b.rank (Some b)) history; row = open_row b history }
 
 -- what one row more makes of it
@@ -122,7 +122,7 @@ bank_after b cycle command state =
     record { latest = noted_where (lies InBank b.rank (Some b) command) (kind_of command) cycle state.latest; row = row_after b state.row command }
 
 -- what the rows of a channel make of a group
-abbrev pub group_past : List CommandRow → ℕ → ℕ → Group
+abbrev pub group_past : List IssuedCommand → ℕ → ℕ → Group
 group_past history rank group =
     record { within = latest_where (lies InGroup rank (any_bank rank group)) history; across = latest_where (lies AcrossGroups rank (any_bank rank group)) history }
 
@@ -135,7 +135,7 @@ group_after rank group cycle command state =
     }
 
 -- what the rows of a channel make of a rank
-abbrev pub rank_past : Config → List CommandRow → ℕ → Rank
+abbrev pub rank_past : Config → List IssuedCommand → ℕ → Rank
 rank_past s history rank =
     record {
       within = latest_where (lies InRank rank None) history;
@@ -166,7 +166,7 @@ abbrev pub group_number : BankId → ℕ
 group_number bank = bank.rank * 4 + bank.group
 
 -- a `Channel` keeps just this of the rows of a channel
-pub record IsKept (c : Channel) (s : Config) (history : List CommandRow) : Type 0 where
+pub record IsKept (c : Channel) (s : Config) (history : List IssuedCommand) : Type 0 where
   pub bank_count : length c.banks.items ≡ 16 * s.ranks
   pub group_count : length c.groups.items ≡ 4 * s.ranks
   pub rank_count : length c.ranks.items ≡ s.ranks
@@ -206,26 +206,26 @@ is_ahead now distance None = false
 is_ahead now distance (Some cycle) = nat_lt now (cycle + distance)
 
 -- a row comes too soon by a rule
-unfoldable pub is_too_soon : Channel → Rule → CommandRow → Bool
+unfoldable pub is_too_soon : Channel → Rule → IssuedCommand → Bool
 is_too_soon c r row =
     is_kind r.later (kind_of row.command) && is_ahead row.cycle r.cycles (kept c r.scope r.earlier (rank_of row.command) (bank_of row.command))
 
 -- by a rule of this number
-unfoldable pub kept_breaks_distance : List Rule → Channel → CommandRow → ℕ → Bool
+unfoldable pub kept_breaks_distance : List Rule → Channel → IssuedCommand → ℕ → Bool
 kept_breaks_distance table c row number = list_any (λ r. (r.number == number) && is_too_soon c r row) table
 
 -- the cycle from which on one ACT more of a rank does not make five in a window
 abbrev pub kept_window : List Rank → ℕ → ℕ
 kept_window ranks rank = unwrap_or (option_map (λ (state : Rank). state.window.fourth) (slice_get ranks rank)) 0
 
-abbrev pub kept_breaks_window : Channel → CommandRow → Bool
+abbrev pub kept_breaks_window : Channel → IssuedCommand → Bool
 kept_breaks_window c row = is_kind (kind_of row.command) kind.Act && nat_lt row.cycle (kept_window c.ranks.items (rank_of row.command))
 
 -- the next refresh of a rank is overdue
 abbrev pub kept_overdue : List Rank → ℕ → ℕ → Bool
 kept_overdue ranks now rank = unwrap_or (option_map (λ (state : Rank). nat_lt state.deadline now) (slice_get ranks rank)) false
 
-abbrev pub kept_breaks_refresh : Config → Channel → CommandRow → Bool
+abbrev pub kept_breaks_refresh : Config → Channel → IssuedCommand → Bool
 kept_breaks_refresh s c row = nat_lt 0 s.timing.n_refi && list_any (kept_overdue c.ranks.items row.cycle) (below s.ranks)
 
 -- the row that is open in a bank
@@ -249,7 +249,7 @@ kept_finds_banks s banks (Pre bank source) = true
 kept_finds_banks s banks (Prea rank) = true
 
 -- a row breaks a rule of its channel, by what is kept
-unfoldable pub kept_breaks : Config → List Rule → Channel → CommandRow → ℕ → Bool
+unfoldable pub kept_breaks : Config → List Rule → Channel → IssuedCommand → ℕ → Bool
 kept_breaks s table c row number =
     if number == 2 then not (kept_finds_banks s c.banks.items row.command)
     else (if number == 16 then kept_breaks_window c row
@@ -257,10 +257,10 @@ kept_breaks s table c row number =
     else kept_breaks_distance table c row number))
 
 -- a row comes too soon by some rule
-abbrev pub comes_too_soon : List Rule → Channel → CommandRow → Bool
+abbrev pub comes_too_soon : List Rule → Channel → IssuedCommand → Bool
 comes_too_soon table c row = list_any (λ r. is_too_soon c r row) table
 
 -- a row keeps every rule of its channel: they are not taken by their numbers, but all at once
-abbrev pub keeps_each : Config → List Rule → Channel → CommandRow → Bool
+abbrev pub keeps_each : Config → List Rule → Channel → IssuedCommand → Bool
 keeps_each s table c row =
     kept_finds_banks s c.banks.items row.command && not (kept_breaks_window c row) && not (kept_breaks_refresh s c row) && not (comes_too_soon table c row)

@@ -4,18 +4,18 @@
 use Rattle.std.specs.Prelude.{◌≡◌, ℕ, ◌<◌, ◌==◌, Bool, List, length, slice_index_or, Option, if◌then◌else◌}
 use Rattle.sim_base.specs.declared.config.Config.{Config}
 use Rattle.sim_base.specs.declared.rule.Rule.{Rule}
-use Rattle.sim_base.specs.declared.command.CommandRow.{CommandRow}
+use Rattle.sim_base.specs.declared.command.IssuedCommand.{IssuedCommand}
 use Rattle.rule_check.specs.Broken.{rows_on, last_row, stands_wrongly}
 use Rattle.rule_check.specs.Kept.{IsKept, kept_breaks}
 use Rattle.rule_check.specs.declared.state.Channel.{Channel}
 use Rattle.rule_check.specs.declared.state.Past.{Past}
 
 -- a `Past` keeps just what these rows make of each channel, and the last of them
-pub record IsPast (past : Past) (s : Config) (rows : List CommandRow) : Type 0 where
+pub record IsPast (past : Past) (s : Config) (rows : List IssuedCommand) : Type 0 where
   pub last : past.last ≡ last_row rows
   pub channel_count : length past.channels.items ≡ s.channels
   pub channels : (k : ℕ) (d : Channel) → k < s.channels → IsKept (slice_index_or past.channels.items k d) s (rows_on k rows)
 
 -- which rules a row breaks, by what is kept
-abbrev pub past_breaks : Config → List Rule → Option CommandRow → Channel → CommandRow → ℕ → Bool
+abbrev pub past_breaks : Config → List Rule → Option IssuedCommand → Channel → IssuedCommand → ℕ → Bool
 past_breaks s table last c row number = if number == 1 then stands_wrongly last row else kept_breaks s table c row number

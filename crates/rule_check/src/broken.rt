@@ -9,13 +9,13 @@ ghost use Rattle.rule_check.specs.Kept.{kept_row, has_kept_open_in_group, has_ke
 
 use crate::around::{around_command, bank_at, is_ahead_by, rank_at};
 use crate::state::{Bank, Channel, Rank};
-use sim_base::command::{Command, CommandRow, Kind};
+use sim_base::command::{Command, IssuedCommand, Kind};
 use sim_base::config::Config;
 use sim_base::place::{BankId, is_row};
 use sim_base::rule::Rule;
 
 #[tactic(auto, unfolding(crate::specs::Kept::is_too_soon, crate::specs::Kept::kept_breaks_distance))]
-fn breaks_distance(table: &[Rule], channel: &Channel, row: CommandRow, number: u32) -> bool
+fn breaks_distance(table: &[Rule], channel: &Channel, row: IssuedCommand, number: u32) -> bool
     ensures { result ≡ kept_breaks_distance table.now channel.now row number }
 {
     let kind = row.command.kind();
@@ -23,7 +23,7 @@ fn breaks_distance(table: &[Rule], channel: &Channel, row: CommandRow, number: u
     table.iter().any(|rule| rule.number == number && is_ahead_by(around, rule, kind, row.cycle))
 }
 
-fn breaks_window(channel: &Channel, row: CommandRow) -> bool
+fn breaks_window(channel: &Channel, row: IssuedCommand) -> bool
     ensures { result ≡ kept_breaks_window channel.now row }
 {
     row.command.kind().is_kind(Kind::Act)
@@ -42,7 +42,7 @@ fn has_overdue(ranks: &[Rank], count: u32, now: u64) -> bool
     (0..count).any(|rank| is_overdue(ranks, now, rank))
 }
 
-fn breaks_refresh(config: &Config, channel: &Channel, row: CommandRow) -> bool
+fn breaks_refresh(config: &Config, channel: &Channel, row: IssuedCommand) -> bool
     ensures { result ≡ kept_breaks_refresh config.now channel.now row }
 {
     config.timing.n_refi > 0 && has_overdue(&channel.ranks, config.ranks, row.cycle)
@@ -88,7 +88,7 @@ fn finds_banks(config: &Config, banks: &[Bank], command: Command) -> bool
 
 // Whether a row comes too soon by some rule.
 #[tactic(auto, unfolding(crate::specs::Kept::is_too_soon))]
-fn comes_too_soon(table: &[Rule], channel: &Channel, row: CommandRow) -> bool
+fn comes_too_soon(table: &[Rule], channel: &Channel, row: IssuedCommand) -> bool
     ensures { result ≡ comes_too_soon table.now channel.now row }
 {
     let kind = row.command.kind();
@@ -103,7 +103,7 @@ pub(crate) fn keeps_each(
     config: &Config,
     table: &[Rule],
     channel: &Channel,
-    row: CommandRow,
+    row: IssuedCommand,
 ) -> bool
     ensures { result ≡ keeps_each config.now table.now channel.now row }
 {
@@ -119,7 +119,7 @@ pub(crate) fn breaks(
     config: &Config,
     table: &[Rule],
     channel: &Channel,
-    row: CommandRow,
+    row: IssuedCommand,
     number: u32,
 ) -> bool
     ensures { result ≡ kept_breaks config.now table.now channel.now row number }

@@ -2,7 +2,7 @@
 
 ghost use Rattle.std.specs.Prelude.{ℕ, ◌≡◌, ◌+◌, ◌*◌, ◌/◌, ◌%◌, ◌<◌, ◌≤◌, ◌^◌, ◌&&◌, ◌==◌, ◌++◌, ◌∷◌, [], List, Some, nat_lt, not, is_some, IfSome, IfOk, length, slice_index_or, replicate};
 ghost use Rattle.sim_base.specs.declared.config.Config.{Config};
-ghost use Rattle.sim_base.specs.declared.command.CommandRow.{CommandRow};
+ghost use Rattle.sim_base.specs.declared.command.IssuedCommand.{IssuedCommand};
 ghost use Rattle.sim_base.specs.Config.{refresh_slack};
 ghost use Rattle.sim_base.specs.Relations.{refresh_slack_of};
 ghost use Rattle.sim_base.specs.Rules.{kind_of, bank_of, rank_of};
@@ -14,7 +14,7 @@ ghost use Rattle.rule_check.specs.Kept.{activates, deadline_after, first_deadlin
 use crate::latest;
 use crate::state::{Bank, Channel, Group, NEW_BANK, NEW_GROUP, NEW_RANK, Rank};
 use crate::window::window_after;
-use sim_base::command::{Command, CommandRow, Kind, Relation};
+use sim_base::command::{Command, IssuedCommand, Kind, Relation};
 use sim_base::config::Config;
 use sim_base::place::BankId;
 use sim_base::timing::Timing;
@@ -197,10 +197,10 @@ pub(crate) fn start(alloc: Global, config: &Config) -> Result<Channel, AllocErro
 }
 
 /// Notes a row of the channel.
-pub(crate) fn note(channel: &mut Channel, config: &Config, row: CommandRow)
+pub(crate) fn note(channel: &mut Channel, config: &Config, row: IssuedCommand)
     requires fits { RowFits config.now row }
     requires ranks { length channel.old.ranks.items ≡ config.now.ranks }
-    ensures { (history : List CommandRow) → IsKept channel.old config.now history → IsKept channel.new config.now (history ++ row ∷ []) }
+    ensures { (history : List IssuedCommand) → IsKept channel.old config.now history → IsKept channel.new config.now (history ++ row ∷ []) }
 {
     note_in_banks(&mut channel.banks, row.command, row.cycle);
     note_in_groups(&mut channel.groups, row.command, row.cycle);

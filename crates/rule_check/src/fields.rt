@@ -8,7 +8,7 @@ ghost use Rattle.rule_check.specs.Fields.{BankFits, CommandFits, RowFits};
 
 use crate::numbers::{NUMBER_LIMIT, number_below, small_number};
 use csv::ByteRecord;
-use sim_base::command::{Command, CommandRow, Source};
+use sim_base::command::{Command, IssuedCommand, Source};
 use sim_base::config::Config;
 use sim_base::place::BankId;
 
@@ -234,7 +234,7 @@ fn command_in(config: &Config, fields: &ByteRecord) -> Option<Command>
 
 /// The row that a record writes, if it is well-formed.
 #[tactic(auto, unfolding(crate::specs::Fields::row_from, crate::specs::Fields::row_in))]
-pub(crate) fn row_in(config: &Config, fields: &ByteRecord) -> Option<CommandRow>
+pub(crate) fn row_in(config: &Config, fields: &ByteRecord) -> Option<IssuedCommand>
     ensures value { result ≡ row_in config.now (fields_of fields.now) }
     ensures fits { IfSome result (RowFits config.now) }
 {
@@ -244,7 +244,7 @@ pub(crate) fn row_in(config: &Config, fields: &ByteRecord) -> Option<CommandRow>
     let cycle = number_below(NUMBER_LIMIT, text_at(fields, 0))?;
     let channel = small_number(u32::from(config.channels), text_at(fields, 1))?;
     let command = command_in(config, fields)?;
-    Some(CommandRow {
+    Some(IssuedCommand {
         cycle,
         channel,
         command,

@@ -2,7 +2,7 @@
 
 ghost use Rattle.std.specs.Prelude.{ℕ, ◌≡◌, ◌+◌, ◌*◌, ◌<◌, ◌≤◌, ◌++◌, ◌∷◌, [], List, find, not, All, IfOk, length};
 ghost use Rattle.std.specs.List.{range_with_len};
-ghost use Rattle.sim_base.specs.declared.command.CommandRow.{CommandRow};
+ghost use Rattle.sim_base.specs.declared.command.IssuedCommand.{IssuedCommand};
 ghost use Rattle.sim_base.specs.Rules.{rules};
 ghost use Rattle.rule_check.specs.Fields.{RowFits};
 ghost use Rattle.rule_check.specs.Broken.{stands_before, stands_wrongly, lowest_broken};
@@ -11,7 +11,7 @@ ghost use Rattle.rule_check.specs.Past.{IsPast, past_breaks};
 
 use crate::state::{Channel, Past};
 use crate::{broken, channel};
-use sim_base::command::CommandRow;
+use sim_base::command::IssuedCommand;
 use sim_base::config::Config;
 use sim_base::rule::Rule;
 use std::alloc::{AllocError, Global};
@@ -38,13 +38,13 @@ pub(crate) fn start(alloc: Global, config: &Config) -> Result<Past, AllocError>
 }
 
 /// Whether a row stands before another, by cycle and then by channel.
-fn stands_before(a: CommandRow, b: CommandRow) -> bool
+fn stands_before(a: IssuedCommand, b: IssuedCommand) -> bool
     ensures { result ≡ stands_before a b }
 {
     a.cycle < b.cycle || (a.cycle == b.cycle && a.channel < b.channel)
 }
 
-fn stands_wrongly(last: Option<CommandRow>, row: CommandRow) -> bool
+fn stands_wrongly(last: Option<IssuedCommand>, row: IssuedCommand) -> bool
     ensures { result ≡ stands_wrongly last row }
 {
     match last {
@@ -56,9 +56,9 @@ fn stands_wrongly(last: Option<CommandRow>, row: CommandRow) -> bool
 fn breaks(
     config: &Config,
     table: &[Rule],
-    last: Option<CommandRow>,
+    last: Option<IssuedCommand>,
     channel: &Channel,
-    row: CommandRow,
+    row: IssuedCommand,
     number: u32,
 ) -> bool
     ensures { result ≡ past_breaks config.now table.now last channel.now row number }
@@ -73,9 +73,9 @@ fn breaks(
 fn lowest_by(
     config: &Config,
     table: &[Rule],
-    last: Option<CommandRow>,
+    last: Option<IssuedCommand>,
     channel: &Channel,
-    row: CommandRow,
+    row: IssuedCommand,
 ) -> Option<u8>
     ensures { result ≡ find (past_breaks config.now table.now last channel.now row) (range_with_len 1 21) }
 {
@@ -86,9 +86,9 @@ fn lowest_by(
 fn lowest_if_any(
     config: &Config,
     table: &[Rule],
-    last: Option<CommandRow>,
+    last: Option<IssuedCommand>,
     channel: &Channel,
-    row: CommandRow,
+    row: IssuedCommand,
 ) -> Option<u8>
     ensures { result ≡ find (past_breaks config.now table.now last channel.now row) (range_with_len 1 21) }
 {
@@ -104,22 +104,22 @@ pub(crate) fn lowest_broken(
     past: &Past,
     config: &Config,
     table: &[Rule],
-    row: CommandRow,
+    row: IssuedCommand,
 ) -> Option<u8>
     requires fits { RowFits config.now row }
     requires table { table.now ≡ rules config.now.timing }
-    requires stands { (rows : List CommandRow) × IsPast past.now config.now rows }
-    ensures { (rows : List CommandRow) → IsPast past.now config.now rows → result ≡ lowest_broken config.now rows row }
+    requires stands { (rows : List IssuedCommand) × IsPast past.now config.now rows }
+    ensures { (rows : List IssuedCommand) → IsPast past.now config.now rows → result ≡ lowest_broken config.now rows row }
 {
     let channel = &past.channels[row.channel as usize];
     lowest_if_any(config, table, past.last, channel, row)
 }
 
 /// Keeps one row more.
-pub(crate) fn note(past: &mut Past, config: &Config, row: CommandRow)
+pub(crate) fn note(past: &mut Past, config: &Config, row: IssuedCommand)
     requires fits { RowFits config.now row }
-    requires stands { (rows : List CommandRow) × IsPast past.old config.now rows }
-    ensures { (rows : List CommandRow) → IsPast past.old config.now rows → IsPast past.new config.now (rows ++ row ∷ []) }
+    requires stands { (rows : List IssuedCommand) × IsPast past.old config.now rows }
+    ensures { (rows : List IssuedCommand) → IsPast past.old config.now rows → IsPast past.new config.now (rows ++ row ∷ []) }
 {
     let number = row.channel as usize;
     channel::note(&mut past.channels[number], config, row);

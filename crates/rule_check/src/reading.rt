@@ -20,7 +20,7 @@ pub(crate) fn open<'t>(alloc: Global, table: &'t [u8]) -> Reader<&'t [u8]>
         .from_reader(alloc, table)
 }
 
-/// Reads the next record, and tells whether there was one. The only error is want of memory.
+/// Reads the next record, and tells whether there was one. The only error is out of memory.
 pub(crate) fn read_next(reader: &mut Reader<&[u8]>, row: &mut ByteRecord) -> Result<bool, Fault>
     requires { IsReading reader.old }
     ensures takes { IfOk result (λ found. Takes reader.old found (fields_of row.new) reader.new) }

@@ -4,7 +4,7 @@ ghost use Rattle.std.specs.Prelude.{◌≡◌, ◌*◌, ◌≤◌, length};
 
 use crate::latest::{Latest, NOTHING};
 use crate::window::{NO_ACTS, Window};
-use sim_base::command::CommandRow;
+use sim_base::command::IssuedCommand;
 
 /// A bank: the latest command of each kind that spoke of it, and its open row.
 #[derive(Clone, Copy)]
@@ -64,6 +64,6 @@ pub(crate) struct Channel {
 /// What is kept of the rows of a table: the last of them, and those of each channel.
 #[derive(Drop)]
 pub(crate) struct Past {
-    pub(crate) last: Option<CommandRow>,
+    pub(crate) last: Option<IssuedCommand>,
     pub(crate) channels: Vec<Channel>,
 }

@@ -3,7 +3,7 @@
 ghost use Rattle.std.specs.Prelude.{ℕ, List, ◌≡◌, ◌≢◌, ◌↔◌, ◌+◌, ◌≤◌, [], ◌∷◌, length, Ok, Err, None, IfOk, IfErr, IfSome};
 ghost use Rattle.csv.specs.Records.{fields_of};
 ghost use Rattle.sim_base.specs.Rules.{rules};
-ghost use Rattle.sim_base.specs.declared.command.CommandRow.{CommandRow};
+ghost use Rattle.sim_base.specs.declared.command.IssuedCommand.{IssuedCommand};
 ghost use Rattle.rule_check.specs.Judged.{IsKeptRow};
 ghost use Rattle.rule_check.specs.Left.{IsReading, left_of};
 ghost use Rattle.rule_check.specs.Past.{IsPast};
@@ -30,10 +30,10 @@ fn judge(
     fields: &ByteRecord,
 ) -> Option<Result<Verdict, Fault>>
     requires table { table.now ≡ rules config.now.timing }
-    requires stands { (rows : List CommandRow) × IsPast past.old config.now rows }
-    ensures decided { IfSome result (λ answer. (rows : List CommandRow) (others : List (List (List ℕ)))
+    requires stands { (rows : List IssuedCommand) × IsPast past.old config.now rows }
+    ensures decided { IfSome result (λ answer. (rows : List IssuedCommand) (others : List (List (List ℕ)))
         → IsPast past.old config.now rows → verdict_after config.now rows number (fields_of fields.now ∷ others) ≡ answer) }
-    ensures kept { result ≡ None → (rows : List CommandRow) → IsPast past.old config.now rows → IsKeptRow past.new config.now rows number (fields_of fields.now) }
+    ensures kept { result ≡ None → (rows : List IssuedCommand) → IsPast past.old config.now rows → IsKeptRow past.new config.now rows number (fields_of fields.now) }
     ensures fault { IfSome result (λ answer. IfErr answer IsCheckFault) }
 {
     let Some(row) = row_in(config, fields) else {

@@ -2,7 +2,7 @@
 
 use command_table::list::CommandList;
 use drawing::numbers::share_of;
-use sim_base::command::{Command, CommandRow, Kind, Source};
+use sim_base::command::{Command, IssuedCommand, Kind, Source};
 use sim_base::place::BankId;
 use statistics::stats::Stats;
 use std::alloc::{AllocError, Global};
@@ -234,7 +234,7 @@ fn empty_channels(
 
 impl Activity {
     // Adds a command to its channel.
-    fn add(&mut self, row: CommandRow) -> Result<(), AllocError> {
+    fn add(&mut self, row: IssuedCommand) -> Result<(), AllocError> {
         let step = row.cycle / self.step.max(1);
         match self.channels.get_mut(row.channel as usize) {
             Some(channel) => channel.add(step as usize, row.command),

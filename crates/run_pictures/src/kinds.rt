@@ -1,6 +1,6 @@
 //! The names of commands, and what a tooltip says of one.
 
-use sim_base::command::{Command, CommandRow, Kind, Source};
+use sim_base::command::{Command, IssuedCommand, Kind, Source};
 use sim_base::place::BankId;
 use std::fmt;
 
@@ -56,7 +56,7 @@ impl fmt::Display for SourceWords {
 
 /// A command and its cycle in words.
 #[derive(Clone, Copy)]
-pub(crate) struct CommandWords(pub(crate) CommandRow);
+pub(crate) struct CommandWords(pub(crate) IssuedCommand);
 
 impl fmt::Display for CommandWords {
     fn fmt<W: fmt::Write>(&self, f: &mut fmt::Formatter<W>) -> fmt::Result {

@@ -6,7 +6,7 @@ use crate::timeline::{ChannelTimeline, Lane, OpenRow};
 use drawing::numbers::{Grouped, Tenths};
 use drawing::scales::{Scale, tick_step};
 use drawing::shapes::{Extent, LegendEntry};
-use sim_base::command::{CommandRow, Kind};
+use sim_base::command::{IssuedCommand, Kind};
 use std::io::{self, Write};
 
 /// Cycles of a strip, at most.
@@ -161,7 +161,7 @@ fn write_band<W: Write>(
 fn write_ended<W: Write>(
     strip: Strip,
     lanes: &mut [Lane],
-    row: &CommandRow,
+    row: &IssuedCommand,
     writer: &mut W,
 ) -> io::Result<()> {
     for (place, lane) in lanes.iter_mut().enumerate() {
@@ -175,7 +175,7 @@ fn write_ended<W: Write>(
 fn write_bands<W: Write>(
     strip: Strip,
     lanes: &mut [Lane],
-    commands: &[CommandRow],
+    commands: &[IssuedCommand],
     writer: &mut W,
 ) -> io::Result<()> {
     for row in commands {
@@ -190,7 +190,7 @@ fn write_bands<W: Write>(
 }
 
 // Where a command's box lies: in the lane of its bank, or across those of its rank.
-fn box_of(strip: Strip, lanes: &[Lane], row: &CommandRow) -> Extent {
+fn box_of(strip: Strip, lanes: &[Lane], row: &IssuedCommand) -> Extent {
     let rank = row.command.rank();
     let bank = row.command.bank();
     let among = |lane: &Lane| match bank {
@@ -211,7 +211,7 @@ fn box_of(strip: Strip, lanes: &[Lane], row: &CommandRow) -> Extent {
 fn write_box<W: Write>(
     strip: Strip,
     lanes: &[Lane],
-    row: &CommandRow,
+    row: &IssuedCommand,
     writer: &mut W,
 ) -> io::Result<()> {
     let class = class_of(row.command.kind());
@@ -225,7 +225,7 @@ fn write_box<W: Write>(
 }
 
 // The data of a RD or a WR, as far as they lie in the strip.
-fn write_data<W: Write>(strip: Strip, row: &CommandRow, writer: &mut W) -> io::Result<()> {
+fn write_data<W: Write>(strip: Strip, row: &IssuedCommand, writer: &mut W) -> io::Result<()> {
     let kind = row.command.kind();
     let end = row.cycle.saturating_add(BURST);
     if kind != Kind::Rd && kind != Kind::Wr || end <= strip.from {
@@ -243,7 +243,7 @@ fn write_data<W: Write>(strip: Strip, row: &CommandRow, writer: &mut W) -> io::R
 fn write_boxes<W: Write>(
     strip: Strip,
     lanes: &[Lane],
-    commands: &[CommandRow],
+    commands: &[IssuedCommand],
     writer: &mut W,
 ) -> io::Result<()> {
     for row in commands {
@@ -252,7 +252,7 @@ fn write_boxes<W: Write>(
     Ok(())
 }
 
-fn write_bus<W: Write>(strip: Strip, commands: &[CommandRow], writer: &mut W) -> io::Result<()> {
+fn write_bus<W: Write>(strip: Strip, commands: &[IssuedCommand], writer: &mut W) -> io::Result<()> {
     for row in commands {
         write_data(strip, row, writer)?;
     }
@@ -263,8 +263,8 @@ fn write_bus<W: Write>(strip: Strip, commands: &[CommandRow], writer: &mut W) ->
 fn write_strip<W: Write>(
     strip: Strip,
     lanes: &mut [Lane],
-    earlier: &[CommandRow],
-    commands: &[CommandRow],
+    earlier: &[IssuedCommand],
+    commands: &[IssuedCommand],
     writer: &mut W,
 ) -> io::Result<()> {
     let height = Tenths(strip.bottom().saturating_add(150));

@@ -2,7 +2,7 @@
 
 use crate::activity::{Activity, ChannelActivity};
 use command_table::list::CommandList;
-use sim_base::command::{Command, CommandRow};
+use sim_base::command::{Command, IssuedCommand};
 use sim_base::place::BankId;
 use std::alloc::{AllocError, Global};
 
@@ -32,7 +32,7 @@ impl Lane {
     }
 
     // The row that a command opens in the bank.
-    fn opened_by(&self, row: &CommandRow) -> Option<OpenRow> {
+    fn opened_by(&self, row: &IssuedCommand) -> Option<OpenRow> {
         match row.command {
             Command::Act {
                 bank,
@@ -47,7 +47,7 @@ impl Lane {
     }
 
     /// Follows a command. Gives the row that it closes, if it closes one.
-    pub(crate) fn follow(&mut self, row: &CommandRow) -> Option<OpenRow> {
+    pub(crate) fn follow(&mut self, row: &IssuedCommand) -> Option<OpenRow> {
         if self.is_closed_by(row.command) {
             return self.open.take();
         }
@@ -64,7 +64,7 @@ pub(crate) struct ChannelTimeline {
     /// The banks that the run uses, by rank, group and bank, with the rows that are open before the window.
     pub(crate) lanes: Vec<Lane>,
     /// The commands of the window.
-    pub(crate) commands: Vec<CommandRow>,
+    pub(crate) commands: Vec<IssuedCommand>,
 }
 
 impl ChannelTimeline {
@@ -82,14 +82,14 @@ impl ChannelTimeline {
     }
 
     // Notes a command before the window.
-    fn follow(&mut self, row: &CommandRow) {
+    fn follow(&mut self, row: &IssuedCommand) {
         for lane in self.lanes.iter_mut() {
             let _closed = lane.follow(row);
         }
     }
 
     // Takes a command before the window or in it.
-    fn add(&mut self, from: u64, row: CommandRow) -> Result<(), AllocError> {
+    fn add(&mut self, from: u64, row: IssuedCommand) -> Result<(), AllocError> {
         if row.cycle < from {
             self.follow(&row);
             return Ok(());

@@ -10,7 +10,7 @@ use crate::numbers::{NUMBER_LIMIT, number_below, small_number};
 use crate::records::Records;
 use command_table::list::CommandList;
 use csv::ByteRecord;
-use sim_base::command::{Command, CommandRow, Source};
+use sim_base::command::{Command, IssuedCommand, Source};
 use sim_base::fault::Fault;
 use sim_base::message::Cycle;
 use sim_base::place::BankId;
@@ -207,7 +207,7 @@ impl Line<'_> {
     }
 
     /// The row that the record writes, where it is one of this cycle or a later one.
-    fn row(self, earliest: Cycle) -> Option<CommandRow>
+    fn row(self, earliest: Cycle) -> Option<IssuedCommand>
         ensures { IfSome result (λ row. earliest ≤ row.cycle) }
     {
         if self.fields.len() != self.columns.count() {
@@ -219,7 +219,7 @@ impl Line<'_> {
         if cycle < earliest {
             return None;
         }
-        Some(CommandRow {
+        Some(IssuedCommand {
             cycle,
             channel,
             command,
@@ -253,7 +253,7 @@ fn take_row(
     records: &mut Records<'_>,
     columns: Columns,
     earliest: Cycle,
-) -> Result<CommandRow, Fault>
+) -> Result<IssuedCommand, Fault>
     requires { 0 < length records.old.records }
     ensures rest { OnOk result (length records.old.records ≡ length records.new.records + 1) }
     ensures later { IfOk result (λ row. earliest ≤ row.cycle) }

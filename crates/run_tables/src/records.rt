@@ -42,7 +42,7 @@ fn open<'t>(alloc: Global, table: &'t [u8]) -> Reader<&'t [u8]>
         .from_reader(alloc, table)
 }
 
-// Reads the next record, and tells whether there was one. The only error is want of memory.
+// Reads the next record, and tells whether there was one. The only error is out of memory.
 fn read_next(reader: &mut Reader<&[u8]>, row: &mut ByteRecord) -> Result<bool, Fault>
     requires { IsReading reader.old }
     ensures takes { IfOk result (λ found. Takes reader.old found (fields_of row.new) reader.new) }
@@ -64,6 +64,7 @@ impl<'t> Records<'t> {
         let mut reader = open(alloc, table);
         let mut first = ByteRecord::new(alloc);
         let found = read_next(&mut reader, &mut first)?;
+        // tells the proof that the table's length is a usize
         let _few = table.len();
         Ok(Records {
             reader,

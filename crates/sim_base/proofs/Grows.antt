@@ -1,4 +1,4 @@
--- With one row more, what was sent grows by what is sent in that cycle, wherever in the list of all messages it stands.
+-- With one step more, what was sent grows by what is sent in that cycle, wherever in the list of all messages it stands.
 use Rattle.std.proofs.Common.{ℕ, zero, suc, ◌+◌, ◌*◌, ◌/◌, ◌%◌, ◌<◌, ◌≡◌, Bool, true, false, eqb, List, [], ◌∷◌, ◌++◌, length, take, drop, ◌-◌, Option, Some, None, refl, sym, ap, ap₂, subst, ◌∙◌, add-one, add-zero, arith}
 use Rattle.std.specs.Prelude.{filter, flat_map, fold, sum_by}
 use Rattle.std.specs.Option.{IfSome}
@@ -12,10 +12,10 @@ use Rattle.std.proofs.Math.Seq.{take-append_seam, take-length}
 use Rattle.sim_base.specs.declared.config.Config.{Config}
 use Rattle.sim_base.specs.Config.{request_link, reply_link, credit_link}
 use Rattle.sim_base.specs.Places.{field_of, place_of}
-use Rattle.sim_base.specs.Row.{Row, core_row, channel_row}
-use Rattle.sim_base.specs.History.{below, trace_of, core_rows, channel_rows, issued_before, request, request_of, reply, credit, requests_between, requests_in, core_messages, messages_of, messages_at, messages_in, channel_messages, messages_of_core, messages_of_channel, messages, is_to, by_age, insert_by_age, inbox}
+use Rattle.sim_base.specs.MachineStep.{MachineStep, step_of_core, step_of_channel}
+use Rattle.sim_base.specs.History.{below, trace_of, steps_of_core, steps_of_channel, issued_before, request, request_of, reply, credit, requests_between, requests_in, core_messages, messages_of, messages_at, messages_in, channel_messages, messages_of_core, messages_of_channel, messages, is_to, by_age, insert_by_age, inbox}
 use Rattle.sim_base.specs.Sends.{sender, core_sends, channel_sends, sends}
-use Rattle.sim_base.specs.declared.history.CoreRow.{CoreRow}
+use Rattle.sim_base.specs.declared.history.CoreStep.{CoreStep}
 use Rattle.sim_base.specs.declared.command.Command.{Command}
 use Rattle.sim_base.specs.declared.command.Command.TheVariants.{Act, Rd, Wr, Pre, Prea, Ref}
 use Rattle.sim_base.specs.declared.message.Message.{Message}
@@ -72,9 +72,9 @@ between-by s core trace cycle first end h =
     let es = take (end - first) (drop first (enumerate_from 0 trace)) in
     Each-filter_map (λ (m : Message). sender s m.link ≡ Core core) (λ e. request_of s core cycle e.0 e.1) es (Each-all _ (request_of-by s core cycle h) es)
 
-pub core_messages-by : (s : Config) (core : ℕ) (trace : List Entry) (rows : List CoreRow) → 0 < s.channels → SentBy s (Core core) (core_messages s core trace rows)
+pub core_messages-by : (s : Config) (core : ℕ) (trace : List Entry) (steps : List CoreStep) → 0 < s.channels → SentBy s (Core core) (core_messages s core trace steps)
 unfolding core_messages requests_in
-core_messages-by s core trace rows h = Each-flat_map_below _ (requests_in s core trace rows) (length rows) (λ cycle l. between-by s core trace cycle _ _ h)
+core_messages-by s core trace steps h = Each-flat_map_below _ (requests_in s core trace steps) (length steps) (λ cycle l. between-by s core trace cycle _ _ h)
 
 messages_at-by : (s : Config) (channel cycle : ℕ) → channel < s.channels → (o : Option Command) → SentBy s (Channel channel) (messages_at s channel cycle o)
 unfolding messages_of reply credit
@@ -86,9 +86,9 @@ messages_at-by s channel cycle l (Some (Pre bank source)) = tt
 messages_at-by s channel cycle l (Some (Prea rank)) = tt
 messages_at-by s channel cycle l (Some (Ref rank)) = tt
 
-pub channel_messages-by : (s : Config) (channel : ℕ) (rows : List (Option Command)) → channel < s.channels → SentBy s (Channel channel) (channel_messages s channel rows)
+pub channel_messages-by : (s : Config) (channel : ℕ) (steps : List (Option Command)) → channel < s.channels → SentBy s (Channel channel) (channel_messages s channel steps)
 unfolding channel_messages messages_in
-channel_messages-by s channel rows l = Each-flat_map_below _ (messages_in s channel rows) (length rows) (λ cycle h. messages_at-by s channel cycle l _)
+channel_messages-by s channel steps l = Each-flat_map_below _ (messages_in s channel steps) (length steps) (λ cycle h. messages_at-by s channel cycle l _)
 
 -- two different units send on different links
 pub links_differ : (s : Config) (a b : MachineUnit) → (a ≡ b → ⊥) → (x y : ℕ) → sender s x ≡ a → sender s y ≡ b → eqb x y ≡ false
@@ -132,78 +132,78 @@ channels_differ i j l e = let same : i ≡ j = cc in omega arith
 pub core_channel_differ : (i j : ℕ) → Core i ≡ Channel j → ⊥
 core_channel_differ i j e = cc
 
-pub issued_before-push : (rows : List CoreRow) (row : CoreRow) → issued_before (rows ++ row ∷ []) ≡ issued_before rows + row.issued
+pub issued_before-push : (steps : List CoreStep) (core_step : CoreStep) → issued_before (steps ++ core_step ∷ []) ≡ issued_before steps + core_step.issued
 unfolding issued_before
-issued_before-push rows row =
-    let e : issued_before (rows ++ row ∷ []) ≡ issued_before rows + sum_by (λ (r : CoreRow). r.issued) (row ∷ []) = sum_by-append (λ (r : CoreRow). r.issued) rows (row ∷ []) in
-    e ∙ ap (λ n. issued_before rows + n) (sum_by-cons (λ (r : CoreRow). r.issued) row [] ∙ add-zero row.issued)
+issued_before-push steps core_step =
+    let e : issued_before (steps ++ core_step ∷ []) ≡ issued_before steps + sum_by (λ (r : CoreStep). r.issued) (core_step ∷ []) = sum_by-append (λ (r : CoreStep). r.issued) steps (core_step ∷ []) in
+    e ∙ ap (λ n. issued_before steps + n) (sum_by-cons (λ (r : CoreStep). r.issued) core_step [] ∙ add-zero core_step.issued)
 
--- one row more of a core
-pub core-grows : (s : Config) (traces : List (List Entry)) (history : List Row) (row : Row) (core : ℕ)
-    → messages_of_core s traces (history ++ row ∷ []) core ≡ messages_of_core s traces history core ++ core_sends s traces history row core
-unfolding messages_of_core core_rows core_sends requests_in
-core-grows s traces history row core =
+-- one machine_step more of a core
+pub core-grows : (s : Config) (traces : List (List Entry)) (history : List MachineStep) (machine_step : MachineStep) (core : ℕ)
+    → messages_of_core s traces (history ++ machine_step ∷ []) core ≡ messages_of_core s traces history core ++ core_sends s traces history machine_step core
+unfolding messages_of_core steps_of_core core_sends requests_in
+core-grows s traces history machine_step core =
     let trace = trace_of traces core in
-    let rows = core_rows core history in
-    let r = core_row core row in
-    let e : length rows ≡ length history = length-map history (core_row core) in
-    let all : take (length rows + 1) (rows ++ r ∷ []) ≡ rows ++ r ∷ [] =
-    ap (λ n. take n (rows ++ r ∷ [])) (sym (length_push rows r)) ∙ take-length (rows ++ r ∷ []) in
-    ap (core_messages s core trace) (map-append (core_row core) history (row ∷ []))
-    ∙ core_messages-push s core trace rows r
-    ∙ ap (λ x. core_messages s core trace rows ++ x)
-    (ap₂ (λ a b. requests_between s core trace (length rows) (issued_before a) (issued_before b)) (take-append_seam rows (r ∷ [])) all
-    ∙ ap₂ (λ a b. requests_between s core trace a (issued_before rows) b) e (issued_before-push rows r))
+    let steps = steps_of_core core history in
+    let r = step_of_core core machine_step in
+    let e : length steps ≡ length history = length-map history (step_of_core core) in
+    let all : take (length steps + 1) (steps ++ r ∷ []) ≡ steps ++ r ∷ [] =
+    ap (λ n. take n (steps ++ r ∷ [])) (sym (length_push steps r)) ∙ take-length (steps ++ r ∷ []) in
+    ap (core_messages s core trace) (map-append (step_of_core core) history (machine_step ∷ []))
+    ∙ core_messages-push s core trace steps r
+    ∙ ap (λ x. core_messages s core trace steps ++ x)
+    (ap₂ (λ a b. requests_between s core trace (length steps) (issued_before a) (issued_before b)) (take-append_seam steps (r ∷ [])) all
+    ∙ ap₂ (λ a b. requests_between s core trace a (issued_before steps) b) e (issued_before-push steps r))
 
--- one row more of a channel
-pub channel-grows : (s : Config) (history : List Row) (row : Row) (channel : ℕ)
-    → messages_of_channel s (history ++ row ∷ []) channel ≡ messages_of_channel s history channel ++ channel_sends s history row channel
-unfolding messages_of_channel channel_rows channel_sends
-channel-grows s history row channel =
-    let rows = channel_rows channel history in
-    ap (channel_messages s channel) (map-append (channel_row channel) history (row ∷ []))
-    ∙ channel_messages-push s channel rows (channel_row channel row)
-    ∙ ap (λ n. channel_messages s channel rows ++ messages_at s channel n (channel_row channel row)) (length-map history (channel_row channel))
+-- one machine_step more of a channel
+pub channel-grows : (s : Config) (history : List MachineStep) (machine_step : MachineStep) (channel : ℕ)
+    → messages_of_channel s (history ++ machine_step ∷ []) channel ≡ messages_of_channel s history channel ++ channel_sends s history machine_step channel
+unfolding messages_of_channel steps_of_channel channel_sends
+channel-grows s history machine_step channel =
+    let steps = steps_of_channel channel history in
+    ap (channel_messages s channel) (map-append (step_of_channel channel) history (machine_step ∷ []))
+    ∙ channel_messages-push s channel steps (step_of_channel channel machine_step)
+    ∙ ap (λ n. channel_messages s channel steps ++ messages_at s channel n (step_of_channel channel machine_step)) (length-map history (step_of_channel channel))
 
-pub core_sends-by : (s : Config) (traces : List (List Entry)) (history : List Row) (row : Row) (core : ℕ) → 0 < s.channels → SentBy s (Core core) (core_sends s traces history row core)
+pub core_sends-by : (s : Config) (traces : List (List Entry)) (history : List MachineStep) (machine_step : MachineStep) (core : ℕ) → 0 < s.channels → SentBy s (Core core) (core_sends s traces history machine_step core)
 unfolding core_sends
-core_sends-by s traces history row core h = between-by s core (trace_of traces core) (length history) _ _ h
+core_sends-by s traces history machine_step core h = between-by s core (trace_of traces core) (length history) _ _ h
 
-pub channel_sends-by : (s : Config) (history : List Row) (row : Row) (channel : ℕ) → channel < s.channels → SentBy s (Channel channel) (channel_sends s history row channel)
+pub channel_sends-by : (s : Config) (history : List MachineStep) (machine_step : MachineStep) (channel : ℕ) → channel < s.channels → SentBy s (Channel channel) (channel_sends s history machine_step channel)
 unfolding channel_sends
-channel_sends-by s history row channel l = messages_at-by s channel (length history) l (channel_row channel row)
+channel_sends-by s history machine_step channel l = messages_at-by s channel (length history) l (step_of_channel channel machine_step)
 
 has_channels : (s : Config) → 0 < s.channels
 has_channels s = s.machine_in_range.channels_in.0
 
-pub of_core-by : (s : Config) (traces : List (List Entry)) (history : List Row) (core : ℕ) → SentBy s (Core core) (messages_of_core s traces history core)
+pub of_core-by : (s : Config) (traces : List (List Entry)) (history : List MachineStep) (core : ℕ) → SentBy s (Core core) (messages_of_core s traces history core)
 unfolding messages_of_core
-of_core-by s traces history core = core_messages-by s core (trace_of traces core) (core_rows core history) (has_channels s)
+of_core-by s traces history core = core_messages-by s core (trace_of traces core) (steps_of_core core history) (has_channels s)
 
-pub of_channel-by : (s : Config) (history : List Row) (channel : ℕ) → channel < s.channels → SentBy s (Channel channel) (messages_of_channel s history channel)
+pub of_channel-by : (s : Config) (history : List MachineStep) (channel : ℕ) → channel < s.channels → SentBy s (Channel channel) (messages_of_channel s history channel)
 unfolding messages_of_channel
-of_channel-by s history channel l = channel_messages-by s channel (channel_rows channel history) l
+of_channel-by s history channel l = channel_messages-by s channel (steps_of_channel channel history) l
 
-pub messages-grow : (s : Config) (traces : List (List Entry)) (history : List Row) (row : Row)
-    → puts [] (messages s traces (history ++ row ∷ [])) ≡ puts (puts [] (messages s traces history)) (sends s traces history row)
+pub messages-grow : (s : Config) (traces : List (List Entry)) (history : List MachineStep) (machine_step : MachineStep)
+    → puts [] (messages s traces (history ++ machine_step ∷ [])) ≡ puts (puts [] (messages s traces history)) (sends s traces history machine_step)
 unfolding messages sends
-messages-grow s traces history row =
+messages-grow s traces history machine_step =
     let f = messages_of_core s traces history in
-    let g = core_sends s traces history row in
+    let g = core_sends s traces history machine_step in
     let f' = messages_of_channel s history in
-    let g' = channel_sends s history row in
+    let g' = channel_sends s history machine_step in
     let old = flat_map f (below s.cores) in
     let new = flat_map g (below s.cores) in
     let old' = flat_map f' (below s.channels) in
     let new' = flat_map g' (below s.channels) in
     let far : Apart new old' =
-    Each-flat_map_below _ g s.cores (λ i l. Each-far i (g i) (core_sends-by s traces history row i (has_channels s))) in
+    Each-flat_map_below _ g s.cores (λ i l. Each-far i (g i) (core_sends-by s traces history machine_step i (has_channels s))) in
     ap₂ (λ a b. puts [] (a ++ b))
-    (flat_map_below_same _ (λ i. f i ++ g i) s.cores (λ i l. core-grows s traces history row i))
-    (flat_map_below_same _ (λ i. f' i ++ g' i) s.channels (λ i l. channel-grows s history row i))
+    (flat_map_below_same _ (λ i. f i ++ g i) s.cores (λ i l. core-grows s traces history machine_step i))
+    (flat_map_below_same _ (λ i. f' i ++ g' i) s.channels (λ i l. channel-grows s history machine_step i))
     ∙ puts-append [] (flat_map (λ i. f i ++ g i) (below s.cores)) (flat_map (λ i. f' i ++ g' i) (below s.channels))
-    ∙ grow s Channel channels_differ f' g' _ s.channels (λ i l. of_channel-by s history i l) (λ i l. channel_sends-by s history row i l)
-    ∙ ap (λ z. puts (puts z old') new') (grow s Core cores_differ f g [] s.cores (λ i l. of_core-by s traces history i) (λ i l. core_sends-by s traces history row i (has_channels s)))
+    ∙ grow s Channel channels_differ f' g' _ s.channels (λ i l. of_channel-by s history i l) (λ i l. channel_sends-by s history machine_step i l)
+    ∙ ap (λ z. puts (puts z old') new') (grow s Core cores_differ f g [] s.cores (λ i l. of_core-by s traces history i) (λ i l. core_sends-by s traces history machine_step i (has_channels s)))
     ∙ ap (λ z. puts z new') (puts-swap (puts [] old) new old' far)
     ∙ sym (puts-append (puts (puts [] old) old') new new')
     ∙ ap (λ z. puts z (new ++ new')) (sym (puts-append [] old old'))
@@ -215,31 +215,31 @@ messages-grow s traces history row =
         (λ k l. Each-weaker _ (λ (y : Message). eqb x.link y.link ≡ false) (λ y f. links_differ s (Core i) (Channel k) (core_channel_differ i k) x.link y.link e f)
         (messages_of_channel s history k) (of_channel-by s history k l))) xs h
 
--- what was sent, by age, with one row more
-pub by_age-grows : (s : Config) (traces : List (List Entry)) (history : List Row) (row : Row)
-    → by_age (messages s traces (history ++ row ∷ [])) ≡ fold insert_by_age (by_age (messages s traces history)) (sends s traces history row)
-by_age-grows s traces history row =
-    by_age-puts (messages s traces (history ++ row ∷ []))
-    ∙ messages-grow s traces history row
-    ∙ ap (λ z. puts z (sends s traces history row)) (sym (by_age-puts (messages s traces history)))
-    ∙ sym (fold-puts (by_age (messages s traces history)) (sends s traces history row))
+-- what was sent, by age, with one machine_step more
+pub by_age-grows : (s : Config) (traces : List (List Entry)) (history : List MachineStep) (machine_step : MachineStep)
+    → by_age (messages s traces (history ++ machine_step ∷ [])) ≡ fold insert_by_age (by_age (messages s traces history)) (sends s traces history machine_step)
+by_age-grows s traces history machine_step =
+    by_age-puts (messages s traces (history ++ machine_step ∷ []))
+    ∙ messages-grow s traces history machine_step
+    ∙ ap (λ z. puts z (sends s traces history machine_step)) (sym (by_age-puts (messages s traces history)))
+    ∙ sym (fold-puts (by_age (messages s traces history)) (sends s traces history machine_step))
 
 -- the same for those messages alone that pass a test
-pub by_age-filter-grows : (s : Config) (traces : List (List Entry)) (history : List Row) (row : Row) (p : Message → Bool)
-    → by_age (filter p (messages s traces (history ++ row ∷ []))) ≡ fold insert_by_age (by_age (filter p (messages s traces history))) (filter p (sends s traces history row))
-by_age-filter-grows s traces history row p =
+pub by_age-filter-grows : (s : Config) (traces : List (List Entry)) (history : List MachineStep) (machine_step : MachineStep) (p : Message → Bool)
+    → by_age (filter p (messages s traces (history ++ machine_step ∷ []))) ≡ fold insert_by_age (by_age (filter p (messages s traces history))) (filter p (sends s traces history machine_step))
+by_age-filter-grows s traces history machine_step p =
     let now = messages s traces history in
-    let then = messages s traces (history ++ row ∷ []) in
-    let new = sends s traces history row in
+    let then = messages s traces (history ++ machine_step ∷ []) in
+    let new = sends s traces history machine_step in
     by_age-puts (filter p then)
     ∙ sym (filter-puts p [] then tt)
-    ∙ ap (filter p) (messages-grow s traces history row)
+    ∙ ap (filter p) (messages-grow s traces history machine_step)
     ∙ filter-puts p (puts [] now) new (Sorted-puts [] now tt)
     ∙ ap (λ z. puts z (filter p new)) (filter-puts p [] now tt ∙ sym (by_age-puts (filter p now)))
     ∙ sym (fold-puts (by_age (filter p now)) (filter p new))
 
--- what was sent to a unit, with one row more
-pub inbox-grows : (s : Config) (traces : List (List Entry)) (history : List Row) (row : Row) (unit : MachineUnit)
-    → inbox s traces (history ++ row ∷ []) unit ≡ fold insert_by_age (inbox s traces history unit) (filter (is_to s unit) (sends s traces history row))
+-- what was sent to a unit, with one machine_step more
+pub inbox-grows : (s : Config) (traces : List (List Entry)) (history : List MachineStep) (machine_step : MachineStep) (unit : MachineUnit)
+    → inbox s traces (history ++ machine_step ∷ []) unit ≡ fold insert_by_age (inbox s traces history unit) (filter (is_to s unit) (sends s traces history machine_step))
 unfolding inbox
-inbox-grows s traces history row unit = by_age-filter-grows s traces history row (is_to s unit)
+inbox-grows s traces history machine_step unit = by_age-filter-grows s traces history machine_step (is_to s unit)

@@ -1,28 +1,28 @@
--- The state that is left after the rows of a whole run of n cycles. Each is stated for one unit, by its own rows and its
+-- The state that is left after the steps of a whole run of n cycles. Each is stated for one unit, by its own steps and its
 -- inbox. What arrives in cycle n is still in flight: no credit of it is held, and no request of it is queued.
---     credits_left s core trace rows inbox write channel      the credits that a core holds for a channel
---     due_left s channel rows      the refreshes that are due, rank by rank
+--     credits_left s core trace steps inbox write channel      the credits that a core holds for a channel
+--     due_left s channel steps      the refreshes that are due, rank by rank
 --     banks s      the banks of a channel, by rank, group and number
---     queue_left channel rows inbox      the requests that are not served, by age
+--     queue_left channel steps inbox      the requests that are not served, by age
 use Rattle.std.specs.Prelude.{ℕ, Bool, List, length, map, flat_map, Option}
 use Rattle.sim_base.specs.declared.config.Config.{Config}
 use Rattle.sim_base.specs.History.{below, issued_commands, core_messages}
-use Rattle.sim_base.specs.Scheduling.{waiting, due}
+use Rattle.sim_base.specs.Scheduling.{queued_requests, due}
 use Rattle.sim_base.specs.Windows.{held}
 use Rattle.sim_base.specs.declared.command.Command.{Command}
-use Rattle.sim_base.specs.declared.history.CoreRow.{CoreRow}
+use Rattle.sim_base.specs.declared.history.CoreStep.{CoreStep}
 use Rattle.sim_base.specs.declared.message.Message.{Message}
 use Rattle.sim_base.specs.declared.message.Request.{Request}
 use Rattle.sim_base.specs.declared.place.BankId.{BankId}
 use Rattle.sim_base.specs.declared.trace.Entry.{Entry}
 
 -- the credits that a core holds for a channel: for reads, or for writes
-unfoldable pub credits_left : Config → ℕ → List Entry → List CoreRow → List Message → Bool → ℕ → ℕ
-credits_left s core trace rows inbox write channel = held s core inbox (core_messages s core trace rows) channel write (length rows)
+unfoldable pub credits_left : Config → ℕ → List Entry → List CoreStep → List Message → Bool → ℕ → ℕ
+credits_left s core trace steps inbox write channel = held s core inbox (core_messages s core trace steps) channel write (length steps)
 
 -- the refreshes that are due, rank by rank
 unfoldable pub due_left : Config → ℕ → List (Option Command) → List ℕ
-due_left s channel rows = map (λ rank. due s rank (issued_commands channel rows) (length rows)) (below s.ranks)
+due_left s channel steps = map (λ rank. due s rank (issued_commands channel steps) (length steps)) (below s.ranks)
 
 -- the banks of a group
 abbrev pub banks_of_group : ℕ → ℕ → List BankId
@@ -38,4 +38,4 @@ banks s = flat_map (banks_of_rank s) (below s.ranks)
 
 -- the requests that arrived in the run and are not served, by age
 unfoldable pub queue_left : ℕ → List (Option Command) → List Message → List Request
-queue_left channel rows inbox = waiting (issued_commands channel rows) inbox (length rows)
+queue_left channel steps inbox = queued_requests (issued_commands channel steps) inbox (length steps)

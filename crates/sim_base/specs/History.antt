@@ -1,10 +1,10 @@
--- What was done, cycle by cycle, and the messages that it makes. Row t of a history is what was done in cycle t.
---     core_rows c history, channel_rows k history      what one unit did
---     retired_before rows, issued_before rows      how many entries a core retired and issued
---     issued_commands channel rows      the commands of a channel, each with its cycle
+-- What was done, cycle by cycle, and the messages that it makes. Step t of a history is what was done in cycle t.
+--     steps_of_core c history, steps_of_channel k history      what one unit did
+--     retired_before steps, issued_before steps      how many entries a core retired and issued
+--     issued_commands channel steps      the commands of a channel, each with its cycle
 --     commands history      the commands of all channels, by cycle and then by channel
 --     request, reply, credit      a message of each kind
---     core_messages, channel_messages, messages      the messages that rows make, wherever they are by now
+--     core_messages, channel_messages, messages      the messages that steps make, wherever they are by now
 --     receiver s link      the unit that a link leads to
 --     by_age ms      messages in order of arrival, and then of link
 --     inbox s traces history unit      what was sent to a unit, by age
@@ -12,13 +12,13 @@ use Rattle.std.specs.Prelude.{ℕ, not, insert, take_while, fold, ◌+◌, ◌-�
 use Rattle.std.specs.List.{enumerate_from, range_with_len}
 use Rattle.sim_base.specs.declared.config.Config.{Config}
 use Rattle.sim_base.specs.Config.{request_link, reply_link, credit_link, latency}
-use Rattle.sim_base.specs.Row.{Row, core_row, channel_row}
+use Rattle.sim_base.specs.MachineStep.{MachineStep, step_of_core, step_of_channel}
 use Rattle.sim_base.specs.Places.{place_of}
 use Rattle.sim_base.specs.declared.command.Command.{Command}
 use Rattle.sim_base.specs.declared.command.Command.TheVariants.{Act, Rd, Wr, Pre, Prea, Ref}
-use Rattle.sim_base.specs.declared.command.CommandRow.{CommandRow}
+use Rattle.sim_base.specs.declared.command.IssuedCommand.{IssuedCommand}
 use Rattle.sim_base.specs.declared.command.Source.{Source}
-use Rattle.sim_base.specs.declared.history.CoreRow.{CoreRow}
+use Rattle.sim_base.specs.declared.history.CoreStep.{CoreStep}
 use Rattle.sim_base.specs.declared.message.Load.TheVariants as load
 use Rattle.sim_base.specs.declared.message.Message.{Message}
 use Rattle.sim_base.specs.declared.message.Unit.{Unit as MachineUnit}
@@ -26,33 +26,33 @@ use Rattle.sim_base.specs.declared.message.Unit.TheVariants.{Core, Channel}
 use Rattle.sim_base.specs.declared.trace.Entry.{Entry}
 use Rattle.sim_base.specs.declared.trace.Entry.TheVariants.{Plain, Read, Write}
 
--- what one core did, a row a cycle
-unfoldable pub core_rows : ℕ → List Row → List CoreRow
-core_rows core history = map (core_row core) history
+-- what one core did, a step a cycle
+unfoldable pub steps_of_core : ℕ → List MachineStep → List CoreStep
+steps_of_core core history = map (step_of_core core) history
 
 -- what one channel did, a command or none a cycle
-unfoldable pub channel_rows : ℕ → List Row → List (Option Command)
-channel_rows channel history = map (channel_row channel) history
+unfoldable pub steps_of_channel : ℕ → List MachineStep → List (Option Command)
+steps_of_channel channel history = map (step_of_channel channel) history
 
 -- the numbers below n
 abbrev pub below : ℕ → List ℕ
 below n = range_with_len 0 n
 
 -- what a channel did in a cycle, as a command with its cycle
-abbrev pub issued_at : ℕ → ℕ → Option Command → Option CommandRow
+abbrev pub issued_at : ℕ → ℕ → Option Command → Option IssuedCommand
 issued_at channel cycle None = None
 issued_at channel cycle (Some command) = Some (record { cycle = cycle; channel = channel; command = command })
 
 -- the commands of a channel, each with its cycle
-unfoldable pub issued_commands : ℕ → List (Option Command) → List CommandRow
-issued_commands channel rows = filter_map (λ e. issued_at channel e.0 e.1) (enumerate_from 0 rows)
+unfoldable pub issued_commands : ℕ → List (Option Command) → List IssuedCommand
+issued_commands channel steps = filter_map (λ e. issued_at channel e.0 e.1) (enumerate_from 0 steps)
 
 -- the commands of all channels in a cycle, by channel
-abbrev pub commands_in : ℕ → Row → List CommandRow
-commands_in cycle row = filter_map (λ e. issued_at e.0 cycle e.1) (enumerate_from 0 row.commands)
+abbrev pub commands_in : ℕ → MachineStep → List IssuedCommand
+commands_in cycle step = filter_map (λ e. issued_at e.0 cycle e.1) (enumerate_from 0 step.commands)
 
 -- the commands of all channels, by cycle and then by channel
-unfoldable pub commands : List Row → List CommandRow
+unfoldable pub commands : List MachineStep → List IssuedCommand
 commands history = flat_map (λ e. commands_in e.0 e.1) (enumerate_from 0 history)
 
 -- a request that leaves in a cycle
@@ -74,12 +74,12 @@ request_of s core cycle entry (Read address) = Some (request s core cycle entry 
 request_of s core cycle entry (Write address) = Some (request s core cycle entry true address)
 
 -- how many entries were retired
-unfoldable pub retired_before : List CoreRow → ℕ
-retired_before rows = sum_by (λ row. row.retired) rows
+unfoldable pub retired_before : List CoreStep → ℕ
+retired_before steps = sum_by (λ core_step. core_step.retired) steps
 
 -- how many entries were issued
-unfoldable pub issued_before : List CoreRow → ℕ
-issued_before rows = sum_by (λ row. row.issued) rows
+unfoldable pub issued_before : List CoreStep → ℕ
+issued_before steps = sum_by (λ core_step. core_step.issued) steps
 
 -- the requests among the entries of these numbers, from first on and below end
 unfoldable pub requests_between : Config → ℕ → List Entry → ℕ → ℕ → ℕ → List Message
@@ -87,12 +87,12 @@ requests_between s core trace cycle first end =
     filter_map (λ e. request_of s core cycle e.0 e.1) (take (end - first) (drop first (enumerate_from 0 trace)))
 
 -- the requests of a core in a cycle: those among the entries that it issued by the end of the cycle, and not before
-unfoldable pub requests_in : Config → ℕ → List Entry → List CoreRow → ℕ → List Message
-requests_in s core trace rows cycle = requests_between s core trace cycle (issued_before (take cycle rows)) (issued_before (take (cycle + 1) rows))
+unfoldable pub requests_in : Config → ℕ → List Entry → List CoreStep → ℕ → List Message
+requests_in s core trace steps cycle = requests_between s core trace cycle (issued_before (take cycle steps)) (issued_before (take (cycle + 1) steps))
 
 -- the requests that a core sent
-unfoldable pub core_messages : Config → ℕ → List Entry → List CoreRow → List Message
-core_messages s core trace rows = flat_map (requests_in s core trace rows) (below (length rows))
+unfoldable pub core_messages : Config → ℕ → List Entry → List CoreStep → List Message
+core_messages s core trace steps = flat_map (requests_in s core trace steps) (below (length steps))
 
 -- the data of a read that is issued in a cycle: it leaves as soon as its burst is over
 unfoldable pub reply : Config → ℕ → ℕ → Source → Message
@@ -122,26 +122,26 @@ messages_at s channel cycle (Some command) = messages_of s channel cycle command
 
 -- what a channel sends in a cycle
 unfoldable pub messages_in : Config → ℕ → List (Option Command) → ℕ → List Message
-messages_in s channel rows cycle = messages_at s channel cycle (slice_index_or rows cycle None)
+messages_in s channel steps cycle = messages_at s channel cycle (slice_index_or steps cycle None)
 
 -- the replies and the credits that a channel sent
 unfoldable pub channel_messages : Config → ℕ → List (Option Command) → List Message
-channel_messages s channel rows = flat_map (messages_in s channel rows) (below (length rows))
+channel_messages s channel steps = flat_map (messages_in s channel steps) (below (length steps))
 
 -- the trace of a core; a core with none has an empty one
 abbrev pub trace_of : List (List Entry) → ℕ → List Entry
 trace_of traces core = slice_index_or traces core []
 
 -- what a core of the machine sent
-unfoldable pub messages_of_core : Config → List (List Entry) → List Row → ℕ → List Message
-messages_of_core s traces history core = core_messages s core (trace_of traces core) (core_rows core history)
+unfoldable pub messages_of_core : Config → List (List Entry) → List MachineStep → ℕ → List Message
+messages_of_core s traces history core = core_messages s core (trace_of traces core) (steps_of_core core history)
 
 -- what a channel of the machine sent
-unfoldable pub messages_of_channel : Config → List Row → ℕ → List Message
-messages_of_channel s history channel = channel_messages s channel (channel_rows channel history)
+unfoldable pub messages_of_channel : Config → List MachineStep → ℕ → List Message
+messages_of_channel s history channel = channel_messages s channel (steps_of_channel channel history)
 
 -- each message that was sent, wherever it is by now
-unfoldable pub messages : Config → List (List Entry) → List Row → List Message
+unfoldable pub messages : Config → List (List Entry) → List MachineStep → List Message
 messages s traces history = flat_map (messages_of_core s traces history) (below s.cores) ++ flat_map (messages_of_channel s history) (below s.channels)
 
 -- the unit that a link leads to
@@ -176,5 +176,5 @@ unfoldable pub by_age : List Message → List Message
 by_age ms = fold insert_by_age [] ms
 
 -- what was sent to a unit, by age
-unfoldable pub inbox : Config → List (List Entry) → List Row → MachineUnit → List Message
+unfoldable pub inbox : Config → List (List Entry) → List MachineStep → MachineUnit → List Message
 inbox s traces history unit = by_age (filter (is_to s unit) (messages s traces history))

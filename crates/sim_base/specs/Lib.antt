@@ -5,7 +5,7 @@ pub mod Relations
 pub mod Config
 pub mod Values
 pub mod Places
-pub mod Row
+pub mod MachineStep
 pub mod History
 pub mod Sends
 pub mod Rules

@@ -77,7 +77,7 @@ pub record StandsForTrace (text : List ℕ) (entries : List Entry) : Type 0 wher
   pub are_entries : entries ≡ flat_map (λ part. part) parts
 
 -- What it says of a text that it is refused as a core's trace: with a bad line it stands for nothing, and where it is too long,
--- for more than 2^62 entries. Want of memory says nothing, and there is no other refusal.
+-- for more than 2^62 entries. Out of memory says nothing, and there is no other refusal.
 abbrev pub IsRefusedBy : List ℕ → Fault → Type 0
 IsRefusedBy text (TraceLine core line cause) = (entries : List Entry) → ¬ StandsForTrace text entries
 IsRefusedBy text (TraceTooLong core) = (entries : List Entry) × StandsForTrace text entries × (2 ^ 62 < length entries)

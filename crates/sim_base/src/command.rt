@@ -173,7 +173,7 @@ impl Command {
 
 /// A command that a channel issues in a cycle.
 #[derive(Clone, Copy, PartialEq, Eq, Debug)]
-pub struct CommandRow {
+pub struct IssuedCommand {
     pub cycle: Cycle,
     pub channel: ChannelId,
     pub command: Command,

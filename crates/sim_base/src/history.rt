@@ -2,7 +2,7 @@
 
 /// What one core did in a cycle: how many entries it retired and issued.
 #[derive(Clone, Copy, PartialEq, Eq, Debug)]
-pub struct CoreRow {
+pub struct CoreStep {
     pub retired: u16,
     pub issued: u16,
 }

@@ -50,6 +50,47 @@ pub enum Key {
     Unknown,
 }
 
+/// The keys of a document, beside those of an item of `link`.
+pub static DOCUMENT_KEYS: [Key; 37] = [
+    Key::Cores,
+    Key::Channels,
+    Key::Groups,
+    Key::Ranks,
+    Key::Columns,
+    Key::Rows,
+    Key::Fields,
+    Key::Window,
+    Key::Width,
+    Key::ReadCredits,
+    Key::WriteCredits,
+    Key::RequestLatency,
+    Key::ReplyLatency,
+    Key::CreditLatency,
+    Key::NRcd,
+    Key::NRp,
+    Key::NRas,
+    Key::NRc,
+    Key::NCl,
+    Key::NCwl,
+    Key::NCcdS,
+    Key::NCcdL,
+    Key::NRrdS,
+    Key::NRrdL,
+    Key::NFaw,
+    Key::NRtp,
+    Key::NWr,
+    Key::NWtrS,
+    Key::NWtrL,
+    Key::NRtw,
+    Key::NRfc,
+    Key::NRtrs,
+    Key::NRefi,
+    Key::WriteHigh,
+    Key::WriteLow,
+    Key::End,
+    Key::Link,
+];
+
 impl Key {
     ghost use Rattle.sim_base.specs.Keys.{key_name};
 

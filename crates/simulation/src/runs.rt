@@ -157,7 +157,7 @@ fn read_input<R: Threads + Sync>(
 
 /// Runs the machine that a configuration and one trace a core describe, for at most `cycles` cycles, and gives its commands, its
 /// statistics and the state in which it ends. Each phase is run by so many workers at most, 1 to 64, each in a thread of its
-/// own; with one worker, in the thread of the caller. A worker passes the gate at the beginning and at the end of each job. The watcher
+/// own; with one worker, in the thread of the caller. A worker passes the gate at the beginning and at the end of each part of a phase. The watcher
 /// is told how far the run is, and when it has ended. What comes out depends on none of the workers, the gate and the watcher.
 ///
 /// The input is tested in this order: the configuration, the number of traces, the number of workers (1 to 64), the limit (at

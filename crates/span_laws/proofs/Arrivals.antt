@@ -3,7 +3,7 @@ use Rattle.std.proofs.Common.{◌≡◌, ℕ, ◌+◌, ◌-◌, ◌<◌, ◌≤�
 use Rattle.std.specs.Prelude.{filter, count_by}
 use Rattle.std.proofs.lemmas.Bool.{and_parts, and_right, le-ltb}
 use Rattle.sim_base.specs.declared.config.Config.{Config}
-use Rattle.sim_base.specs.Row.{Row}
+use Rattle.sim_base.specs.MachineStep.{MachineStep}
 use Rattle.sim_base.specs.History.{messages, is_to, inbox}
 use Rattle.sim_base.specs.Machine.{run}
 use Rattle.sim_base.specs.declared.message.Message.{Message}
@@ -21,12 +21,12 @@ use Rattle.laws.proofs.Spent.{count-inbox}
 use Rattle.span_laws.specs.Mail.{arriving, mail_before, MailIsSettled, MailIsKnown, SpansJoin, MailIsSent}
 use Rattle.span_laws.proofs.Lists.{arriving-more}
 
-pub inbox-sorted : (s : Config) (traces : List (List Entry)) (history : List Row) (unit : MachineUnit) → Sorted (inbox s traces history unit)
+pub inbox-sorted : (s : Config) (traces : List (List Entry)) (history : List MachineStep) (unit : MachineUnit) → Sorted (inbox s traces history unit)
 unfolding inbox
 inbox-sorted s traces history unit = let ms = filter (is_to s unit) (messages s traces history) in subst Sorted (sym (by_age-puts ms)) (Sorted-puts [] ms tt)
 
 -- a unit has no more of a kind of message than there are in all
-pub count-mine : (p : Message → Bool) (s : Config) (traces : List (List Entry)) (history : List Row) (unit : MachineUnit)
+pub count-mine : (p : Message → Bool) (s : Config) (traces : List (List Entry)) (history : List MachineStep) (unit : MachineUnit)
     → count_by p (inbox s traces history unit) ≤ count_by p (messages s traces history)
 count-mine p s traces history unit =
     let a = count-inbox p s traces history unit in

@@ -10,10 +10,10 @@ use Rattle.sim_base.specs.declared.message.Unit.TheVariants.{Channel}
 use Rattle.sim_base.specs.declared.trace.Entry.{Entry}
 use Rattle.sim_base.proofs.Ordered.{Each-weaker}
 use Rattle.sim_base.proofs.Same.{AgreeUpTo, choice-same, queue-same}
-use Rattle.laws.specs.Commands.{rows_of}
+use Rattle.laws.specs.Commands.{channel_steps_of}
 use Rattle.laws.specs.Links.{arrives_on}
 use Rattle.laws.proofs.Bounded.{queues_are_bounded}
-use Rattle.laws.proofs.Legal.{rows_of-more, length-rows_of}
+use Rattle.laws.proofs.Legal.{channel_steps_of-more, length-channel_steps_of}
 use Rattle.laws.proofs.Travel.{links_carry_one_a_cycle}
 use Rattle.channel_step.specs.Past.{CarriesRequest}
 use Rattle.channel_step.specs.Fit.{queue_room, ComeByAge}
@@ -25,45 +25,45 @@ use Rattle.span_laws.proofs.Requests.{all-carry, span-differ, span-unnamed}
 
 -- the first cycles of a span
 channel-alone : (s : Config) (traces : List (List Entry)) (from until channel : ℕ) → channel < s.channels → (n : ℕ) → from + n ≤ until
-    → channel_run s channel (rows_of s traces from channel) (mail_before s traces until (Channel channel) until) n ≡ rows_of s traces (from + n) channel
+    → channel_run s channel (channel_steps_of s traces from channel) (mail_before s traces until (Channel channel) until) n ≡ channel_steps_of s traces (from + n) channel
 unfolding channel_run
-channel-alone s traces from until channel k zero l = ap (λ i. rows_of s traces i channel) (sym (add-zero from))
+channel-alone s traces from until channel k zero l = ap (λ i. channel_steps_of s traces i channel) (sym (add-zero from))
 channel-alone s traces from until channel k (suc n) l =
     let now = from + n in
-    let rows = rows_of s traces now channel in
+    let steps = channel_steps_of s traces now channel in
     let mail = mail_before s traces until (Channel channel) until in
-    let long : length rows ≡ now = length-rows_of s traces now channel in
-    let agree : AgreeUpTo (length rows + 1) mail (inbox s traces (run s traces now) (Channel channel)) =
+    let long : length steps ≡ now = length-channel_steps_of s traces now channel in
+    let agree : AgreeUpTo (length steps + 1) mail (inbox s traces (run s traces now) (Channel channel)) =
     subst (λ i. AgreeUpTo (i + 1) mail (inbox s traces (run s traces now) (Channel channel))) (sym long) (arrived-agree s traces now until (Channel channel) (omega arith)) in
     ap (λ x. x ++ choice s channel x mail ∷ []) (channel-alone s traces from until channel k n (omega arith))
-    ∙ ap (λ o. rows ++ o ∷ []) (choice-same s channel rows mail (inbox s traces (run s traces now) (Channel channel)) agree)
-    ∙ sym (rows_of-more s traces now channel k)
-    ∙ ap (λ i. rows_of s traces i channel) (sym (add-suc from n))
+    ∙ ap (λ o. steps ++ o ∷ []) (choice-same s channel steps mail (inbox s traces (run s traces now) (Channel channel)) agree)
+    ∙ sym (channel_steps_of-more s traces now channel k)
+    ∙ ap (λ i. channel_steps_of s traces i channel) (sym (add-suc from n))
 
 -- the same from what arrived before the span and what arrives in it
 channel-span : (s : Config) (traces : List (List Entry)) (from until channel : ℕ) → channel < s.channels → from ≤ until → (n : ℕ) → from + n ≤ until
-    → channel_run s channel (rows_of s traces from channel) (mail_before s traces until (Channel channel) from ++ mail_in s traces until (Channel channel) from until) n
-    ≡ rows_of s traces (from + n) channel
+    → channel_run s channel (channel_steps_of s traces from channel) (mail_before s traces until (Channel channel) from ++ mail_in s traces until (Channel channel) from until) n
+    ≡ channel_steps_of s traces (from + n) channel
 channel-span s traces from until channel k l n h =
-    ap (λ ms. channel_run s channel (rows_of s traces from channel) ms n) (spans-join s traces from until (Channel channel) l) ∙ channel-alone s traces from until channel k n h
+    ap (λ ms. channel_run s channel (channel_steps_of s traces from channel) ms n) (spans-join s traces from until (Channel channel) l) ∙ channel-alone s traces from until channel k n h
 
 pub channels-run_alone : (s : Config) (traces : List (List Entry)) (from until : ℕ) → ChannelsRunAlone s traces from until
 channels-run_alone s traces from until channel k l =
     let e : from + (until - from) ≡ until = omega arith in
-    channel-span s traces from until channel k l (until - from) (omega arith) ∙ ap (λ i. rows_of s traces i channel) e
+    channel-span s traces from until channel k l (until - from) (omega arith) ∙ ap (λ i. channel_steps_of s traces i channel) e
 
 -- in no cycle of the span the queue has more requests than it has places
 span-room : (s : Config) (traces : List (List Entry)) (from until channel : ℕ) → channel < s.channels → from ≤ until → (n : ℕ) → from + n < until
     → let all = mail_before s traces until (Channel channel) from ++ mail_in s traces until (Channel channel) from until in
-    queue_length channel (channel_run s channel (rows_of s traces from channel) all n) all (from + n) ≤ queue_room s
+    queue_length channel (channel_run s channel (channel_steps_of s traces from channel) all n) all (from + n) ≤ queue_room s
 unfolding queue_length
 span-room s traces from until channel k l n h =
     let now = from + n in
     let all = mail_before s traces until (Channel channel) from ++ mail_in s traces until (Channel channel) from until in
-    let rows = channel_run s channel (rows_of s traces from channel) all n in
-    let e : queue_in channel rows all now ≡ queue_in channel (rows_of s traces now channel) (inbox s traces (run s traces now) (Channel channel)) now =
+    let steps = channel_run s channel (channel_steps_of s traces from channel) all n in
+    let e : queue_in channel steps all now ≡ queue_in channel (channel_steps_of s traces now channel) (inbox s traces (run s traces now) (Channel channel)) now =
     ap₂ (λ r ms. queue_in channel r ms now) (channel-span s traces from until channel k l n (omega arith)) (spans-join s traces from until (Channel channel) l)
-    ∙ queue-same channel (rows_of s traces now channel) (mail_before s traces until (Channel channel) until) (inbox s traces (run s traces now) (Channel channel)) now
+    ∙ queue-same channel (channel_steps_of s traces now channel) (mail_before s traces until (Channel channel) until) (inbox s traces (run s traces now) (Channel channel)) now
     (arrived-agree s traces now until (Channel channel) h) in
     subst (λ q. length q ≤ queue_room s) (sym e) (queues_are_bounded s traces now channel now k (omega arith))
 

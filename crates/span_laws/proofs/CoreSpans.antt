@@ -14,14 +14,14 @@ use Rattle.sim_base.proofs.Each.{Each-append}
 use Rattle.sim_base.proofs.Ordered.{Each-weaker, Sorted}
 use Rattle.sim_base.proofs.Same.{step-same}
 use Rattle.sim_base.proofs.Spans.{length-run}
-use Rattle.statistics.proofs.Replies.{length-core_rows}
-use Rattle.statistics.proofs.RunSteps.{core_rows-next}
+use Rattle.statistics.proofs.Replies.{length-steps_of_core}
+use Rattle.statistics.proofs.RunSteps.{steps_of_core-next}
 use Rattle.laws.specs.Messages.{FitsCore}
 use Rattle.laws.specs.Requests.{AnswersRead}
 use Rattle.laws.proofs.Answered.{replies_answer_reads}
 use Rattle.laws.proofs.Fitting.{answers_fit}
 use Rattle.core_window.specs.Fit.{IsDue, IsByArrival}
-use Rattle.span_laws.specs.Cores.{core_rows_of, MessagesFitSpans, CoresRunAlone}
+use Rattle.span_laws.specs.Cores.{core_steps_of, MessagesFitSpans, CoresRunAlone}
 use Rattle.span_laws.specs.Mail.{mail_before, mail_in}
 use Rattle.span_laws.proofs.Arrivals.{inbox-sorted, arrived-agree, spans-join}
 use Rattle.span_laws.proofs.Dues.{ComesTo, comes-due}
@@ -29,34 +29,34 @@ use Rattle.span_laws.proofs.Lists.{no_sooner, Sorted-filter, arriving-within, be
 
 -- the first cycles of a span
 core-alone : (s : Config) (traces : List (List Entry)) (from until core : ℕ) → core < s.cores → (n : ℕ) → from + n ≤ until
-    → core_run s core (trace_of traces core) (core_rows_of s traces from core) (mail_before s traces until (Core core) until) n ≡ core_rows_of s traces (from + n) core
+    → core_run s core (trace_of traces core) (core_steps_of s traces from core) (mail_before s traces until (Core core) until) n ≡ core_steps_of s traces (from + n) core
 unfolding core_run
-core-alone s traces from until core k zero l = ap (λ i. core_rows_of s traces i core) (sym (add-zero from))
+core-alone s traces from until core k zero l = ap (λ i. core_steps_of s traces i core) (sym (add-zero from))
 core-alone s traces from until core k (suc n) l =
     let now = from + n in
     let trace = trace_of traces core in
-    let rows = core_rows_of s traces now core in
+    let steps = core_steps_of s traces now core in
     let mail = mail_before s traces until (Core core) until in
     let then = inbox s traces (run s traces now) (Core core) in
-    let long : length rows ≡ now = length-core_rows core (run s traces now) ∙ length-run s traces now in
-    let same : arrived mail (length rows + 1) ≡ arrived then (length rows + 1) =
+    let long : length steps ≡ now = length-steps_of_core core (run s traces now) ∙ length-run s traces now in
+    let same : arrived mail (length steps + 1) ≡ arrived then (length steps + 1) =
     subst (λ i. arrived mail (i + 1) ≡ arrived then (i + 1)) (sym long) ((arrived-agree s traces now until (Core core) (omega arith)).same (now + 1) (omega arith)) in
     ap (λ x. x ++ (step s core trace x mail).0 ∷ []) (core-alone s traces from until core k n (omega arith))
-    ∙ ap (λ o. rows ++ o.0 ∷ []) (step-same s core trace rows mail then same)
-    ∙ sym (core_rows-next s traces now core k)
-    ∙ ap (λ i. core_rows_of s traces i core) (sym (add-suc from n))
+    ∙ ap (λ o. steps ++ o.0 ∷ []) (step-same s core trace steps mail then same)
+    ∙ sym (steps_of_core-next s traces now core k)
+    ∙ ap (λ i. core_steps_of s traces i core) (sym (add-suc from n))
 
 -- the same from what arrived before the span and what arrives in it
 core-span : (s : Config) (traces : List (List Entry)) (from until core : ℕ) → core < s.cores → from ≤ until → (n : ℕ) → from + n ≤ until
-    → core_run s core (trace_of traces core) (core_rows_of s traces from core) (mail_before s traces until (Core core) from ++ mail_in s traces until (Core core) from until) n
-    ≡ core_rows_of s traces (from + n) core
+    → core_run s core (trace_of traces core) (core_steps_of s traces from core) (mail_before s traces until (Core core) from ++ mail_in s traces until (Core core) from until) n
+    ≡ core_steps_of s traces (from + n) core
 core-span s traces from until core k l n h =
-    ap (λ ms. core_run s core (trace_of traces core) (core_rows_of s traces from core) ms n) (spans-join s traces from until (Core core) l) ∙ core-alone s traces from until core k n h
+    ap (λ ms. core_run s core (trace_of traces core) (core_steps_of s traces from core) ms n) (spans-join s traces from until (Core core) l) ∙ core-alone s traces from until core k n h
 
 pub cores-run_alone : (s : Config) (traces : List (List Entry)) (from until : ℕ) → CoresRunAlone s traces from until
 cores-run_alone s traces from until core k l =
     let e : from + (until - from) ≡ until = omega arith in
-    core-span s traces from until core k l (until - from) (omega arith) ∙ ap (λ i. core_rows_of s traces i core) e
+    core-span s traces from until core k l (until - from) (omega arith) ∙ ap (λ i. core_steps_of s traces i core) e
 
 by-arrival : (ms : List Message) → Sorted ms → IsByArrival ms
 by-arrival [] h = tt
@@ -73,7 +73,7 @@ sooner-split (x ∷ xs) ys m h = (at-split (λ (n : Message). x.arrival ≤ n.ar
 
 -- what holds of each message to a core
 abbrev IsAnswer : Config → List (List Entry) → ℕ → ℕ → Message → Type 0
-IsAnswer s traces n core m = FitsCore s core m.link m.load × AnswersRead (trace_of traces core) (core_rows_of s traces n core) m
+IsAnswer s traces n core m = FitsCore s core m.link m.load × AnswersRead (trace_of traces core) (core_steps_of s traces n core) m
 
 Each-both : (P Q : Message → Type 0) (ms : List Message) → Each P ms → Each Q ms → Each (λ m. P m × Q m) ms
 Each-both P Q [] h k = tt
@@ -83,7 +83,7 @@ all-answer : (s : Config) (traces : List (List Entry)) (n core : ℕ) → core <
 all-answer s traces n core k =
     let all = inbox s traces (run s traces n) (Core core) in
     let P = λ (m : Message). FitsCore s core m.link m.load in
-    let Q = AnswersRead (trace_of traces core) (core_rows_of s traces n core) in
+    let Q = AnswersRead (trace_of traces core) (core_steps_of s traces n core) in
     Each-both P Q all (recursion_from_All P all (answers_fit s traces n core k)) (recursion_from_All Q all (replies_answer_reads s traces n core k))
 
 span-by_arrival : (s : Config) (traces : List (List Entry)) (from until core : ℕ) → IsByArrival (mail_in s traces until (Core core) from until)
@@ -100,7 +100,7 @@ span-answers s traces from until core k = arriving-within from until (IsAnswer s
 span-due : (s : Config) (traces : List (List Entry)) (from until core : ℕ) → core < s.cores → from ≤ until → (before after : List Message) (m : Message)
     → mail_in s traces until (Core core) from until ≡ before ++ m ∷ after
     → IsDue s core (trace_of traces core)
-    (core_run s core (trace_of traces core) (core_rows_of s traces from core) (mail_before s traces until (Core core) from ++ mail_in s traces until (Core core) from until) (m.arrival - from))
+    (core_run s core (trace_of traces core) (core_steps_of s traces from core) (mail_before s traces until (Core core) from ++ mail_in s traces until (Core core) from until) (m.arrival - from))
     (mail_before s traces until (Core core) from ++ before) m
 span-due s traces from until core k l before after m e =
     let trace = trace_of traces core in
@@ -112,8 +112,8 @@ span-due s traces from until core k l before after m e =
     let early : from ≤ m.arrival = here.0 in
     let late : m.arrival < until = here.1 in
     let n : from + (m.arrival - from) ≡ m.arrival = omega arith in
-    let rows : core_run s core trace (core_rows_of s traces from core) (mail ++ new) (m.arrival - from) ≡ core_rows_of s traces m.arrival core =
-    core-span s traces from until core k l (m.arrival - from) (omega arith) ∙ ap (λ i. core_rows_of s traces i core) n in
+    let steps : core_run s core trace (core_steps_of s traces from core) (mail ++ new) (m.arrival - from) ≡ core_steps_of s traces m.arrival core =
+    core-span s traces from until core k l (m.arrival - from) (omega arith) ∙ ap (λ i. core_steps_of s traces i core) n in
     let comes : ComesTo s traces until core (mail ++ before) after m =
     record {
       whole = sym (spans-join s traces from until (Core core) l) ∙ ap (λ x. mail ++ x) e ∙ sym (append_assoc mail before (m ∷ after));
@@ -122,7 +122,7 @@ span-due s traces from until core k l before after m e =
           (Each-weaker (λ (x : Message). x.arrival < from) (λ (x : Message). x.arrival ≤ m.arrival) (λ x h. omega arith) mail (before-within from all))
           (sooner-split before after m (subst IsByArrival e (span-by_arrival s traces from until core)));
     } in
-    subst (λ r. IsDue s core trace r (mail ++ before) m) (sym rows) (comes-due s traces until core (mail ++ before) after m k comes here.2.0 here.2.1)
+    subst (λ r. IsDue s core trace r (mail ++ before) m) (sym steps) (comes-due s traces until core (mail ++ before) after m k comes here.2.0 here.2.1)
 
 pub messages-fit_spans : (s : Config) (traces : List (List Entry)) (from until : ℕ) → MessagesFitSpans s traces from until
 messages-fit_spans s traces from until core k l =

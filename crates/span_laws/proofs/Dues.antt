@@ -7,9 +7,9 @@ use Rattle.std.proofs.lemmas.List.{take-map, take_all, take-append-le}
 use Rattle.std.proofs.lemmas.List.Elements.{filter-append}
 use Rattle.sim_base.specs.declared.config.Config.{Config}
 use Rattle.sim_base.specs.Config.{credit_link}
-use Rattle.sim_base.specs.Row.{core_row}
-use Rattle.sim_base.specs.History.{trace_of, core_rows, messages, inbox, issued_before}
-use Rattle.sim_base.specs.Machine.{run, next_row}
+use Rattle.sim_base.specs.MachineStep.{step_of_core}
+use Rattle.sim_base.specs.History.{trace_of, steps_of_core, messages, inbox, issued_before}
+use Rattle.sim_base.specs.Machine.{run, next_step}
 use Rattle.sim_base.specs.Windows.{is_reply_to, is_credit}
 use Rattle.sim_base.specs.declared.message.Load.{Load}
 use Rattle.sim_base.specs.declared.message.Load.TheVariants as load
@@ -28,8 +28,8 @@ use Rattle.laws.proofs.Counting.{count-cons, count-append}
 use Rattle.channel_step.proofs.Requests.{filter-each}
 use Rattle.core_window.specs.Fit.{IsDueLoad, IsDue}
 use Rattle.core_window.specs.Stands.{is_credit_from}
-use Rattle.core_window.specs.Waiting.{is_read_in, is_answered}
-use Rattle.span_laws.specs.Cores.{core_rows_of}
+use Rattle.core_window.specs.Outstanding.{is_read_in, is_answered}
+use Rattle.span_laws.specs.Cores.{core_steps_of}
 use Rattle.span_laws.specs.Mail.{mail_before}
 use Rattle.span_laws.proofs.Arrivals.{count-mine, arrived-agree}
 use Rattle.span_laws.proofs.Lists.{each-none, count-kept}
@@ -49,11 +49,11 @@ take-run s traces (suc n) t h = go (cases_lt n t) (take-run s traces n t)
         take_all t (run s traces (suc n)) (omega arith) ∙ ap (run s traces) (sym e)
     go (inr b) rest =
         let long = length-run s traces n in
-        take-append-le t (run s traces n) (next_row s traces (run s traces n) ∷ []) (omega arith) ∙ rest b
+        take-append-le t (run s traces n) (next_step s traces (run s traces n) ∷ []) (omega arith) ∙ rest b
 
-take-core_rows : (s : Config) (traces : List (List Entry)) (n t core : ℕ) → t ≤ n → take t (core_rows_of s traces n core) ≡ core_rows_of s traces t core
-unfolding core_rows
-take-core_rows s traces n t core h = take-map (core_row core) t (run s traces n) ∙ ap (map (core_row core)) (take-run s traces n t h)
+take-steps_of_core : (s : Config) (traces : List (List Entry)) (n t core : ℕ) → t ≤ n → take t (core_steps_of s traces n core) ≡ core_steps_of s traces t core
+unfolding steps_of_core
+take-steps_of_core s traces n t core h = take-map (step_of_core core) t (run s traces n) ∙ ap (map (step_of_core core)) (take-run s traces n t h)
 
 own_reply : (entry : ℕ) (l : Load) → l ≡ load.Reply entry → is_reply_to entry l ≡ true
 own_reply entry l e = ap (is_reply_to entry) e ∙ eq-eqb entry entry refl
@@ -133,17 +133,17 @@ credit-owed s traces until core channel write entry mail after m l h e f =
 
 -- each message to a core may come in its cycle
 pub comes-due : (s : Config) (traces : List (List Entry)) (until core : ℕ) (mail after : List Message) (m : Message) → core < s.cores → ComesTo s traces until core mail after m
-    → FitsCore s core m.link m.load → AnswersReadAs (trace_of traces core) (core_rows_of s traces until core) m.arrival m.load
-    → IsDue s core (trace_of traces core) (core_rows_of s traces m.arrival core) mail m
+    → FitsCore s core m.link m.load → AnswersReadAs (trace_of traces core) (core_steps_of s traces until core) m.arrival m.load
+    → IsDue s core (trace_of traces core) (core_steps_of s traces m.arrival core) mail m
 comes-due s traces until core mail after m l h fits answers = by m.load refl fits answers
   where
-    by : (d : Load) → m.load ≡ d → FitsCore s core m.link d → AnswersReadAs (trace_of traces core) (core_rows_of s traces until core) m.arrival d
-        → IsDueLoad s core (trace_of traces core) (core_rows_of s traces m.arrival core) mail m.link d
+    by : (d : Load) → m.load ≡ d → FitsCore s core m.link d → AnswersReadAs (trace_of traces core) (core_steps_of s traces until core) m.arrival d
+        → IsDueLoad s core (trace_of traces core) (core_steps_of s traces m.arrival core) mail m.link d
     by (load.Request r) e f a = f
     by (load.Reply entry) e f a =
         record {
           is_of_a_read = ap is_read_in a.0.1;
-          is_issued = subst (λ rows. entry < issued_before rows) (take-core_rows s traces until m.arrival core (omega (arith, h.in_time))) a.1;
+          is_issued = subst (λ steps. entry < issued_before steps) (take-steps_of_core s traces until m.arrival core (omega (arith, h.in_time))) a.1;
           is_first = replied-once s traces until core entry mail after m l h e;
         }
     by (load.Credit write entry) e f a =

@@ -9,52 +9,52 @@ use Rattle.std.proofs.lemmas.List.Sums.{prefix_len-le-length}
 use Rattle.sim_base.specs.declared.config.Config.{Config}
 use Rattle.sim_base.specs.Counts.{in_flight}
 use Rattle.sim_base.specs.History.{trace_of, retired_before, issued_before, messages, inbox}
-use Rattle.sim_base.specs.Machine.{run, next_row, is_over}
+use Rattle.sim_base.specs.Machine.{run, next_step, is_over}
 use Rattle.sim_base.specs.Sends.{sends}
 use Rattle.sim_base.specs.Windows.{done_from, is_done, retires, step}
-use Rattle.sim_base.specs.declared.history.CoreRow.{CoreRow}
+use Rattle.sim_base.specs.declared.history.CoreStep.{CoreStep}
 use Rattle.sim_base.specs.declared.message.Message.{Message}
 use Rattle.sim_base.specs.declared.message.Unit.TheVariants.{Core}
 use Rattle.sim_base.specs.declared.trace.Entry.{Entry}
 use Rattle.statistics.proofs.CoreSteps.{retired_before-push}
-use Rattle.statistics.proofs.RunSteps.{core_rows-next}
+use Rattle.statistics.proofs.RunSteps.{steps_of_core-next}
 use Rattle.laws.proofs.Counting.{count-cons, count-filter, count-weaker}
 use Rattle.laws.proofs.Sent.{count-by_age, count-messages}
-use Rattle.span_laws.specs.Cores.{core_rows_of}
+use Rattle.span_laws.specs.Cores.{core_steps_of}
 use Rattle.span_laws.specs.Ends.{RetiresByWidth, FlightStays, LastsForTrace, LastsForFlight}
 use Rattle.span_laws.proofs.Flights.{not_before, in_flight-late}
 use Rattle.span_laws.proofs.Over.{over-is_seen}
 
-retires-le_width : (s : Config) (trace : List Entry) (rows : List CoreRow) (mail : List Message) → retires s trace rows mail ≤ s.width
+retires-le_width : (s : Config) (trace : List Entry) (steps : List CoreStep) (mail : List Message) → retires s trace steps mail ≤ s.width
 unfolding retires done_from
-retires-le_width s trace rows mail =
-    let first = retired_before rows in
-    let most = min s.width (issued_before rows - first) in
-    let p = is_done trace mail (length rows) in
+retires-le_width s trace steps mail =
+    let first = retired_before steps in
+    let most = min s.width (issued_before steps - first) in
+    let p = is_done trace mail (length steps) in
     omega (arith, length-prefix_len p (range_with_len first most), prefix_len-le-length p (range_with_len first most), length-range_with_len first most)
 
 -- in one cycle
 retired-next : (s : Config) (traces : List (List Entry)) (n core : ℕ) → core < s.cores
-    → retired_before (core_rows_of s traces (suc n) core) ≤ retired_before (core_rows_of s traces n core) + s.width
+    → retired_before (core_steps_of s traces (suc n) core) ≤ retired_before (core_steps_of s traces n core) + s.width
 unfolding step
 retired-next s traces n core l =
-    let rows = core_rows_of s traces n core in
+    let steps = core_steps_of s traces n core in
     let mail = inbox s traces (run s traces n) (Core core) in
-    let row = (step s core (trace_of traces core) rows mail).0 in
-    let e : retired_before (core_rows_of s traces (suc n) core) ≡ retired_before rows + row.retired =
-    ap retired_before (core_rows-next s traces n core l) ∙ retired_before-push rows row in
-    let few : row.retired ≤ s.width = retires-le_width s (trace_of traces core) rows mail in
+    let row = (step s core (trace_of traces core) steps mail).0 in
+    let e : retired_before (core_steps_of s traces (suc n) core) ≡ retired_before steps + row.retired =
+    ap retired_before (steps_of_core-next s traces n core l) ∙ retired_before-push steps row in
+    let few : row.retired ≤ s.width = retires-le_width s (trace_of traces core) steps mail in
     omega arith
 
 -- in some cycles
 retired-later : (s : Config) (traces : List (List Entry)) (from core : ℕ) → core < s.cores → (n : ℕ)
-    → retired_before (core_rows_of s traces (from + n) core) ≤ retired_before (core_rows_of s traces from core) + s.width * n
+    → retired_before (core_steps_of s traces (from + n) core) ≤ retired_before (core_steps_of s traces from core) + s.width * n
 retired-later s traces from core l zero =
-    let e : retired_before (core_rows_of s traces (from + 0) core) ≡ retired_before (core_rows_of s traces from core) = ap (λ i. retired_before (core_rows_of s traces i core)) (add-zero from) in
+    let e : retired_before (core_steps_of s traces (from + 0) core) ≡ retired_before (core_steps_of s traces from core) = ap (λ i. retired_before (core_steps_of s traces i core)) (add-zero from) in
     omega arith
 retired-later s traces from core l (suc n) =
-    let e : retired_before (core_rows_of s traces (from + suc n) core) ≡ retired_before (core_rows_of s traces (suc (from + n)) core) =
-    ap (λ i. retired_before (core_rows_of s traces i core)) (add-suc from n) in
+    let e : retired_before (core_steps_of s traces (from + suc n) core) ≡ retired_before (core_steps_of s traces (suc (from + n)) core) =
+    ap (λ i. retired_before (core_steps_of s traces i core)) (add-suc from n) in
     let most : s.width * suc n ≡ s.width * n + s.width = grind arith in
     let before = retired-later s traces from core l n in
     let then = retired-next s traces (from + n) core l in
@@ -63,7 +63,7 @@ retired-later s traces from core l (suc n) =
 pub retires-by_width : (s : Config) (traces : List (List Entry)) (from until : ℕ) → RetiresByWidth s traces from until
 retires-by_width s traces from until core l k =
     let e : from + (until - from) ≡ until = omega arith in
-    subst (λ i. retired_before (core_rows_of s traces i core) ≤ retired_before (core_rows_of s traces from core) + s.width * (until - from)) e
+    subst (λ i. retired_before (core_steps_of s traces i core) ≤ retired_before (core_steps_of s traces from core) + s.width * (until - from)) e
     (retired-later s traces from core l (until - from))
 
 -- what is sent stays sent
@@ -76,8 +76,8 @@ count-later p s traces from (suc n) =
     let history = run s traces (from + n) in
     let e : count_by p (messages s traces (run s traces (from + suc n))) ≡ count_by p (messages s traces (run s traces (suc (from + n)))) =
     ap (λ i. count_by p (messages s traces (run s traces i))) (add-suc from n) in
-    let more : count_by p (messages s traces (run s traces (suc (from + n)))) ≡ count_by p (messages s traces history) + count_by p (sends s traces history (next_row s traces history)) =
-    count-messages p s traces history (next_row s traces history) in
+    let more : count_by p (messages s traces (run s traces (suc (from + n)))) ≡ count_by p (messages s traces history) + count_by p (sends s traces history (next_step s traces history)) =
+    count-messages p s traces history (next_step s traces history) in
     let before = count-later p s traces from n in
     omega (arith, e, more, before)
 

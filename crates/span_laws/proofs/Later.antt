@@ -7,10 +7,10 @@ use Rattle.std.specs.List.{AllByRecursion as Each}
 use Rattle.std.proofs.lemmas.List.{append-nil, append_cancel_left}
 use Rattle.sim_base.specs.declared.config.Config.{Config}
 use Rattle.sim_base.specs.Places.{place_of}
-use Rattle.sim_base.specs.Row.{channel_row}
+use Rattle.sim_base.specs.MachineStep.{step_of_channel}
 use Rattle.sim_base.specs.History.{below, trace_of, inbox, request, request_of, reply, credit, requests_in, core_messages, messages_of, messages_at, channel_messages, messages_of_core, messages_of_channel, messages, receiver}
 use Rattle.sim_base.specs.Locality.{TravelsFor}
-use Rattle.sim_base.specs.Machine.{run, next_row}
+use Rattle.sim_base.specs.Machine.{run, next_step}
 use Rattle.sim_base.specs.Sends.{sender, channel_sends}
 use Rattle.sim_base.specs.Windows.{step}
 use Rattle.sim_base.specs.declared.command.Command.{Command}
@@ -27,19 +27,19 @@ use Rattle.sim_base.proofs.Each.{Each-append, Each-flat_map_below}
 use Rattle.sim_base.proofs.Grows.{SentBy, links_differ, core_channel_differ, of_core-by, of_channel-by}
 use Rattle.sim_base.proofs.Ordered.{Apart, Each-weaker, puts-swap, puts-append}
 use Rattle.sim_base.proofs.Served.{choice-below, inbox-below}
-use Rattle.sim_base.proofs.Spans.{length-run, channel_row-next, has_channels}
-use Rattle.statistics.proofs.Replies.{length-core_rows}
-use Rattle.statistics.proofs.RunSteps.{core_rows-next}
-use Rattle.laws.specs.Commands.{rows_of}
-use Rattle.laws.proofs.Legal.{chosen, rows_of-more, length-rows_of}
+use Rattle.sim_base.proofs.Spans.{length-run, step_of_channel-next, has_channels}
+use Rattle.statistics.proofs.Replies.{length-steps_of_core}
+use Rattle.statistics.proofs.RunSteps.{steps_of_core-next}
+use Rattle.laws.specs.Commands.{channel_steps_of}
+use Rattle.laws.proofs.Legal.{chosen, channel_steps_of-more, length-channel_steps_of}
 use Rattle.laws.proofs.Receivers.{receiver_request, receiver_reply, receiver_credit, place_in}
 use Rattle.laws.proofs.Sent.{Each-messages, issues-each, sends-each, messages-none}
-use Rattle.span_laws.specs.Cores.{core_rows_of}
+use Rattle.span_laws.specs.Cores.{core_steps_of}
 
 -- what a channel does serves a core of the machine
 chosen-below : (s : Config) (traces : List (List Entry)) (n channel : ℕ) → IfSome (chosen s traces n channel) (ServesCoreBelow s.cores)
 chosen-below s traces n channel =
-    choice-below s channel (rows_of s traces n channel) (inbox s traces (run s traces n) (Channel channel)) (inbox-below s traces (run s traces n) (Channel channel))
+    choice-below s channel (channel_steps_of s traces n channel) (inbox s traces (run s traces n) (Channel channel)) (inbox-below s traces (run s traces n) (Channel channel))
 
 -- a list is one with more, which arrives no sooner than a cycle
 record GrowsLate (u : ℕ) (old all : List Message) : Type 0 where
@@ -72,14 +72,14 @@ core-grows s traces from n core k t zero =
 core-grows s traces from n core k t (suc m) =
     let now = from + m in
     let trace = trace_of traces core in
-    let rows = core_rows_of s traces now core in
-    let row = (step s core trace rows (inbox s traces (run s traces now) (Core core))).0 in
-    let next = requests_in s core trace (rows ++ row ∷ []) (length rows) in
-    let long : length rows ≡ now = length-core_rows core (run s traces now) ∙ length-run s traces now in
+    let steps = core_steps_of s traces now core in
+    let row = (step s core trace steps (inbox s traces (run s traces now) (Core core))).0 in
+    let next = requests_in s core trace (steps ++ row ∷ []) (length steps) in
+    let long : length steps ≡ now = length-steps_of_core core (run s traces now) ∙ length-run s traces now in
     grows-again (from + n) (messages_of_core s traces (run s traces from) core) (messages_of_core s traces (run s traces now) core) (messages_of_core s traces (run s traces (from + suc m)) core) next
     (core-grows s traces from n core k t m)
-    (ap (λ i. messages_of_core s traces (run s traces i) core) (add-suc from m) ∙ ap (core_messages s core trace) (core_rows-next s traces now core k) ∙ core_messages-push s core trace rows row)
-    (requests_late s core trace (rows ++ row ∷ []) (length rows) n (from + n) k (has_channels s) t (omega arith))
+    (ap (λ i. messages_of_core s traces (run s traces i) core) (add-suc from m) ∙ ap (core_messages s core trace) (steps_of_core-next s traces now core k) ∙ core_messages-push s core trace steps row)
+    (requests_late s core trace (steps ++ row ∷ []) (length steps) n (from + n) k (has_channels s) t (omega arith))
 
 -- what a channel sends in them
 channel-grows : (s : Config) (traces : List (List Entry)) (from n channel : ℕ) → channel < s.channels → TravelsFor s n → (m : ℕ)
@@ -90,13 +90,13 @@ channel-grows s traces from n channel k t zero =
     (ap (λ i. messages_of_channel s (run s traces i) channel) (add-zero from))
 channel-grows s traces from n channel k t (suc m) =
     let now = from + m in
-    let rows = rows_of s traces now channel in
-    let next = messages_at s channel (length rows) (chosen s traces now channel) in
-    let long : length rows ≡ now = length-rows_of s traces now channel in
+    let steps = channel_steps_of s traces now channel in
+    let next = messages_at s channel (length steps) (chosen s traces now channel) in
+    let long : length steps ≡ now = length-channel_steps_of s traces now channel in
     grows-again (from + n) (messages_of_channel s (run s traces from) channel) (messages_of_channel s (run s traces now) channel) (messages_of_channel s (run s traces (from + suc m)) channel) next
     (channel-grows s traces from n channel k t m)
-    (ap (λ i. messages_of_channel s (run s traces i) channel) (add-suc from m) ∙ ap (channel_messages s channel) (rows_of-more s traces now channel k) ∙ channel_messages-push s channel rows (chosen s traces now channel))
-    (channel_late s channel (length rows) n (from + n) k t (omega arith) (chosen s traces now channel) (chosen-below s traces now channel))
+    (ap (λ i. messages_of_channel s (run s traces i) channel) (add-suc from m) ∙ ap (channel_messages s channel) (channel_steps_of-more s traces now channel k) ∙ channel_messages-push s channel steps (chosen s traces now channel))
+    (channel_late s channel (length steps) n (from + n) k t (omega arith) (chosen s traces now channel) (chosen-below s traces now channel))
 
 pub core-sent_late : (s : Config) (traces : List (List Entry)) (from until core : ℕ) (sent : List Message) → core < s.cores → from ≤ until → TravelsFor s (until - from)
     → messages_of_core s traces (run s traces until) core ≡ messages_of_core s traces (run s traces from) core ++ sent → NotBefore until sent
@@ -148,11 +148,11 @@ unfolding run channel_sends
 messages-received s traces zero = subst (Each (IsReceived s)) (sym (messages-none s traces)) tt
 messages-received s traces (suc n) =
     let history = run s traces n in
-    let row = next_row s traces history in
-    Each-messages (IsReceived s) s traces history row (messages-received s traces n)
-    (sends-each (IsReceived s) s traces history row
+    let machine_step = next_step s traces history in
+    Each-messages (IsReceived s) s traces history machine_step (messages-received s traces n)
+    (sends-each (IsReceived s) s traces history machine_step
     (λ c l. issues-each (IsReceived s) s traces history c l (λ j e b f g. request-received s c (length history) _ e))
-    (λ k l. command-received s k (length history) l (channel_row k row) (subst (λ o. IfSome o (ServesCoreBelow s.cores)) (sym (channel_row-next s traces history k l)) (chosen-below s traces n k))))
+    (λ k l. command-received s k (length history) l (step_of_channel k machine_step) (subst (λ o. IfSome o (ServesCoreBelow s.cores)) (sym (step_of_channel-next s traces history k l)) (chosen-below s traces n k))))
 
 apart : (s : Config) (a b : MachineUnit) → (a ≡ b → ⊥) → (xs ys : List Message) → SentBy s a xs → SentBy s b ys → Apart xs ys
 apart s a b h xs ys j k =

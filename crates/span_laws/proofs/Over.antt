@@ -7,15 +7,15 @@ use Rattle.std.proofs.lemmas.Bool.{and_parts, and_from, eqb-true, eq-eqb, ltb-tr
 use Rattle.std.proofs.lemmas.List.{append-nil, nil_from_length}
 use Rattle.std.proofs.lemmas.List.Folds.{list_all-append}
 use Rattle.sim_base.specs.declared.config.Config.{Config}
-use Rattle.sim_base.specs.Row.{core_row}
-use Rattle.sim_base.specs.History.{below, trace_of, core_rows, retired_before, issued_before, issued_at, request_of, requests_between, messages_of, messages_at, messages, is_to, by_age, inbox, insert_by_age}
-use Rattle.sim_base.specs.Machine.{run, next_row, is_retired, has_served, is_delivered, is_over, cycles_run}
-use Rattle.sim_base.specs.Scheduling.{waiting, queue_in}
+use Rattle.sim_base.specs.MachineStep.{step_of_core}
+use Rattle.sim_base.specs.History.{below, trace_of, steps_of_core, retired_before, issued_before, issued_at, request_of, requests_between, messages_of, messages_at, messages, is_to, by_age, inbox, insert_by_age}
+use Rattle.sim_base.specs.Machine.{run, next_step, is_retired, has_served, is_delivered, is_over, cycles_run}
+use Rattle.sim_base.specs.Scheduling.{queued_requests, queue_in}
 use Rattle.sim_base.specs.Sends.{core_sends, channel_sends, sends}
 use Rattle.sim_base.specs.Windows.{step}
 use Rattle.sim_base.specs.declared.command.Command.{Command}
-use Rattle.sim_base.specs.declared.command.CommandRow.{CommandRow}
-use Rattle.sim_base.specs.declared.history.CoreRow.{CoreRow}
+use Rattle.sim_base.specs.declared.command.IssuedCommand.{IssuedCommand}
+use Rattle.sim_base.specs.declared.history.CoreStep.{CoreStep}
 use Rattle.sim_base.specs.declared.message.Message.{Message}
 use Rattle.sim_base.specs.declared.message.Request.{Request}
 use Rattle.sim_base.specs.declared.message.Unit.{Unit as MachineUnit}
@@ -26,19 +26,19 @@ use Rattle.sim_base.proofs.Below.{below_more}
 use Rattle.sim_base.proofs.Each.{Each-filter}
 use Rattle.sim_base.proofs.Grows.{issued_before-push, inbox-grows}
 use Rattle.sim_base.proofs.Ordered.{Each-weaker}
-use Rattle.sim_base.proofs.Spans.{length-run, core_row-next, channel_row-next}
+use Rattle.sim_base.proofs.Spans.{length-run, step_of_core-next, step_of_channel-next}
 use Rattle.statistics.proofs.CoreBounds.{KeepsToTrace-run}
 use Rattle.statistics.proofs.CoreSteps.{retired_before-push}
-use Rattle.statistics.proofs.RunSteps.{core_rows-next}
-use Rattle.laws.specs.Commands.{rows_of, history_of}
+use Rattle.statistics.proofs.RunSteps.{steps_of_core-next}
+use Rattle.laws.specs.Commands.{channel_steps_of, history_of}
 use Rattle.laws.proofs.Chosen.{choice-needed}
 use Rattle.laws.proofs.Counting.{Each-list_all}
-use Rattle.laws.proofs.Legal.{chosen, length-rows_of, history_of-more}
+use Rattle.laws.proofs.Legal.{chosen, length-channel_steps_of, history_of-more}
 use Rattle.laws.proofs.Sent.{Each-messages, sends-each}
 use Rattle.channel_step.specs.Past.{requests_of}
-use Rattle.channel_step.proofs.Requests.{requests-arrived, ArrivedBefore, waiting-until, waiting-command, unserved_by}
+use Rattle.channel_step.proofs.Requests.{requests-arrived, ArrivedBefore, queued_requests-until, queued_requests-command, unserved_by}
 use Rattle.channel_step.proofs.Spans.{queue-next}
-use Rattle.span_laws.specs.Cores.{core_rows_of}
+use Rattle.span_laws.specs.Cores.{core_steps_of}
 use Rattle.span_laws.specs.Ends.{ends_before, RunsStayOver, OverIsSeen, CyclesAreCounted}
 use Rattle.span_laws.specs.Mail.{mail_before}
 use Rattle.span_laws.proofs.ChannelsOn.{queue-alike}
@@ -76,9 +76,9 @@ all-each p (m ∷ ms) h = and_from (p m) (list_all p ms) h.0 (all-each p ms h.1)
 
 -- what it means that a run is over before cycle n
 record Over (s : Config) (traces : List (List Entry)) (n : ℕ) : Type 0 where
-  retired : (core : ℕ) → core < s.cores → retired_before (core_rows_of s traces n core) ≡ length (trace_of traces core)
+  retired : (core : ℕ) → core < s.cores → retired_before (core_steps_of s traces n core) ≡ length (trace_of traces core)
   delivered : Each (λ (m : Message). m.arrival < n) (messages s traces (run s traces n))
-  served : (channel : ℕ) → channel < s.channels → waiting (history_of s traces n channel) (inbox s traces (run s traces n) (Channel channel)) n ≡ []
+  served : (channel : ℕ) → channel < s.channels → queued_requests (history_of s traces n channel) (inbox s traces (run s traces n) (Channel channel)) n ≡ []
 
 over-parts : (s : Config) (traces : List (List Entry)) (n : ℕ) → is_over s traces (run s traces n) ≡ true → Over s traces n
 unfolding is_over is_retired is_delivered has_served
@@ -92,8 +92,8 @@ over-parts s traces n h =
       delivered = Each-weaker (λ (m : Message). ltb m.arrival (length history) ≡ true) (λ (m : Message). m.arrival < n) (λ m e. let a = ltb-true m.arrival (length history) e in omega arith)
           (messages s traces history) (Each-list_all (λ (m : Message). ltb m.arrival (length history)) (messages s traces history) inner.1);
       served = λ channel l.
-          nil_from_length (waiting (history_of s traces n channel) (inbox s traces history (Channel channel)) n)
-          (subst (λ u. length (waiting (history_of s traces n channel) (inbox s traces history (Channel channel)) u) ≡ 0) long
+          nil_from_length (queued_requests (history_of s traces n channel) (inbox s traces history (Channel channel)) n)
+          (subst (λ u. length (queued_requests (history_of s traces n channel) (inbox s traces history (Channel channel)) u) ≡ 0) long
           (eqb-true _ _ (below-each (has_served s traces history) s.channels outer.1 channel l)));
     }
 
@@ -109,22 +109,22 @@ over-from s traces n h =
     (Each-weaker (λ (m : Message). m.arrival < n) (λ (m : Message). ltb m.arrival (length history) ≡ true) (λ m a. lt-ltb m.arrival (length history) (omega arith)) (messages s traces history) h.delivered)))
     (each-below (has_served s traces history) s.channels
     (λ channel l. eq-eqb _ 0
-    (subst (λ u. length (waiting (history_of s traces n channel) (inbox s traces history (Channel channel)) u) ≡ 0) (sym long) (ap length (h.served channel l)))))
+    (subst (λ u. length (queued_requests (history_of s traces n channel) (inbox s traces history (Channel channel)) u) ≡ 0) (sym long) (ap length (h.served channel l)))))
 
 -- what a core does then: nothing
 record IsIdleCore (s : Config) (traces : List (List Entry)) (n core : ℕ) : Type 0 where
-  retired : retired_before (core_rows_of s traces (suc n) core) ≡ length (trace_of traces core)
-  issued : (step s core (trace_of traces core) (core_rows_of s traces n core) (inbox s traces (run s traces n) (Core core))).0.issued ≡ 0
+  retired : retired_before (core_steps_of s traces (suc n) core) ≡ length (trace_of traces core)
+  issued : (step s core (trace_of traces core) (core_steps_of s traces n core) (inbox s traces (run s traces n) (Core core))).0.issued ≡ 0
 
 core-idle : (s : Config) (traces : List (List Entry)) (n core : ℕ) → core < s.cores → Over s traces n → IsIdleCore s traces n core
 core-idle s traces n core l h =
-    let rows = core_rows_of s traces n core in
-    let row = (step s core (trace_of traces core) rows (inbox s traces (run s traces n) (Core core))).0 in
+    let steps = core_steps_of s traces n core in
+    let row = (step s core (trace_of traces core) steps (inbox s traces (run s traces n) (Core core))).0 in
     let now = KeepsToTrace-run s traces core l n in
     let then = KeepsToTrace-run s traces core l (suc n) in
-    let next : core_rows_of s traces (suc n) core ≡ rows ++ row ∷ [] = core_rows-next s traces n core l in
-    let issued : issued_before (core_rows_of s traces (suc n) core) ≡ issued_before rows + row.issued = ap issued_before next ∙ issued_before-push rows row in
-    let retired : retired_before (core_rows_of s traces (suc n) core) ≡ retired_before rows + row.retired = ap retired_before next ∙ retired_before-push rows row in
+    let next : core_steps_of s traces (suc n) core ≡ steps ++ row ∷ [] = steps_of_core-next s traces n core l in
+    let issued : issued_before (core_steps_of s traces (suc n) core) ≡ issued_before steps + row.issued = ap issued_before next ∙ issued_before-push steps row in
+    let retired : retired_before (core_steps_of s traces (suc n) core) ≡ retired_before steps + row.retired = ap retired_before next ∙ retired_before-push steps row in
     let whole = h.retired core l in
     record { retired = omega (arith, now.retired, then.issued, then.retired); issued = omega (arith, now.retired, then.issued) }
 
@@ -134,13 +134,13 @@ nothing-between s core trace cycle first end e =
     let z : end - first ≡ 0 = omega arith in
     ap (λ k. filter_map (λ (x : ℕ × Entry). request_of s core cycle x.0 x.1) (take k (drop first (enumerate_from 0 trace)))) z
 
-core-silent : (s : Config) (traces : List (List Entry)) (n core : ℕ) → core < s.cores → Over s traces n → core_sends s traces (run s traces n) (next_row s traces (run s traces n)) core ≡ []
+core-silent : (s : Config) (traces : List (List Entry)) (n core : ℕ) → core < s.cores → Over s traces n → core_sends s traces (run s traces n) (next_step s traces (run s traces n)) core ≡ []
 unfolding core_sends
 core-silent s traces n core l h =
     let history = run s traces n in
-    let first = issued_before (core_rows core history) in
-    let none : (core_row core (next_row s traces history)).issued ≡ 0 = ap (λ (r : CoreRow). r.issued) (core_row-next s traces history core l) ∙ (core-idle s traces n core l h).issued in
-    nothing-between s core (trace_of traces core) (length history) first (first + (core_row core (next_row s traces history)).issued) (omega arith)
+    let first = issued_before (steps_of_core core history) in
+    let none : (step_of_core core (next_step s traces history)).issued ≡ 0 = ap (λ (r : CoreStep). r.issued) (step_of_core-next s traces history core l) ∙ (core-idle s traces n core l h).issued in
+    nothing-between s core (trace_of traces core) (length history) first (first + (step_of_core core (next_step s traces history)).issued) (omega arith)
 
 -- nothing waits at a channel
 all-arrived : (s : Config) (traces : List (List Entry)) (n channel : ℕ) → channel < s.channels → Over s traces n
@@ -153,9 +153,9 @@ all-arrived s traces n channel l h =
     (Each-by_age (λ (m : Message). m.arrival < n) mine (Each-filter (λ (m : Message). m.arrival < n) (is_to s (Channel channel)) sent h.delivered))
 
 none-waits : (s : Config) (traces : List (List Entry)) (n channel u : ℕ) → channel < s.channels → Over s traces n → n ≤ u
-    → waiting (history_of s traces n channel) (inbox s traces (run s traces n) (Channel channel)) u ≡ []
+    → queued_requests (history_of s traces n channel) (inbox s traces (run s traces n) (Channel channel)) u ≡ []
 none-waits s traces n channel u l h m =
-    waiting-until (history_of s traces n channel) (inbox s traces (run s traces n) (Channel channel)) n u m (all-arrived s traces n channel l h) ∙ h.served channel l
+    queued_requests-until (history_of s traces n channel) (inbox s traces (run s traces n) (Channel channel)) n u m (all-arrived s traces n channel l h) ∙ h.served channel l
 
 -- a command that sends nothing
 abbrev IsSilent : Config → ℕ → ℕ → Command → Type 0
@@ -165,18 +165,18 @@ IsSilent s channel cycle command = messages_of s channel cycle command ≡ []
 chosen-silent : (s : Config) (traces : List (List Entry)) (n channel cycle : ℕ) → channel < s.channels → Over s traces n → IfSome (chosen s traces n channel) (IsSilent s channel cycle)
 unfolding messages_of
 chosen-silent s traces n channel cycle l h =
-    let rows = rows_of s traces n channel in
+    let steps = channel_steps_of s traces n channel in
     let mail = inbox s traces (run s traces n) (Channel channel) in
-    let long : length rows ≡ n = length-rows_of s traces n channel in
-    let empty : queue_in channel rows mail (length rows) ≡ [] = queue-next channel rows mail ∙ none-waits s traces n channel (length rows + 1) l h (omega arith) in
-    choice-needed (λ (r : Request). ⊥) (IsSilent s channel cycle) s channel rows mail (λ r o wrong. absurd wrong) (λ rank. refl) (λ rank. refl)
+    let long : length steps ≡ n = length-channel_steps_of s traces n channel in
+    let empty : queue_in channel steps mail (length steps) ≡ [] = queue-next channel steps mail ∙ none-waits s traces n channel (length steps + 1) l h (omega arith) in
+    choice-needed (λ (r : Request). ⊥) (IsSilent s channel cycle) s channel steps mail (λ r o wrong. absurd wrong) (λ rank. refl) (λ rank. refl)
     (subst (Each (λ (r : Request). ⊥)) (sym empty) tt)
 
-channel-silent : (s : Config) (traces : List (List Entry)) (n channel : ℕ) → channel < s.channels → Over s traces n → channel_sends s (run s traces n) (next_row s traces (run s traces n)) channel ≡ []
+channel-silent : (s : Config) (traces : List (List Entry)) (n channel : ℕ) → channel < s.channels → Over s traces n → channel_sends s (run s traces n) (next_step s traces (run s traces n)) channel ≡ []
 unfolding channel_sends
 channel-silent s traces n channel l h =
     let history = run s traces n in
-    ap (messages_at s channel (length history)) (channel_row-next s traces history channel l) ∙ go (chosen s traces n channel) (chosen-silent s traces n channel (length history) l h)
+    ap (messages_at s channel (length history)) (step_of_channel-next s traces history channel l) ∙ go (chosen s traces n channel) (chosen-silent s traces n channel (length history) l h)
   where
     go : (o : Option Command) → IfSome o (IsSilent s channel (length (run s traces n))) → messages_at s channel (length (run s traces n)) o ≡ []
     go None e = refl
@@ -186,38 +186,38 @@ none-each : (ms : List Message) → Each (λ (m : Message). ⊥) ms → ms ≡ [
 none-each [] h = refl
 none-each (m ∷ ms) h = absurd h.0
 
-all-silent : (s : Config) (traces : List (List Entry)) (n : ℕ) → Over s traces n → sends s traces (run s traces n) (next_row s traces (run s traces n)) ≡ []
+all-silent : (s : Config) (traces : List (List Entry)) (n : ℕ) → Over s traces n → sends s traces (run s traces n) (next_step s traces (run s traces n)) ≡ []
 all-silent s traces n h =
     let history = run s traces n in
-    let row = next_row s traces history in
+    let machine_step = next_step s traces history in
     let P = λ (m : Message). ⊥ in
-    none-each (sends s traces history row)
-    (sends-each P s traces history row (λ c l. subst (Each P) (sym (core-silent s traces n c l h)) tt) (λ k l. subst (Each P) (sym (channel-silent s traces n k l h)) tt))
+    none-each (sends s traces history machine_step)
+    (sends-each P s traces history machine_step (λ c l. subst (Each P) (sym (core-silent s traces n c l h)) tt) (λ k l. subst (Each P) (sym (channel-silent s traces n k l h)) tt))
 
 -- the inbox of each unit stays as it was
 inbox-stays : (s : Config) (traces : List (List Entry)) (n : ℕ) (unit : MachineUnit) → Over s traces n → inbox s traces (run s traces (suc n)) unit ≡ inbox s traces (run s traces n) unit
 unfolding run
 inbox-stays s traces n unit h =
     let history = run s traces n in
-    inbox-grows s traces history (next_row s traces history) unit ∙ ap (λ ms. fold insert_by_age (inbox s traces history unit) (filter (is_to s unit) ms)) (all-silent s traces n h)
+    inbox-grows s traces history (next_step s traces history) unit ∙ ap (λ ms. fold insert_by_age (inbox s traces history unit) (filter (is_to s unit) ms)) (all-silent s traces n h)
 
-still-none : (history : List CommandRow) (channel n u : ℕ) (mail : List Message) (o : Option Command) → waiting history mail u ≡ [] → waiting (history ++ cons_option (issued_at channel n o) []) mail u ≡ []
-still-none history channel n u mail None e = ap (λ x. waiting x mail u) (append-nil history) ∙ e
+still-none : (history : List IssuedCommand) (channel n u : ℕ) (mail : List Message) (o : Option Command) → queued_requests history mail u ≡ [] → queued_requests (history ++ cons_option (issued_at channel n o) []) mail u ≡ []
+still-none history channel n u mail None e = ap (λ x. queued_requests x mail u) (append-nil history) ∙ e
 still-none history channel n u mail (Some command) e =
-    waiting-command history (record { cycle = n; channel = channel; command = command }) mail u ∙ ap (unserved_by command) e
+    queued_requests-command history (record { cycle = n; channel = channel; command = command }) mail u ∙ ap (unserved_by command) e
 
 -- one cycle more
 over-next : (s : Config) (traces : List (List Entry)) (n : ℕ) → Over s traces n → Over s traces (suc n)
 unfolding run
 over-next s traces n h =
     let history = run s traces n in
-    let row = next_row s traces history in
+    let machine_step = next_step s traces history in
     let P = λ (m : Message). m.arrival < suc n in
     record {
       retired = λ core l. (core-idle s traces n core l h).retired;
-      delivered = Each-messages P s traces history row (Each-weaker (λ (m : Message). m.arrival < n) P (λ m a. omega arith) (messages s traces history) h.delivered) (subst (Each P) (sym (all-silent s traces n h)) tt);
+      delivered = Each-messages P s traces history machine_step (Each-weaker (λ (m : Message). m.arrival < n) P (λ m a. omega arith) (messages s traces history) h.delivered) (subst (Each P) (sym (all-silent s traces n h)) tt);
       served = λ channel l.
-          ap₂ (λ x ms. waiting x ms (suc n)) (history_of-more s traces n channel l) (inbox-stays s traces n (Channel channel) h)
+          ap₂ (λ x ms. queued_requests x ms (suc n)) (history_of-more s traces n channel l) (inbox-stays s traces n (Channel channel) h)
           ∙ still-none (history_of s traces n channel) channel n (suc n) (inbox s traces history (Channel channel)) (chosen s traces n channel) (none-waits s traces n channel (suc n) l h (omega arith));
     }
 
@@ -298,13 +298,13 @@ flight-arrived s traces n e =
 
 -- the queue that is left
 queue-left_is : (s : Config) (traces : List (List Entry)) (n channel : ℕ)
-    → queue_left channel (rows_of s traces n channel) (mail_before s traces n (Channel channel) n) ≡ waiting (history_of s traces n channel) (inbox s traces (run s traces n) (Channel channel)) n
+    → queue_left channel (channel_steps_of s traces n channel) (mail_before s traces n (Channel channel) n) ≡ queued_requests (history_of s traces n channel) (inbox s traces (run s traces n) (Channel channel)) n
 unfolding queue_left
 queue-left_is s traces n channel =
-    let rows = rows_of s traces n channel in
+    let steps = channel_steps_of s traces n channel in
     let mail = inbox s traces (run s traces n) (Channel channel) in
-    let long : length rows ≡ n = length-rows_of s traces n channel in
-    queue-alike channel n rows mail long (inbox-stamped s traces (run s traces n) (Channel channel)) ∙ ap (waiting (history_of s traces n channel) mail) long
+    let long : length steps ≡ n = length-channel_steps_of s traces n channel in
+    queue-alike channel n steps mail long (inbox-stamped s traces (run s traces n) (Channel channel)) ∙ ap (queued_requests (history_of s traces n channel) mail) long
 
 pub over-is_seen : (s : Config) (traces : List (List Entry)) (now : ℕ) → OverIsSeen s traces now
 over-is_seen s traces now = (

@@ -14,11 +14,11 @@ use Rattle.sim_base.specs.declared.message.Unit.TheVariants.{Core, Channel}
 use Rattle.sim_base.specs.declared.trace.Entry.{Entry}
 use Rattle.sim_base.proofs.Below.{flat_map_below_same}
 use Rattle.sim_base.proofs.Ordered.{Each-weaker}
-use Rattle.laws.specs.Commands.{rows_of}
+use Rattle.laws.specs.Commands.{channel_steps_of}
 use Rattle.channel_step.proofs.Requests.{filter-both, filter-agree}
 use Rattle.channel_step.proofs.Stretches.{idle-issued, idle-messages, idle-run}
 use Rattle.core_window.specs.Rests.{Rests}
-use Rattle.span_laws.specs.Cores.{core_rows_of}
+use Rattle.span_laws.specs.Cores.{core_steps_of}
 use Rattle.span_laws.specs.Local.{known_mail, CoresSendLate, ChannelsSendLate}
 use Rattle.span_laws.specs.Mail.{arriving, mail_before, mail_in}
 use Rattle.span_laws.specs.Quiet.{CoresRest, ChannelsRest, arrivals_in, IsKnownQuiet, KnownIsQuiet, QuietIsKnown, RestIsShortened, QuietChangesNothing}
@@ -63,9 +63,9 @@ messages-stay s traces from until cores channels =
     let n = until - from in
     ap₂ (λ (x y : List Message). x ++ y)
     (flat_map_below_same (messages_of_core s traces (run s traces until)) (messages_of_core s traces (run s traces from)) s.cores
-    (λ core k. ap (core_messages s core (trace_of traces core)) (cores core k) ∙ rest-messages s core (trace_of traces core) (core_rows_of s traces from core) n))
+    (λ core k. ap (core_messages s core (trace_of traces core)) (cores core k) ∙ rest-messages s core (trace_of traces core) (core_steps_of s traces from core) n))
     (flat_map_below_same (messages_of_channel s (run s traces until)) (messages_of_channel s (run s traces from)) s.channels
-    (λ channel k. ap (channel_messages s channel) (channels channel k) ∙ idle-messages s channel (rows_of s traces from channel) n))
+    (λ channel k. ap (channel_messages s channel) (channels channel k) ∙ idle-messages s channel (channel_steps_of s traces from channel) n))
 
 -- what a unit knows of its mail, where nothing is to arrive
 known-is_before : (s : Config) (traces : List (List Entry)) (from until : ℕ) (unit : MachineUnit) → IsKnownQuiet s traces from until → known_mail s traces from until unit ≡ mail_before s traces from unit from
@@ -76,29 +76,29 @@ known-is_before s traces from until unit h =
 cores-send_late : (s : Config) (traces : List (List Entry)) (from until : ℕ) → IsKnownQuiet s traces from until → CoresSendLate s traces from until
 cores-send_late s traces from until h core k =
     let trace = trace_of traces core in
-    let rows = core_rows_of s traces from core in
+    let steps = core_steps_of s traces from core in
     let n = until - from in
     record {
       more = [];
       is_more =
-          ap (λ ms. core_messages s core trace (core_run s core trace rows ms n)) (known-is_before s traces from until (Core core) h)
+          ap (λ ms. core_messages s core trace (core_run s core trace steps ms n)) (known-is_before s traces from until (Core core) h)
           ∙ ap (core_messages s core trace) (h.cores_rest core k)
-          ∙ rest-messages s core trace rows n
+          ∙ rest-messages s core trace steps n
           ∙ sym (append-nil _);
       late = All-from_recursion (λ (m : Message). until ≤ m.arrival) [] tt;
     }
 
 channels-send_late : (s : Config) (traces : List (List Entry)) (from until : ℕ) → IsKnownQuiet s traces from until → ChannelsSendLate s traces from until
 channels-send_late s traces from until h channel k =
-    let rows = rows_of s traces from channel in
+    let steps = channel_steps_of s traces from channel in
     let mail = mail_before s traces from (Channel channel) from in
     let n = until - from in
     record {
       more = [];
       is_more =
-          ap (λ ms. channel_messages s channel (channel_run s channel rows ms n)) (known-is_before s traces from until (Channel channel) h)
-          ∙ ap (channel_messages s channel) (idle-run s channel rows mail n (h.channels_rest channel k))
-          ∙ idle-messages s channel rows n
+          ap (λ ms. channel_messages s channel (channel_run s channel steps ms n)) (known-is_before s traces from until (Channel channel) h)
+          ∙ ap (channel_messages s channel) (idle-run s channel steps mail n (h.channels_rest channel k))
+          ∙ idle-messages s channel steps n
           ∙ sym (append-nil _);
       late = All-from_recursion (λ (m : Message). until ≤ m.arrival) [] tt;
     }
@@ -111,12 +111,12 @@ known-is_quiet s traces from until l h =
     (late-is_local s traces from until l (cores-send_late s traces from until h) (channels-send_late s traces from until h) unit ∙ none-comes s traces from from until unit h.none_arrives) in
     let cores : CoresRest s traces from until =
     λ core k. sym (cores-run_alone s traces from until core k l)
-    ∙ ap (λ ms. core_run s core (trace_of traces core) (core_rows_of s traces from core) ms n) (joined (Core core))
+    ∙ ap (λ ms. core_run s core (trace_of traces core) (core_steps_of s traces from core) ms n) (joined (Core core))
     ∙ h.cores_rest core k in
     let channels : ChannelsRest s traces from until =
     λ channel k. sym (channels-run_alone s traces from until channel k l)
-    ∙ ap (λ ms. channel_run s channel (rows_of s traces from channel) ms n) (joined (Channel channel))
-    ∙ idle-run s channel (rows_of s traces from channel) (mail_before s traces from (Channel channel) from) n (h.channels_rest channel k) in
+    ∙ ap (λ ms. channel_run s channel (channel_steps_of s traces from channel) ms n) (joined (Channel channel))
+    ∙ idle-run s channel (channel_steps_of s traces from channel) (mail_before s traces from (Channel channel) from) n (h.channels_rest channel k) in
     record { cores_rest = cores; channels_rest = channels; none_arrives = ap (arriving from until) (messages-stay s traces from until cores channels) ∙ h.none_arrives }
 
 pub quiet-is_known : (s : Config) (traces : List (List Entry)) (from until : ℕ) → QuietIsKnown s traces from until
@@ -126,13 +126,13 @@ quiet-is_known s traces from until l h =
     λ unit. mail-stays s traces from until unit l (none-comes s traces until from until unit h.none_arrives) in
     record {
       cores_rest = λ core k.
-          ap (λ ms. core_run s core (trace_of traces core) (core_rows_of s traces from core) ms n) (sym (joined (Core core)))
+          ap (λ ms. core_run s core (trace_of traces core) (core_steps_of s traces from core) ms n) (sym (joined (Core core)))
           ∙ cores-run_alone s traces from until core k l
           ∙ h.cores_rest core k;
       channels_rest = λ channel k.
-          let rows = rows_of s traces from channel in
-          idle-from_run s channel rows (mail_before s traces from (Channel channel) from) n
-          (ap (λ ms. channel_run s channel rows ms n) (sym (joined (Channel channel)))
+          let steps = channel_steps_of s traces from channel in
+          idle-from_run s channel steps (mail_before s traces from (Channel channel) from) n
+          (ap (λ ms. channel_run s channel steps ms n) (sym (joined (Channel channel)))
           ∙ channels-run_alone s traces from until channel k l
           ∙ h.channels_rest channel k);
       none_arrives = ap (arriving from until) (sym (messages-stay s traces from until h.cores_rest h.channels_rest)) ∙ h.none_arrives;
@@ -141,10 +141,10 @@ quiet-is_known s traces from until l h =
 pub rest-is_shortened : (s : Config) (traces : List (List Entry)) (from until : ℕ) → RestIsShortened s traces from until
 rest-is_shortened s traces from until (Core core) sooner a b h =
     let trace = trace_of traces core in
-    let rows = core_rows_of s traces from core in
+    let steps = core_steps_of s traces from core in
     let mail = mail_before s traces from (Core core) from in
     let parts : until - from ≡ (sooner - from) + (until - sooner) = omega arith in
-    rests-sooner s core trace rows mail (sooner - from) (until - sooner) (subst (λ n. Rests s core trace rows mail n) parts h)
+    rests-sooner s core trace steps mail (sooner - from) (until - sooner) (subst (λ n. Rests s core trace steps mail n) parts h)
 rest-is_shortened s traces from until (Channel channel) sooner a b h = λ k l. h k (omega arith)
 
 -- where none passes a test, none of them does
@@ -172,7 +172,7 @@ quiet-changes_nothing s traces from until l h =
     let same : messages s traces (run s traces until) ≡ sent = messages-stay s traces from until h.cores_rest h.channels_rest in
     record {
       mail = λ unit. sym (spans-join s traces from until unit l) ∙ mail-stays s traces from until unit l (none-comes s traces until from until unit h.none_arrives);
-      commands = λ channel k. ap (issued_commands channel) (h.channels_rest channel k) ∙ idle-issued channel (rows_of s traces from channel) (until - from);
+      commands = λ channel k. ap (issued_commands channel) (h.channels_rest channel k) ∙ idle-issued channel (channel_steps_of s traces from channel) (until - from);
       flight =
           in_flight-late s traces until
           ∙ ap (λ ms. by_age (filter (not_before until) ms)) same

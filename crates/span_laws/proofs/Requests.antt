@@ -6,13 +6,13 @@ use Rattle.std.specs.List.{AllByRecursion as Each, cons_option}
 use Rattle.std.proofs.lemmas.Bool.Decides.{nat_tests}
 use Rattle.std.proofs.lemmas.List.Elements.{recursion_from_All, All-from_recursion, All-contains}
 use Rattle.sim_base.specs.declared.config.Config.{Config}
-use Rattle.sim_base.specs.Row.{Row}
+use Rattle.sim_base.specs.MachineStep.{MachineStep}
 use Rattle.sim_base.specs.Counts.{source_in}
-use Rattle.sim_base.specs.History.{inbox, issued_commands, channel_rows}
+use Rattle.sim_base.specs.History.{inbox, issued_commands, steps_of_channel}
 use Rattle.sim_base.specs.Machine.{run}
-use Rattle.sim_base.specs.Scheduling.{request_in, is_source, source_of, is_waiting, waiting, queue_in}
+use Rattle.sim_base.specs.Scheduling.{request_in, is_source, source_of, is_queued, queued_requests, queue_in}
 use Rattle.sim_base.specs.declared.command.Command.{Command}
-use Rattle.sim_base.specs.declared.command.CommandRow.{CommandRow}
+use Rattle.sim_base.specs.declared.command.IssuedCommand.{IssuedCommand}
 use Rattle.sim_base.specs.declared.command.Source.{Source}
 use Rattle.sim_base.specs.declared.message.Load.{Load}
 use Rattle.sim_base.specs.declared.message.Load.TheVariants as load
@@ -26,10 +26,10 @@ use Rattle.sim_base.proofs.Ordered.{Each-weaker}
 use Rattle.sim_base.proofs.Same.{Stamped, AgreeUpTo, queue-same}
 use Rattle.sim_base.proofs.Spans.{inbox-stamped}
 use Rattle.statistics.proofs.Messages.{arrived-arrived}
-use Rattle.laws.specs.Commands.{rows_of, history_of}
+use Rattle.laws.specs.Commands.{channel_steps_of, history_of}
 use Rattle.laws.specs.Messages.{is_request_of, IsRequestTo}
 use Rattle.laws.proofs.Fitting.{requests_fit, requests_are_sent_once}
-use Rattle.laws.proofs.Legal.{rows_of-at, Each-history_of}
+use Rattle.laws.proofs.Legal.{channel_steps_of-at, Each-history_of}
 use Rattle.laws.proofs.Named.{commands_name_the_queue}
 use Rattle.channel_step.specs.Past.{requests_of, IsRequestIn, CarriesRequest, IsOther, Differ}
 use Rattle.channel_step.specs.Fit.{is_of, is_named_by, IsUnnamed}
@@ -38,7 +38,7 @@ use Rattle.span_laws.specs.Mail.{mail_before, mail_in}
 use Rattle.span_laws.proofs.Arrivals.{count-mine, spans-join, mail-settled}
 use Rattle.span_laws.proofs.Lists.{each-none, count-tail, count-others, count-kept}
 
-carried : (s : Config) (traces : List (List Entry)) (history : List Row) (channel : ℕ) (m : Message) (o : Option Request)
+carried : (s : Config) (traces : List (List Entry)) (history : List MachineStep) (channel : ℕ) (m : Message) (o : Option Request)
     → IsSomeAnd o (IsRequestTo s traces history channel m) → IsRequestIn s channel m o
 carried s traces history channel m None h = h
 carried s traces history channel m (Some r) h = record { core = h.core; link = h.link_of; same_link = h.link; arrival = h.arrival; place = h.place; channel_is = h.channel_of }
@@ -108,7 +108,7 @@ differ-across : (xs ys : List Request) → Differ (xs ++ ys) → Each (AreOther 
 differ-across [] ys d = tt
 differ-across (x ∷ xs) ys d = (split-each (IsOther x) xs ys d.0, differ-across xs ys d.1)
 
-each-swap : (P : CommandRow → Request → Type 0) (xs : List CommandRow) (ys : List Request) → Each (λ i. Each (P i) ys) xs → Each (λ r. Each (λ i. P i r) xs) ys
+each-swap : (P : IssuedCommand → Request → Type 0) (xs : List IssuedCommand) (ys : List Request) → Each (λ i. Each (P i) ys) xs → Each (λ r. Each (λ i. P i r) xs) ys
 each-swap P xs [] h = tt
 each-swap P xs (y ∷ ys) h =
     (Each-weaker (λ i. Each (P i) (y ∷ ys)) (λ i. P i y) (λ i k. k.0) xs h, each-swap P xs ys (Each-weaker (λ i. Each (P i) (y ∷ ys)) (λ i. Each (P i) ys) (λ i k. k.1) xs h))
@@ -143,38 +143,38 @@ settled-agree s traces from until channel cycle l b =
 -- the requests that are in the queue in a cycle before a span are others than those of the span
 queue-other : (s : Config) (traces : List (List Entry)) (from until channel cycle : ℕ) → from ≤ until → cycle < from
     → Each (AreOther (requests_of (mail_in s traces until (Channel channel) from until)))
-    (queue_in channel (rows_of s traces from channel) (inbox s traces (run s traces from) (Channel channel)) cycle)
-unfolding queue_in waiting
+    (queue_in channel (channel_steps_of s traces from channel) (inbox s traces (run s traces from) (Channel channel)) cycle)
+unfolding queue_in queued_requests
 queue-other s traces from until channel cycle l b =
     let new = mail_in s traces until (Channel channel) from until in
     let mail = mail_before s traces until (Channel channel) from in
-    let rows = rows_of s traces from channel in
+    let steps = channel_steps_of s traces from channel in
     let P = AreOther (requests_of new) in
     let apart : Each P (requests_of mail) =
     differ-across (requests_of mail) (requests_of new) (subst Differ (requests-append mail new) (span-differ s traces from until channel l)) in
     subst (Each P)
-    (queue-same channel rows mail (inbox s traces (run s traces from) (Channel channel)) cycle (settled-agree s traces from until channel cycle l b))
-    (Each-filter P (is_waiting (issued_commands channel (take cycle rows)) (cycle + 1)) (requests_of mail) apart)
+    (queue-same channel steps mail (inbox s traces (run s traces from) (Channel channel)) cycle (settled-agree s traces from until channel cycle l b))
+    (Each-filter P (is_queued (issued_commands channel (take cycle steps)) (cycle + 1)) (requests_of mail) apart)
 
 -- a command of a cycle before a span
 command-names : (s : Config) (traces : List (List Entry)) (from until channel cycle : ℕ) → channel < s.channels → from ≤ until → cycle < from → (o : Option Command)
-    → get_or (rows_of s traces from channel) cycle None ≡ o → IfSome o (NamesNone (requests_of (mail_in s traces until (Channel channel) from until)))
+    → get_or (channel_steps_of s traces from channel) cycle None ≡ o → IfSome o (NamesNone (requests_of (mail_in s traces until (Channel channel) from until)))
 command-names s traces from until channel cycle k l b None e = tt
 command-names s traces from until channel cycle k l b (Some command) e =
-    names-other (queue_in channel (rows_of s traces from channel) (inbox s traces (run s traces from) (Channel channel)) cycle)
+    names-other (queue_in channel (channel_steps_of s traces from channel) (inbox s traces (run s traces from) (Channel channel)) cycle)
     (requests_of (mail_in s traces until (Channel channel) from until)) (queue-other s traces from until channel cycle l b) (source_in command)
     (commands_name_the_queue s traces from channel cycle command k b e)
 
 -- the commands of the first cycles
 history-names : (s : Config) (traces : List (List Entry)) (from until channel : ℕ) → channel < s.channels → from ≤ until → (n : ℕ) → n ≤ from
-    → Each (λ (i : CommandRow). NamesNone (requests_of (mail_in s traces until (Channel channel) from until)) i.command) (history_of s traces n channel)
-unfolding run channel_rows issued_commands
+    → Each (λ (i : IssuedCommand). NamesNone (requests_of (mail_in s traces until (Channel channel) from until)) i.command) (history_of s traces n channel)
+unfolding run steps_of_channel issued_commands
 history-names s traces from until channel k l zero h = tt
 history-names s traces from until channel k l (suc n) h =
     let none = NamesNone (requests_of (mail_in s traces until (Channel channel) from until)) in
-    Each-history_of (λ (i : CommandRow). none i.command) s traces n channel k (history-names s traces from until channel k l n (omega arith))
-    (subst (λ o. IfSome o none) (rows_of-at s traces channel k from n (omega arith))
-    (command-names s traces from until channel n k l (omega arith) (get_or (rows_of s traces from channel) n None) refl))
+    Each-history_of (λ (i : IssuedCommand). none i.command) s traces n channel k (history-names s traces from until channel k l n (omega arith))
+    (subst (λ o. IfSome o none) (channel_steps_of-at s traces channel k from n (omega arith))
+    (command-names s traces from until channel n k l (omega arith) (get_or (channel_steps_of s traces from channel) n None) refl))
 
 -- no command before a span stands in the name of a request that arrives in it
 pub span-unnamed : (s : Config) (traces : List (List Entry)) (from until channel : ℕ) → channel < s.channels → from ≤ until

@@ -10,13 +10,13 @@ use Rattle.sim_base.specs.declared.config.Config.{Config}
 use Rattle.sim_base.specs.History.{messages_of_channel}
 use Rattle.sim_base.specs.Machine.{run, channel_run}
 use Rattle.sim_base.specs.declared.command.Command.{Command}
-use Rattle.sim_base.specs.declared.command.CommandRow.{CommandRow}
+use Rattle.sim_base.specs.declared.command.IssuedCommand.{IssuedCommand}
 use Rattle.sim_base.specs.declared.message.Message.{Message}
 use Rattle.sim_base.specs.declared.message.Unit.TheVariants as unit
 use Rattle.sim_base.specs.declared.trace.Entry.{Entry}
 use Rattle.statistics.specs.Channels.{channel_stats}
 use Rattle.statistics.specs.Runs.{stats_of_channel, channel_last, last_of_channel}
-use Rattle.laws.specs.Commands.{rows_of, history_of}
+use Rattle.laws.specs.Commands.{channel_steps_of, history_of}
 use Rattle.channel_step.specs.Channels.{StandsFor}
 use Rattle.channel_step.specs.Fit.{IsFit}
 use Rattle.channel_step.specs.Runs.{IsDone, CanRun}
@@ -27,31 +27,31 @@ use Rattle.span_laws.specs.Mail.{mail_before, mail_in}
 abbrev pub RequestsFitSpans : Config → List (List Entry) → ℕ → ℕ → Type 0
 RequestsFitSpans s traces from until =
     (channel : ℕ) → channel < s.channels → from ≤ until
-    → IsFit s channel (rows_of s traces from channel) (mail_before s traces until (unit.Channel channel) from) (mail_in s traces until (unit.Channel channel) from until) from until
+    → IsFit s channel (channel_steps_of s traces from channel) (mail_before s traces until (unit.Channel channel) from) (mail_in s traces until (unit.Channel channel) from until) from until
 
 -- from them the channel alone does in the span what it does in the run
 abbrev pub ChannelsRunAlone : Config → List (List Entry) → ℕ → ℕ → Type 0
 ChannelsRunAlone s traces from until =
     (channel : ℕ) → channel < s.channels → from ≤ until
-    → channel_run s channel (rows_of s traces from channel) (mail_before s traces until (unit.Channel channel) from ++ mail_in s traces until (unit.Channel channel) from until) (until - from)
-    ≡ rows_of s traces until channel
+    → channel_run s channel (channel_steps_of s traces from channel) (mail_before s traces until (unit.Channel channel) from ++ mail_in s traces until (unit.Channel channel) from until) (until - from)
+    ≡ channel_steps_of s traces until channel
 
 -- a channel stands for what the one with this number did in the cycles of a run before one, and for what arrived at it in them
 abbrev pub IsChannelAt : Config → List (List Entry) → ℕ → ℕ → Channel → Type 0
-IsChannelAt s traces channel now c = StandsFor c s channel (rows_of s traces now channel) (mail_before s traces now (unit.Channel channel) now)
+IsChannelAt s traces channel now c = StandsFor c s channel (channel_steps_of s traces now channel) (mail_before s traces now (unit.Channel channel) now)
 
 -- what a channel gives for a span, and which lists it leaves of which: whatever past it stands for, if these messages are fit for
 -- the span after it
-abbrev pub Gives : Channel → List Message → ℕ → ℕ → Channel → List CommandRow → List CommandRow → List Message → List Message → Type 0
+abbrev pub Gives : Channel → List Message → ℕ → ℕ → Channel → List IssuedCommand → List IssuedCommand → List Message → List Message → Type 0
 Gives c inbox from until d commands commands_then messages messages_then =
-    (s : Config) (channel : ℕ) (rows : List (Option Command)) (mail : List Message)
-    → StandsFor c s channel rows mail → length rows ≡ from → IsFit s channel rows mail inbox from until
-    → IsDone d s channel rows mail inbox from until commands commands_then messages messages_then
+    (s : Config) (channel : ℕ) (steps : List (Option Command)) (mail : List Message)
+    → StandsFor c s channel steps mail → length steps ≡ from → IsFit s channel steps mail inbox from until
+    → IsDone d s channel steps mail inbox from until commands commands_then messages messages_then
 
 -- A channel did what the one with this number did in a span of a run: it stands at the end of the span, and the commands and
 -- messages of the run beyond those before the span were put behind what two lists held.
-pub record HasGone (s : Config) (traces : List (List Entry)) (channel from until : ℕ) (c : Channel) (commands commands_then : List CommandRow) (messages messages_then : List Message) : Type 0 where
-  pub issued : List CommandRow
+pub record HasGone (s : Config) (traces : List (List Entry)) (channel from until : ℕ) (c : Channel) (commands commands_then : List IssuedCommand) (messages messages_then : List Message) : Type 0 where
+  pub issued : List IssuedCommand
   pub sent : List Message
   pub stands : IsChannelAt s traces channel until c
   pub commands_are : history_of s traces until channel ≡ history_of s traces from channel ++ issued
@@ -72,7 +72,7 @@ ChannelsMayRun s traces from until =
 -- what it leaves then is its part of the longer run
 abbrev pub ChannelsGoOn : Config → List (List Entry) → ℕ → ℕ → Type 0
 ChannelsGoOn s traces from until =
-    (channel : ℕ) (c d : Channel) (commands commands_then : List CommandRow) (messages messages_then : List Message)
+    (channel : ℕ) (c d : Channel) (commands commands_then : List IssuedCommand) (messages messages_then : List Message)
     → channel < s.channels → from ≤ until → IsChannelAt s traces channel from c
     → Gives c (mail_in s traces until (unit.Channel channel) from until) from until d commands commands_then messages messages_then
     → HasGone s traces channel from until d commands commands_then messages messages_then
@@ -81,5 +81,5 @@ ChannelsGoOn s traces from until =
 abbrev pub ChannelsEndAlike : Config → List (List Entry) → ℕ → Type 0
 ChannelsEndAlike s traces now =
     (channel : ℕ)
-    → (channel_stats s channel (rows_of s traces now channel) (mail_before s traces now (unit.Channel channel) now) ≡ stats_of_channel s traces (run s traces now) channel)
-    × (channel_last s channel (rows_of s traces now channel) (mail_before s traces now (unit.Channel channel) now) ≡ last_of_channel s traces (run s traces now) channel)
+    → (channel_stats s channel (channel_steps_of s traces now channel) (mail_before s traces now (unit.Channel channel) now) ≡ stats_of_channel s traces (run s traces now) channel)
+    × (channel_last s channel (channel_steps_of s traces now channel) (mail_before s traces now (unit.Channel channel) now) ≡ last_of_channel s traces (run s traces now) channel)

@@ -15,8 +15,8 @@ use Rattle.sim_base.specs.Machine.{run, is_over, cycles_run}
 use Rattle.sim_base.specs.declared.message.Message.{Message}
 use Rattle.sim_base.specs.declared.message.Unit.TheVariants.{Channel}
 use Rattle.sim_base.specs.declared.trace.Entry.{Entry}
-use Rattle.laws.specs.Commands.{rows_of}
-use Rattle.span_laws.specs.Cores.{core_rows_of}
+use Rattle.laws.specs.Commands.{channel_steps_of}
+use Rattle.span_laws.specs.Cores.{core_steps_of}
 use Rattle.span_laws.specs.Mail.{mail_before}
 
 -- a run that ends drained is over before cycle n
@@ -31,9 +31,9 @@ RunsStayOver s traces from until = from ≤ until → is_over s traces (run s tr
 abbrev pub OverIsSeen : Config → List (List Entry) → ℕ → Type 0
 OverIsSeen s traces now =
     is_over s traces (run s traces now) ≡ true
-    ↔ (((core : ℕ) → core < s.cores → retired_before (core_rows_of s traces now core) ≡ length (trace_of traces core))
+    ↔ (((core : ℕ) → core < s.cores → retired_before (core_steps_of s traces now core) ≡ length (trace_of traces core))
     × (in_flight s traces (run s traces now) ≡ [])
-    × ((channel : ℕ) → channel < s.channels → queue_left channel (rows_of s traces now channel) (mail_before s traces now (Channel channel) now) ≡ []))
+    × ((channel : ℕ) → channel < s.channels → queue_left channel (channel_steps_of s traces now channel) (mail_before s traces now (Channel channel) now) ≡ []))
 
 -- Where a run does not end before the last of n cycles, and n is the limit or the run ends before cycle n, it has n cycles.
 abbrev pub CyclesAreCounted : Config → List (List Entry) → ℕ → ℕ → Type 0
@@ -44,7 +44,7 @@ CyclesAreCounted s traces limit n =
 abbrev pub RetiresByWidth : Config → List (List Entry) → ℕ → ℕ → Type 0
 RetiresByWidth s traces from until =
     (core : ℕ) → core < s.cores → from ≤ until
-    → retired_before (core_rows_of s traces until core) ≤ retired_before (core_rows_of s traces from core) + s.width * (until - from)
+    → retired_before (core_steps_of s traces until core) ≤ retired_before (core_steps_of s traces from core) + s.width * (until - from)
 
 -- Of what is in flight at a cycle, all that arrives at a later one or after it is in flight there too: of any kind of such messages
 -- there are then no fewer.
@@ -57,7 +57,7 @@ FlightStays s traces from until =
 abbrev pub LastsForTrace : Config → List (List Entry) → ℕ → ℕ → Type 0
 LastsForTrace s traces from until =
     (core : ℕ) → core < s.cores → from ≤ until
-    → retired_before (core_rows_of s traces from core) + s.width * (until - from) < length (trace_of traces core)
+    → retired_before (core_steps_of s traces from core) + s.width * (until - from) < length (trace_of traces core)
     → is_over s traces (run s traces until) ≡ false
 
 -- nor before a cycle up to which a message is in flight

@@ -11,8 +11,8 @@ use Rattle.sim_base.specs.declared.message.Message.{Message}
 use Rattle.sim_base.specs.declared.message.Unit.{Unit as MachineUnit}
 use Rattle.sim_base.specs.declared.message.Unit.TheVariants.{Core, Channel}
 use Rattle.sim_base.specs.declared.trace.Entry.{Entry}
-use Rattle.laws.specs.Commands.{rows_of}
-use Rattle.span_laws.specs.Cores.{core_rows_of}
+use Rattle.laws.specs.Commands.{channel_steps_of}
+use Rattle.span_laws.specs.Cores.{core_steps_of}
 use Rattle.span_laws.specs.Mail.{mail_before, mail_in}
 
 -- what arrived at a unit before a span, with what arrives in it of the messages that were sent before it
@@ -30,15 +30,15 @@ abbrev pub CoresSendLate : Config → List (List Entry) → ℕ → ℕ → Type
 CoresSendLate s traces from until =
     (core : ℕ) → core < s.cores →
     let trace = trace_of traces core in
-    let rows = core_rows_of s traces from core in
-    GrowsLate until (core_messages s core trace rows) (core_messages s core trace (core_run s core trace rows (known_mail s traces from until (Core core)) (until - from)))
+    let steps = core_steps_of s traces from core in
+    GrowsLate until (core_messages s core trace steps) (core_messages s core trace (core_run s core trace steps (known_mail s traces from until (Core core)) (until - from)))
 
 -- so does what the channels send
 abbrev pub ChannelsSendLate : Config → List (List Entry) → ℕ → ℕ → Type 0
 ChannelsSendLate s traces from until =
     (channel : ℕ) → channel < s.channels →
-    let rows = rows_of s traces from channel in
-    GrowsLate until (channel_messages s channel rows) (channel_messages s channel (channel_run s channel rows (known_mail s traces from until (Channel channel)) (until - from)))
+    let steps = channel_steps_of s traces from channel in
+    GrowsLate until (channel_messages s channel steps) (channel_messages s channel (channel_run s channel steps (known_mail s traces from until (Channel channel)) (until - from)))
 
 -- then what arrives in the span was sent before it, however long the span is: also where units send nothing over a long time
 abbrev pub LateIsLocal : Config → List (List Entry) → ℕ → ℕ → Type 0

@@ -16,21 +16,21 @@ use Rattle.sim_base.specs.declared.message.Message.{Message}
 use Rattle.sim_base.specs.declared.message.Unit.{Unit as MachineUnit}
 use Rattle.sim_base.specs.declared.message.Unit.TheVariants.{Core, Channel}
 use Rattle.sim_base.specs.declared.trace.Entry.{Entry}
-use Rattle.laws.specs.Commands.{rows_of, history_of}
+use Rattle.laws.specs.Commands.{channel_steps_of, history_of}
 use Rattle.channel_step.specs.Fit.{IsIdle}
-use Rattle.core_window.specs.Rests.{idle_row, Rests}
-use Rattle.span_laws.specs.Cores.{core_rows_of}
+use Rattle.core_window.specs.Rests.{idle_step, Rests}
+use Rattle.span_laws.specs.Cores.{core_steps_of}
 use Rattle.span_laws.specs.Mail.{mail_before, arriving}
 
 -- no core retires or issues in the cycles from one on and before another
 abbrev pub CoresRest : Config → List (List Entry) → ℕ → ℕ → Type 0
 CoresRest s traces from until =
-    (core : ℕ) → core < s.cores → core_rows_of s traces until core ≡ core_rows_of s traces from core ++ replicate (until - from) idle_row
+    (core : ℕ) → core < s.cores → core_steps_of s traces until core ≡ core_steps_of s traces from core ++ replicate (until - from) idle_step
 
 -- no channel issues a command in them
 abbrev pub ChannelsRest : Config → List (List Entry) → ℕ → ℕ → Type 0
 ChannelsRest s traces from until =
-    (channel : ℕ) → channel < s.channels → rows_of s traces until channel ≡ rows_of s traces from channel ++ replicate (until - from) None
+    (channel : ℕ) → channel < s.channels → channel_steps_of s traces until channel ≡ channel_steps_of s traces from channel ++ replicate (until - from) None
 
 -- of the messages that are sent in the first n cycles of a run, those that arrive in a span, at whatever unit
 abbrev pub arrivals_in : Config → List (List Entry) → ℕ → ℕ → ℕ → List Message
@@ -44,8 +44,8 @@ pub record IsQuiet (s : Config) (traces : List (List Entry)) (from until : ℕ) 
 
 -- from what a unit did before a span, and what arrived at it, it would do nothing in the span, if nothing arrived in it
 abbrev pub RestsAlone : Config → List (List Entry) → ℕ → ℕ → MachineUnit → Type 0
-RestsAlone s traces from until (Core core) = Rests s core (trace_of traces core) (core_rows_of s traces from core) (mail_before s traces from (Core core) from) (until - from)
-RestsAlone s traces from until (Channel channel) = IsIdle s channel (rows_of s traces from channel) (mail_before s traces from (Channel channel) from) (until - from)
+RestsAlone s traces from until (Core core) = Rests s core (trace_of traces core) (core_steps_of s traces from core) (mail_before s traces from (Core core) from) (until - from)
+RestsAlone s traces from until (Channel channel) = IsIdle s channel (channel_steps_of s traces from channel) (mail_before s traces from (Channel channel) from) (until - from)
 
 -- What is known before a span: each unit of the machine would rest in it, and no message that was sent before it arrives in it.
 pub record IsKnownQuiet (s : Config) (traces : List (List Entry)) (from until : ℕ) : Type 0 where

@@ -12,7 +12,7 @@ use fixtures::generated::{Generated, made_up};
 use fixtures::random::Random;
 use fixtures::texts::traces_of;
 use one_clock::machine::run_plain;
-use sim_base::command::CommandRow;
+use sim_base::command::IssuedCommand;
 use sim_base::config::Config;
 use sim_base::message::{Message, Unit};
 use statistics::outcome::Outcome;
@@ -163,7 +163,7 @@ fn assert_same_units(
     rt: &impl Abort,
     units: &Units,
     plain: &Outcome,
-    commands: &[CommandRow],
+    commands: &[IssuedCommand],
     flight: &[Message],
     cut: Cut,
 ) {

@@ -5,7 +5,7 @@ use core_feed::fed::FedCore;
 use cpu_trace::trace::Trace;
 use links::flight::Links;
 use links::latency::shortest;
-use sim_base::command::CommandRow;
+use sim_base::command::IssuedCommand;
 use sim_base::config::Config;
 use sim_base::message::{Cycle, Message, Unit};
 use std::alloc::{AllocError, Global};
@@ -18,7 +18,7 @@ pub(crate) struct Units {
     pub channels: Vec<Option<FedChannel>>,
     pub links: Links,
     /// The commands, span by span, and in a span by channel.
-    pub commands: Vec<CommandRow>,
+    pub commands: Vec<IssuedCommand>,
     pub now: Cycle,
     /// The cycles of the longest span in which nothing that is sent in it arrives.
     pub longest: u64,
@@ -180,7 +180,7 @@ fn run_channel(
     inbox: &[Message],
     until: Cycle,
     sent: &mut Vec<Message>,
-    commands: &mut Vec<CommandRow>,
+    commands: &mut Vec<IssuedCommand>,
 ) -> Result<(), Fail> {
     let channel = place.take().ok_or(GONE)?;
     let done = channel.run(alloc, inbox, until)?;

@@ -12,10 +12,10 @@ use Rattle.sim_base.specs.declared.config.Config.{Config}
 use Rattle.sim_base.specs.History.{issued_commands}
 use Rattle.sim_base.specs.Rules.{is_legal, has_open_bank, open_row}
 use Rattle.sim_base.specs.Places.{bank_in}
-use Rattle.sim_base.specs.Scheduling.{request_in, serves, source_of, is_served, is_waiting, waiting, queue_in, column_command, needed_at, needed, ready_hit, ready_row, first_ready, refresh_command, if_legal, choice_between, drains, lowest_due, choice}
+use Rattle.sim_base.specs.Scheduling.{request_in, serves, source_of, is_served, is_queued, queued_requests, queue_in, column_command, needed_at, needed, ready_hit, ready_row, first_ready, refresh_command, if_legal, choice_between, drains, lowest_due, choice}
 use Rattle.sim_base.specs.declared.command.Command.{Command}
 use Rattle.sim_base.specs.declared.command.Command.TheVariants.{Act, Rd, Wr, Pre, Prea, Ref}
-use Rattle.sim_base.specs.declared.command.CommandRow.{CommandRow}
+use Rattle.sim_base.specs.declared.command.IssuedCommand.{IssuedCommand}
 use Rattle.sim_base.specs.declared.message.Message.{Message}
 use Rattle.sim_base.specs.declared.message.Request.{Request}
 use Rattle.statistics.specs.Channels.{moves_data_of, is_late_act}
@@ -25,22 +25,22 @@ passes p [] = tt
 passes p (x ∷ xs) = cond_both (p x) (x ∷ filter p xs) (filter p xs) (Each (λ y. p y ≡ true)) (λ e. (e, passes p xs)) (λ e. passes p xs)
 
 -- the data of a request was not moved
-abbrev pub Unserved : List CommandRow → Request → Type 0
+abbrev pub Unserved : List IssuedCommand → Request → Type 0
 Unserved history r = is_served history r ≡ false
 
-waiting-unserved : (history : List CommandRow) (inbox : List Message) (until : ℕ) → Each (Unserved history) (waiting history inbox until)
-unfolding waiting
-waiting-unserved history inbox until =
+queued_requests-unserved : (history : List IssuedCommand) (inbox : List Message) (until : ℕ) → Each (Unserved history) (queued_requests history inbox until)
+unfolding queued_requests
+queued_requests-unserved history inbox until =
     let requests = filter_map (λ m. request_in m.load) inbox in
-    Each-weaker (λ (r : Request). is_waiting history until r ≡ true) (Unserved history) (λ r e. not-true _ (and_parts _ _ e).1)
-    (filter (is_waiting history until) requests) (passes (is_waiting history until) requests)
+    Each-weaker (λ (r : Request). is_queued history until r ≡ true) (Unserved history) (λ r e. not-true _ (and_parts _ _ e).1)
+    (filter (is_queued history until) requests) (passes (is_queued history until) requests)
 
-pub queue-unserved : (channel : ℕ) (rows : List (Option Command)) (inbox : List Message)
-    → Each (Unserved (issued_commands channel rows)) (queue_in channel rows inbox (length rows))
+pub queue-unserved : (channel : ℕ) (steps : List (Option Command)) (inbox : List Message)
+    → Each (Unserved (issued_commands channel steps)) (queue_in channel steps inbox (length steps))
 unfolding queue_in
-queue-unserved channel rows inbox =
-    subst (λ x. Each (Unserved (issued_commands channel x)) (waiting (issued_commands channel (take (length rows) rows)) inbox (length rows + 1)))
-    (take-length rows) (waiting-unserved (issued_commands channel (take (length rows) rows)) inbox (length rows + 1))
+queue-unserved channel steps inbox =
+    subst (λ x. Each (Unserved (issued_commands channel x)) (queued_requests (issued_commands channel (take (length steps) steps)) inbox (length steps + 1)))
+    (take-length steps) (queued_requests-unserved (issued_commands channel (take (length steps) steps)) inbox (length steps + 1))
 
 moves-serves : (r : Request) (command : Command) → moves_data_of (source_of r) command ≡ serves r command
 moves-serves r (Rd bank row column source) = refl
@@ -50,11 +50,11 @@ moves-serves r (Pre bank source) = refl
 moves-serves r (Prea rank) = refl
 moves-serves r (Ref rank) = refl
 
-moved-served : (r : Request) (history : List CommandRow) → list_any (λ i. moves_data_of (source_of r) i.command) history ≡ list_any (λ i. serves r i.command) history
+moved-served : (r : Request) (history : List IssuedCommand) → list_any (λ i. moves_data_of (source_of r) i.command) history ≡ list_any (λ i. serves r i.command) history
 moved-served r [] = refl
 moved-served r (i ∷ history) = ap₂ (λ a b. a || b) (moves-serves r i.command) (moved-served r history)
 
-needed_at-not_late : (history : List CommandRow) (r : Request) → Unserved history r → (row : Option ℕ) → is_late_act history (Some (needed_at row r)) ≡ false
+needed_at-not_late : (history : List IssuedCommand) (r : Request) → Unserved history r → (row : Option ℕ) → is_late_act history (Some (needed_at row r)) ≡ false
 unfolding is_served
 needed_at-not_late history r h None = moved-served r history ∙ h
 needed_at-not_late history r h (Some row) =
@@ -63,12 +63,12 @@ needed_at-not_late history r h (Some row) =
     (λ c. is_late_act history (Some c) ≡ false) (λ f. refl) (λ f. refl))
     (λ e. refl)
 
-needed-not_late : (history : List CommandRow) (o : Option Request) → IfSome o (Unserved history) → is_late_act history (option_map (needed history) o) ≡ false
+needed-not_late : (history : List IssuedCommand) (o : Option Request) → IfSome o (Unserved history) → is_late_act history (option_map (needed history) o) ≡ false
 unfolding needed
 needed-not_late history None h = refl
 needed-not_late history (Some r) h = needed_at-not_late history r h (open_row (bank_in r.place) history)
 
-between-not_late : (s : Config) (history : List CommandRow) (now : ℕ) (requests : List Request) → Each (Unserved history) requests → (due : Option ℕ)
+between-not_late : (s : Config) (history : List IssuedCommand) (now : ℕ) (requests : List Request) → Each (Unserved history) requests → (due : Option ℕ)
     → is_late_act history (choice_between s history now requests due) ≡ false
 unfolding choice_between first_ready if_legal refresh_command
 between-not_late s history now requests h None =
@@ -79,11 +79,11 @@ between-not_late s history now requests h (Some rank) =
     (λ e. refl)
 
 -- what a channel chooses is no ACT for an entry whose data was moved
-pub choice-not_late : (s : Config) (channel : ℕ) (rows : List (Option Command)) (inbox : List Message)
-    → is_late_act (issued_commands channel rows) (choice s channel rows inbox) ≡ false
+pub choice-not_late : (s : Config) (channel : ℕ) (steps : List (Option Command)) (inbox : List Message)
+    → is_late_act (issued_commands channel steps) (choice s channel steps inbox) ≡ false
 unfolding choice
-choice-not_late s channel rows inbox =
-    let history = issued_commands channel rows in
-    between-not_late s history (length rows) _
-    (candidates-each (Unserved history) s (drains s channel rows inbox (length rows)) (queue_in channel rows inbox (length rows)) (queue-unserved channel rows inbox))
-    (lowest_due s history (length rows))
+choice-not_late s channel steps inbox =
+    let history = issued_commands channel steps in
+    between-not_late s history (length steps) _
+    (candidates-each (Unserved history) s (drains s channel steps inbox (length steps)) (queue_in channel steps inbox (length steps)) (queue-unserved channel steps inbox))
+    (lowest_due s history (length steps))

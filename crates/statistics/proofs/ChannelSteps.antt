@@ -13,12 +13,12 @@ use Rattle.sim_base.specs.declared.config.Config.{Config}
 use Rattle.sim_base.specs.Counts.{is_act_for, is_hit_of, is_hit, hits, issued_of_kind, queue_length, queue_lengths, queued, queued_max, idle, has_refresh_due, refreshing, draining}
 use Rattle.sim_base.specs.History.{below, issued_at, issued_commands}
 use Rattle.sim_base.specs.Rules.{is_kind, kind_of}
-use Rattle.sim_base.specs.Scheduling.{waiting, queue_in, writes_in, drains_with, drains_before, drains, lowest_due}
+use Rattle.sim_base.specs.Scheduling.{queued_requests, queue_in, writes_in, drains_with, drains_before, drains, lowest_due}
 use Rattle.sim_base.specs.declared.command.Kind.{Kind}
 use Rattle.sim_base.specs.declared.command.Kind.TheVariants as kind
 use Rattle.sim_base.specs.declared.command.Command.{Command}
 use Rattle.sim_base.specs.declared.command.Command.TheVariants.{Act, Rd, Wr, Pre, Prea, Ref}
-use Rattle.sim_base.specs.declared.command.CommandRow.{CommandRow}
+use Rattle.sim_base.specs.declared.command.IssuedCommand.{IssuedCommand}
 use Rattle.sim_base.specs.declared.command.Source.{Source}
 use Rattle.sim_base.specs.declared.message.Message.{Message}
 use Rattle.sim_base.specs.declared.place.BankId.{BankId}
@@ -34,102 +34,102 @@ enumerate_from-push n (y ∷ ys) x =
     ap (λ l. (n, y) ∷ l) (enumerate_from-push (n + 1) ys x ∙ ap (λ k. enumerate_from (n + 1) ys ++ (k, x) ∷ []) e)
 
 -- the command of one cycle as a list
-abbrev pub issued_now : ℕ → ℕ → Option Command → List CommandRow
+abbrev pub issued_now : ℕ → ℕ → Option Command → List IssuedCommand
 issued_now channel cycle o = cons_option (issued_at channel cycle o) []
 
-pub issued_commands-push : (channel : ℕ) (rows : List (Option Command)) (o : Option Command)
-    → issued_commands channel (rows ++ o ∷ []) ≡ issued_commands channel rows ++ issued_now channel (length rows) o
+pub issued_commands-push : (channel : ℕ) (steps : List (Option Command)) (o : Option Command)
+    → issued_commands channel (steps ++ o ∷ []) ≡ issued_commands channel steps ++ issued_now channel (length steps) o
 unfolding issued_commands
-issued_commands-push channel rows o =
+issued_commands-push channel steps o =
     let at = λ (e : ℕ × Option Command). issued_at channel e.0 e.1 in
-    ap (filter_map at) (enumerate_from-push 0 rows o)
-    ∙ filter_map-append at (enumerate_from 0 rows) ((0 + length rows, o) ∷ [])
-    ∙ ap (λ n. filter_map at (enumerate_from 0 rows) ++ issued_now channel n o) (zero-add (length rows))
+    ap (filter_map at) (enumerate_from-push 0 steps o)
+    ∙ filter_map-append at (enumerate_from 0 steps) ((0 + length steps, o) ∷ [])
+    ∙ ap (λ n. filter_map at (enumerate_from 0 steps) ++ issued_now channel n o) (zero-add (length steps))
 
-pub issued_of_kind-push : (kind : Kind) (channel : ℕ) (rows : List (Option Command)) (o : Option Command)
-    → issued_of_kind kind (issued_commands channel (rows ++ o ∷ [])) ≡ issued_of_kind kind (issued_commands channel rows) + one_if (issues kind o)
+pub issued_of_kind-push : (kind : Kind) (channel : ℕ) (steps : List (Option Command)) (o : Option Command)
+    → issued_of_kind kind (issued_commands channel (steps ++ o ∷ [])) ≡ issued_of_kind kind (issued_commands channel steps) + one_if (issues kind o)
 unfolding issued_of_kind
-issued_of_kind-push kind channel rows o =
-    let p = λ (i : CommandRow). is_kind (kind_of i.command) kind in
-    ap (count_by p) (issued_commands-push channel rows o) ∙ by o
+issued_of_kind-push kind channel steps o =
+    let p = λ (i : IssuedCommand). is_kind (kind_of i.command) kind in
+    ap (count_by p) (issued_commands-push channel steps o) ∙ by o
   where
-    by : (o : Option Command) → count_by (λ (i : CommandRow). is_kind (kind_of i.command) kind) (issued_commands channel rows ++ issued_now channel (length rows) o)
-        ≡ count_by (λ (i : CommandRow). is_kind (kind_of i.command) kind) (issued_commands channel rows) + one_if (issues kind o)
-    by None = ap (count_by (λ (i : CommandRow). is_kind (kind_of i.command) kind)) (append-nil (issued_commands channel rows)) ∙ sym (add-zero _)
-    by (Some command) = sum_by_push (λ (i : CommandRow). one_if (is_kind (kind_of i.command) kind)) (issued_commands channel rows) _
+    by : (o : Option Command) → count_by (λ (i : IssuedCommand). is_kind (kind_of i.command) kind) (issued_commands channel steps ++ issued_now channel (length steps) o)
+        ≡ count_by (λ (i : IssuedCommand). is_kind (kind_of i.command) kind) (issued_commands channel steps) + one_if (issues kind o)
+    by None = ap (count_by (λ (i : IssuedCommand). is_kind (kind_of i.command) kind)) (append-nil (issued_commands channel steps)) ∙ sym (add-zero _)
+    by (Some command) = sum_by_push (λ (i : IssuedCommand). one_if (is_kind (kind_of i.command) kind)) (issued_commands channel steps) _
 
-queue_in-push : (channel : ℕ) (rows : List (Option Command)) (o : Option Command) (inbox : List Message) (cycle : ℕ) → cycle ≤ length rows
-    → queue_in channel (rows ++ o ∷ []) inbox cycle ≡ queue_in channel rows inbox cycle
+queue_in-push : (channel : ℕ) (steps : List (Option Command)) (o : Option Command) (inbox : List Message) (cycle : ℕ) → cycle ≤ length steps
+    → queue_in channel (steps ++ o ∷ []) inbox cycle ≡ queue_in channel steps inbox cycle
 unfolding queue_in
-queue_in-push channel rows o inbox cycle l = ap (λ x. waiting (issued_commands channel x) inbox (cycle + 1)) (take-push rows o cycle l)
+queue_in-push channel steps o inbox cycle l = ap (λ x. queued_requests (issued_commands channel x) inbox (cycle + 1)) (take-push steps o cycle l)
 
-queue_length-push : (channel : ℕ) (rows : List (Option Command)) (o : Option Command) (inbox : List Message) (cycle : ℕ) → cycle ≤ length rows
-    → queue_length channel (rows ++ o ∷ []) inbox cycle ≡ queue_length channel rows inbox cycle
+queue_length-push : (channel : ℕ) (steps : List (Option Command)) (o : Option Command) (inbox : List Message) (cycle : ℕ) → cycle ≤ length steps
+    → queue_length channel (steps ++ o ∷ []) inbox cycle ≡ queue_length channel steps inbox cycle
 unfolding queue_length
-queue_length-push channel rows o inbox cycle l = ap length (queue_in-push channel rows o inbox cycle l)
+queue_length-push channel steps o inbox cycle l = ap length (queue_in-push channel steps o inbox cycle l)
 
-pub queue_lengths-push : (channel : ℕ) (rows : List (Option Command)) (o : Option Command) (inbox : List Message)
-    → queue_lengths channel (rows ++ o ∷ []) inbox ≡ queue_lengths channel rows inbox ++ queue_length channel rows inbox (length rows) ∷ []
+pub queue_lengths-push : (channel : ℕ) (steps : List (Option Command)) (o : Option Command) (inbox : List Message)
+    → queue_lengths channel (steps ++ o ∷ []) inbox ≡ queue_lengths channel steps inbox ++ queue_length channel steps inbox (length steps) ∷ []
 unfolding queue_lengths
-queue_lengths-push channel rows o inbox =
-    let after = queue_length channel (rows ++ o ∷ []) inbox in
-    ap (λ n. map after (below n)) (length-push_suc rows o)
-    ∙ map_below_more after (length rows)
+queue_lengths-push channel steps o inbox =
+    let after = queue_length channel (steps ++ o ∷ []) inbox in
+    ap (λ n. map after (below n)) (length-push_suc steps o)
+    ∙ map_below_more after (length steps)
     ∙ ap₂ (λ xs x. xs ++ x ∷ [])
-    (map_below_same after (queue_length channel rows inbox) (length rows) (λ k l. queue_length-push channel rows o inbox k (omega arith)))
-    (queue_length-push channel rows o inbox (length rows) (omega arith))
+    (map_below_same after (queue_length channel steps inbox) (length steps) (λ k l. queue_length-push channel steps o inbox k (omega arith)))
+    (queue_length-push channel steps o inbox (length steps) (omega arith))
 
-pub queued-push : (channel : ℕ) (rows : List (Option Command)) (o : Option Command) (inbox : List Message)
-    → queued channel (rows ++ o ∷ []) inbox ≡ queued channel rows inbox + queue_length channel rows inbox (length rows)
+pub queued-push : (channel : ℕ) (steps : List (Option Command)) (o : Option Command) (inbox : List Message)
+    → queued channel (steps ++ o ∷ []) inbox ≡ queued channel steps inbox + queue_length channel steps inbox (length steps)
 unfolding queued
-queued-push channel rows o inbox = ap sum (queue_lengths-push channel rows o inbox) ∙ sum_push (queue_lengths channel rows inbox) _
+queued-push channel steps o inbox = ap sum (queue_lengths-push channel steps o inbox) ∙ sum_push (queue_lengths channel steps inbox) _
 
-pub queued_max-push : (channel : ℕ) (rows : List (Option Command)) (o : Option Command) (inbox : List Message)
-    → queued_max channel (rows ++ o ∷ []) inbox ≡ max (queued_max channel rows inbox) (queue_length channel rows inbox (length rows))
+pub queued_max-push : (channel : ℕ) (steps : List (Option Command)) (o : Option Command) (inbox : List Message)
+    → queued_max channel (steps ++ o ∷ []) inbox ≡ max (queued_max channel steps inbox) (queue_length channel steps inbox (length steps))
 unfolding queued_max
-queued_max-push channel rows o inbox = ap (fold max 0) (queue_lengths-push channel rows o inbox) ∙ fold_push max 0 (queue_lengths channel rows inbox) _
+queued_max-push channel steps o inbox = ap (fold max 0) (queue_lengths-push channel steps o inbox) ∙ fold_push max 0 (queue_lengths channel steps inbox) _
 
-pub idle-push : (channel : ℕ) (rows : List (Option Command)) (o : Option Command) (inbox : List Message)
-    → idle channel (rows ++ o ∷ []) inbox ≡ idle channel rows inbox + one_if (eqb (queue_length channel rows inbox (length rows)) 0)
+pub idle-push : (channel : ℕ) (steps : List (Option Command)) (o : Option Command) (inbox : List Message)
+    → idle channel (steps ++ o ∷ []) inbox ≡ idle channel steps inbox + one_if (eqb (queue_length channel steps inbox (length steps)) 0)
 unfolding idle
-idle-push channel rows o inbox =
-    ap (count_by (λ n. eqb n 0)) (queue_lengths-push channel rows o inbox) ∙ sum_by_push (λ n. one_if (eqb n 0)) (queue_lengths channel rows inbox) _
+idle-push channel steps o inbox =
+    ap (count_by (λ n. eqb n 0)) (queue_lengths-push channel steps o inbox) ∙ sum_by_push (λ n. one_if (eqb n 0)) (queue_lengths channel steps inbox) _
 
-has_refresh_due-push : (s : Config) (channel : ℕ) (rows : List (Option Command)) (o : Option Command) (cycle : ℕ) → cycle ≤ length rows
-    → has_refresh_due s channel (rows ++ o ∷ []) cycle ≡ has_refresh_due s channel rows cycle
+has_refresh_due-push : (s : Config) (channel : ℕ) (steps : List (Option Command)) (o : Option Command) (cycle : ℕ) → cycle ≤ length steps
+    → has_refresh_due s channel (steps ++ o ∷ []) cycle ≡ has_refresh_due s channel steps cycle
 unfolding has_refresh_due
-has_refresh_due-push s channel rows o cycle l = ap (λ x. is_some (lowest_due s (issued_commands channel x) cycle)) (take-push rows o cycle l)
+has_refresh_due-push s channel steps o cycle l = ap (λ x. is_some (lowest_due s (issued_commands channel x) cycle)) (take-push steps o cycle l)
 
-pub refreshing-push : (s : Config) (channel : ℕ) (rows : List (Option Command)) (o : Option Command)
-    → refreshing s channel (rows ++ o ∷ []) ≡ refreshing s channel rows + one_if (has_refresh_due s channel rows (length rows))
+pub refreshing-push : (s : Config) (channel : ℕ) (steps : List (Option Command)) (o : Option Command)
+    → refreshing s channel (steps ++ o ∷ []) ≡ refreshing s channel steps + one_if (has_refresh_due s channel steps (length steps))
 unfolding refreshing
-refreshing-push s channel rows o =
-    let after = has_refresh_due s channel (rows ++ o ∷ []) in
-    ap (λ n. count_by after (below n)) (length-push_suc rows o)
-    ∙ count_below_more after (length rows)
+refreshing-push s channel steps o =
+    let after = has_refresh_due s channel (steps ++ o ∷ []) in
+    ap (λ n. count_by after (below n)) (length-push_suc steps o)
+    ∙ count_below_more after (length steps)
     ∙ ap₂ (λ a b. a + one_if b)
-    (count_below_same after (has_refresh_due s channel rows) (length rows) (λ k l. has_refresh_due-push s channel rows o k (omega arith)))
-    (has_refresh_due-push s channel rows o (length rows) (omega arith))
+    (count_below_same after (has_refresh_due s channel steps) (length steps) (λ k l. has_refresh_due-push s channel steps o k (omega arith)))
+    (has_refresh_due-push s channel steps o (length steps) (omega arith))
 
-drains_before-push : (s : Config) (channel : ℕ) (rows : List (Option Command)) (o : Option Command) (inbox : List Message) (n : ℕ) → n ≤ suc (length rows)
-    → drains_before s channel (rows ++ o ∷ []) inbox n ≡ drains_before s channel rows inbox n
+drains_before-push : (s : Config) (channel : ℕ) (steps : List (Option Command)) (o : Option Command) (inbox : List Message) (n : ℕ) → n ≤ suc (length steps)
+    → drains_before s channel (steps ++ o ∷ []) inbox n ≡ drains_before s channel steps inbox n
 unfolding drains_before writes_in
-drains_before-push s channel rows o inbox zero l = refl
-drains_before-push s channel rows o inbox (suc n) l =
+drains_before-push s channel steps o inbox zero l = refl
+drains_before-push s channel steps o inbox (suc n) l =
     ap₂ (λ d q. drains_with s d (count_by (λ r. r.write) q))
-    (drains_before-push s channel rows o inbox n (omega arith))
-    (queue_in-push channel rows o inbox n (omega arith))
+    (drains_before-push s channel steps o inbox n (omega arith))
+    (queue_in-push channel steps o inbox n (omega arith))
 
-pub draining-push : (s : Config) (channel : ℕ) (rows : List (Option Command)) (o : Option Command) (inbox : List Message)
-    → draining s channel (rows ++ o ∷ []) inbox ≡ draining s channel rows inbox + one_if (drains s channel rows inbox (length rows))
+pub draining-push : (s : Config) (channel : ℕ) (steps : List (Option Command)) (o : Option Command) (inbox : List Message)
+    → draining s channel (steps ++ o ∷ []) inbox ≡ draining s channel steps inbox + one_if (drains s channel steps inbox (length steps))
 unfolding draining
-draining-push s channel rows o inbox =
-    let after = drains s channel (rows ++ o ∷ []) inbox in
-    ap (λ n. count_by after (below n)) (length-push_suc rows o)
-    ∙ count_below_more after (length rows)
+draining-push s channel steps o inbox =
+    let after = drains s channel (steps ++ o ∷ []) inbox in
+    ap (λ n. count_by after (below n)) (length-push_suc steps o)
+    ∙ count_below_more after (length steps)
     ∙ ap₂ (λ a b. a + one_if b)
-    (count_below_same after (drains s channel rows inbox) (length rows) (λ k l. drains_before-push s channel rows o inbox (k + 1) (omega arith)))
-    (drains_before-push s channel rows o inbox (length rows + 1) (omega arith))
+    (count_below_same after (drains s channel steps inbox) (length steps) (λ k l. drains_before-push s channel steps o inbox (k + 1) (omega arith)))
+    (drains_before-push s channel steps o inbox (length steps + 1) (omega arith))
 
 -- a command is an ACT for the entry whose data another moves
 abbrev opens_for : Command → Command → Bool
@@ -144,14 +144,14 @@ or-false : (x : Bool) → (x || false) ≡ x
 or-false true = refl
 or-false false = refl
 
-no_act_added : (history : List CommandRow) (i : CommandRow) (source : Source) → is_act_for source i.command ≡ false
+no_act_added : (history : List IssuedCommand) (i : IssuedCommand) (source : Source) → is_act_for source i.command ≡ false
     → is_hit_of (history ++ i ∷ []) (Some source) ≡ is_hit_of history (Some source)
 no_act_added history i source e =
-    let p = λ (j : CommandRow). is_act_for source j.command in
+    let p = λ (j : IssuedCommand). is_act_for source j.command in
     ap not (list_any-append p history (i ∷ []) ∙ ap (λ b. list_any p history || (b || false)) e ∙ or-false (list_any p history))
 
 -- one command more leaves a hit a hit, if it is no ACT for its entry
-is_hit-push : (history : List CommandRow) (i : CommandRow) (command : Command) → opens_for i.command command ≡ false → is_hit (history ++ i ∷ []) command ≡ is_hit history command
+is_hit-push : (history : List IssuedCommand) (i : IssuedCommand) (command : Command) → opens_for i.command command ≡ false → is_hit (history ++ i ∷ []) command ≡ is_hit history command
 is_hit-push history i (Rd bank row column source) e = no_act_added history i source e
 is_hit-push history i (Wr bank row column source) e = no_act_added history i source e
 is_hit-push history i (Act bank row source) e = refl
@@ -186,15 +186,15 @@ opens_for-act bank row source (Pre b x) h = refl
 opens_for-act bank row source (Prea rank) h = refl
 opens_for-act bank row source (Ref rank) h = refl
 
-acts_for_none : (bank : BankId) (row : ℕ) (source : Source) (history : List CommandRow) → list_any (λ i. moves_data_of source i.command) history ≡ false
-    → Each (λ (i : CommandRow). opens_for (Act bank row source) i.command ≡ false) history
+acts_for_none : (bank : BankId) (row : ℕ) (source : Source) (history : List IssuedCommand) → list_any (λ i. moves_data_of source i.command) history ≡ false
+    → Each (λ (i : IssuedCommand). opens_for (Act bank row source) i.command ≡ false) history
 acts_for_none bank row source [] h = tt
 acts_for_none bank row source (i ∷ history) h =
     let parts = or_parts (moves_data_of source i.command) (list_any (λ i. moves_data_of source i.command) history) h in
     (opens_for-act bank row source i.command parts.0, acts_for_none bank row source history parts.1)
 
-not_late : (history : List CommandRow) (command : Command) → is_late_act history (Some command) ≡ false
-    → Each (λ (i : CommandRow). opens_for command i.command ≡ false) history
+not_late : (history : List IssuedCommand) (command : Command) → is_late_act history (Some command) ≡ false
+    → Each (λ (i : IssuedCommand). opens_for command i.command ≡ false) history
 not_late history (Act bank row source) h = acts_for_none bank row source history h
 not_late history (Rd bank row column source) h = Each-all _ (λ i. opens_none (Rd bank row column source) (λ x. refl) i.command) history
 not_late history (Wr bank row column source) h = Each-all _ (λ i. opens_none (Wr bank row column source) (λ x. refl) i.command) history
@@ -202,7 +202,7 @@ not_late history (Pre bank source) h = Each-all _ (λ i. opens_none (Pre bank so
 not_late history (Prea rank) h = Each-all _ (λ i. opens_none (Prea rank) (λ x. refl) i.command) history
 not_late history (Ref rank) h = Each-all _ (λ i. opens_none (Ref rank) (λ x. refl) i.command) history
 
-hits_among : (history : List CommandRow) (i : CommandRow) (some : List CommandRow) → Each (λ (j : CommandRow). opens_for i.command j.command ≡ false) some
+hits_among : (history : List IssuedCommand) (i : IssuedCommand) (some : List IssuedCommand) → Each (λ (j : IssuedCommand). opens_for i.command j.command ≡ false) some
     → count_by (λ j. is_hit (history ++ i ∷ []) j.command) some ≡ count_by (λ j. is_hit history j.command) some
 hits_among history i [] h = refl
 hits_among history i (j ∷ some) h =
@@ -211,21 +211,21 @@ hits_among history i (j ∷ some) h =
     ∙ sym (sum_by-cons (λ x. one_if (is_hit history x.command)) j some)
 
 -- one command more, which is no ACT for an entry whose data was moved
-pub hits-one_more : (history : List CommandRow) (i : CommandRow) → is_late_act history (Some i.command) ≡ false
+pub hits-one_more : (history : List IssuedCommand) (i : IssuedCommand) → is_late_act history (Some i.command) ≡ false
     → hits (history ++ i ∷ []) ≡ hits history + one_if (is_hit history i.command)
 unfolding hits
 hits-one_more history i h =
     sum_by_push (λ j. one_if (is_hit (history ++ i ∷ []) j.command)) history i
     ∙ ap₂ (λ n b. n + one_if b) (hits_among history i history (not_late history i.command h)) (is_hit-push history i i.command (opens_for-itself i.command))
 
-pub hits-push : (channel : ℕ) (rows : List (Option Command)) (o : Option Command) → is_late_act (issued_commands channel rows) o ≡ false
-    → hits (issued_commands channel (rows ++ o ∷ [])) ≡ hits (issued_commands channel rows) + one_if (moves_hit (issued_commands channel rows) o)
-hits-push channel rows o h = ap hits (issued_commands-push channel rows o) ∙ by o h
+pub hits-push : (channel : ℕ) (steps : List (Option Command)) (o : Option Command) → is_late_act (issued_commands channel steps) o ≡ false
+    → hits (issued_commands channel (steps ++ o ∷ [])) ≡ hits (issued_commands channel steps) + one_if (moves_hit (issued_commands channel steps) o)
+hits-push channel steps o h = ap hits (issued_commands-push channel steps o) ∙ by o h
   where
-    by : (o : Option Command) → is_late_act (issued_commands channel rows) o ≡ false
-        → hits (issued_commands channel rows ++ issued_now channel (length rows) o) ≡ hits (issued_commands channel rows) + one_if (moves_hit (issued_commands channel rows) o)
-    by None k = ap hits (append-nil (issued_commands channel rows)) ∙ sym (add-zero _)
-    by (Some command) k = hits-one_more (issued_commands channel rows) (record { cycle = length rows; channel = channel; command = command }) k
+    by : (o : Option Command) → is_late_act (issued_commands channel steps) o ≡ false
+        → hits (issued_commands channel steps ++ issued_now channel (length steps) o) ≡ hits (issued_commands channel steps) + one_if (moves_hit (issued_commands channel steps) o)
+    by None k = ap hits (append-nil (issued_commands channel steps)) ∙ sym (add-zero _)
+    by (Some command) k = hits-one_more (issued_commands channel steps) (record { cycle = length steps; channel = channel; command = command }) k
 
 draining_of-sum : (s : Config) (a b : ℕ) → draining_of s (a + b) ≡ sum_of_counts (draining_of s a) (draining_of s b)
 draining_of-sum s a b = by (ltb 0 s.write_high)
@@ -235,21 +235,21 @@ draining_of-sum s a b = by (ltb 0 s.write_high)
     by false = refl
 
 -- the statistics with one cycle more are joined with those of the cycle
-pub channel_stats-push : (s : Config) (channel : ℕ) (rows : List (Option Command)) (o : Option Command) (inbox : List Message)
-    → is_late_act (issued_commands channel rows) o ≡ false
-    → channel_stats s channel (rows ++ o ∷ []) inbox ≡ channel_joined (channel_stats s channel rows inbox) (channel_cycle s channel rows inbox o)
+pub channel_stats-push : (s : Config) (channel : ℕ) (steps : List (Option Command)) (o : Option Command) (inbox : List Message)
+    → is_late_act (issued_commands channel steps) o ≡ false
+    → channel_stats s channel (steps ++ o ∷ []) inbox ≡ channel_joined (channel_stats s channel steps inbox) (channel_cycle s channel steps inbox o)
 unfolding channel_stats channel_cycle channel_cycle_with
-channel_stats-push s channel rows o inbox h =
-    let e0 = issued_of_kind-push kind.Act channel rows o in
-    let e1 = issued_of_kind-push kind.Rd channel rows o in
-    let e2 = issued_of_kind-push kind.Wr channel rows o in
-    let e3 = issued_of_kind-push kind.Pre channel rows o in
-    let e4 = issued_of_kind-push kind.Prea channel rows o in
-    let e5 = issued_of_kind-push kind.Ref channel rows o in
-    let e6 = hits-push channel rows o h in
-    let e7 = queued-push channel rows o inbox in
-    let e8 = queued_max-push channel rows o inbox in
-    let e9 = idle-push channel rows o inbox in
-    let e10 = refreshing-push s channel rows o in
-    let e11 = ap (draining_of s) (draining-push s channel rows o inbox) ∙ draining_of-sum s _ _ in
+channel_stats-push s channel steps o inbox h =
+    let e0 = issued_of_kind-push kind.Act channel steps o in
+    let e1 = issued_of_kind-push kind.Rd channel steps o in
+    let e2 = issued_of_kind-push kind.Wr channel steps o in
+    let e3 = issued_of_kind-push kind.Pre channel steps o in
+    let e4 = issued_of_kind-push kind.Prea channel steps o in
+    let e5 = issued_of_kind-push kind.Ref channel steps o in
+    let e6 = hits-push channel steps o h in
+    let e7 = queued-push channel steps o inbox in
+    let e8 = queued_max-push channel steps o inbox in
+    let e9 = idle-push channel steps o inbox in
+    let e10 = refreshing-push s channel steps o in
+    let e11 = ap (draining_of s) (draining-push s channel steps o inbox) ∙ draining_of-sum s _ _ in
     cc

@@ -45,32 +45,32 @@ channel_joined-none a = simp (add-zero, sum_of_counts-none, greater_of_none)
 pub channel_joined-from_none : (a : ChannelStats) → channel_joined channel_none a ≡ a
 channel_joined-from_none a = simp (zero-add, greater_from_none)
 
--- fewer rows
-pub ActsComeFirst-before : (channel : ℕ) (rows more : List (Option Command)) → ActsComeFirst channel (rows ++ more) → ActsComeFirst channel rows
-ActsComeFirst-before channel rows more h cycle l =
-    let len : length (rows ++ more) ≡ length rows + length more = length-append rows more in
-    sym (ap₂ (λ x o. is_late_act (issued_commands channel x) o) (take-append-le cycle rows more (omega arith)) (get_or-append rows more None cycle l))
+-- fewer steps
+pub ActsComeFirst-before : (channel : ℕ) (steps more : List (Option Command)) → ActsComeFirst channel (steps ++ more) → ActsComeFirst channel steps
+ActsComeFirst-before channel steps more h cycle l =
+    let len : length (steps ++ more) ≡ length steps + length more = length-append steps more in
+    sym (ap₂ (λ x o. is_late_act (issued_commands channel x) o) (take-append-le cycle steps more (omega arith)) (get_or-append steps more None cycle l))
     ∙ h cycle (omega arith)
 
 -- the command of the next row
-ActsComeFirst-next : (channel : ℕ) (rows : List (Option Command)) (o : Option Command) → ActsComeFirst channel (rows ++ o ∷ []) → is_late_act (issued_commands channel rows) o ≡ false
-ActsComeFirst-next channel rows o h =
-    let len : length (rows ++ o ∷ []) ≡ suc (length rows) = length-push_suc rows o in
-    sym (ap₂ (λ x c. is_late_act (issued_commands channel x) c) (take-append_seam rows (o ∷ [])) (get_or-append_seam rows o [] None))
-    ∙ h (length rows) (omega arith)
+ActsComeFirst-next : (channel : ℕ) (steps : List (Option Command)) (o : Option Command) → ActsComeFirst channel (steps ++ o ∷ []) → is_late_act (issued_commands channel steps) o ≡ false
+ActsComeFirst-next channel steps o h =
+    let len : length (steps ++ o ∷ []) ≡ suc (length steps) = length-push_suc steps o in
+    sym (ap₂ (λ x c. is_late_act (issued_commands channel x) c) (take-append_seam steps (o ∷ [])) (get_or-append_seam steps o [] None))
+    ∙ h (length steps) (omega arith)
 
--- the statistics of rows and of more rows after them
-pub channel_stats-append : (s : Config) (channel : ℕ) (rows : List (Option Command)) (inbox : List Message) (more : List (Option Command))
-    → ActsComeFirst channel (rows ++ more)
-    → channel_stats s channel (rows ++ more) inbox ≡ channel_joined (channel_stats s channel rows inbox) (channel_stretch s channel rows inbox more)
+-- the statistics of steps and of more steps after them
+pub channel_stats-append : (s : Config) (channel : ℕ) (steps : List (Option Command)) (inbox : List Message) (more : List (Option Command))
+    → ActsComeFirst channel (steps ++ more)
+    → channel_stats s channel (steps ++ more) inbox ≡ channel_joined (channel_stats s channel steps inbox) (channel_stretch s channel steps inbox more)
 unfolding channel_stretch
-channel_stats-append s channel rows inbox [] h =
-    ap (λ x. channel_stats s channel x inbox) (append-nil rows) ∙ sym (channel_joined-none (channel_stats s channel rows inbox))
-channel_stats-append s channel rows inbox (o ∷ more) h =
-    let e : (rows ++ o ∷ []) ++ more ≡ rows ++ o ∷ more = append_assoc rows (o ∷ []) more in
-    let k : ActsComeFirst channel ((rows ++ o ∷ []) ++ more) = subst (ActsComeFirst channel) (sym e) h in
+channel_stats-append s channel steps inbox [] h =
+    ap (λ x. channel_stats s channel x inbox) (append-nil steps) ∙ sym (channel_joined-none (channel_stats s channel steps inbox))
+channel_stats-append s channel steps inbox (o ∷ more) h =
+    let e : (steps ++ o ∷ []) ++ more ≡ steps ++ o ∷ more = append_assoc steps (o ∷ []) more in
+    let k : ActsComeFirst channel ((steps ++ o ∷ []) ++ more) = subst (ActsComeFirst channel) (sym e) h in
     ap (λ x. channel_stats s channel x inbox) (sym e)
-    ∙ channel_stats-append s channel (rows ++ o ∷ []) inbox more k
-    ∙ ap (λ x. channel_joined x (channel_stretch s channel (rows ++ o ∷ []) inbox more))
-    (channel_stats-push s channel rows o inbox (ActsComeFirst-next channel rows o (ActsComeFirst-before channel (rows ++ o ∷ []) more k)))
-    ∙ channel_joined-assoc (channel_stats s channel rows inbox) (channel_cycle s channel rows inbox o) _
+    ∙ channel_stats-append s channel (steps ++ o ∷ []) inbox more k
+    ∙ ap (λ x. channel_joined x (channel_stretch s channel (steps ++ o ∷ []) inbox more))
+    (channel_stats-push s channel steps o inbox (ActsComeFirst-next channel steps o (ActsComeFirst-before channel (steps ++ o ∷ []) more k)))
+    ∙ channel_joined-assoc (channel_stats s channel steps inbox) (channel_cycle s channel steps inbox o) _

@@ -11,10 +11,10 @@ use Rattle.std.proofs.lemmas.List.Sums.{sum_by-cons, count_by-le-length, prefix_
 use Rattle.std.proofs.lemmas.Nat.{mul-le}
 use Rattle.sim_base.specs.declared.config.Config.{Config}
 use Rattle.sim_base.specs.Counts.{is_read, is_write, reads, writes, replied_entry, is_reply, is_reply_before, replies, wait_of, read_latency, stop_in, stops, is_stop, stopped_by}
-use Rattle.sim_base.specs.History.{below, trace_of, core_rows, retired_before, issued_before, core_messages, inbox}
+use Rattle.sim_base.specs.History.{below, trace_of, steps_of_core, retired_before, issued_before, core_messages, inbox}
 use Rattle.sim_base.specs.Machine.{run, core_run}
 use Rattle.sim_base.specs.Windows.{done_from, is_done, retires, stop_after, has_cause, first_stop, step}
-use Rattle.sim_base.specs.declared.history.CoreRow.{CoreRow}
+use Rattle.sim_base.specs.declared.history.CoreStep.{CoreStep}
 use Rattle.sim_base.specs.declared.message.Message.{Message}
 use Rattle.sim_base.specs.declared.message.Unit.TheVariants.{Core}
 use Rattle.sim_base.specs.declared.trace.Entry.{Entry}
@@ -23,65 +23,65 @@ use Rattle.sim_base.specs.declared.trace.Stop.TheVariants as stop
 use Rattle.statistics.specs.Cores.{core_stats, CoreFits}
 use Rattle.statistics.proofs.CoreSteps.{issued_before-push, retired_before-push}
 use Rattle.statistics.proofs.Lists.{find_below_more}
-use Rattle.statistics.proofs.RunSteps.{core_rows-next}
+use Rattle.statistics.proofs.RunSteps.{steps_of_core-next}
 
 count-take-le : (p : Entry → Bool) (n : ℕ) (trace : List Entry) → count_by p (take n trace) ≤ n
 count-take-le p n trace = omega (arith, count_by-le-length p (take n trace), length-take n trace)
 
-wait_of-le : (rows : List CoreRow) (arrival : ℕ) (o : Option ℕ) → wait_of rows arrival o ≤ arrival
-wait_of-le rows arrival None = omega arith
-wait_of-le rows arrival (Some entry) = omega arith
+wait_of-le : (steps : List CoreStep) (arrival : ℕ) (o : Option ℕ) → wait_of steps arrival o ≤ arrival
+wait_of-le steps arrival None = omega arith
+wait_of-le steps arrival (Some entry) = omega arith
 
-waits-le : (rows : List CoreRow) (cycles : ℕ) (ms : List Message)
-    → sum_by (λ m. wait_of rows m.arrival (replied_entry m.load)) (filter (is_reply_before cycles) ms) ≤ length (filter (is_reply_before cycles) ms) * cycles
-waits-le rows cycles [] = omega arith
-waits-le rows cycles (m ∷ ms) =
+waits-le : (steps : List CoreStep) (cycles : ℕ) (ms : List Message)
+    → sum_by (λ m. wait_of steps m.arrival (replied_entry m.load)) (filter (is_reply_before cycles) ms) ≤ length (filter (is_reply_before cycles) ms) * cycles
+waits-le steps cycles [] = omega arith
+waits-le steps cycles (m ∷ ms) =
     let kept = filter (is_reply_before cycles) ms in
-    let wait = λ (x : Message). wait_of rows x.arrival (replied_entry x.load) in
+    let wait = λ (x : Message). wait_of steps x.arrival (replied_entry x.load) in
     cond_both (is_reply_before cycles m) (m ∷ kept) kept (λ x. sum_by wait x ≤ length x * cycles)
     (λ e.
     let l : m.arrival < cycles = ltb-true m.arrival cycles (and_parts (is_reply m) (ltb m.arrival cycles) e).1 in
-    let rest : sum_by wait kept ≤ length kept * cycles = waits-le rows cycles ms in
+    let rest : sum_by wait kept ≤ length kept * cycles = waits-le steps cycles ms in
     let one : suc (length kept) * cycles ≡ length kept * cycles + cycles = grind arith in
-    omega (arith, sum_by-cons wait m kept, wait_of-le rows m.arrival (replied_entry m.load)))
-    (λ e. waits-le rows cycles ms)
+    omega (arith, sum_by-cons wait m kept, wait_of-le steps m.arrival (replied_entry m.load)))
+    (λ e. waits-le steps cycles ms)
 
-pub read_latency-le : (rows : List CoreRow) (inbox : List Message) → read_latency rows inbox ≤ length (replies rows inbox) * length rows
+pub read_latency-le : (steps : List CoreStep) (inbox : List Message) → read_latency steps inbox ≤ length (replies steps inbox) * length steps
 unfolding read_latency replies
-read_latency-le rows inbox = waits-le rows (length rows) inbox
+read_latency-le steps inbox = waits-le steps (length steps) inbox
 
-pub stopped_by-le : (s : Config) (core : ℕ) (trace : List Entry) (rows : List CoreRow) (inbox : List Message) (why : Stop) → stopped_by s core trace rows inbox why ≤ length rows
+pub stopped_by-le : (s : Config) (core : ℕ) (trace : List Entry) (steps : List CoreStep) (inbox : List Message) (why : Stop) → stopped_by s core trace steps inbox why ≤ length steps
 unfolding stopped_by stops
-stopped_by-le s core trace rows inbox why =
-    omega (arith, count_by-le-length (is_stop why) (stops s core trace rows inbox), length-map (below (length rows)) (stop_in s core trace rows inbox), length-range_with_len 0 (length rows))
+stopped_by-le s core trace steps inbox why =
+    omega (arith, count_by-le-length (is_stop why) (stops s core trace steps inbox), length-map (below (length steps)) (stop_in s core trace steps inbox), length-range_with_len 0 (length steps))
 
 -- the counts of a run fit, since a cycle and the length of a trace do
-pub core_stats-fit : (s : Config) (core : ℕ) (trace : List Entry) (rows : List CoreRow) (inbox : List Message) → length rows ≤ 2 ^ 62 → issued_before rows ≤ 2 ^ 62
-    → retired_before rows ≤ 2 ^ 62 → length (replies rows inbox) ≤ 2 ^ 62 → CoreFits (core_stats s core trace rows inbox)
+pub core_stats-fit : (s : Config) (core : ℕ) (trace : List Entry) (steps : List CoreStep) (inbox : List Message) → length steps ≤ 2 ^ 62 → issued_before steps ≤ 2 ^ 62
+    → retired_before steps ≤ 2 ^ 62 → length (replies steps inbox) ≤ 2 ^ 62 → CoreFits (core_stats s core trace steps inbox)
 unfolding core_stats reads writes
-core_stats-fit s core trace rows inbox cycles issued retired replied =
-    let most : length (replies rows inbox) * length rows ≤ 2 ^ 62 * 2 ^ 62 = mul-le _ _ (2 ^ 62) (2 ^ 62) replied cycles in
+core_stats-fit s core trace steps inbox cycles issued retired replied =
+    let most : length (replies steps inbox) * length steps ≤ 2 ^ 62 * 2 ^ 62 = mul-le _ _ (2 ^ 62) (2 ^ 62) replied cycles in
     record {
       issued = omega arith;
       retired = omega arith;
-      reads = omega (arith, count-take-le is_read (issued_before rows) trace);
-      writes = omega (arith, count-take-le is_write (issued_before rows) trace);
+      reads = omega (arith, count-take-le is_read (issued_before steps) trace);
+      writes = omega (arith, count-take-le is_write (issued_before steps) trace);
       replies = omega arith;
-      read_latency = omega (arith, read_latency-le rows inbox);
-      stop_end = omega (arith, stopped_by-le s core trace rows inbox stop.End);
-      stop_width = omega (arith, stopped_by-le s core trace rows inbox stop.Width);
-      stop_window = omega (arith, stopped_by-le s core trace rows inbox stop.Window);
-      stop_memory = omega (arith, stopped_by-le s core trace rows inbox stop.Memory);
-      stop_credit = omega (arith, stopped_by-le s core trace rows inbox stop.Credit);
+      read_latency = omega (arith, read_latency-le steps inbox);
+      stop_end = omega (arith, stopped_by-le s core trace steps inbox stop.End);
+      stop_width = omega (arith, stopped_by-le s core trace steps inbox stop.Width);
+      stop_window = omega (arith, stopped_by-le s core trace steps inbox stop.Window);
+      stop_memory = omega (arith, stopped_by-le s core trace steps inbox stop.Memory);
+      stop_credit = omega (arith, stopped_by-le s core trace steps inbox stop.Credit);
     }
 
 -- a core retires no more than it issued
-pub retires-le : (s : Config) (trace : List Entry) (rows : List CoreRow) (inbox : List Message) → retires s trace rows inbox ≤ issued_before rows - retired_before rows
+pub retires-le : (s : Config) (trace : List Entry) (steps : List CoreStep) (inbox : List Message) → retires s trace steps inbox ≤ issued_before steps - retired_before steps
 unfolding retires done_from
-retires-le s trace rows inbox =
-    let first = retired_before rows in
-    let most = min s.width (issued_before rows - first) in
-    let p = is_done trace inbox (length rows) in
+retires-le s trace steps inbox =
+    let first = retired_before steps in
+    let most = min s.width (issued_before steps - first) in
+    let p = is_done trace inbox (length steps) in
     omega (arith, length-prefix_len p (range_with_len first most), prefix_len-le-length p (range_with_len first most), length-range_with_len first most)
 
 -- what is found below n is below n
@@ -141,37 +141,37 @@ first_stop-le s core trace inbox sent now first gone l =
     (cases_lt left (s.width + 1))
 
 -- a core issues no more than its trace has
-pub issues-le : (s : Config) (core : ℕ) (trace : List Entry) (rows : List CoreRow) (inbox : List Message) → issued_before rows ≤ length trace
-    → issued_before rows + (step s core trace rows inbox).0.issued ≤ length trace
+pub issues-le : (s : Config) (core : ℕ) (trace : List Entry) (steps : List CoreStep) (inbox : List Message) → issued_before steps ≤ length trace
+    → issued_before steps + (step s core trace steps inbox).0.issued ≤ length trace
 unfolding step
-issues-le s core trace rows inbox l = first_stop-le s core trace inbox (core_messages s core trace rows) (length rows) (issued_before rows) _ l
+issues-le s core trace steps inbox l = first_stop-le s core trace inbox (core_messages s core trace steps) (length steps) (issued_before steps) _ l
 
 -- what a core issued and retired keeps to its trace
-pub record KeepsToTrace (trace : List Entry) (rows : List CoreRow) : Type 0 where
-  pub issued : issued_before rows ≤ length trace
-  pub retired : retired_before rows ≤ issued_before rows
+pub record KeepsToTrace (trace : List Entry) (steps : List CoreStep) : Type 0 where
+  pub issued : issued_before steps ≤ length trace
+  pub retired : retired_before steps ≤ issued_before steps
 
-pub KeepsToTrace-step : (s : Config) (core : ℕ) (trace : List Entry) (rows : List CoreRow) (inbox : List Message) → KeepsToTrace trace rows
-    → KeepsToTrace trace (rows ++ (step s core trace rows inbox).0 ∷ [])
+pub KeepsToTrace-step : (s : Config) (core : ℕ) (trace : List Entry) (steps : List CoreStep) (inbox : List Message) → KeepsToTrace trace steps
+    → KeepsToTrace trace (steps ++ (step s core trace steps inbox).0 ∷ [])
 unfolding step
-KeepsToTrace-step s core trace rows inbox h =
-    let row = (step s core trace rows inbox).0 in
-    let issued : issued_before rows + row.issued ≤ length trace = issues-le s core trace rows inbox h.issued in
-    let retired : row.retired ≤ issued_before rows - retired_before rows = retires-le s trace rows inbox in
+KeepsToTrace-step s core trace steps inbox h =
+    let row = (step s core trace steps inbox).0 in
+    let issued : issued_before steps + row.issued ≤ length trace = issues-le s core trace steps inbox h.issued in
+    let retired : row.retired ≤ issued_before steps - retired_before steps = retires-le s trace steps inbox in
     record {
-      issued = omega (arith, issued_before-push rows row);
-      retired = omega (arith, issued_before-push rows row, retired_before-push rows row);
+      issued = omega (arith, issued_before-push steps row);
+      retired = omega (arith, issued_before-push steps row, retired_before-push steps row);
     }
 
-pub KeepsToTrace-core_run : (s : Config) (core : ℕ) (trace : List Entry) (rows : List CoreRow) (mail : List Message) → KeepsToTrace trace rows
-    → (n : ℕ) → KeepsToTrace trace (core_run s core trace rows mail n)
+pub KeepsToTrace-core_run : (s : Config) (core : ℕ) (trace : List Entry) (steps : List CoreStep) (mail : List Message) → KeepsToTrace trace steps
+    → (n : ℕ) → KeepsToTrace trace (core_run s core trace steps mail n)
 unfolding core_run
-KeepsToTrace-core_run s core trace rows mail h zero = h
-KeepsToTrace-core_run s core trace rows mail h (suc n) = KeepsToTrace-step s core trace (core_run s core trace rows mail n) mail (KeepsToTrace-core_run s core trace rows mail h n)
+KeepsToTrace-core_run s core trace steps mail h zero = h
+KeepsToTrace-core_run s core trace steps mail h (suc n) = KeepsToTrace-step s core trace (core_run s core trace steps mail n) mail (KeepsToTrace-core_run s core trace steps mail h n)
 
-pub KeepsToTrace-run : (s : Config) (traces : List (List Entry)) (core : ℕ) → core < s.cores → (n : ℕ) → KeepsToTrace (trace_of traces core) (core_rows core (run s traces n))
-unfolding run core_rows issued_before retired_before
+pub KeepsToTrace-run : (s : Config) (traces : List (List Entry)) (core : ℕ) → core < s.cores → (n : ℕ) → KeepsToTrace (trace_of traces core) (steps_of_core core (run s traces n))
+unfolding run steps_of_core issued_before retired_before
 KeepsToTrace-run s traces core l zero = record { issued = omega arith; retired = omega arith }
 KeepsToTrace-run s traces core l (suc n) =
-    subst (KeepsToTrace (trace_of traces core)) (sym (core_rows-next s traces n core l))
-    (KeepsToTrace-step s core (trace_of traces core) (core_rows core (run s traces n)) (inbox s traces (run s traces n) (Core core)) (KeepsToTrace-run s traces core l n))
+    subst (KeepsToTrace (trace_of traces core)) (sym (steps_of_core-next s traces n core l))
+    (KeepsToTrace-step s core (trace_of traces core) (steps_of_core core (run s traces n)) (inbox s traces (run s traces n) (Core core)) (KeepsToTrace-run s traces core l n))

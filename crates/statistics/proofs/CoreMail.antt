@@ -8,24 +8,24 @@ use Rattle.sim_base.proofs.Same.{step-same}
 use Rattle.sim_base.specs.declared.config.Config.{Config}
 use Rattle.sim_base.specs.Counts.{replied_entry, is_reply, is_reply_before, replies, wait_of, read_latency, stop_in, stops, stopped_by}
 use Rattle.sim_base.specs.Windows.{step}
-use Rattle.sim_base.specs.declared.history.CoreRow.{CoreRow}
+use Rattle.sim_base.specs.declared.history.CoreStep.{CoreStep}
 use Rattle.sim_base.specs.declared.message.Message.{Message}
 use Rattle.sim_base.specs.declared.trace.Entry.{Entry}
 use Rattle.statistics.specs.Cores.{is_reply_in, replies_in, core_stats, core_cycle_with, core_cycle, core_joined, core_stretch}
 use Rattle.statistics.proofs.Lists.{length-push_suc, map_below_same}
 use Rattle.statistics.proofs.Messages.{filter-arrived, arrived-sooner, arrived-later}
 
-replies-arrived : (rows : List CoreRow) (inbox : List Message) → replies rows (arrived inbox (length rows)) ≡ replies rows inbox
+replies-arrived : (steps : List CoreStep) (inbox : List Message) → replies steps (arrived inbox (length steps)) ≡ replies steps inbox
 unfolding replies
-replies-arrived rows inbox =
-    filter-arrived (is_reply_before (length rows)) (length rows) (λ m h. and_right (is_reply m) _ (le-ltb m.arrival (length rows) h)) inbox
+replies-arrived steps inbox =
+    filter-arrived (is_reply_before (length steps)) (length steps) (λ m h. and_right (is_reply m) _ (le-ltb m.arrival (length steps) h)) inbox
 
-pub replies-same : (rows : List CoreRow) (a b : List Message) → arrived a (length rows) ≡ arrived b (length rows) → replies rows a ≡ replies rows b
-replies-same rows a b h = sym (replies-arrived rows a) ∙ ap (replies rows) h ∙ replies-arrived rows b
+pub replies-same : (steps : List CoreStep) (a b : List Message) → arrived a (length steps) ≡ arrived b (length steps) → replies steps a ≡ replies steps b
+replies-same steps a b h = sym (replies-arrived steps a) ∙ ap (replies steps) h ∙ replies-arrived steps b
 
-pub read_latency-same : (rows : List CoreRow) (a b : List Message) → arrived a (length rows) ≡ arrived b (length rows) → read_latency rows a ≡ read_latency rows b
+pub read_latency-same : (steps : List CoreStep) (a b : List Message) → arrived a (length steps) ≡ arrived b (length steps) → read_latency steps a ≡ read_latency steps b
 unfolding read_latency
-read_latency-same rows a b h = ap (sum_by (λ m. wait_of rows m.arrival (replied_entry m.load))) (replies-same rows a b h)
+read_latency-same steps a b h = ap (sum_by (λ m. wait_of steps m.arrival (replied_entry m.load))) (replies-same steps a b h)
 
 replies_in-arrived : (cycle : ℕ) (inbox : List Message) → replies_in cycle (arrived inbox (cycle + 1)) ≡ replies_in cycle inbox
 unfolding replies_in
@@ -35,43 +35,43 @@ replies_in-arrived cycle inbox =
 pub replies_in-same : (cycle : ℕ) (a b : List Message) → arrived a (cycle + 1) ≡ arrived b (cycle + 1) → replies_in cycle a ≡ replies_in cycle b
 replies_in-same cycle a b h = sym (replies_in-arrived cycle a) ∙ ap (replies_in cycle) h ∙ replies_in-arrived cycle b
 
-pub stops-same : (s : Config) (core : ℕ) (trace : List Entry) (rows : List CoreRow) (a b : List Message) → arrived a (length rows) ≡ arrived b (length rows)
-    → stops s core trace rows a ≡ stops s core trace rows b
+pub stops-same : (s : Config) (core : ℕ) (trace : List Entry) (steps : List CoreStep) (a b : List Message) → arrived a (length steps) ≡ arrived b (length steps)
+    → stops s core trace steps a ≡ stops s core trace steps b
 unfolding stops stop_in
-stops-same s core trace rows a b h = map_below_same _ _ (length rows) same
+stops-same s core trace steps a b h = map_below_same _ _ (length steps) same
   where
-    same : (k : ℕ) → k < length rows → (step s core trace (take k rows) a).1 ≡ (step s core trace (take k rows) b).1
+    same : (k : ℕ) → k < length steps → (step s core trace (take k steps) a).1 ≡ (step s core trace (take k steps) b).1
     same k l =
-        let len : length (take k rows) ≡ k = length-take-le k rows (omega arith) in
-        ap (λ x. x.1) (step-same s core trace (take k rows) a b (arrived-sooner (length (take k rows) + 1) (length rows) (omega arith) a b h))
+        let len : length (take k steps) ≡ k = length-take-le k steps (omega arith) in
+        ap (λ x. x.1) (step-same s core trace (take k steps) a b (arrived-sooner (length (take k steps) + 1) (length steps) (omega arith) a b h))
 
-pub core_stats-same : (s : Config) (core : ℕ) (trace : List Entry) (rows : List CoreRow) (a b : List Message) → arrived a (length rows) ≡ arrived b (length rows)
-    → core_stats s core trace rows a ≡ core_stats s core trace rows b
+pub core_stats-same : (s : Config) (core : ℕ) (trace : List Entry) (steps : List CoreStep) (a b : List Message) → arrived a (length steps) ≡ arrived b (length steps)
+    → core_stats s core trace steps a ≡ core_stats s core trace steps b
 unfolding core_stats stopped_by
-core_stats-same s core trace rows a b h =
-    let e = replies-same rows a b h in
-    let f = read_latency-same rows a b h in
-    let g = stops-same s core trace rows a b h in
+core_stats-same s core trace steps a b h =
+    let e = replies-same steps a b h in
+    let f = read_latency-same steps a b h in
+    let g = stops-same s core trace steps a b h in
     cc
 
-pub core_cycle-same : (s : Config) (core : ℕ) (trace : List Entry) (rows : List CoreRow) (a b : List Message) → arrived a (length rows + 1) ≡ arrived b (length rows + 1)
-    → (row : CoreRow) → core_cycle s core trace rows a row ≡ core_cycle s core trace rows b row
+pub core_cycle-same : (s : Config) (core : ℕ) (trace : List Entry) (steps : List CoreStep) (a b : List Message) → arrived a (length steps + 1) ≡ arrived b (length steps + 1)
+    → (core_step : CoreStep) → core_cycle s core trace steps a core_step ≡ core_cycle s core trace steps b core_step
 unfolding core_cycle
-core_cycle-same s core trace rows a b h row =
-    ap₂ (λ x y. core_cycle_with trace rows row x.1 y) (step-same s core trace rows a b h) (replies_in-same (length rows) a b h)
+core_cycle-same s core trace steps a b h core_step =
+    ap₂ (λ x y. core_cycle_with trace steps core_step x.1 y) (step-same s core trace steps a b h) (replies_in-same (length steps) a b h)
 
-pub core_stretch-same : (s : Config) (core : ℕ) (trace : List Entry) (rows : List CoreRow) (a b : List Message) (more : List CoreRow)
-    → arrived a (length rows + length more) ≡ arrived b (length rows + length more)
-    → core_stretch s core trace rows a more ≡ core_stretch s core trace rows b more
+pub core_stretch-same : (s : Config) (core : ℕ) (trace : List Entry) (steps : List CoreStep) (a b : List Message) (more : List CoreStep)
+    → arrived a (length steps + length more) ≡ arrived b (length steps + length more)
+    → core_stretch s core trace steps a more ≡ core_stretch s core trace steps b more
 unfolding core_stretch
-core_stretch-same s core trace rows a b [] h = refl
-core_stretch-same s core trace rows a b (row ∷ more) h =
-    let len : length (rows ++ row ∷ []) ≡ suc (length rows) = length-push_suc rows row in
+core_stretch-same s core trace steps a b [] h = refl
+core_stretch-same s core trace steps a b (row ∷ more) h =
+    let len : length (steps ++ row ∷ []) ≡ suc (length steps) = length-push_suc steps row in
     ap₂ core_joined
-    (core_cycle-same s core trace rows a b (arrived-sooner (length rows + 1) _ (omega arith) a b h) row)
-    (core_stretch-same s core trace (rows ++ row ∷ []) a b more (arrived-sooner _ _ (omega arith) a b h))
+    (core_cycle-same s core trace steps a b (arrived-sooner (length steps + 1) _ (omega arith) a b h) row)
+    (core_stretch-same s core trace (steps ++ row ∷ []) a b more (arrived-sooner _ _ (omega arith) a b h))
 
 -- messages that arrive after these cycles
-pub core_stats-later : (s : Config) (core : ℕ) (trace : List Entry) (rows : List CoreRow) (mail later : List Message) → NotBefore (length rows) later
-    → core_stats s core trace rows (mail ++ later) ≡ core_stats s core trace rows mail
-core_stats-later s core trace rows mail later h = core_stats-same s core trace rows (mail ++ later) mail (arrived-later (length rows) mail later h)
+pub core_stats-later : (s : Config) (core : ℕ) (trace : List Entry) (steps : List CoreStep) (mail later : List Message) → NotBefore (length steps) later
+    → core_stats s core trace steps (mail ++ later) ≡ core_stats s core trace steps mail
+core_stats-later s core trace steps mail later h = core_stats-same s core trace steps (mail ++ later) mail (arrived-later (length steps) mail later h)

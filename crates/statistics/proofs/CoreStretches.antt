@@ -8,7 +8,7 @@ use Rattle.sim_base.proofs.Arrived.{NotBefore}
 use Rattle.sim_base.specs.declared.config.Config.{Config}
 use Rattle.sim_base.specs.Counts.{replied_entry}
 use Rattle.sim_base.specs.History.{issued_before}
-use Rattle.sim_base.specs.declared.history.CoreRow.{CoreRow}
+use Rattle.sim_base.specs.declared.history.CoreStep.{CoreStep}
 use Rattle.sim_base.specs.declared.message.Message.{Message}
 use Rattle.sim_base.specs.declared.trace.Entry.{Entry}
 use Rattle.statistics.specs.declared.cores.CoreStats.{CoreStats}
@@ -31,46 +31,46 @@ core_joined-none a = simp add-zero
 pub core_joined-from_none : (a : CoreStats) → core_joined core_none a ≡ a
 core_joined-from_none a = simp (zero-add, option_or-none)
 
--- fewer rows
-FollowsItsRead-before : (rows more : List CoreRow) (m : Message) → FollowsItsRead (rows ++ more) m → FollowsItsRead rows m
-FollowsItsRead-before rows more m h = by (replied_entry m.load) h
+-- fewer steps
+FollowsItsRead-before : (steps more : List CoreStep) (m : Message) → FollowsItsRead (steps ++ more) m → FollowsItsRead steps m
+FollowsItsRead-before steps more m h = by (replied_entry m.load) h
   where
-    by : (o : Option ℕ) → IfSome o (λ entry. m.arrival < length (rows ++ more) → entry < issued_before (take m.arrival (rows ++ more)))
-        → IfSome o (λ entry. m.arrival < length rows → entry < issued_before (take m.arrival rows))
+    by : (o : Option ℕ) → IfSome o (λ entry. m.arrival < length (steps ++ more) → entry < issued_before (take m.arrival (steps ++ more)))
+        → IfSome o (λ entry. m.arrival < length steps → entry < issued_before (take m.arrival steps))
     by None k = tt
     by (Some entry) k = λ l.
-        let len : length (rows ++ more) ≡ length rows + length more = length-append rows more in
-        let e : issued_before (take m.arrival (rows ++ more)) ≡ issued_before (take m.arrival rows) = ap issued_before (take-append-le m.arrival rows more (omega arith)) in
-        let i : entry < issued_before (take m.arrival (rows ++ more)) = k (omega arith) in
+        let len : length (steps ++ more) ≡ length steps + length more = length-append steps more in
+        let e : issued_before (take m.arrival (steps ++ more)) ≡ issued_before (take m.arrival steps) = ap issued_before (take-append-le m.arrival steps more (omega arith)) in
+        let i : entry < issued_before (take m.arrival (steps ++ more)) = k (omega arith) in
         omega arith
 
-pub RepliesFollowReads-before : (rows more : List CoreRow) (inbox : List Message) → RepliesFollowReads (rows ++ more) inbox → RepliesFollowReads rows inbox
-RepliesFollowReads-before rows more inbox h = Each-weaker (FollowsItsRead (rows ++ more)) (FollowsItsRead rows) (FollowsItsRead-before rows more) inbox h
+pub RepliesFollowReads-before : (steps more : List CoreStep) (inbox : List Message) → RepliesFollowReads (steps ++ more) inbox → RepliesFollowReads steps inbox
+RepliesFollowReads-before steps more inbox h = Each-weaker (FollowsItsRead (steps ++ more)) (FollowsItsRead steps) (FollowsItsRead-before steps more) inbox h
 
 -- messages that arrive later
-FollowsItsRead-later : (rows : List CoreRow) (m : Message) → length rows ≤ m.arrival → FollowsItsRead rows m
-FollowsItsRead-later rows m h = by (replied_entry m.load)
+FollowsItsRead-later : (steps : List CoreStep) (m : Message) → length steps ≤ m.arrival → FollowsItsRead steps m
+FollowsItsRead-later steps m h = by (replied_entry m.load)
   where
-    by : (o : Option ℕ) → IfSome o (λ entry. m.arrival < length rows → entry < issued_before (take m.arrival rows))
+    by : (o : Option ℕ) → IfSome o (λ entry. m.arrival < length steps → entry < issued_before (take m.arrival steps))
     by None = tt
     by (Some entry) = λ l. absurd (omega arith)
 
-pub RepliesFollowReads-later : (rows : List CoreRow) (mail later : List Message) → RepliesFollowReads rows mail → NotBefore (length rows) later → RepliesFollowReads rows (mail ++ later)
-RepliesFollowReads-later rows mail later h k =
-    Each-append (FollowsItsRead rows) mail later h (Each-weaker (λ (m : Message). length rows ≤ m.arrival) (FollowsItsRead rows) (FollowsItsRead-later rows) later k)
+pub RepliesFollowReads-later : (steps : List CoreStep) (mail later : List Message) → RepliesFollowReads steps mail → NotBefore (length steps) later → RepliesFollowReads steps (mail ++ later)
+RepliesFollowReads-later steps mail later h k =
+    Each-append (FollowsItsRead steps) mail later h (Each-weaker (λ (m : Message). length steps ≤ m.arrival) (FollowsItsRead steps) (FollowsItsRead-later steps) later k)
 
--- the statistics of rows and of more rows after them
-pub core_stats-append : (s : Config) (core : ℕ) (trace : List Entry) (rows : List CoreRow) (inbox : List Message) (more : List CoreRow)
-    → RepliesFollowReads (rows ++ more) inbox
-    → core_stats s core trace (rows ++ more) inbox ≡ core_joined (core_stats s core trace rows inbox) (core_stretch s core trace rows inbox more)
+-- the statistics of steps and of more steps after them
+pub core_stats-append : (s : Config) (core : ℕ) (trace : List Entry) (steps : List CoreStep) (inbox : List Message) (more : List CoreStep)
+    → RepliesFollowReads (steps ++ more) inbox
+    → core_stats s core trace (steps ++ more) inbox ≡ core_joined (core_stats s core trace steps inbox) (core_stretch s core trace steps inbox more)
 unfolding core_stretch
-core_stats-append s core trace rows inbox [] h =
-    ap (λ x. core_stats s core trace x inbox) (append-nil rows) ∙ sym (core_joined-none (core_stats s core trace rows inbox))
-core_stats-append s core trace rows inbox (row ∷ more) h =
-    let e : (rows ++ row ∷ []) ++ more ≡ rows ++ row ∷ more = append_assoc rows (row ∷ []) more in
-    let k : RepliesFollowReads ((rows ++ row ∷ []) ++ more) inbox = subst (λ x. RepliesFollowReads x inbox) (sym e) h in
+core_stats-append s core trace steps inbox [] h =
+    ap (λ x. core_stats s core trace x inbox) (append-nil steps) ∙ sym (core_joined-none (core_stats s core trace steps inbox))
+core_stats-append s core trace steps inbox (row ∷ more) h =
+    let e : (steps ++ row ∷ []) ++ more ≡ steps ++ row ∷ more = append_assoc steps (row ∷ []) more in
+    let k : RepliesFollowReads ((steps ++ row ∷ []) ++ more) inbox = subst (λ x. RepliesFollowReads x inbox) (sym e) h in
     ap (λ x. core_stats s core trace x inbox) (sym e)
-    ∙ core_stats-append s core trace (rows ++ row ∷ []) inbox more k
-    ∙ ap (λ x. core_joined x (core_stretch s core trace (rows ++ row ∷ []) inbox more))
-    (core_stats-push s core trace rows row inbox (RepliesFollowReads-before (rows ++ row ∷ []) more inbox k))
-    ∙ core_joined-assoc (core_stats s core trace rows inbox) (core_cycle s core trace rows inbox row) _
+    ∙ core_stats-append s core trace (steps ++ row ∷ []) inbox more k
+    ∙ ap (λ x. core_joined x (core_stretch s core trace (steps ++ row ∷ []) inbox more))
+    (core_stats-push s core trace steps row inbox (RepliesFollowReads-before (steps ++ row ∷ []) more inbox k))
+    ∙ core_joined-assoc (core_stats s core trace steps inbox) (core_cycle s core trace steps inbox row) _

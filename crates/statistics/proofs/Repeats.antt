@@ -5,7 +5,7 @@ use Rattle.std.specs.Option.{option_or}
 use Rattle.std.proofs.lemmas.Bool.{eqb-true, ne_eqb}
 use Rattle.std.proofs.lemmas.List.{append-nil}
 use Rattle.sim_base.specs.declared.config.Config.{Config}
-use Rattle.sim_base.specs.declared.history.CoreRow.{CoreRow}
+use Rattle.sim_base.specs.declared.history.CoreStep.{CoreStep}
 use Rattle.sim_base.specs.declared.command.Command.{Command}
 use Rattle.sim_base.specs.declared.message.Message.{Message}
 use Rattle.sim_base.specs.declared.trace.Entry.{Entry}
@@ -39,16 +39,16 @@ append_replicate : {X : Type 0} (xs : List X) (x : X) (k : ℕ) → (xs ++ x ∷
 append_replicate xs x k = append_assoc xs (x ∷ []) (replicate k x)
 
 -- cycles in which a core does the same, and which count alike
-pub core_stretch-replicate : (s : Config) (core : ℕ) (trace : List Entry) (inbox : List Message) (row : CoreRow) (a : CoreStats) (n : ℕ) (rows : List CoreRow)
-    → ((k : ℕ) → k < n → core_cycle s core trace (rows ++ replicate k row) inbox row ≡ a)
-    → core_stretch s core trace rows inbox (replicate n row) ≡ core_times n a
+pub core_stretch-replicate : (s : Config) (core : ℕ) (trace : List Entry) (inbox : List Message) (core_step : CoreStep) (a : CoreStats) (n : ℕ) (steps : List CoreStep)
+    → ((k : ℕ) → k < n → core_cycle s core trace (steps ++ replicate k core_step) inbox core_step ≡ a)
+    → core_stretch s core trace steps inbox (replicate n core_step) ≡ core_times n a
 unfolding core_stretch
-core_stretch-replicate s core trace inbox row a zero rows h = sym (core_times-zero a)
-core_stretch-replicate s core trace inbox row a (suc n) rows h =
+core_stretch-replicate s core trace inbox core_step a zero steps h = sym (core_times-zero a)
+core_stretch-replicate s core trace inbox core_step a (suc n) steps h =
     ap₂ core_joined
-    (ap (λ x. core_cycle s core trace x inbox row) (sym (append-nil rows)) ∙ h 0 (omega arith))
-    (core_stretch-replicate s core trace inbox row a n (rows ++ row ∷ [])
-    (λ k l. ap (λ x. core_cycle s core trace x inbox row) (append_replicate rows row k) ∙ h (suc k) (omega arith)))
+    (ap (λ x. core_cycle s core trace x inbox core_step) (sym (append-nil steps)) ∙ h 0 (omega arith))
+    (core_stretch-replicate s core trace inbox core_step a n (steps ++ core_step ∷ [])
+    (λ k l. ap (λ x. core_cycle s core trace x inbox core_step) (append_replicate steps core_step k) ∙ h (suc k) (omega arith)))
     ∙ core_times-suc n a
 
 greater_once_more : (b : Bool) (m : ℕ) → max m (cond b 0 m) ≡ m
@@ -73,14 +73,14 @@ channel_times-zero : (a : ChannelStats) → channel_times 0 a ≡ channel_none
 channel_times-zero a = simp no_times
 
 -- cycles in which a channel does the same, and which count alike
-pub channel_stretch-replicate : (s : Config) (channel : ℕ) (inbox : List Message) (o : Option Command) (a : ChannelStats) (n : ℕ) (rows : List (Option Command))
-    → ((k : ℕ) → k < n → channel_cycle s channel (rows ++ replicate k o) inbox o ≡ a)
-    → channel_stretch s channel rows inbox (replicate n o) ≡ channel_times n a
+pub channel_stretch-replicate : (s : Config) (channel : ℕ) (inbox : List Message) (o : Option Command) (a : ChannelStats) (n : ℕ) (steps : List (Option Command))
+    → ((k : ℕ) → k < n → channel_cycle s channel (steps ++ replicate k o) inbox o ≡ a)
+    → channel_stretch s channel steps inbox (replicate n o) ≡ channel_times n a
 unfolding channel_stretch
-channel_stretch-replicate s channel inbox o a zero rows h = sym (channel_times-zero a)
-channel_stretch-replicate s channel inbox o a (suc n) rows h =
+channel_stretch-replicate s channel inbox o a zero steps h = sym (channel_times-zero a)
+channel_stretch-replicate s channel inbox o a (suc n) steps h =
     ap₂ channel_joined
-    (ap (λ x. channel_cycle s channel x inbox o) (sym (append-nil rows)) ∙ h 0 (omega arith))
-    (channel_stretch-replicate s channel inbox o a n (rows ++ o ∷ [])
-    (λ k l. ap (λ x. channel_cycle s channel x inbox o) (append_replicate rows o k) ∙ h (suc k) (omega arith)))
+    (ap (λ x. channel_cycle s channel x inbox o) (sym (append-nil steps)) ∙ h 0 (omega arith))
+    (channel_stretch-replicate s channel inbox o a n (steps ++ o ∷ [])
+    (λ k l. ap (λ x. channel_cycle s channel x inbox o) (append_replicate steps o k) ∙ h (suc k) (omega arith)))
     ∙ channel_times-suc n a

@@ -15,22 +15,22 @@ use Rattle.sim_base.proofs.LinkNumbers.{override_in_range}
 use Rattle.sim_base.proofs.Made.{requests-each, channel-each}
 use Rattle.sim_base.proofs.Ordered.{Each-weaker}
 use Rattle.sim_base.proofs.Served.{candidates-each, or_else-each}
-use Rattle.sim_base.proofs.Spans.{channel_row-next}
+use Rattle.sim_base.proofs.Spans.{step_of_channel-next}
 use Rattle.sim_base.specs.declared.config.Config.{Config}
 use Rattle.sim_base.specs.declared.overrides.Override.{Override}
 use Rattle.sim_base.specs.Config.{request_link, reply_link, usual_latency, latency}
 use Rattle.sim_base.specs.Counts.{replied_entry}
-use Rattle.sim_base.specs.History.{below, trace_of, core_rows, channel_rows, issued_before, request, request_of, requests_between, requests_in, core_messages, reply, credit, messages_of, messages_at, messages_in, channel_messages, messages_of_core, messages_of_channel, messages, is_unit, is_to, inbox, issued_commands}
-use Rattle.sim_base.specs.Machine.{next_row, run}
-use Rattle.sim_base.specs.Row.{Row, core_row, channel_row}
+use Rattle.sim_base.specs.History.{below, trace_of, steps_of_core, steps_of_channel, issued_before, request, request_of, requests_between, requests_in, core_messages, reply, credit, messages_of, messages_at, messages_in, channel_messages, messages_of_core, messages_of_channel, messages, is_unit, is_to, inbox, issued_commands}
+use Rattle.sim_base.specs.Machine.{next_step, run}
+use Rattle.sim_base.specs.MachineStep.{MachineStep, step_of_core, step_of_channel}
 use Rattle.sim_base.specs.Rules.{is_legal, has_open_bank, open_row}
 use Rattle.sim_base.specs.Places.{place_of, bank_in}
-use Rattle.sim_base.specs.Scheduling.{request_in, source_of, is_waiting, waiting, queue_in, column_command, needed_at, needed, ready_hit, ready_row, first_ready, refresh_command, if_legal, choice_between, drains, lowest_due, choice}
+use Rattle.sim_base.specs.Scheduling.{request_in, source_of, is_queued, queued_requests, queue_in, column_command, needed_at, needed, ready_hit, ready_row, first_ready, refresh_command, if_legal, choice_between, drains, lowest_due, choice}
 use Rattle.sim_base.specs.declared.command.Command.{Command}
 use Rattle.sim_base.specs.declared.command.Command.TheVariants.{Act, Rd, Wr, Pre, Prea, Ref}
-use Rattle.sim_base.specs.declared.command.CommandRow.{CommandRow}
+use Rattle.sim_base.specs.declared.command.IssuedCommand.{IssuedCommand}
 use Rattle.sim_base.specs.declared.command.Source.{Source}
-use Rattle.sim_base.specs.declared.history.CoreRow.{CoreRow}
+use Rattle.sim_base.specs.declared.history.CoreStep.{CoreStep}
 use Rattle.sim_base.specs.declared.message.Message.{Message}
 use Rattle.sim_base.specs.declared.message.Request.{Request}
 use Rattle.sim_base.specs.declared.message.Unit.{Unit as MachineUnit}
@@ -55,10 +55,10 @@ latency_positive s link = by (find (λ o. eqb o.link link) s.overrides) refl
     by None e = usual
     by (Some o) e = (override_in_range s.overrides link o s.overrides_in_range e).0
 
-pub issued_before-take-later : (rows : List CoreRow) (a b : ℕ) → a ≤ b → issued_before (take a rows) ≤ issued_before (take b rows)
-issued_before-take-later rows a b l =
-    let e : issued_before (take a (take b rows)) ≡ issued_before (take a rows) = ap issued_before (take-take a b rows l) in
-    omega (arith, issued_before-take-le (take b rows) a)
+pub issued_before-take-later : (steps : List CoreStep) (a b : ℕ) → a ≤ b → issued_before (take a steps) ≤ issued_before (take b steps)
+issued_before-take-later steps a b l =
+    let e : issued_before (take a (take b steps)) ≡ issued_before (take a steps) = ap issued_before (take-take a b steps l) in
+    omega (arith, issued_before-take-le (take b steps) a)
 
 -- what passes a test, with what holds of it
 Each-filter_with : {X : Type 0} (P Q : X → Type 0) (p : X → Bool) → ((x : X) → p x ≡ true → P x → Q x) → (xs : List X) → Each P xs → Each Q (filter p xs)
@@ -87,48 +87,48 @@ numbered_between first end xs =
     (cases_lt end first)
 
 -- the entry of a request was issued before the request arrived
-abbrev pub RequestIssued : List Row → Request → Type 0
-RequestIssued history r = r.entry < issued_before (take r.arrival (core_rows r.core history))
+abbrev pub RequestIssued : List MachineStep → Request → Type 0
+RequestIssued history r = r.entry < issued_before (take r.arrival (steps_of_core r.core history))
 
-abbrev pub CarriesIssued : List Row → Message → Type 0
+abbrev pub CarriesIssued : List MachineStep → Message → Type 0
 CarriesIssued history m = IfSome (request_in m.load) (RequestIssued history)
 
-request-issued : (s : Config) (history : List Row) (core cycle entry : ℕ) (write : Bool) (address : ℕ)
-    → entry < issued_before (take (cycle + 1) (core_rows core history)) → CarriesIssued history (request s core cycle entry write address)
+request-issued : (s : Config) (history : List MachineStep) (core cycle entry : ℕ) (write : Bool) (address : ℕ)
+    → entry < issued_before (take (cycle + 1) (steps_of_core core history)) → CarriesIssued history (request s core cycle entry write address)
 unfolding request
 request-issued s history core cycle entry write address h =
     let link = request_link s core (place_of s address).channel in
     let l : 1 ≤ latency s link = latency_positive s link in
-    let m : issued_before (take (cycle + 1) (core_rows core history)) ≤ issued_before (take (cycle + latency s link) (core_rows core history)) =
-    issued_before-take-later (core_rows core history) (cycle + 1) (cycle + latency s link) (omega arith) in
+    let m : issued_before (take (cycle + 1) (steps_of_core core history)) ≤ issued_before (take (cycle + latency s link) (steps_of_core core history)) =
+    issued_before-take-later (steps_of_core core history) (cycle + 1) (cycle + latency s link) (omega arith) in
     omega arith
 
-request_of-issued : (s : Config) (history : List Row) (core cycle : ℕ) (e : ℕ × Entry)
-    → e.0 < issued_before (take (cycle + 1) (core_rows core history)) → IfSome (request_of s core cycle e.0 e.1) (CarriesIssued history)
+request_of-issued : (s : Config) (history : List MachineStep) (core cycle : ℕ) (e : ℕ × Entry)
+    → e.0 < issued_before (take (cycle + 1) (steps_of_core core history)) → IfSome (request_of s core cycle e.0 e.1) (CarriesIssued history)
 request_of-issued s history core cycle (entry, Plain) h = tt
 request_of-issued s history core cycle (entry, Read address) h = request-issued s history core cycle entry _ address h
 request_of-issued s history core cycle (entry, Write address) h = request-issued s history core cycle entry _ address h
 
-of_core-issued : (s : Config) (traces : List (List Entry)) (history : List Row) (core : ℕ) → Each (CarriesIssued history) (messages_of_core s traces history core)
+of_core-issued : (s : Config) (traces : List (List Entry)) (history : List MachineStep) (core : ℕ) → Each (CarriesIssued history) (messages_of_core s traces history core)
 unfolding messages_of_core core_messages requests_in requests_between
 of_core-issued s traces history core =
-    let rows = core_rows core history in
+    let steps = steps_of_core core history in
     let trace = trace_of traces core in
-    Each-flat_map_below (CarriesIssued history) (requests_in s core trace rows) (length rows)
+    Each-flat_map_below (CarriesIssued history) (requests_in s core trace steps) (length steps)
     (λ cycle l.
-    let first = issued_before (take cycle rows) in
-    let end = issued_before (take (cycle + 1) rows) in
+    let first = issued_before (take cycle steps) in
+    let end = issued_before (take (cycle + 1) steps) in
     let es = take (end - first) (drop first (enumerate_from 0 trace)) in
     Each-filter_map (CarriesIssued history) (λ e. request_of s core cycle e.0 e.1) es
     (Each-weaker (λ (e : ℕ × Entry). e.0 < end) (λ e. IfSome (request_of s core cycle e.0 e.1) (CarriesIssued history)) (request_of-issued s history core cycle) es
     (numbered_between first end trace)))
 
-of_channel-issued : (s : Config) (history : List Row) (channel : ℕ) → channel < s.channels → Each (CarriesIssued history) (messages_of_channel s history channel)
+of_channel-issued : (s : Config) (history : List MachineStep) (channel : ℕ) → channel < s.channels → Each (CarriesIssued history) (messages_of_channel s history channel)
 unfolding messages_of_channel reply credit
 of_channel-issued s history channel l =
-    channel-each s (CarriesIssued history) ((λ k cycle source b. tt), (λ k cycle write source b. tt)) channel l (channel_rows channel history)
+    channel-each s (CarriesIssued history) ((λ k cycle source b. tt), (λ k cycle write source b. tt)) channel l (steps_of_channel channel history)
 
-pub inbox-issued : (s : Config) (traces : List (List Entry)) (history : List Row) (unit : MachineUnit) → Each (CarriesIssued history) (inbox s traces history unit)
+pub inbox-issued : (s : Config) (traces : List (List Entry)) (history : List MachineStep) (unit : MachineUnit) → Each (CarriesIssued history) (inbox s traces history unit)
 unfolding inbox messages
 inbox-issued s traces history unit =
     Each-by_age (CarriesIssued history) _
@@ -156,12 +156,12 @@ needed_at-moves P r h (Some row) =
     (λ c. IfSome (moved_in (Some c)) P) (λ f. h) (λ f. h))
     (λ e. tt)
 
-needed-moves : (P : Source → Type 0) (history : List CommandRow) (o : Option Request) → IfSome o (λ r. P (source_of r)) → IfSome (moved_in (option_map (needed history) o)) P
+needed-moves : (P : Source → Type 0) (history : List IssuedCommand) (o : Option Request) → IfSome o (λ r. P (source_of r)) → IfSome (moved_in (option_map (needed history) o)) P
 unfolding needed
 needed-moves P history None h = tt
 needed-moves P history (Some r) h = needed_at-moves P r h (open_row (bank_in r.place) history)
 
-between-moves : (P : Source → Type 0) (s : Config) (history : List CommandRow) (now : ℕ) (requests : List Request) → Each (λ (r : Request). P (source_of r)) requests
+between-moves : (P : Source → Type 0) (s : Config) (history : List IssuedCommand) (now : ℕ) (requests : List Request) → Each (λ (r : Request). P (source_of r)) requests
     → (due : Option ℕ) → IfSome (moved_in (choice_between s history now requests due)) P
 unfolding choice_between first_ready if_legal refresh_command
 between-moves P s history now requests h None =
@@ -172,83 +172,83 @@ between-moves P s history now requests h (Some rank) =
     (λ e. cond_both (has_open_bank s history rank) _ _ (λ c. IfSome (moved_in (Some c)) P) (λ f. tt) (λ f. tt))
     (λ e. tt)
 
-pub choice-moves : (P : Source → Type 0) (s : Config) (channel : ℕ) (rows : List (Option Command)) (inbox : List Message)
-    → Each (λ (r : Request). P (source_of r)) (queue_in channel rows inbox (length rows)) → IfSome (moved_in (choice s channel rows inbox)) P
+pub choice-moves : (P : Source → Type 0) (s : Config) (channel : ℕ) (steps : List (Option Command)) (inbox : List Message)
+    → Each (λ (r : Request). P (source_of r)) (queue_in channel steps inbox (length steps)) → IfSome (moved_in (choice s channel steps inbox)) P
 unfolding choice
-choice-moves P s channel rows inbox h =
-    let history = issued_commands channel rows in
-    between-moves P s history (length rows) _
-    (candidates-each (λ r. P (source_of r)) s (drains s channel rows inbox (length rows)) (queue_in channel rows inbox (length rows)) h)
-    (lowest_due s history (length rows))
+choice-moves P s channel steps inbox h =
+    let history = issued_commands channel steps in
+    between-moves P s history (length steps) _
+    (candidates-each (λ r. P (source_of r)) s (drains s channel steps inbox (length steps)) (queue_in channel steps inbox (length steps)) h)
+    (lowest_due s history (length steps))
 
 -- an entry was issued before a cycle
-abbrev pub IssuedBefore : List Row → ℕ → Source → Type 0
-IssuedBefore history cycle source = source.entry < issued_before (take cycle (core_rows source.core history))
+abbrev pub IssuedBefore : List MachineStep → ℕ → Source → Type 0
+IssuedBefore history cycle source = source.entry < issued_before (take cycle (steps_of_core source.core history))
 
-waiting-issued : (s : Config) (traces : List (List Entry)) (history : List Row) (channel : ℕ) (rows : List (Option Command)) → length rows ≡ length history
-    → Each (λ (r : Request). IssuedBefore history (length history) (source_of r)) (queue_in channel rows (inbox s traces history (Channel channel)) (length rows))
-unfolding queue_in waiting
-waiting-issued s traces history channel rows e =
+queued_requests-issued : (s : Config) (traces : List (List Entry)) (history : List MachineStep) (channel : ℕ) (steps : List (Option Command)) → length steps ≡ length history
+    → Each (λ (r : Request). IssuedBefore history (length history) (source_of r)) (queue_in channel steps (inbox s traces history (Channel channel)) (length steps))
+unfolding queue_in queued_requests
+queued_requests-issued s traces history channel steps e =
     Each-filter_with (RequestIssued history) (λ r. IssuedBefore history (length history) (source_of r)) _ in_time _
     (Each-filter_map (RequestIssued history) (λ m. request_in m.load) (inbox s traces history (Channel channel)) (inbox-issued s traces history (Channel channel)))
   where
-    in_time : (r : Request) → is_waiting (issued_commands channel (take (length rows) rows)) (length rows + 1) r ≡ true → RequestIssued history r
+    in_time : (r : Request) → is_queued (issued_commands channel (take (length steps) steps)) (length steps + 1) r ≡ true → RequestIssued history r
         → IssuedBefore history (length history) (source_of r)
     in_time r p h =
-        let l : r.arrival < length rows + 1 = ltb-true r.arrival (length rows + 1) (and_parts _ _ p).0 in
-        let m : issued_before (take r.arrival (core_rows r.core history)) ≤ issued_before (take (length history) (core_rows r.core history)) =
-        issued_before-take-later (core_rows r.core history) r.arrival (length history) (omega arith) in
+        let l : r.arrival < length steps + 1 = ltb-true r.arrival (length steps + 1) (and_parts _ _ p).0 in
+        let m : issued_before (take r.arrival (steps_of_core r.core history)) ≤ issued_before (take (length history) (steps_of_core r.core history)) =
+        issued_before-take-later (steps_of_core r.core history) r.arrival (length history) (omega arith) in
         omega arith
 
 -- each entry whose data a channel moved was issued in an earlier cycle
-abbrev pub MovesIssued : List Row → ℕ → Type 0
-MovesIssued history channel = (cycle : ℕ) → cycle < length history → IfSome (moved_in (get_or (channel_rows channel history) cycle None)) (IssuedBefore history cycle)
+abbrev pub MovesIssued : List MachineStep → ℕ → Type 0
+MovesIssued history channel = (cycle : ℕ) → cycle < length history → IfSome (moved_in (get_or (steps_of_channel channel history) cycle None)) (IssuedBefore history cycle)
 
-pub length-core_rows : (core : ℕ) (history : List Row) → length (core_rows core history) ≡ length history
-unfolding core_rows
-length-core_rows core history = length-map history (core_row core)
+pub length-steps_of_core : (core : ℕ) (history : List MachineStep) → length (steps_of_core core history) ≡ length history
+unfolding steps_of_core
+length-steps_of_core core history = length-map history (step_of_core core)
 
-pub length-channel_rows : (channel : ℕ) (history : List Row) → length (channel_rows channel history) ≡ length history
-unfolding channel_rows
-length-channel_rows channel history = length-map history (channel_row channel)
+pub length-steps_of_channel : (channel : ℕ) (history : List MachineStep) → length (steps_of_channel channel history) ≡ length history
+unfolding steps_of_channel
+length-steps_of_channel channel history = length-map history (step_of_channel channel)
 
-pub core_rows-push : (core : ℕ) (history : List Row) (row : Row) → core_rows core (history ++ row ∷ []) ≡ core_rows core history ++ core_row core row ∷ []
-unfolding core_rows
-core_rows-push core history row = map_push (core_row core) history row
+pub steps_of_core-push : (core : ℕ) (history : List MachineStep) (machine_step : MachineStep) → steps_of_core core (history ++ machine_step ∷ []) ≡ steps_of_core core history ++ step_of_core core machine_step ∷ []
+unfolding steps_of_core
+steps_of_core-push core history machine_step = map_push (step_of_core core) history machine_step
 
-pub channel_rows-push : (channel : ℕ) (history : List Row) (row : Row) → channel_rows channel (history ++ row ∷ []) ≡ channel_rows channel history ++ channel_row channel row ∷ []
-unfolding channel_rows
-channel_rows-push channel history row = map_push (channel_row channel) history row
+pub steps_of_channel-push : (channel : ℕ) (history : List MachineStep) (machine_step : MachineStep) → steps_of_channel channel (history ++ machine_step ∷ []) ≡ steps_of_channel channel history ++ step_of_channel channel machine_step ∷ []
+unfolding steps_of_channel
+steps_of_channel-push channel history machine_step = map_push (step_of_channel channel) history machine_step
 
--- a row more does not change what was issued before
-IssuedBefore-push : (history : List Row) (row : Row) (cycle : ℕ) → cycle ≤ length history → (source : Source) → IssuedBefore history cycle source → IssuedBefore (history ++ row ∷ []) cycle source
-IssuedBefore-push history row cycle l source h =
-    let len : length (core_rows source.core history) ≡ length history = length-core_rows source.core history in
-    let e : issued_before (take cycle (core_rows source.core (history ++ row ∷ []))) ≡ issued_before (take cycle (core_rows source.core history)) =
-    ap (λ x. issued_before (take cycle x)) (core_rows-push source.core history row)
-    ∙ ap issued_before (take-push (core_rows source.core history) (core_row source.core row) cycle (omega arith)) in
+-- a machine_step more does not change what was issued before
+IssuedBefore-push : (history : List MachineStep) (machine_step : MachineStep) (cycle : ℕ) → cycle ≤ length history → (source : Source) → IssuedBefore history cycle source → IssuedBefore (history ++ machine_step ∷ []) cycle source
+IssuedBefore-push history machine_step cycle l source h =
+    let len : length (steps_of_core source.core history) ≡ length history = length-steps_of_core source.core history in
+    let e : issued_before (take cycle (steps_of_core source.core (history ++ machine_step ∷ []))) ≡ issued_before (take cycle (steps_of_core source.core history)) =
+    ap (λ x. issued_before (take cycle x)) (steps_of_core-push source.core history machine_step)
+    ∙ ap issued_before (take-push (steps_of_core source.core history) (step_of_core source.core machine_step) cycle (omega arith)) in
     omega arith
 
-moves-next : (s : Config) (traces : List (List Entry)) (history : List Row) (channel : ℕ) → channel < s.channels → MovesIssued history channel
-    → MovesIssued (history ++ next_row s traces history ∷ []) channel
+moves-next : (s : Config) (traces : List (List Entry)) (history : List MachineStep) (channel : ℕ) → channel < s.channels → MovesIssued history channel
+    → MovesIssued (history ++ next_step s traces history ∷ []) channel
 moves-next s traces history channel l h cycle b =
-    let row = next_row s traces history in
-    let rows = channel_rows channel history in
-    let len : length rows ≡ length history = length-channel_rows channel history in
-    let more : length (history ++ row ∷ []) ≡ suc (length history) = length-push_suc history row in
+    let machine_step = next_step s traces history in
+    let steps = steps_of_channel channel history in
+    let len : length steps ≡ length history = length-steps_of_channel channel history in
+    let more : length (history ++ machine_step ∷ []) ≡ suc (length history) = length-push_suc history machine_step in
     ⊎_elim
     (λ (earlier : cycle < length history).
-    subst (λ o. IfSome (moved_in o) (IssuedBefore (history ++ row ∷ []) cycle))
-    (sym (ap (λ x. get_or x cycle None) (channel_rows-push channel history row) ∙ get_or-append rows (channel_row channel row ∷ []) None cycle (omega arith)))
-    (IfSome_then _ (h cycle earlier) (IssuedBefore-push history row cycle (omega arith))))
+    subst (λ o. IfSome (moved_in o) (IssuedBefore (history ++ machine_step ∷ []) cycle))
+    (sym (ap (λ x. get_or x cycle None) (steps_of_channel-push channel history machine_step) ∙ get_or-append steps (step_of_channel channel machine_step ∷ []) None cycle (omega arith)))
+    (IfSome_then _ (h cycle earlier) (IssuedBefore-push history machine_step cycle (omega arith))))
     (λ (last : length history ≤ cycle).
-    let now : cycle ≡ length rows = omega arith in
-    subst (λ o. IfSome (moved_in o) (IssuedBefore (history ++ row ∷ []) cycle))
-    (sym (ap₂ (λ x i. get_or x i None) (channel_rows-push channel history row) now
-    ∙ get_or-append_seam rows (channel_row channel row) [] None ∙ channel_row-next s traces history channel l))
-    (IfSome_then (moved_in (choice s channel rows (inbox s traces history (Channel channel))))
-    (choice-moves (IssuedBefore history (length history)) s channel rows (inbox s traces history (Channel channel)) (waiting-issued s traces history channel rows len))
-    (λ source k. subst (λ i. IssuedBefore (history ++ row ∷ []) i source) (sym (now ∙ len)) (IssuedBefore-push history row (length history) (omega arith) source k))))
+    let now : cycle ≡ length steps = omega arith in
+    subst (λ o. IfSome (moved_in o) (IssuedBefore (history ++ machine_step ∷ []) cycle))
+    (sym (ap₂ (λ x i. get_or x i None) (steps_of_channel-push channel history machine_step) now
+    ∙ get_or-append_seam steps (step_of_channel channel machine_step) [] None ∙ step_of_channel-next s traces history channel l))
+    (IfSome_then (moved_in (choice s channel steps (inbox s traces history (Channel channel))))
+    (choice-moves (IssuedBefore history (length history)) s channel steps (inbox s traces history (Channel channel)) (queued_requests-issued s traces history channel steps len))
+    (λ source k. subst (λ i. IssuedBefore (history ++ machine_step ∷ []) i source) (sym (now ∙ len)) (IssuedBefore-push history machine_step (length history) (omega arith) source k))))
     (cases_lt cycle (length history))
 
 pub moves-run : (s : Config) (traces : List (List Entry)) (n channel : ℕ) → channel < s.channels → MovesIssued (run s traces n) channel
@@ -257,10 +257,10 @@ moves-run s traces zero channel l = λ cycle b. absurd (omega arith)
 moves-run s traces (suc n) channel l = moves-next s traces (run s traces n) channel l (moves-run s traces n channel l)
 
 -- the entry of a reply was issued before it came to the core at the end of its link
-abbrev pub AnswersIssued : Config → List Row → Message → Type 0
-AnswersIssued s history m = IfSome (replied_entry m.load) (λ entry. entry < issued_before (take m.arrival (core_rows (m.link / 3 / s.channels) history)))
+abbrev pub AnswersIssued : Config → List MachineStep → Message → Type 0
+AnswersIssued s history m = IfSome (replied_entry m.load) (λ entry. entry < issued_before (take m.arrival (steps_of_core (m.link / 3 / s.channels) history)))
 
-reply-answers : (s : Config) (history : List Row) (channel cycle : ℕ) → channel < s.channels → (source : Source) → IssuedBefore history cycle source
+reply-answers : (s : Config) (history : List MachineStep) (channel cycle : ℕ) → channel < s.channels → (source : Source) → IssuedBefore history cycle source
     → AnswersIssued s history (reply s channel cycle source)
 unfolding reply
 reply-answers s history channel cycle l source h =
@@ -269,11 +269,11 @@ reply-answers s history channel cycle l source h =
     let third : (3 * x + 1) / 3 ≡ x = omega arith in
     let e : link / 3 / s.channels ≡ source.core = ap (λ y. y / s.channels) third ∙ div-mul-add source.core s.channels channel l in
     let arrival = cycle + s.timing.n_cl + 4 + latency s link in
-    let m : issued_before (take cycle (core_rows source.core history)) ≤ issued_before (take arrival (core_rows source.core history)) =
-    issued_before-take-later (core_rows source.core history) cycle arrival (omega arith) in
-    subst (λ c. source.entry < issued_before (take arrival (core_rows c history))) (sym e) (omega arith)
+    let m : issued_before (take cycle (steps_of_core source.core history)) ≤ issued_before (take arrival (steps_of_core source.core history)) =
+    issued_before-take-later (steps_of_core source.core history) cycle arrival (omega arith) in
+    subst (λ c. source.entry < issued_before (take arrival (steps_of_core c history))) (sym e) (omega arith)
 
-messages_at-answer : (s : Config) (history : List Row) (channel cycle : ℕ) → channel < s.channels → (o : Option Command) → IfSome (moved_in o) (IssuedBefore history cycle)
+messages_at-answer : (s : Config) (history : List MachineStep) (channel cycle : ℕ) → channel < s.channels → (o : Option Command) → IfSome (moved_in o) (IssuedBefore history cycle)
     → Each (AnswersIssued s history) (messages_at s channel cycle o)
 unfolding messages_of credit
 messages_at-answer s history channel cycle l None h = tt
@@ -284,19 +284,19 @@ messages_at-answer s history channel cycle l (Some (Pre bank source)) h = tt
 messages_at-answer s history channel cycle l (Some (Prea rank)) h = tt
 messages_at-answer s history channel cycle l (Some (Ref rank)) h = tt
 
-of_channel-answer : (s : Config) (history : List Row) (channel : ℕ) → channel < s.channels → MovesIssued history channel
+of_channel-answer : (s : Config) (history : List MachineStep) (channel : ℕ) → channel < s.channels → MovesIssued history channel
     → Each (AnswersIssued s history) (messages_of_channel s history channel)
 unfolding messages_of_channel channel_messages messages_in
 of_channel-answer s history channel l h =
-    let rows = channel_rows channel history in
-    let len : length rows ≡ length history = length-channel_rows channel history in
-    Each-flat_map_below (AnswersIssued s history) (messages_in s channel rows) (length rows)
-    (λ cycle b. messages_at-answer s history channel cycle l (get_or rows cycle None) (h cycle (omega arith)))
+    let steps = steps_of_channel channel history in
+    let len : length steps ≡ length history = length-steps_of_channel channel history in
+    Each-flat_map_below (AnswersIssued s history) (messages_in s channel steps) (length steps)
+    (λ cycle b. messages_at-answer s history channel cycle l (get_or steps cycle None) (h cycle (omega arith)))
 
-of_core-answer : (s : Config) (traces : List (List Entry)) (history : List Row) (core : ℕ) → core < s.cores → Each (AnswersIssued s history) (messages_of_core s traces history core)
+of_core-answer : (s : Config) (traces : List (List Entry)) (history : List MachineStep) (core : ℕ) → core < s.cores → Each (AnswersIssued s history) (messages_of_core s traces history core)
 unfolding messages_of_core request
 of_core-answer s traces history core l =
-    requests-each s (AnswersIssued s history) (λ c cycle entry write address b. tt) core l (trace_of traces core) (core_rows core history)
+    requests-each s (AnswersIssued s history) (λ c cycle entry write address b. tt) core l (trace_of traces core) (steps_of_core core history)
 
 messages-answer : (s : Config) (traces : List (List Entry)) (n : ℕ) → Each (AnswersIssued s (run s traces n)) (messages s traces (run s traces n))
 unfolding messages
@@ -313,16 +313,16 @@ core_of_link s core m h = by (eqb (m.link % 3) 0) h
     by true k = absurd (false≢true k)
     by false k = eqb-true (m.link / 3 / s.channels) core k
 
-answers-follow : (s : Config) (history : List Row) (core : ℕ) (m : Message) → is_to s (Core core) m ≡ true → AnswersIssued s history m → FollowsItsRead (core_rows core history) m
+answers-follow : (s : Config) (history : List MachineStep) (core : ℕ) (m : Message) → is_to s (Core core) m ≡ true → AnswersIssued s history m → FollowsItsRead (steps_of_core core history) m
 answers-follow s history core m h k =
-    IfSome_then (replied_entry m.load) (subst (λ c. IfSome (replied_entry m.load) (λ entry. entry < issued_before (take m.arrival (core_rows c history)))) (core_of_link s core m h) k)
+    IfSome_then (replied_entry m.load) (subst (λ c. IfSome (replied_entry m.load) (λ entry. entry < issued_before (take m.arrival (steps_of_core c history)))) (core_of_link s core m h) k)
     (λ entry i l. i)
 
 -- in a run each reply is of an entry that was issued before it came
-pub RepliesFollowReads-run : (s : Config) (traces : List (List Entry)) (n core : ℕ) → RepliesFollowReads (core_rows core (run s traces n)) (inbox s traces (run s traces n) (Core core))
+pub RepliesFollowReads-run : (s : Config) (traces : List (List Entry)) (n core : ℕ) → RepliesFollowReads (steps_of_core core (run s traces n)) (inbox s traces (run s traces n) (Core core))
 unfolding inbox
 RepliesFollowReads-run s traces n core =
     let history = run s traces n in
-    Each-by_age (FollowsItsRead (core_rows core history)) _
-    (Each-filter_with (AnswersIssued s history) (FollowsItsRead (core_rows core history)) (is_to s (Core core)) (answers-follow s history core) (messages s traces history)
+    Each-by_age (FollowsItsRead (steps_of_core core history)) _
+    (Each-filter_with (AnswersIssued s history) (FollowsItsRead (steps_of_core core history)) (is_to s (Core core)) (answers-follow s history core) (messages s traces history)
     (messages-answer s traces n))

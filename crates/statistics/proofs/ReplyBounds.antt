@@ -10,19 +10,19 @@ use Rattle.std.proofs.lemmas.Option.{IfSome_then}
 use Rattle.sim_base.proofs.Each.{Each-filter_map}
 use Rattle.sim_base.specs.Counts.{replied_entry, is_reply, is_reply_before, replies}
 use Rattle.sim_base.specs.History.{issued_before}
-use Rattle.sim_base.specs.declared.history.CoreRow.{CoreRow}
+use Rattle.sim_base.specs.declared.history.CoreStep.{CoreStep}
 use Rattle.sim_base.specs.declared.message.Message.{Message}
 use Rattle.statistics.specs.Cores.{FollowsItsRead, RepliesFollowReads}
 use Rattle.statistics.proofs.CoreSteps.{issued_before-take-le}
 
 -- no more than there are messages
-pub replies-le : (rows : List CoreRow) (inbox : List Message) → length (replies rows inbox) ≤ length inbox
+pub replies-le : (steps : List CoreStep) (inbox : List Message) → length (replies steps inbox) ≤ length inbox
 unfolding replies
-replies-le rows inbox = omega (arith, length-filter (is_reply_before (length rows)) inbox, count_by-le-length (is_reply_before (length rows)) inbox)
+replies-le steps inbox = omega (arith, length-filter (is_reply_before (length steps)) inbox, count_by-le-length (is_reply_before (length steps)) inbox)
 
--- the entries that were answered within these rows
-unfoldable pub answered_entries : List CoreRow → List Message → List ℕ
-answered_entries rows inbox = filter_map (λ m. replied_entry m.load) (replies rows inbox)
+-- the entries that were answered within these steps
+unfoldable pub answered_entries : List CoreStep → List Message → List ℕ
+answered_entries steps inbox = filter_map (λ m. replied_entry m.load) (replies steps inbox)
 
 each_answers : (cycle : ℕ) (ms : List Message) → length (filter_map (λ m. replied_entry m.load) (filter (is_reply_before cycle) ms)) ≡ length (filter (is_reply_before cycle) ms)
 each_answers cycle [] = refl
@@ -45,26 +45,26 @@ among_below n q (x ∷ xs) h e =
     (λ (a : list_any (eqb q) xs ≡ true). among_below n q xs h.1 a)
     (or_cases (eqb q x) (list_any (eqb q) xs) e)
 
-issued_of_answer : (rows : List CoreRow) (m : Message) → is_reply_before (length rows) m ≡ true → FollowsItsRead rows m → IfSome (replied_entry m.load) (λ entry. entry < issued_before rows)
-issued_of_answer rows m e h =
-    let l : m.arrival < length rows = ltb-true m.arrival (length rows) (and_parts (is_reply m) (ltb m.arrival (length rows)) e).1 in
-    IfSome_then (replied_entry m.load) h (λ entry k. let i : entry < issued_before (take m.arrival rows) = k l in omega (arith, issued_before-take-le rows m.arrival))
+issued_of_answer : (steps : List CoreStep) (m : Message) → is_reply_before (length steps) m ≡ true → FollowsItsRead steps m → IfSome (replied_entry m.load) (λ entry. entry < issued_before steps)
+issued_of_answer steps m e h =
+    let l : m.arrival < length steps = ltb-true m.arrival (length steps) (and_parts (is_reply m) (ltb m.arrival (length steps)) e).1 in
+    IfSome_then (replied_entry m.load) h (λ entry k. let i : entry < issued_before (take m.arrival steps) = k l in omega (arith, issued_before-take-le steps m.arrival))
 
-answers_issued : (rows : List CoreRow) (ms : List Message) → RepliesFollowReads rows ms
-    → Each (λ (m : Message). IfSome (replied_entry m.load) (λ entry. entry < issued_before rows)) (filter (is_reply_before (length rows)) ms)
-answers_issued rows [] h = tt
-answers_issued rows (m ∷ ms) h =
-    let kept = filter (is_reply_before (length rows)) ms in
-    cond_both (is_reply_before (length rows) m) (m ∷ kept) kept (Each (λ (x : Message). IfSome (replied_entry x.load) (λ entry. entry < issued_before rows)))
-    (λ e. (issued_of_answer rows m e h.0, answers_issued rows ms h.1))
-    (λ e. answers_issued rows ms h.1)
+answers_issued : (steps : List CoreStep) (ms : List Message) → RepliesFollowReads steps ms
+    → Each (λ (m : Message). IfSome (replied_entry m.load) (λ entry. entry < issued_before steps)) (filter (is_reply_before (length steps)) ms)
+answers_issued steps [] h = tt
+answers_issued steps (m ∷ ms) h =
+    let kept = filter (is_reply_before (length steps)) ms in
+    cond_both (is_reply_before (length steps) m) (m ∷ kept) kept (Each (λ (x : Message). IfSome (replied_entry x.load) (λ entry. entry < issued_before steps)))
+    (λ e. (issued_of_answer steps m e h.0, answers_issued steps ms h.1))
+    (λ e. answers_issued steps ms h.1)
 
-pub replies-le-issued : (rows : List CoreRow) (inbox : List Message) → RepliesFollowReads rows inbox → IsDistinct eqb (answered_entries rows inbox)
-    → length (replies rows inbox) ≤ issued_before rows
+pub replies-le-issued : (steps : List CoreStep) (inbox : List Message) → RepliesFollowReads steps inbox → IsDistinct eqb (answered_entries steps inbox)
+    → length (replies steps inbox) ≤ issued_before steps
 unfolding answered_entries replies
-replies-le-issued rows inbox h d =
-    let kept = filter (is_reply_before (length rows)) inbox in
+replies-le-issued steps inbox h d =
+    let kept = filter (is_reply_before (length steps)) inbox in
     let entries = filter_map (λ (m : Message). replied_entry m.load) kept in
-    let below : Each (λ x. x < issued_before rows) entries = Each-filter_map (λ x. x < issued_before rows) (λ (m : Message). replied_entry m.load) kept (answers_issued rows inbox h) in
-    let few : length entries ≤ issued_before rows = length-le_from_distinct_below entries (issued_before rows) d (λ q e. among_below (issued_before rows) q entries below e) in
-    omega (arith, each_answers (length rows) inbox)
+    let below : Each (λ x. x < issued_before steps) entries = Each-filter_map (λ x. x < issued_before steps) (λ (m : Message). replied_entry m.load) kept (answers_issued steps inbox h) in
+    let few : length entries ≤ issued_before steps = length-le_from_distinct_below entries (issued_before steps) d (λ q e. among_below (issued_before steps) q entries below e) in
+    omega (arith, each_answers (length steps) inbox)

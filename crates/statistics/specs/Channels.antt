@@ -1,14 +1,14 @@
--- Statistics of a channel, over the rows of its run, one a cycle, and its inbox.
---     channel_stats s channel rows inbox      of all the cycles of these rows
---     channel_cycle s channel rows inbox o      of the one cycle after these rows, in which the channel does this
+-- Statistics of a channel, over the steps of its run, one a cycle, and its inbox.
+--     channel_stats s channel steps inbox      of all the cycles of these steps
+--     channel_cycle s channel steps inbox o      of the one cycle after these steps, in which the channel does this
 --     channel_none      of no cycle
 --     channel_joined a b      of two stretches of cycles, the first and what follows it
---     channel_stretch s channel rows inbox more      of the cycles after these rows, in which the channel does this, one after the other
+--     channel_stretch s channel steps inbox more      of the cycles after these steps, in which the channel does this, one after the other
 --     channel_times n a      of so many cycles that are each like this one
 --     quiet_cycle drained queued has_due drains      of a cycle in which nothing is issued
 --     one_command k hit      of a command alone
 --     ChannelFits a      each count fits
---     ActsComeFirst channel rows      no ACT is issued for an entry whose data was moved before
+--     ActsComeFirst channel steps      no ACT is issued for an entry whose data was moved before
 use Rattle.std.specs.Prelude.{◌≡◌, ℕ, ◌+◌, ◌*◌, ◌^◌, ◌<◌, ◌==◌, nat_lt, max, Bool, false, ◌&&◌, List, [], ◌∷◌, ◌++◌, length, take, slice_index_or, option_map, Option, Some, None, if◌then◌else◌}
 use Rattle.std.specs.List.{list_any}
 use Rattle.std.specs.Option.{IfSome}
@@ -21,7 +21,7 @@ use Rattle.sim_base.specs.declared.command.Kind.{Kind}
 use Rattle.sim_base.specs.declared.command.Kind.TheVariants as kind
 use Rattle.sim_base.specs.declared.command.Command.{Command}
 use Rattle.sim_base.specs.declared.command.Command.TheVariants.{Act, Rd, Wr, Pre, Prea, Ref}
-use Rattle.sim_base.specs.declared.command.CommandRow.{CommandRow}
+use Rattle.sim_base.specs.declared.command.IssuedCommand.{IssuedCommand}
 use Rattle.sim_base.specs.declared.command.Source.{Source}
 use Rattle.sim_base.specs.declared.message.Message.{Message}
 use Rattle.statistics.specs.declared.channels.ChannelStats.{ChannelStats}
@@ -31,10 +31,10 @@ use Rattle.statistics.specs.Counts.{one_if, sum_of_counts}
 abbrev pub draining_of : Config → ℕ → Option ℕ
 draining_of s n = if nat_lt 0 s.write_high then Some n else None
 
--- the statistics of all the cycles of these rows
+-- the statistics of all the cycles of these steps
 unfoldable pub channel_stats : Config → ℕ → List (Option Command) → List Message → ChannelStats
-channel_stats s channel rows inbox =
-    let history = issued_commands channel rows in
+channel_stats s channel steps inbox =
+    let history = issued_commands channel steps in
     record {
       act = issued_of_kind kind.Act history;
       rd = issued_of_kind kind.Rd history;
@@ -43,11 +43,11 @@ channel_stats s channel rows inbox =
       prea = issued_of_kind kind.Prea history;
       refs = issued_of_kind kind.Ref history;
       hits = hits history;
-      queued = queued channel rows inbox;
-      queued_max = queued_max channel rows inbox;
-      idle = idle channel rows inbox;
-      refreshing = refreshing s channel rows;
-      draining = draining_of s (draining s channel rows inbox);
+      queued = queued channel steps inbox;
+      queued_max = queued_max channel steps inbox;
+      idle = idle channel steps inbox;
+      refreshing = refreshing s channel steps;
+      draining = draining_of s (draining s channel steps inbox);
     }
 
 -- the channel issues a command of this kind
@@ -56,13 +56,13 @@ issues kind None = false
 issues kind (Some command) = is_kind (kind_of command) kind
 
 -- the channel moves data for a request that no ACT was issued for
-abbrev pub moves_hit : List CommandRow → Option Command → Bool
+abbrev pub moves_hit : List IssuedCommand → Option Command → Bool
 moves_hit history None = false
 moves_hit history (Some command) = is_hit history command
 
 -- the statistics of a cycle with a queue of this length, in which a refresh is due or not, the channel drains its writes
 -- or not, and does this
-unfoldable pub channel_cycle_with : Config → List CommandRow → ℕ → Bool → Bool → Option Command → ChannelStats
+unfoldable pub channel_cycle_with : Config → List IssuedCommand → ℕ → Bool → Bool → Option Command → ChannelStats
 channel_cycle_with s history queued has_due drains o =
     record {
       act = one_if (issues kind.Act o);
@@ -79,11 +79,11 @@ channel_cycle_with s history queued has_due drains o =
       draining = draining_of s (one_if drains);
     }
 
--- the statistics of the cycle after these rows, in which the channel does this
+-- the statistics of the cycle after these steps, in which the channel does this
 unfoldable pub channel_cycle : Config → ℕ → List (Option Command) → List Message → Option Command → ChannelStats
-channel_cycle s channel rows inbox o =
-    channel_cycle_with s (issued_commands channel rows) (queue_length channel rows inbox (length rows)) (has_refresh_due s channel rows (length rows))
-    (drains s channel rows inbox (length rows)) o
+channel_cycle s channel steps inbox o =
+    channel_cycle_with s (issued_commands channel steps) (queue_length channel steps inbox (length steps)) (has_refresh_due s channel steps (length steps))
+    (drains s channel steps inbox (length steps)) o
 
 -- the statistics of no cycle
 abbrev pub channel_none : ChannelStats
@@ -180,11 +180,11 @@ pub record ChannelFits (a : ChannelStats) : Type 0 where
   pub refreshing : a.refreshing < 2 ^ 64
   pub draining : IfSome a.draining (λ count. count < 2 ^ 64)
 
--- the statistics of the cycles after these rows, in which the channel does this, one after the other
+-- the statistics of the cycles after these steps, in which the channel does this, one after the other
 unfoldable pub channel_stretch : Config → ℕ → List (Option Command) → List Message → List (Option Command) → ChannelStats
-channel_stretch s channel rows inbox [] = channel_none
-channel_stretch s channel rows inbox (o ∷ more) =
-    channel_joined (channel_cycle s channel rows inbox o) (channel_stretch s channel (rows ++ o ∷ []) inbox more)
+channel_stretch s channel steps inbox [] = channel_none
+channel_stretch s channel steps inbox (o ∷ more) =
+    channel_joined (channel_cycle s channel steps inbox o) (channel_stretch s channel (steps ++ o ∷ []) inbox more)
 
 -- the same entry
 abbrev pub is_entry : Source → Source → Bool
@@ -200,7 +200,7 @@ moves_data_of source (Prea rank) = false
 moves_data_of source (Ref rank) = false
 
 -- an ACT for an entry whose data was moved
-abbrev pub is_late_act : List CommandRow → Option Command → Bool
+abbrev pub is_late_act : List IssuedCommand → Option Command → Bool
 is_late_act history (Some (Act bank row source)) = list_any (λ i. moves_data_of source i.command) history
 is_late_act history (Some (Rd bank row column source)) = false
 is_late_act history (Some (Wr bank row column source)) = false
@@ -211,5 +211,5 @@ is_late_act history None = false
 
 -- no ACT is issued for an entry whose data was moved in an earlier cycle
 abbrev pub ActsComeFirst : ℕ → List (Option Command) → Type 0
-ActsComeFirst channel rows =
-    (cycle : ℕ) → cycle < length rows → is_late_act (issued_commands channel (take cycle rows)) (slice_index_or rows cycle None) ≡ false
+ActsComeFirst channel steps =
+    (cycle : ℕ) → cycle < length steps → is_late_act (issued_commands channel (take cycle steps)) (slice_index_or steps cycle None) ≡ false

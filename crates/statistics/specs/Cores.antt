@@ -1,12 +1,12 @@
--- Statistics of a core, over the rows of its run, one a cycle, and its inbox.
---     core_stats s core trace rows inbox      of all the cycles of these rows
---     core_cycle s core trace rows inbox row      of the one cycle after these rows, in which the core does this
+-- Statistics of a core, over the steps of its run, one a cycle, and its inbox.
+--     core_stats s core trace steps inbox      of all the cycles of these steps
+--     core_cycle s core trace steps inbox row      of the one cycle after these steps, in which the core does this
 --     core_none      of no cycle
 --     core_joined a b      of two stretches of cycles, the first and what follows it
---     core_stretch s core trace rows inbox more      of the cycles after these rows, in which the core does this, one after the other
+--     core_stretch s core trace steps inbox more      of the cycles after these steps, in which the core does this, one after the other
 --     core_times n a      of so many cycles that are each like this one
 --     CoreFits a      each count fits
---     RepliesFollowReads rows inbox      each reply that arrived is of an entry that was issued before
+--     RepliesFollowReads steps inbox      each reply that arrived is of an entry that was issued before
 use Rattle.std.specs.Prelude.{ℕ, ◌+◌, ◌*◌, ◌^◌, ◌<◌, ◌==◌, nat_lt, nat_le, Bool, ◌&&◌, List, [], ◌∷◌, ◌++◌, length, take, drop, filter, count_by, sum_by, Option, Some, None, if◌then◌else◌}
 use Rattle.std.specs.Option.{IfSome, option_or}
 use Rattle.std.specs.List.{AllByRecursion as Each}
@@ -14,7 +14,7 @@ use Rattle.sim_base.specs.declared.config.Config.{Config}
 use Rattle.sim_base.specs.Counts.{is_read, is_write, reads, writes, replied_entry, is_reply, replies, wait_of, read_latency, is_stop, stopped_by, finish}
 use Rattle.sim_base.specs.History.{retired_before, issued_before}
 use Rattle.sim_base.specs.Windows.{step}
-use Rattle.sim_base.specs.declared.history.CoreRow.{CoreRow}
+use Rattle.sim_base.specs.declared.history.CoreStep.{CoreStep}
 use Rattle.sim_base.specs.declared.message.Message.{Message}
 use Rattle.sim_base.specs.declared.trace.Entry.{Entry}
 use Rattle.sim_base.specs.declared.trace.Stop.{Stop}
@@ -22,27 +22,27 @@ use Rattle.sim_base.specs.declared.trace.Stop.TheVariants as stop
 use Rattle.statistics.specs.Counts.{one_if}
 use Rattle.statistics.specs.declared.cores.CoreStats.{CoreStats}
 
--- the statistics of all the cycles of these rows
-unfoldable pub core_stats : Config → ℕ → List Entry → List CoreRow → List Message → CoreStats
-core_stats s core trace rows inbox =
+-- the statistics of all the cycles of these steps
+unfoldable pub core_stats : Config → ℕ → List Entry → List CoreStep → List Message → CoreStats
+core_stats s core trace steps inbox =
     record {
-      issued = issued_before rows;
-      retired = retired_before rows;
-      reads = reads trace rows;
-      writes = writes trace rows;
-      replies = length (replies rows inbox);
-      read_latency = read_latency rows inbox;
-      stop_end = stopped_by s core trace rows inbox stop.End;
-      stop_width = stopped_by s core trace rows inbox stop.Width;
-      stop_window = stopped_by s core trace rows inbox stop.Window;
-      stop_memory = stopped_by s core trace rows inbox stop.Memory;
-      stop_credit = stopped_by s core trace rows inbox stop.Credit;
-      finish = finish trace rows;
+      issued = issued_before steps;
+      retired = retired_before steps;
+      reads = reads trace steps;
+      writes = writes trace steps;
+      replies = length (replies steps inbox);
+      read_latency = read_latency steps inbox;
+      stop_end = stopped_by s core trace steps inbox stop.End;
+      stop_width = stopped_by s core trace steps inbox stop.Width;
+      stop_window = stopped_by s core trace steps inbox stop.Window;
+      stop_memory = stopped_by s core trace steps inbox stop.Memory;
+      stop_credit = stopped_by s core trace steps inbox stop.Credit;
+      finish = finish trace steps;
     }
 
--- the entries that the core issues in the cycle after these rows, in which it does this
-abbrev pub issued_in : List Entry → List CoreRow → CoreRow → List Entry
-issued_in trace rows row = take row.issued (drop (issued_before rows) trace)
+-- the entries that the core issues in the cycle after these steps, in which it does this
+abbrev pub issued_in : List Entry → List CoreStep → CoreStep → List Entry
+issued_in trace steps row = take row.issued (drop (issued_before steps) trace)
 
 -- a reply that arrives in a cycle
 abbrev pub is_reply_in : ℕ → Message → Bool
@@ -52,37 +52,37 @@ is_reply_in cycle m = is_reply m && (m.arrival == cycle)
 unfoldable pub replies_in : ℕ → List Message → List Message
 replies_in cycle inbox = filter (is_reply_in cycle) inbox
 
--- how long these replies were waited for, after these rows
-unfoldable pub waited : List CoreRow → List Message → ℕ
-waited rows ms = sum_by (λ m. wait_of rows m.arrival (replied_entry m.load)) ms
+-- how long these replies were waited for, after these steps
+unfoldable pub waited : List CoreStep → List Message → ℕ
+waited steps ms = sum_by (λ m. wait_of steps m.arrival (replied_entry m.load)) ms
 
--- the cycle after these rows, if the last entry retires in it
-unfoldable pub finish_in : List Entry → List CoreRow → CoreRow → Option ℕ
-finish_in trace rows row =
-    if nat_lt (retired_before rows) (length trace) && nat_le (length trace) (retired_before rows + row.retired) then Some (length rows) else None
+-- the cycle after these steps, if the last entry retires in it
+unfoldable pub finish_in : List Entry → List CoreStep → CoreStep → Option ℕ
+finish_in trace steps row =
+    if nat_lt (retired_before steps) (length trace) && nat_le (length trace) (retired_before steps + row.retired) then Some (length steps) else None
 
 -- the statistics of a cycle, in which the core does this, stops for this cause, and these replies arrive
-unfoldable pub core_cycle_with : List Entry → List CoreRow → CoreRow → Stop → List Message → CoreStats
-core_cycle_with trace rows row why arrived =
+unfoldable pub core_cycle_with : List Entry → List CoreStep → CoreStep → Stop → List Message → CoreStats
+core_cycle_with trace steps row why arrived =
     record {
       issued = row.issued;
       retired = row.retired;
-      reads = count_by is_read (issued_in trace rows row);
-      writes = count_by is_write (issued_in trace rows row);
+      reads = count_by is_read (issued_in trace steps row);
+      writes = count_by is_write (issued_in trace steps row);
       replies = length arrived;
-      read_latency = waited rows arrived;
+      read_latency = waited steps arrived;
       stop_end = one_if (is_stop stop.End why);
       stop_width = one_if (is_stop stop.Width why);
       stop_window = one_if (is_stop stop.Window why);
       stop_memory = one_if (is_stop stop.Memory why);
       stop_credit = one_if (is_stop stop.Credit why);
-      finish = finish_in trace rows row;
+      finish = finish_in trace steps row;
     }
 
--- the statistics of the cycle after these rows, in which the core does this
-unfoldable pub core_cycle : Config → ℕ → List Entry → List CoreRow → List Message → CoreRow → CoreStats
-core_cycle s core trace rows inbox row =
-    core_cycle_with trace rows row (step s core trace rows inbox).1 (replies_in (length rows) inbox)
+-- the statistics of the cycle after these steps, in which the core does this
+unfoldable pub core_cycle : Config → ℕ → List Entry → List CoreStep → List Message → CoreStep → CoreStats
+core_cycle s core trace steps inbox row =
+    core_cycle_with trace steps row (step s core trace steps inbox).1 (replies_in (length steps) inbox)
 
 -- the statistics of no cycle
 abbrev pub core_none : CoreStats
@@ -152,16 +152,16 @@ pub record CoreFits (a : CoreStats) : Type 0 where
   pub stop_memory : a.stop_memory < 2 ^ 64
   pub stop_credit : a.stop_credit < 2 ^ 64
 
--- the statistics of the cycles after these rows, in which the core does this, one after the other
-unfoldable pub core_stretch : Config → ℕ → List Entry → List CoreRow → List Message → List CoreRow → CoreStats
-core_stretch s core trace rows inbox [] = core_none
-core_stretch s core trace rows inbox (row ∷ more) =
-    core_joined (core_cycle s core trace rows inbox row) (core_stretch s core trace (rows ++ row ∷ []) inbox more)
+-- the statistics of the cycles after these steps, in which the core does this, one after the other
+unfoldable pub core_stretch : Config → ℕ → List Entry → List CoreStep → List Message → List CoreStep → CoreStats
+core_stretch s core trace steps inbox [] = core_none
+core_stretch s core trace steps inbox (row ∷ more) =
+    core_joined (core_cycle s core trace steps inbox row) (core_stretch s core trace (steps ++ row ∷ []) inbox more)
 
--- a reply, if it arrived within these rows, is of an entry that was issued in an earlier cycle
-abbrev pub FollowsItsRead : List CoreRow → Message → Type 0
-FollowsItsRead rows m = IfSome (replied_entry m.load) (λ entry. m.arrival < length rows → entry < issued_before (take m.arrival rows))
+-- a reply, if it arrived within these steps, is of an entry that was issued in an earlier cycle
+abbrev pub FollowsItsRead : List CoreStep → Message → Type 0
+FollowsItsRead steps m = IfSome (replied_entry m.load) (λ entry. m.arrival < length steps → entry < issued_before (take m.arrival steps))
 
--- each reply that arrived within these rows is of an entry that was issued in an earlier cycle
-abbrev pub RepliesFollowReads : List CoreRow → List Message → Type 0
-RepliesFollowReads rows inbox = Each (FollowsItsRead rows) inbox
+-- each reply that arrived within these steps is of an entry that was issued in an earlier cycle
+abbrev pub RepliesFollowReads : List CoreStep → List Message → Type 0
+RepliesFollowReads steps inbox = Each (FollowsItsRead steps) inbox

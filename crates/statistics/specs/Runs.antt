@@ -8,13 +8,13 @@ use Rattle.std.specs.Prelude.{ℕ, true, false, List, length, map, filter_map, o
 use Rattle.sim_base.specs.declared.config.Config.{Config}
 use Rattle.sim_base.specs.Counts.{in_flight}
 use Rattle.sim_base.specs.Final.{credits_left, due_left, banks, queue_left}
-use Rattle.sim_base.specs.History.{below, trace_of, core_rows, channel_rows, issued_commands, commands, retired_before, issued_before, inbox}
+use Rattle.sim_base.specs.History.{below, trace_of, steps_of_core, steps_of_channel, issued_commands, commands, retired_before, issued_before, inbox}
 use Rattle.sim_base.specs.Machine.{run}
-use Rattle.sim_base.specs.Row.{Row}
+use Rattle.sim_base.specs.MachineStep.{MachineStep}
 use Rattle.sim_base.specs.Rules.{open_row}
 use Rattle.sim_base.specs.declared.command.Command.{Command}
-use Rattle.sim_base.specs.declared.command.CommandRow.{CommandRow}
-use Rattle.sim_base.specs.declared.history.CoreRow.{CoreRow}
+use Rattle.sim_base.specs.declared.command.IssuedCommand.{IssuedCommand}
+use Rattle.sim_base.specs.declared.history.CoreStep.{CoreStep}
 use Rattle.sim_base.specs.declared.message.Message.{Message}
 use Rattle.sim_base.specs.declared.message.Unit.TheVariants.{Core, Channel}
 use Rattle.sim_base.specs.declared.place.BankId.{BankId}
@@ -28,15 +28,15 @@ use Rattle.statistics.specs.declared.final_state.Credits.{Credits}
 use Rattle.statistics.specs.declared.final_state.OpenRow.{OpenRow}
 
 -- the statistics of a core of the machine
-unfoldable pub stats_of_core : Config → List (List Entry) → List Row → ℕ → CoreStats
-stats_of_core s traces history core = core_stats s core (trace_of traces core) (core_rows core history) (inbox s traces history (Core core))
+unfoldable pub stats_of_core : Config → List (List Entry) → List MachineStep → ℕ → CoreStats
+stats_of_core s traces history core = core_stats s core (trace_of traces core) (steps_of_core core history) (inbox s traces history (Core core))
 
 -- the statistics of a channel of the machine
-unfoldable pub stats_of_channel : Config → List (List Entry) → List Row → ℕ → ChannelStats
-stats_of_channel s traces history channel = channel_stats s channel (channel_rows channel history) (inbox s traces history (Channel channel))
+unfoldable pub stats_of_channel : Config → List (List Entry) → List MachineStep → ℕ → ChannelStats
+stats_of_channel s traces history channel = channel_stats s channel (steps_of_channel channel history) (inbox s traces history (Channel channel))
 
 -- how many cycles there were, and the statistics of each core and each channel
-unfoldable pub stats_of : Config → List (List Entry) → List Row → RunStats
+unfoldable pub stats_of : Config → List (List Entry) → List MachineStep → RunStats
 stats_of s traces history =
     record {
       cycles = length history;
@@ -44,43 +44,43 @@ stats_of s traces history =
       channels = map (stats_of_channel s traces history) (below s.channels);
     }
 
--- the credits that a core holds for a channel after these rows
-unfoldable pub credits_of : Config → ℕ → List Entry → List CoreRow → List Message → ℕ → Credits
-credits_of s core trace rows inbox channel =
-    record { read = credits_left s core trace rows inbox false channel; write = credits_left s core trace rows inbox true channel }
+-- the credits that a core holds for a channel after these steps
+unfoldable pub credits_of : Config → ℕ → List Entry → List CoreStep → List Message → ℕ → Credits
+credits_of s core trace steps inbox channel =
+    record { read = credits_left s core trace steps inbox false channel; write = credits_left s core trace steps inbox true channel }
 
--- the state of a core after these rows
-unfoldable pub core_last : Config → ℕ → List Entry → List CoreRow → List Message → LastCore
-core_last s core trace rows inbox =
-    record { issued = issued_before rows; retired = retired_before rows; credits = map (credits_of s core trace rows inbox) (below s.channels) }
+-- the state of a core after these steps
+unfoldable pub core_last : Config → ℕ → List Entry → List CoreStep → List Message → LastCore
+core_last s core trace steps inbox =
+    record { issued = issued_before steps; retired = retired_before steps; credits = map (credits_of s core trace steps inbox) (below s.channels) }
 
 -- an open row with its bank
 abbrev pub opened : BankId → ℕ → OpenRow
 opened bank row = record { bank = bank; row = row }
 
 -- the row that is open in a bank, with the bank
-abbrev pub row_of_bank : List CommandRow → BankId → Option OpenRow
+abbrev pub row_of_bank : List IssuedCommand → BankId → Option OpenRow
 row_of_bank history bank = option_map (opened bank) (open_row bank history)
 
--- the rows that are open after these rows, by rank, group and bank
+-- the rows that are open after these steps, by rank, group and bank
 unfoldable pub open_rows_left : Config → ℕ → List (Option Command) → List OpenRow
-open_rows_left s channel rows = filter_map (row_of_bank (issued_commands channel rows)) (banks s)
+open_rows_left s channel steps = filter_map (row_of_bank (issued_commands channel steps)) (banks s)
 
--- the state of a channel after these rows
+-- the state of a channel after these steps
 unfoldable pub channel_last : Config → ℕ → List (Option Command) → List Message → LastChannel
-channel_last s channel rows inbox =
-    record { due = due_left s channel rows; open_rows = open_rows_left s channel rows; queue = queue_left channel rows inbox }
+channel_last s channel steps inbox =
+    record { due = due_left s channel steps; open_rows = open_rows_left s channel steps; queue = queue_left channel steps inbox }
 
 -- the state in which a core of the machine is left
-unfoldable pub last_of_core : Config → List (List Entry) → List Row → ℕ → LastCore
-last_of_core s traces history core = core_last s core (trace_of traces core) (core_rows core history) (inbox s traces history (Core core))
+unfoldable pub last_of_core : Config → List (List Entry) → List MachineStep → ℕ → LastCore
+last_of_core s traces history core = core_last s core (trace_of traces core) (steps_of_core core history) (inbox s traces history (Core core))
 
 -- the state in which a channel of the machine is left
-unfoldable pub last_of_channel : Config → List (List Entry) → List Row → ℕ → LastChannel
-last_of_channel s traces history channel = channel_last s channel (channel_rows channel history) (inbox s traces history (Channel channel))
+unfoldable pub last_of_channel : Config → List (List Entry) → List MachineStep → ℕ → LastChannel
+last_of_channel s traces history channel = channel_last s channel (steps_of_channel channel history) (inbox s traces history (Channel channel))
 
 -- the state before the cycle after a history
-unfoldable pub final_of : Config → List (List Entry) → List Row → LastState
+unfoldable pub final_of : Config → List (List Entry) → List MachineStep → LastState
 final_of s traces history =
     record {
       cores = map (last_of_core s traces history) (below s.cores);
@@ -89,7 +89,7 @@ final_of s traces history =
     }
 
 -- the commands, the statistics and the state that a history leaves
-unfoldable pub outcome_after : Config → List (List Entry) → List Row → RunOutcome
+unfoldable pub outcome_after : Config → List (List Entry) → List MachineStep → RunOutcome
 outcome_after s traces history =
     record { commands = commands history; stats = stats_of s traces history; last = final_of s traces history; ranks = s.ranks }
 

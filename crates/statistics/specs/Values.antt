@@ -3,7 +3,7 @@
 --     LastCore, LastChannel, LastState      of CoreState, ChannelState and FinalState
 --     RunOutcome      of Outcome
 use Rattle.std.specs.Prelude.{ℕ, List}
-use Rattle.sim_base.specs.declared.command.CommandRow.{CommandRow}
+use Rattle.sim_base.specs.declared.command.IssuedCommand.{IssuedCommand}
 use Rattle.sim_base.specs.declared.message.Message.{Message}
 use Rattle.sim_base.specs.declared.message.Request.{Request}
 use Rattle.statistics.specs.declared.channels.ChannelStats.{ChannelStats}
@@ -37,7 +37,7 @@ pub record LastState : Type 0 where
 
 -- the commands, the statistics and the state at the end of a run, and how many ranks a channel has
 pub record RunOutcome : Type 0 where
-  pub commands : List CommandRow
+  pub commands : List IssuedCommand
   pub stats : RunStats
   pub last : LastState
   pub ranks : ℕ

@@ -4,7 +4,7 @@ ghost use Rattle.std.specs.Prelude.{ℕ, List};
 ghost use Rattle.sim_base.specs.declared.config.Config.{Config};
 ghost use Rattle.sim_base.specs.declared.message.Message.{Message};
 ghost use Rattle.sim_base.specs.declared.trace.Entry.{Entry};
-ghost use Rattle.statistics.specs.Joining.{CoresJoin, ChannelsJoin, CoreRowsJoin, ChannelRowsJoin, CoreCyclesMultiply, ChannelCyclesMultiply};
+ghost use Rattle.statistics.specs.Joining.{CoresJoin, ChannelsJoin, CoreStepsJoin, ChannelStepsJoin, CoreCyclesMultiply, ChannelCyclesMultiply};
 
 /// The statistics of each unit of a run, cut in two at any cycle, are those of its first cycles joined with those of the
 /// others.
@@ -14,11 +14,11 @@ pub fn runs_join()
     ensures channels { (s : Config) (traces : List (List Entry)) (from n : ℕ) → ChannelsJoin s traces from n }
 {}
 
-/// The same of one unit that is run alone, by its own rows and its inbox.
-#[tactic(auto, using(crate::proofs::RunStretches::core_rows_join, crate::proofs::RunStretches::channel_rows_join))]
+/// The same of one unit that is run alone, by its own steps and its inbox.
+#[tactic(auto, using(crate::proofs::RunStretches::core_steps_join, crate::proofs::RunStretches::channel_steps_join))]
 pub fn stretches_join()
-    ensures core { (s : Config) (core : ℕ) (trace : List Entry) (inbox : List Message) → CoreRowsJoin s core trace inbox }
-    ensures channel { (s : Config) (channel : ℕ) (inbox : List Message) → ChannelRowsJoin s channel inbox }
+    ensures core { (s : Config) (core : ℕ) (trace : List Entry) (inbox : List Message) → CoreStepsJoin s core trace inbox }
+    ensures channel { (s : Config) (channel : ℕ) (inbox : List Message) → ChannelStepsJoin s channel inbox }
 {}
 
 /// A stretch of cycles that are each alike counts as many times as one of them.

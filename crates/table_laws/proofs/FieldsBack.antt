@@ -10,7 +10,7 @@ use Rattle.sim_base.specs.declared.config.Config.{Config}
 use Rattle.sim_base.specs.declared.place.BankId.{BankId}
 use Rattle.sim_base.specs.declared.command.Command.{Command}
 use Rattle.sim_base.specs.declared.command.Command.TheVariants.{Act, Rd, Wr, Pre, Prea, Ref}
-use Rattle.sim_base.specs.declared.command.CommandRow.{CommandRow}
+use Rattle.sim_base.specs.declared.command.IssuedCommand.{IssuedCommand}
 use Rattle.sim_base.specs.declared.command.Source.{Source}
 use Rattle.reports.specs.Commands.{header, kind_word, operand_fields, command_fields}
 use Rattle.rule_check.specs.Numbers.{number_below, number_limit}
@@ -183,7 +183,7 @@ record-is s cycle channel (Prea rank) h = record-fields s cycle channel _ rank _
 record-is s cycle channel (Ref rank) h = record-fields s cycle channel _ rank _ _ _ _ _ _ h
 
 -- a row is read back
-pub row-back : (s : Config) (row : CommandRow) → RowIsOf s row → row_in s (command_fields s.ranks row) ≡ Some row
+pub row-back : (s : Config) (row : IssuedCommand) → RowIsOf s row → row_in s (command_fields s.ranks row) ≡ Some row
 unfolding row_in row_from
 row-back s row h =
     let fields = command_fields s.ranks row in
@@ -202,9 +202,9 @@ row-back s row h =
     ) refl
 
 -- so are the rows of a table
-rows-by : (s : Config) (rows : List CommandRow) → Each (RowIsOf s) rows → map (row_in s) (map (command_fields s.ranks) rows) ≡ map Some rows
+rows-by : (s : Config) (rows : List IssuedCommand) → Each (RowIsOf s) rows → map (row_in s) (map (command_fields s.ranks) rows) ≡ map Some rows
 rows-by s [] h = refl
 rows-by s (row ∷ rows) h = rw (row-back s row h.0, rows-by s rows h.1) refl
 
-pub rows-back : (s : Config) (rows : List CommandRow) → All (RowIsOf s) rows → map (row_in s) (map (command_fields s.ranks) rows) ≡ map Some rows
+pub rows-back : (s : Config) (rows : List IssuedCommand) → All (RowIsOf s) rows → map (row_in s) (map (command_fields s.ranks) rows) ≡ map Some rows
 rows-back s rows h = rows-by s rows (recursion_from_All (RowIsOf s) rows h)

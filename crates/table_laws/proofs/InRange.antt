@@ -13,10 +13,10 @@ use Rattle.sim_base.specs.Places.{bank_in}
 use Rattle.sim_base.specs.History.{below, trace_of, commands, inbox, issued_commands}
 use Rattle.sim_base.specs.Rules.{is_legal, has_open_bank}
 use Rattle.sim_base.specs.Scheduling.{candidates, drains, queue_in, source_of, column_command, needed_at, needed, ready_hit, ready_row, first_ready, lowest_due, refresh_command, if_legal, choice_between, choice}
-use Rattle.sim_base.specs.Machine.{next_command, next_row, run}
+use Rattle.sim_base.specs.Machine.{next_command, next_step, run}
 use Rattle.sim_base.specs.declared.command.Command.{Command}
 use Rattle.sim_base.specs.declared.command.Command.TheVariants.{Prea, Ref}
-use Rattle.sim_base.specs.declared.command.CommandRow.{CommandRow}
+use Rattle.sim_base.specs.declared.command.IssuedCommand.{IssuedCommand}
 use Rattle.sim_base.specs.declared.message.Message.{Message}
 use Rattle.sim_base.specs.declared.message.Request.{Request}
 use Rattle.sim_base.specs.declared.message.Unit.TheVariants.{Channel}
@@ -24,9 +24,9 @@ use Rattle.sim_base.specs.declared.trace.Entry.{Entry}
 use Rattle.sim_base.proofs.Each.{Each-append, IfSome-find}
 use Rattle.sim_base.proofs.Ordered.{Each-weaker}
 use Rattle.sim_base.proofs.Served.{or_else-each, candidates-each}
-use Rattle.sim_base.proofs.Spans.{length-run, channel_row-next}
+use Rattle.sim_base.proofs.Spans.{length-run, step_of_channel-next}
 use Rattle.address_map.proofs.Peeled.{place_of-in_range}
-use Rattle.laws.specs.Commands.{rows_of}
+use Rattle.laws.specs.Commands.{channel_steps_of}
 use Rattle.laws.proofs.Chosen.{IfSome-option_map}
 use Rattle.laws.proofs.Legal.{chosen}
 use Rattle.laws.proofs.Tabled.{rows_from, commands-more}
@@ -57,12 +57,12 @@ needed_at-of s r (Some row) h =
     (λ e. cond_both r.write _ _ (CommandIsOf s) (λ f. (bank-of s r h, h.place.row, h.place.column, source-of s r h)) (λ f. (bank-of s r h, h.place.row, h.place.column, source-of s r h)))
     (λ e. (bank-of s r h, source-of s r h))
 
-needed-of : (s : Config) (history : List CommandRow) (r : Request) → RequestIsOf s r → CommandIsOf s (needed history r)
+needed-of : (s : Config) (history : List IssuedCommand) (r : Request) → RequestIsOf s r → CommandIsOf s (needed history r)
 unfolding needed
 needed-of s history r h = needed_at-of s r _ h
 
 -- so is the command that a channel chooses
-between-of : (s : Config) (history : List CommandRow) (now : ℕ) (requests : List Request) (due : Option ℕ) → Each (RequestIsOf s) requests → IfSome due (λ rank. rank < s.ranks)
+between-of : (s : Config) (history : List IssuedCommand) (now : ℕ) (requests : List Request) (due : Option ℕ) → Each (RequestIsOf s) requests → IfSome due (λ rank. rank < s.ranks)
     → IfSome (choice_between s history now requests due) (CommandIsOf s)
 unfolding choice_between first_ready if_legal refresh_command
 between-of s history now requests None h d =
@@ -76,7 +76,7 @@ between-of s history now requests (Some rank) h d =
     (λ e. cond_both (has_open_bank s history rank) (Prea rank) (Ref rank) (CommandIsOf s) (λ f. d) (λ f. d))
     (λ e. tt)
 
-lowest-below : (s : Config) (history : List CommandRow) (now : ℕ) → IfSome (lowest_due s history now) (λ rank. rank < s.ranks)
+lowest-below : (s : Config) (history : List IssuedCommand) (now : ℕ) → IfSome (lowest_due s history now) (λ rank. rank < s.ranks)
 unfolding lowest_due
 lowest-below s history now = IfSome-find (λ rank. rank < s.ranks) _ (below s.ranks) (range-below s.ranks 0 s.ranks (omega arith))
 
@@ -107,7 +107,7 @@ queued-of s traces n k short r q =
 
 chosen-of : (s : Config) (traces : List (List Entry)) (n k : ℕ) → Each (λ (t : List Entry). length t ≤ 2 ^ 62) traces → IfSome (chosen s traces n k) (CommandIsOf s)
 chosen-of s traces n k short =
-    choice-of s k (rows_of s traces n k) (inbox s traces (run s traces n) (Channel k))
+    choice-of s k (channel_steps_of s traces n k) (inbox s traces (run s traces n) (Channel k))
     (Each-weaker (Queued s traces n k) (RequestIsOf s) (queued-of s traces n k short) _ (queue-queued s traces n k))
 
 -- what the channels from i on do in a cycle is of the configuration
@@ -124,19 +124,19 @@ rows-of s cycle i (Some c ∷ os) l at =
       rows-of s cycle (i + 1) os l (λ j m. let k = at (suc j) (omega arith) in (omega (arith, k.0), k.1)),
     )
 
-next-of : (s : Config) (traces : List (List Entry)) (n : ℕ) → Each (λ (t : List Entry). length t ≤ 2 ^ 62) traces → AreOf s 0 (next_row s traces (run s traces n)).commands
-unfolding next_row
+next-of : (s : Config) (traces : List (List Entry)) (n : ℕ) → Each (λ (t : List Entry). length t ≤ 2 ^ 62) traces → AreOf s 0 (next_step s traces (run s traces n)).commands
+unfolding next_step
 next-of s traces n short j l =
     let long = length-map-range_with_len (next_command s traces (run s traces n)) 0 s.channels in
     let b : j < s.channels = omega arith in
-    (omega arith, subst (λ o. IfSome o (CommandIsOf s)) (sym (channel_row-next s traces (run s traces n) j b)) (chosen-of s traces n j short))
+    (omega arith, subst (λ o. IfSome o (CommandIsOf s)) (sym (step_of_channel-next s traces (run s traces n) j b)) (chosen-of s traces n j short))
 
 commands-of : (s : Config) (traces : List (List Entry)) → Each (λ (t : List Entry). length t ≤ 2 ^ 62) traces → (n : ℕ) → n ≤ 2 ^ 62 → Each (RowIsOf s) (commands (run s traces n))
 unfolding run commands
 commands-of s traces short zero l = tt
 commands-of s traces short (suc n) l =
     let history = run s traces n in
-    let row = next_row s traces history in
+    let row = next_step s traces history in
     let long = length-run s traces n in
     subst (Each (RowIsOf s)) (sym (commands-more history row))
     (Each-append (RowIsOf s) (commands history) (rows_from (length history) 0 row.commands) (commands-of s traces short n (omega arith))

@@ -10,7 +10,7 @@ use Rattle.sim_base.specs.declared.command.Kind.{Kind}
 use Rattle.sim_base.specs.declared.command.Kind.TheVariants as kind
 use Rattle.sim_base.specs.declared.command.Command.{Command}
 use Rattle.sim_base.specs.declared.command.Command.TheVariants.{Act, Rd, Wr, Pre, Prea, Ref}
-use Rattle.sim_base.specs.declared.command.CommandRow.{CommandRow}
+use Rattle.sim_base.specs.declared.command.IssuedCommand.{IssuedCommand}
 use Rattle.reports.specs.Commands.{header, kind_word, operand_fields, command_fields}
 
 -- a field in which no byte calls for quotes
@@ -86,7 +86,7 @@ header-plain ranks =
     (refl, (refl, (refl, rest)))
 
 -- and those of each row
-pub row-plain : (ranks : ℕ) (row : CommandRow) → Each IsPlain (command_fields ranks row)
+pub row-plain : (ranks : ℕ) (row : IssuedCommand) → Each IsPlain (command_fields ranks row)
 row-plain ranks row =
     let rank = rank_of row.command in
     let rest = rank-plain (nat_lt 1 ranks) (decimal rank) (operand_fields row.command) (decimal-plain rank) (operands-plain row.command) in

@@ -8,7 +8,7 @@ use Rattle.csv.specs.Writing.{default_writer, field_text, fields_text, is_blank}
 use Rattle.csv.specs.Writing as csv
 use Rattle.csv.specs.declared.parser.State.TheVariants as st
 use Rattle.csv.proofs.RoundTrip.{read-write-many}
-use Rattle.sim_base.specs.declared.command.CommandRow.{CommandRow}
+use Rattle.sim_base.specs.declared.command.IssuedCommand.{IssuedCommand}
 use Rattle.reports.specs.Rows.{comma, row_text, rows_text, table_text}
 use Rattle.reports.specs.Commands.{header, command_fields, commands_text}
 use Rattle.rule_check.specs.Left.{records_after}
@@ -53,20 +53,20 @@ rows-read (row ∷ rows) h =
 several-header : (ranks : ℕ) → IsPlainRow (header ranks)
 several-header ranks = record { several = omega arith; plain = header-plain ranks }
 
-several-row : (ranks : ℕ) (row : CommandRow) → IsPlainRow (command_fields ranks row)
+several-row : (ranks : ℕ) (row : IssuedCommand) → IsPlainRow (command_fields ranks row)
 several-row ranks row = record { several = omega arith; plain = row-plain ranks row }
 
-rows-plain : (ranks : ℕ) (rows : List CommandRow) → Each IsPlainRow (map (command_fields ranks) rows)
+rows-plain : (ranks : ℕ) (rows : List IssuedCommand) → Each IsPlainRow (map (command_fields ranks) rows)
 rows-plain ranks [] = tt
 rows-plain ranks (row ∷ rows) = (several-row ranks row, rows-plain ranks rows)
 
 -- a table begins with no byte order mark
-pub unmarked : (ranks : ℕ) (rows : List CommandRow) → strip_bom (commands_text ranks rows) ≡ commands_text ranks rows
+pub unmarked : (ranks : ℕ) (rows : List IssuedCommand) → strip_bom (commands_text ranks rows) ≡ commands_text ranks rows
 unfolding strip_bom commands_text table_text rows_text row_text
 unmarked ranks rows = refl
 
 -- its records are the header and the rows
-pub records-read : (ranks : ℕ) (rows : List CommandRow) → records_of (commands_text ranks rows) ≡ header ranks ∷ map (command_fields ranks) rows
+pub records-read : (ranks : ℕ) (rows : List IssuedCommand) → records_of (commands_text ranks rows) ≡ header ranks ∷ map (command_fields ranks) rows
 unfolding records_after commands_text table_text
 records-read ranks rows =
     ap (λ text. records_after st.StartRecord text) (unmarked ranks rows)

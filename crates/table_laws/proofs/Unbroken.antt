@@ -10,7 +10,7 @@ use Rattle.std.proofs.lemmas.List.Sums.{fold-append, AllPass-from_list_all}
 use Rattle.sim_base.specs.declared.config.Config.{Config}
 use Rattle.sim_base.specs.declared.timing.Timing.{Timing}
 use Rattle.sim_base.specs.declared.rule.Rule.{Rule}
-use Rattle.sim_base.specs.declared.command.CommandRow.{CommandRow}
+use Rattle.sim_base.specs.declared.command.IssuedCommand.{IssuedCommand}
 use Rattle.sim_base.specs.declared.command.Kind.TheVariants as kind
 use Rattle.sim_base.specs.declared.trace.Entry.{Entry}
 use Rattle.sim_base.specs.History.{below, commands}
@@ -42,7 +42,7 @@ none-each p [] h = tt
 none-each p (r ∷ rs) h = let both = or_parts (p r) (list_any p rs) h in (both.0, none-each p rs both.1)
 
 -- each rule that binds two commands asks for no more than their distance
-abbrev AreFar : List Rule → CommandRow → CommandRow → Type 0
+abbrev AreFar : List Rule → IssuedCommand → IssuedCommand → Type 0
 AreFar rs earlier row =
     Each (λ r. binds r (kind_of earlier.command) (kind_of row.command) (relation_of earlier.command row.command) ≡ true → earlier.cycle + r.cycles ≤ row.cycle) rs
 
@@ -60,13 +60,13 @@ far-from p rs first now h =
           (far-each p 0 _ rs (omega arith))
     ]
 
-past-far : (t : Timing) (earlier row : CommandRow) → is_past_gap t row.cycle row.command earlier ≡ true → AreFar (rules t) earlier row
+past-far : (t : Timing) (earlier row : IssuedCommand) → is_past_gap t row.cycle row.command earlier ≡ true → AreFar (rules t) earlier row
 unfolding is_past_gap is_bound gap
 past-far t earlier row h =
     far-from (λ (r : Rule). binds r (kind_of earlier.command) (kind_of row.command) (relation_of earlier.command row.command)) (rules t) earlier.cycle row.cycle h
 
 -- a rule that asks for no more than the distance is not broken
-far-apart : (r : Rule) (earlier row : CommandRow)
+far-apart : (r : Rule) (earlier row : IssuedCommand)
     → (binds r (kind_of earlier.command) (kind_of row.command) (relation_of earlier.command row.command) ≡ true → earlier.cycle + r.cycles ≤ row.cycle) → is_too_close r earlier row ≡ false
 far-apart r earlier row h =
     false_from_ne_true (is_too_close r earlier row)
@@ -76,25 +76,25 @@ far-apart r earlier row h =
     let k = ltb-true _ _ both.1 in
     omega arith)
 
-none-close : (rs : List Rule) (number : ℕ) (history : List CommandRow) (row : CommandRow) → Each (λ earlier. AreFar rs earlier row) history
+none-close : (rs : List Rule) (number : ℕ) (history : List IssuedCommand) (row : IssuedCommand) → Each (λ earlier. AreFar rs earlier row) history
     → list_any (λ (r : Rule). eqb r.number number && list_any (λ earlier. is_too_close r earlier row) history) rs ≡ false
 none-close [] number history row h = refl
 none-close (r ∷ rs) number history row h =
     let here : list_any (λ earlier. is_too_close r earlier row) history ≡ false =
     list_any_none (λ earlier. is_too_close r earlier row) history
-    (All-from_recursion (λ (earlier : CommandRow). is_too_close r earlier row ≡ false) history
+    (All-from_recursion (λ (earlier : IssuedCommand). is_too_close r earlier row ≡ false) history
     (Each-weaker (λ earlier. AreFar (r ∷ rs) earlier row) (λ earlier. is_too_close r earlier row ≡ false) (λ earlier f. far-apart r earlier row f.0) history h)) in
     let rest = none-close rs number history row (Each-weaker (λ earlier. AreFar (r ∷ rs) earlier row) (λ earlier. AreFar rs earlier row) (λ earlier f. f.1) history h) in
     ap (λ b. (eqb r.number number && b) || list_any (λ (x : Rule). eqb x.number number && list_any (λ earlier. is_too_close x earlier row) history) rs) here
     ∙ ap (λ b. b || list_any (λ (x : Rule). eqb x.number number && list_any (λ earlier. is_too_close x earlier row) history) rs) (and_right (eqb r.number number) false refl)
     ∙ rest
 
-keeps-distance : (t : Timing) (number : ℕ) (history : List CommandRow) (row : CommandRow) → keeps_distances t history row.cycle row.command ≡ true → breaks_distance t number history row ≡ false
+keeps-distance : (t : Timing) (number : ℕ) (history : List IssuedCommand) (row : IssuedCommand) → keeps_distances t history row.cycle row.command ≡ true → breaks_distance t number history row ≡ false
 unfolding breaks_distance
 keeps-distance t number history row h =
     none-close (rules t) number history row
     (Each-weaker (λ earlier. is_past_gap t row.cycle row.command earlier ≡ true) (λ earlier. AreFar (rules t) earlier row) (λ earlier e. past-far t earlier row e) history
-    (recursion_from_All (λ (earlier : CommandRow). is_past_gap t row.cycle row.command earlier ≡ true) history
+    (recursion_from_All (λ (earlier : IssuedCommand). is_past_gap t row.cycle row.command earlier ≡ true) history
     (AllPass-from_list_all (is_past_gap t row.cycle row.command) history h)))
 
 -- RULE 16: THE WINDOW
@@ -104,12 +104,12 @@ window-kept false n h = refl
 window-kept true n h = let l = leb-true n 3 h in le-ltb 3 n l
 
 -- what is legal keeps the distances and the window, and finds its banks
-record IsAllowedRow (s : Config) (history : List CommandRow) (row : CommandRow) : Type 0 where
+record IsAllowedRow (s : Config) (history : List IssuedCommand) (row : IssuedCommand) : Type 0 where
   banks : finds_its_banks s history row.command ≡ true
   distances : keeps_distances s.timing history row.cycle row.command ≡ true
   window : breaks_window s.timing history row ≡ false
 
-legal-parts : (s : Config) (history : List CommandRow) (row : CommandRow) → is_legal s history row.cycle row.command ≡ true → IsAllowedRow s history row
+legal-parts : (s : Config) (history : List IssuedCommand) (row : IssuedCommand) → is_legal s history row.cycle row.command ≡ true → IsAllowedRow s history row
 unfolding is_legal is_allowed
 legal-parts s history row h =
     let first = and_parts (finds_its_banks s history row.command) _ h in
@@ -122,10 +122,10 @@ legal-parts s history row h =
 
 -- RULE 18: THE REFRESHES
 
-abbrev IsInTime : Config → List CommandRow → CommandRow → Type 0
+abbrev IsInTime : Config → List IssuedCommand → IssuedCommand → Type 0
 IsInTime s history row = (rank : ℕ) → rank < s.ranks → 0 < s.timing.n_refi → is_overdue s history row.cycle rank ≡ false
 
-keeps-refresh : (s : Config) (history : List CommandRow) (row : CommandRow) → IsInTime s history row → breaks_refresh s history row ≡ false
+keeps-refresh : (s : Config) (history : List IssuedCommand) (row : IssuedCommand) → IsInTime s history row → breaks_refresh s history row ≡ false
 keeps-refresh s history row h =
     elim (cases_Bool (ltb 0 s.timing.n_refi)) [
       | inl some ↦
@@ -138,7 +138,7 @@ keeps-refresh s history row h =
     ]
 
 -- a row keeps each rule of its channel
-keeps-channel : (s : Config) (history : List CommandRow) (row : CommandRow) (number : ℕ) → IsAllowedRow s history row → IsInTime s history row → breaks_in_channel s history row number ≡ false
+keeps-channel : (s : Config) (history : List IssuedCommand) (row : IssuedCommand) (number : ℕ) → IsAllowedRow s history row → IsInTime s history row → breaks_in_channel s history row number ≡ false
 keeps-channel s history row number a f =
     cond_both (eqb number 2) (not (finds_its_banks s history row.command)) _ (λ b. b ≡ false) (λ e. not_from_true _ a.banks)
     (λ e. cond_both (eqb number 16) (breaks_window s.timing history row) _ (λ b. b ≡ false) (λ g. a.window)
@@ -147,11 +147,11 @@ keeps-channel s history row number a f =
 
 -- RULE 1: THE ORDER
 
-last_row-push : (rows : List CommandRow) (row : CommandRow) → last_row (rows ++ row ∷ []) ≡ Some row
+last_row-push : (rows : List IssuedCommand) (row : IssuedCommand) → last_row (rows ++ row ∷ []) ≡ Some row
 unfolding last_row
-last_row-push rows row = fold-append (λ last (i : CommandRow). Some i) None rows (row ∷ [])
+last_row-push rows row = fold-append (λ last (i : IssuedCommand). Some i) None rows (row ∷ [])
 
-keeps-order : (rows : List CommandRow) (i : ℕ) (d : CommandRow) → IsOrdered rows → i < length rows → breaks_order (take i rows) (get_or rows i d) ≡ false
+keeps-order : (rows : List IssuedCommand) (i : ℕ) (d : IssuedCommand) → IsOrdered rows → i < length rows → breaks_order (take i rows) (get_or rows i d) ≡ false
 unfolding last_row
 keeps-order rows zero d h l = refl
 keeps-order rows (suc i) d h l =
@@ -163,7 +163,7 @@ keeps-order rows (suc i) d h l =
 
 -- EVERY RULE
 
-keeps-rules : (s : Config) (rows : List CommandRow) → IsOrdered rows → IsLegalTable s rows → IsRefreshedTable s rows → KeepsRules s rows
+keeps-rules : (s : Config) (rows : List IssuedCommand) → IsOrdered rows → IsLegalTable s rows → IsRefreshedTable s rows → KeepsRules s rows
 unfolding breaks
 keeps-rules s rows ordered legal refreshed i number d l low high =
     let row = get_or rows i d in

@@ -2,7 +2,7 @@
 use Rattle.std.proofs.Common.{◌≡◌, ℕ, ◌≤◌, ◌^◌, List, length, Ok}
 use Rattle.std.specs.Prelude.{All}
 use Rattle.sim_base.specs.declared.config.Config.{Config}
-use Rattle.sim_base.specs.declared.command.CommandRow.{CommandRow}
+use Rattle.sim_base.specs.declared.command.IssuedCommand.{IssuedCommand}
 use Rattle.sim_base.specs.declared.trace.Entry.{Entry}
 use Rattle.sim_base.specs.History.{commands}
 use Rattle.sim_base.specs.Machine.{run}
@@ -17,7 +17,7 @@ use Rattle.table_laws.proofs.InRange.{commands_are_in_range}
 use Rattle.table_laws.proofs.Unbroken.{tables_keep_every_rule}
 
 -- a table of rows that keep every rule is legal
-pub rows-legal : (s : Config) (rows : List CommandRow) → All (RowIsOf s) rows → KeepsRules s rows → verdict s (records_of (commands_text s.ranks rows)) ≡ Ok Legal
+pub rows-legal : (s : Config) (rows : List IssuedCommand) → All (RowIsOf s) rows → KeepsRules s rows → verdict s (records_of (commands_text s.ranks rows)) ≡ Ok Legal
 rows-legal s rows inside keeps =
     table-legal s _ (record {
       header = header s.ranks;

@@ -6,7 +6,7 @@ use Rattle.sim_base.specs.declared.config.Config.{Config}
 use Rattle.sim_base.specs.declared.place.BankId.{BankId}
 use Rattle.sim_base.specs.declared.command.Command.{Command}
 use Rattle.sim_base.specs.declared.command.Command.TheVariants.{Act, Rd, Wr, Pre, Prea, Ref}
-use Rattle.sim_base.specs.declared.command.CommandRow.{CommandRow}
+use Rattle.sim_base.specs.declared.command.IssuedCommand.{IssuedCommand}
 use Rattle.sim_base.specs.declared.command.Source.{Source}
 
 -- an entry of a core of the machine, with a number below the limit
@@ -30,7 +30,7 @@ CommandIsOf s (Prea rank) = rank < s.ranks
 CommandIsOf s (Ref rank) = rank < s.ranks
 
 -- a row of a channel of the configuration, in a cycle below the limit of numbers
-pub record RowIsOf (s : Config) (row : CommandRow) : Type 0 where
+pub record RowIsOf (s : Config) (row : IssuedCommand) : Type 0 where
   pub cycle : row.cycle < 2 ^ 62
   pub channel : row.channel < s.channels
   pub command : CommandIsOf s row.command

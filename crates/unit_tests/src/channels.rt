@@ -11,7 +11,7 @@ use crate::one_read::{ACT, BANK, CREDIT, RD, REPLY};
 use channel_step::channel::Channel;
 use command_table::list::CommandList;
 use fixtures::small::{RANK_FIELD, small};
-use sim_base::command::{Command, CommandRow};
+use sim_base::command::{Command, IssuedCommand};
 use sim_base::config::Config;
 use sim_base::fault::Fault;
 use sim_base::message::{Cycle, Load, Message, Request};
@@ -27,7 +27,7 @@ struct Case<'x> {
     n_refi: &'x str,
     reads: bool,
     until: Cycle,
-    commands: &'x [CommandRow],
+    commands: &'x [IssuedCommand],
     messages: &'x [Message],
     stats: ChannelStats,
     open_row: Option<u32>,
@@ -53,12 +53,12 @@ static CASES: [Case<'static>; 3] = [
         reads: false,
         until: 250,
         commands: &[
-            CommandRow {
+            IssuedCommand {
                 cycle: 100,
                 channel: 0,
                 command: Command::Ref { rank: 0 },
             },
-            CommandRow {
+            IssuedCommand {
                 cycle: 200,
                 channel: 0,
                 command: Command::Ref { rank: 0 },
@@ -134,7 +134,7 @@ fn first_read(config: &Config) -> Message
 fn assert_did(
     rt: &impl Abort,
     channel: &Channel,
-    commands: &[CommandRow],
+    commands: &[IssuedCommand],
     messages: &[Message],
     case: &Case<'_>,
 )

@@ -7,7 +7,7 @@ use channel_feed::done::ChannelDone;
 use channel_feed::fault::FeedFault;
 use channel_feed::fed::FedChannel;
 use fixtures::small::small;
-use sim_base::command::{Command, CommandRow, Source};
+use sim_base::command::{Command, IssuedCommand, Source};
 use sim_base::message::{Cycle, LinkId, Load, Message, Request};
 use sim_base::place::Place;
 use statistics::channels::ChannelStats;
@@ -87,7 +87,7 @@ enum Step<'x> {
 #[derive(Drop)]
 struct Running {
     fed: Option<FedChannel>,
-    commands: Vec<CommandRow>,
+    commands: Vec<IssuedCommand>,
     messages: Vec<Message>,
 }
 
@@ -156,7 +156,7 @@ struct Case<'x> {
     steps: &'x [Step<'x>],
     now: Cycle,
     next: Option<Cycle>,
-    commands: &'x [CommandRow],
+    commands: &'x [IssuedCommand],
     messages: &'x [Message],
     stats: ChannelStats,
     further: &'x [Further<'x>],
@@ -267,7 +267,7 @@ const TWO_READS: Case<'static> = Case {
     commands: &[
         ACT,
         RD,
-        CommandRow {
+        IssuedCommand {
             cycle: 10,
             channel: 0,
             command: Command::Rd {
@@ -417,7 +417,7 @@ static CASES: [Case<'static>; 10] = [
         commands: &[
             ACT,
             RD,
-            CommandRow {
+            IssuedCommand {
                 cycle: 10,
                 channel: 0,
                 command: Command::Rd {

@@ -1,6 +1,6 @@
 //! What the small machine's channel does with a Read of the first line that arrives in cycle 2.
 
-use sim_base::command::{Command, CommandRow, Source};
+use sim_base::command::{Command, IssuedCommand, Source};
 use sim_base::message::{Load, Message};
 use sim_base::place::BankId;
 
@@ -10,7 +10,7 @@ pub(crate) const BANK: BankId = BankId {
     bank: 0,
 };
 
-pub(crate) const ACT: CommandRow = CommandRow {
+pub(crate) const ACT: IssuedCommand = IssuedCommand {
     cycle: 2,
     channel: 0,
     command: Command::Act {
@@ -20,7 +20,7 @@ pub(crate) const ACT: CommandRow = CommandRow {
     },
 };
 
-pub(crate) const RD: CommandRow = CommandRow {
+pub(crate) const RD: IssuedCommand = IssuedCommand {
     cycle: 5,
     channel: 0,
     command: Command::Rd {

@@ -2,7 +2,7 @@
 
 use crate::expect::{expect, expect_at};
 use run_tables::read_commands;
-use sim_base::command::{Command, CommandRow, Source};
+use sim_base::command::{Command, IssuedCommand, Source};
 use sim_base::fault::Fault;
 use sim_base::place::BankId;
 use std::alloc::{AllocError, Global};
@@ -22,8 +22,8 @@ const WITHOUT_RANK: &str = "cycle,channel,command,group,bank,row,column,core,ent
 9,1,REF,,,,,,
 ";
 
-fn row(cycle: u64, channel: u32, command: Command) -> CommandRow {
-    CommandRow {
+fn row(cycle: u64, channel: u32, command: Command) -> IssuedCommand {
+    IssuedCommand {
         cycle,
         channel,
         command,

@@ -1,22 +1,22 @@
-//! What stands at the beginning and at the end of each job.
+//! What stands at the beginning and at the end of each part of a phase.
 
 ghost use Rattle.std.specs.Prelude.{◌≡◌, IfOk};
 
-use epochs::job::{Done, Job};
-use sim_base::job::JobName;
+use crew::work::Work;
+use epochs::task::{Task, TaskDone, TaskName};
 use std::alloc::{AllocError, Global};
 
-/// What a worker passes before it runs a job, and after it. Several threads use one gate. Workers are numbered from 0 in each
+/// What a worker passes before it runs a part of a phase, and after it. Several threads use one gate. Workers are numbered from 0 in each
 /// phase.
 pub trait Gate {
-    /// Whether jobs pass the gate. Where they do not, a single worker may run a machine in place, with no jobs.
+    /// Whether the parts pass the gate. Where they do not, the caller may run a machine in place, with no phases in parts.
     fn watches(&self) -> bool;
 
-    /// The worker is about to run the job.
-    fn enter(&self, worker: usize, job: JobName);
+    /// The worker is about to run the part.
+    fn enter(&self, worker: usize, part: TaskName);
 
-    /// The worker has the result of the job.
-    fn leave(&self, worker: usize, job: JobName);
+    /// The worker has run the part.
+    fn leave(&self, worker: usize, part: TaskName);
 }
 
 /// The gate that does nothing.
@@ -28,34 +28,46 @@ impl Gate for Open {
         false
     }
 
-    fn enter(&self, _worker: usize, _job: JobName) {}
+    fn enter(&self, _worker: usize, _part: TaskName) {}
 
-    fn leave(&self, _worker: usize, _job: JobName) {}
+    fn leave(&self, _worker: usize, _part: TaskName) {}
 }
 
-/// Runs a job between its enter and its leave. Only memory can be refused; the gate is then not left.
-pub(crate) fn run_at<G: Gate>(gate: &G, worker: usize, job: Job) -> Result<Done, AllocError>
-    ensures { IfOk result (λ done. done ≡ job) }
+/// How parts of phases are run: each passes the gate.
+#[derive(Drop)]
+pub struct AtGate<'a, G: Gate> {
+    pub gate: &'a G,
+}
+
+impl<'a, G: Gate> Work<Task, TaskDone> for AtGate<'a, G> {
+    fn run(&self, _alloc: Global, worker: usize, task: Task) -> Result<TaskDone, AllocError> {
+        run_at(self.gate, worker, task)
+    }
+}
+
+/// Runs a part of a phase between its enter and its leave. Only memory can be refused; the gate is then not left.
+pub(crate) fn run_at<G: Gate>(gate: &G, worker: usize, task: Task) -> Result<TaskDone, AllocError>
+    ensures { IfOk result (λ done. done ≡ task) }
 {
-    let name = job.name();
+    let name = task.name();
     gate.enter(worker, name);
-    let done = job.run()?;
+    let done = task.run()?;
     gate.leave(worker, name);
     Ok(done)
 }
 
-/// Runs jobs one after the other. Only memory can be refused.
+/// Runs parts of a phase one after the other. Only memory can be refused.
 pub(crate) fn run_all<G: Gate>(
     gate: &G,
     alloc: Global,
     worker: usize,
-    jobs: Vec<Job>,
-) -> Result<Vec<Done>, AllocError>
-    ensures { IfOk result (λ results. results.items ≡ jobs.items) }
+    tasks: Vec<Task>,
+) -> Result<Vec<TaskDone>, AllocError>
+    ensures { IfOk result (λ results. results.items ≡ tasks.items) }
 {
-    let mut results = Vec::with_capacity(alloc, jobs.len())?;
-    for job in jobs {
-        results.push(run_at(gate, worker, job)?)?;
+    let mut results = Vec::with_capacity(alloc, tasks.len())?;
+    for task in tasks {
+        results.push(run_at(gate, worker, task)?)?;
     }
     Ok(results)
 }

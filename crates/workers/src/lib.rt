@@ -2,7 +2,6 @@
 #![tactic(auto)]
 
 pub mod gate;
-pub mod group;
 pub mod machine;
 pub mod runner;
 pub mod watch;

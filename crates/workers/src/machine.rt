@@ -1,21 +1,21 @@
 //! A whole machine, run by workers.
 
-ghost use Rattle.std.specs.Prelude.{◌≡◌, ◌<◌, ◌≤◌, ◌^◌, ◌*◌, length, IfOk, IfErr};
+ghost use Rattle.std.specs.Prelude.{◌≡◌, ◌<◌, ◌≤◌, ◌^◌, length, IfOk, IfErr};
 ghost use Rattle.sim_base.specs.Machine.{cycles_run};
 ghost use Rattle.statistics.specs.Runs.{outcome_of};
-ghost use Rattle.epochs.specs.Ordered.{HasReached, IsFurther};
+ghost use Rattle.epochs.specs.Ordered.{HasReached};
 ghost use Rattle.workers.specs.Runs.{IsRefusedTo};
 
-use crate::gate::Gate;
-use crate::group::{AtGate, Group, Results};
+use crate::gate::{AtGate, Gate};
 use crate::runner::{Claims, Runner, Serial};
 use crate::watch::{Plan, Watch, entries_of, stretch_end};
 use cpu_trace::trace::Trace;
 use crew::bell::Patience;
 use crew::caller::Phases;
 use crew::run::{Course, Refused, with_crew};
-use epochs::rested::{Rested, Step};
+use epochs::fleet::Leg;
 use epochs::sim::Sim;
+use epochs::task::{Task, TaskDone};
 use sim_base::config::Config;
 use sim_base::fault::Fault;
 use sim_base::message::Cycle;
@@ -24,56 +24,45 @@ use std::alloc::{AllocError, Global};
 use std::sync::Wait;
 use std::thread::Threads;
 
-/// How many groups there are for each worker, at most. Several, so that those who are done early find more.
-const GROUPS_A_WORKER: usize = 4;
-
-/// How long a worker looks for the next phase before it sleeps.
+/// How long a worker looks for the next phase before it sleeps: for a tenth of a millisecond, which is longer than most phases, and then with its processor
+/// left to others between two looks.
 const PATIENCE: Patience = Patience {
     spins: 2_000,
-    yields: 0,
+    yields: 10_000,
 };
 
-/// Where no more units wake in a phase, the caller runs it, and a machine of no more units as a whole: it costs less than to wake other
-/// threads.
+/// A machine of no more units is run by the caller as a whole: it costs less than to wake other threads.
 const FEW: usize = 16;
 
-/// How the phases of a run are run.
+/// Where fewer messages are in flight, the caller runs a machine alone for a while.
+const BUSY: usize = 32;
+
+/// After how many cycles it is looked for the first time how much is in flight. Each time is twice as far as the time before.
+const FIRST_LAP: Cycle = 4_096;
+
+/// In how many shards the units are shared out, and how many messages in flight make it worth while.
+#[derive(Clone, Copy)]
+struct Sharing {
+    shards: usize,
+    busy: usize,
+    ghost some: { 0 < shards },
+}
+
+/// How a run is run.
 #[derive(Clone, Copy)]
 enum Way {
-    /// All by the caller, in place.
+    /// By the caller, in place.
     Alone,
-    /// By a runner, where more than so many units wake in a phase; else by the caller.
-    Together { few: usize },
+    /// In shards, each run by a worker in each phase, where enough is in flight; else by the caller, for a while.
+    Shared(Sharing),
 }
 
-/// A simulator further on: by a phase of the units that wake in it, which the runner runs, or the caller where they are few.
-fn one_step<N: Runner>(
-    rested: Rested,
-    alloc: Global,
-    limit: Cycle,
-    few: usize,
-    runner: &mut N,
-) -> Result<Rested, Fault>
-    requires before { rested.now < limit }
-    requires early { limit ≤ 10 ^ 12 }
-    ensures ok { IfOk result (IsFurther rested limit) }
-    ensures refused { IfErr result (λ fault. fault ≡ Fault.Memory) }
-{
-    match rested.further(alloc, limit, few)? {
-        Step::Alone(after) => Ok(after),
-        Step::Together(shift, jobs) => {
-            let results = runner.run_phase(jobs)?;
-            Ok(shift.end(alloc, results)?)
-        }
-    }
-}
-
-/// A simulator at a limit, step by step.
-fn run_steps<N: Runner>(
+/// A simulator at a limit, its units shared out in shards, whose parts of each phase the runner runs.
+fn run_shared<N: Runner>(
     sim: Sim,
     alloc: Global,
     limit: Cycle,
-    few: usize,
+    sharing: Sharing,
     runner: &mut N,
 ) -> Result<Sim, Fault>
     requires not_past { sim.now ≤ limit }
@@ -81,11 +70,58 @@ fn run_steps<N: Runner>(
     ensures ok { IfOk result (HasReached sim limit) }
     ensures refused { IfErr result (λ fault. fault ≡ Fault.Memory) }
 {
-    let mut rested = sim.rested(alloc)?;
-    while rested.now() < limit {
-        rested = one_step(rested, alloc, limit, few, runner)?;
+    let mut fleet = sim.shared_out(alloc, sharing.shards)?;
+    loop {
+        match fleet.further(alloc, limit)? {
+            Leg::Done(sim) => return Ok(sim),
+            Leg::Phase(outing, tasks) => {
+                let results = runner.run_phase(tasks)?;
+                fleet = outing.end(alloc, results)?;
+            }
+        }
     }
-    Ok(rested.brought_up(alloc)?)
+}
+
+/// A simulator at a limit, run by all workers where enough is in flight now, and else by the caller alone.
+fn run_lap<N: Runner>(
+    sim: Sim,
+    alloc: Global,
+    limit: Cycle,
+    sharing: Sharing,
+    runner: &mut N,
+) -> Result<Sim, Fault>
+    requires not_past { sim.now ≤ limit }
+    requires early { limit ≤ 10 ^ 12 }
+    ensures ok { IfOk result (HasReached sim limit) }
+    ensures refused { IfErr result (λ fault. fault ≡ Fault.Memory) }
+{
+    if sim.in_flight(alloc)? < sharing.busy {
+        return Ok(sim.run_alone(alloc, limit)?);
+    }
+    run_shared(sim, alloc, limit, sharing, runner)
+}
+
+/// A simulator at a limit, lap by lap.
+fn run_laps<N: Runner>(
+    sim: Sim,
+    alloc: Global,
+    limit: Cycle,
+    sharing: Sharing,
+    runner: &mut N,
+) -> Result<Sim, Fault>
+    requires not_past { sim.now ≤ limit }
+    requires early { limit ≤ 10 ^ 12 }
+    ensures ok { IfOk result (HasReached sim limit) }
+    ensures refused { IfErr result (λ fault. fault ≡ Fault.Memory) }
+{
+    let mut sim = sim;
+    let mut lap = FIRST_LAP;
+    while sim.now() < limit {
+        let stop = limit.min(sim.now().saturating_add(lap.max(1)));
+        sim = run_lap(sim, alloc, stop, sharing, runner)?;
+        lap = lap.saturating_mul(2);
+    }
+    Ok(sim)
 }
 
 /// Runs a machine to its end, in the stretches that the watcher wants: by phases, or in place by the caller alone. Only memory can be
@@ -115,7 +151,7 @@ fn run_by<W: Watch, N: Runner>(
         let until = stretch_end(&sim, alloc, stop, plan, watch, &mut look);
         sim = match way {
             Way::Alone => sim.run_alone(alloc, until)?,
-            Way::Together { few } => run_steps(sim, alloc, until, few, runner)?,
+            Way::Shared(sharing) => run_laps(sim, alloc, until, sharing, runner)?,
         };
     }
     let outcome = sim.outcome(alloc)?;
@@ -129,21 +165,19 @@ struct Voyage<'a, W: Watch> {
     config: &'a Config,
     traces: Vec<Trace>,
     cycles: Cycle,
-    most: usize,
     way: Way,
     ghost one_trace_a_core: { length traces.items ≡ config.now.cores },
     ghost limit: { cycles ≤ 10 ^ 12 },
-    ghost some: { 0 < most },
 }
 
-impl<'a, W: Watch> Course<Group, Results, Outcome> for Voyage<'a, W> {
+impl<'a, W: Watch> Course<Task, TaskDone, Outcome> for Voyage<'a, W> {
     ghost use Rattle.std.specs.Prelude.{◌≡◌};
     ghost use Rattle.sim_base.specs.Machine.{cycles_run};
     ghost use Rattle.statistics.specs.Runs.{outcome_of};
 
     ghost leads = { λ v o. o ≡ outcome_of v.config.now v.traces.items (cycles_run v.config.now v.traces.items v.cycles) };
 
-    fn run<P: Phases<Group, Results>>(
+    fn run<P: Phases<Task, TaskDone>>(
         self,
         alloc: Global,
         crew: &mut P,
@@ -153,10 +187,9 @@ impl<'a, W: Watch> Course<Group, Results, Outcome> for Voyage<'a, W> {
             config,
             traces,
             cycles,
-            most,
             way,
         } = self;
-        let mut claims = Claims::new(alloc, crew, most);
+        let mut claims = Claims::new(crew);
         match run_by(alloc, watch, config, traces, cycles, way, &mut claims) {
             Ok(outcome) => Ok(outcome),
             Err(_) => Err(AllocError),
@@ -164,7 +197,7 @@ impl<'a, W: Watch> Course<Group, Results, Outcome> for Voyage<'a, W> {
     }
 }
 
-/// So many workers, and no more than the machine has units: no phase has more jobs.
+/// So many workers, and no more than the machine has units: each has a shard.
 fn useful(workers: usize, config: &Config) -> usize
     requires { 2 ≤ workers }
     ensures { (2 ≤ result) × (result ≤ workers) }
@@ -191,19 +224,17 @@ fn run_together<R: Threads + Wait + Sync, G: Gate + Sync, W: Watch>(
     ensures outcome { IfOk result (λ o. o ≡ outcome_of config.now traces.items (cycles_run config.now traces.items cycles)) }
     ensures refused { IfErr result (IsRefusedTo workers) }
 {
-    let useful = useful(workers, config);
-    let most = GROUPS_A_WORKER * useful;
-    let few = if gate.watches() { 0 } else { FEW };
+    let shards = useful(workers, config);
+    let busy = if gate.watches() { 0 } else { BUSY };
     let voyage = Voyage {
         watch,
         config,
         traces,
         cycles,
-        most,
-        way: Way::Together { few },
+        way: Way::Shared(Sharing { shards, busy }),
     };
     let work = AtGate { gate };
-    match with_crew(rt, alloc, &work, most, useful, PATIENCE, voyage) {
+    match with_crew(rt, alloc, &work, shards, shards, PATIENCE, voyage) {
         Ok(outcome) => Ok(outcome),
         Err(Refused::Memory) => Err(Fault::Memory),
         Err(Refused::Start) => Err(Fault::WorkerStart),
@@ -234,7 +265,7 @@ fn run_watched<R: Threads + Wait + Sync, G: Gate + Sync, W: Watch>(
         return run_together(rt, alloc, gate, watch, workers, config, traces, cycles);
     }
     let way = if gate.watches() {
-        Way::Together { few: 0 }
+        Way::Shared(Sharing { shards: 1, busy: 0 })
     } else {
         Way::Alone
     };

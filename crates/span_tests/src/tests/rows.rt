@@ -5,7 +5,7 @@ use crate::expect::expect_at;
 use cpu_trace::trace::Trace;
 use fixtures::small::{TWO_RANKS, small};
 use fixtures::texts::{texts_of, traces_of};
-use sim_base::command::{CommandRow, Kind};
+use sim_base::command::{IssuedCommand, Kind};
 use statistics::outcome::Outcome;
 use std::alloc::Global;
 use std::process::Abort;
@@ -24,7 +24,7 @@ fn word(kind: Kind) -> &'static str {
 }
 
 /// The kinds of commands, with their cycles.
-fn summary(alloc: Global, commands: &[CommandRow]) -> Result<String, Fail> {
+fn summary(alloc: Global, commands: &[IssuedCommand]) -> Result<String, Fail> {
     let mut text = String::new(alloc);
     for row in commands {
         let word = word(row.command.kind());

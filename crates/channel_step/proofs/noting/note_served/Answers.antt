@@ -2,7 +2,7 @@
 use Rattle.std.proofs.Common.{◌≡◌, ℕ, zero, suc, List, [], ◌∷◌, get_or, Some, sym, ap, subst, ◌∙◌}
 use Rattle.std.specs.Prelude.{slice_get, option_and_then}
 use Rattle.sim_base.specs.declared.message.Request.{Request}
-use Rattle.heads.specs.Stands.{StandsFor as HeadsStandFor}
+use Rattle.bank_candidates.specs.Stands.{StandsFor as CandidatesStandFor}
 use Rattle.channel_step.specs.Queued.{requests_left}
 use Rattle.channel_step.proofs.noting.note_served.Goals as goal
 
@@ -14,7 +14,7 @@ read_at (y ∷ ys) (suc k) x is d = read_at ys k x is d
 pub returns-clause-stands : goal.returns-clause-stands
 returns-clause-stands c earlier open_rows served within left stands =
     let slot = c.in-Some.slot in
-    subst (λ (rs : List Request). HeadsStandFor c.served.new.self rs open_rows) c.columns.ensures
-    (c.served.ensures.stands earlier open_rows (within slot c.in-Some.is)
+    subst (λ (rs : List Request). CandidatesStandFor c.on_service.new.self rs open_rows) c.columns.ensures
+    (c.on_service.ensures.stands earlier open_rows (within slot c.in-Some.is)
     (read_at earlier slot c.in-Some-served.request (sym c.in-Some-served.is ∙ served ∙ ap (option_and_then (slice_get earlier)) c.in-Some.is))
     (c.columns.ensures ∙ left ∙ ap (requests_left earlier) c.in-Some.is) stands)

@@ -1,4 +1,4 @@
-use Rattle.std.proofs.Common.{rules, ◌≡◌, ◌∷◌, [], ◌++◌, suc, length, sym, ap, subst, ◌∙◌, append_assoc, arith}
+use Rattle.std.proofs.Common.{rules, ◌≡◌, ◌∷◌, [], ◌++◌, length, sym, ap, subst, ◌∙◌, append_assoc, arith}
 use Rattle.statistics.proofs.Lists.{length-push_suc}
 use Rattle.epochs.specs.Units.{unit_at}
 use Rattle.epochs.specs.Parts.{IsPart, StandAt}
@@ -23,7 +23,9 @@ loop-slot-preserved c =
           let gone = steps.1 in
           let short = ap length steps.0 in
           omega arith,
-      ap length items ∙ length-push_suc at.parts.items y ∙ ap suc at.invariant.2 ∙ sym grown,
+      let more = ap length items ∙ length-push_suc at.parts.items y in
+          let before = at.invariant.2 in
+          omega (arith, more, before, grown),
       subst (StandAt s traces now) (sym items)
           (stand-push s traces now at.parts.items y at.invariant.3 (subst (λ u. IsPart s traces u now y) unit (c.in_ok-brought_up.ensures {u = tt}))),
     )

@@ -22,7 +22,7 @@ loop-message-preserved c = record {
 }
   where
     arrives : (k j : ℕ) (d : Message) → k < length c.args.words.now → j < c.loop-message.message-index + 1
-        → is_unit (receiver_of c.args.config.now.channels (get_or c.args.sent.now j d).link) (unit_at c.args.config.now k) ≡ true
+        → is_unit (receiver_of c.args.config.now.channels (get_or c.args.sent.now j d).link) (unit_at c.args.config.now (c.args.first + k)) ≡ true
         → (j < c.loop-message.message-index) ⊎ (c.loop-message.message-index ≤ j) → get_or c.lower.new.words k 0 ≤ (get_or c.args.sent.now j d).arrival
     arrives k j d l m to (inl e) =
         let i : k < length c.loop-message.words = omega (arith, l, c.loop-message.invariant.count) in
@@ -33,7 +33,7 @@ loop-message-preserved c = record {
         let i : k < length c.loop-message.words = omega (arith, l, c.loop-message.invariant.count) in
         let at : j ≡ c.loop-message.message-index = omega (arith, m, e) in
         let less : c.loop-message.message-index < length c.args.sent.now = omega (arith, c.loop-message-test.true) in
-        let unit : is_unit (receiver_of c.args.config.now.channels (get_or c.args.sent.now c.loop-message.message-index d).link) (unit_at c.args.config.now k) ≡ true =
-        subst (λ n. is_unit (receiver_of c.args.config.now.channels (get_or c.args.sent.now n d).link) (unit_at c.args.config.now k) ≡ true) at to in
+        let unit : is_unit (receiver_of c.args.config.now.channels (get_or c.args.sent.now c.loop-message.message-index d).link) (unit_at c.args.config.now (c.args.first + k)) ≡ true =
+        subst (λ n. is_unit (receiver_of c.args.config.now.channels (get_or c.args.sent.now n d).link) (unit_at c.args.config.now (c.args.first + k)) ≡ true) at to in
         let here : get_or c.lower.new.words k 0 ≤ (get_or c.args.sent.now c.loop-message.message-index d).arrival = grind (arith, c.lower.ensures.arrival k i, same-default, unit, less) in
         subst (λ n. get_or c.lower.new.words k 0 ≤ (get_or c.args.sent.now n d).arrival) (sym at) here

@@ -19,7 +19,7 @@ loop-part-preserved c =
           let short = ap length steps.0 in
           omega arith,
       subst (AreSlots c.args.now (at.yielded ++ x ∷ [])) (sym c.in_ok-push.ensures.items)
-          (slots-push c.args.now at.yielded at.slots.items x (record { part = c.in_ok-part.part; at = c.args.now; mail = c.new-mail.result }) at.invariant.2 c.in_ok-part.ensures.ok refl),
+          (slots-push c.args.now at.yielded at.slots.items x (record { part = c.in_ok-part.part; at = c.args.now }) at.invariant.2 c.in_ok-part.ensures.ok refl),
     )
 
 pub returns : goal.returns

@@ -1,6 +1,6 @@
 use Rattle.std.proofs.Common.{subst, ◌∙◌}
 use Rattle.sim_base.specs.declared.message.Unit.TheVariants as unit
-use Rattle.laws.specs.Commands.{rows_of}
+use Rattle.laws.specs.Commands.{channel_steps_of}
 use Rattle.span_laws.specs.Mail.{mail_before}
 use Rattle.epochs.specs.Parts.{IsPart}
 use Rattle.epochs.proofs.Ended.{left_of, channel_left_is}
@@ -15,5 +15,5 @@ returns c =
     let stands = subst (IsPart s traces (unit.Channel number) now) c.in-Channel.is c.requires.stands in
     left_of (c.in_ok-all_due-in-Channel.ensures {u = tt}) (c.in_ok-open_rows-in-Channel.ensures {u = tt})
     (c.in_ok-to_vec-in-Channel.ensures.items_if_clones_equal (λ x y e. e)
-    ∙ c.requests.ensures s number (rows_of s traces now number) (mail_before s traces now (unit.Channel number) now) stands.0)
+    ∙ c.requests.ensures s number (channel_steps_of s traces now number) (mail_before s traces now (unit.Channel number) now) stands.0)
     ∙ channel_left_is s traces number now

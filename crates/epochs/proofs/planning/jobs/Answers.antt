@@ -74,7 +74,7 @@ job_for-requires-clause-mail c =
     let unit = c.unit_at.ensures ∙ ap (λ m. unit_at m.config c.len.result) c.deref.ensures ∙ ap (unit_at s) place in
     subst (λ l. filter (is_due l.channels c.unit_at.result from until) l.messages ≡ mail_in s traces until c.unit_at.result from until) (sym c.loop-part.invariant.3)
     (subst (λ u. filter (is_due s.channels u from until) (left s from until k ms) ≡ mail_in s traces until u from until) (sym unit)
-    (left-due s from until k ms ∙ due-mail s traces from until (unit_at s k) (omega (arith, c.requires.order)) c.requires.travels))
+    (left-due s from until from until k ms ∙ due-mail s traces from until (unit_at s k) (omega (arith, c.requires.order)) c.requires.travels))
 
 pub loop-part-preserved : goal.loop-part-preserved
 loop-part-preserved c =

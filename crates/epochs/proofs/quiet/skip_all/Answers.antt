@@ -6,7 +6,7 @@ use Rattle.sim_base.specs.declared.trace.Entry.{Entry}
 use Rattle.epochs.specs.Units.{unit_at}
 use Rattle.epochs.specs.Parts.{IsPart}
 use Rattle.epochs.specs.Quiet.{RestsUpTo, RestUpTo}
-use Rattle.epochs.specs.declared.part.Part.{Part}
+use Rattle.epochs.specs.declared.part.UnitState.{UnitState}
 use Rattle.epochs.proofs.Quieting.{rest-get, stand-each}
 use Rattle.epochs.proofs.quiet.skip_all.Goals as goal
 
@@ -37,7 +37,7 @@ loop-part-preserved c =
       left = λ k e above. let other : k ≢ i = omega arith in get_or-set_other at.parts i k c.skip.new.self e other ∙ at.invariant.left k e (omega arith);
     }
   where
-    gone : (s : Config) (traces : List (List Entry)) (from k : ℕ) (e : Part) → RestUpTo s traces c.args.parts.now from c.args.until → k < c.loop-part.part-index + 1
+    gone : (s : Config) (traces : List (List Entry)) (from k : ℕ) (e : UnitState) → RestUpTo s traces c.args.parts.now from c.args.until → k < c.loop-part.part-index + 1
         → (k < c.loop-part.part-index) ⊎ (c.loop-part.part-index ≤ k)
         → IsPart s traces (unit_at s k) c.args.until (get_or (set c.loop-part.parts c.loop-part.part-index c.skip.new.self) k e)
     gone s traces from k e rest below (inl l) =

@@ -5,12 +5,12 @@ use Rattle.sim_base.specs.declared.trace.Entry.{Entry}
 use Rattle.epochs.specs.Units.{unit_at}
 use Rattle.epochs.specs.Parts.{IsPart}
 use Rattle.epochs.specs.Quiet.{RestUpTo}
-use Rattle.epochs.specs.declared.part.Part.{Part}
+use Rattle.epochs.specs.declared.part.UnitState.{UnitState}
 use Rattle.epochs.proofs.quiet.skip_all.Given as goal
 
 abbrev pub invariant-loop-part : goal.invariant-loop-part
 invariant-loop-part l = record {
-  gone : (s : Config) (traces : List (List Entry)) (from k : ℕ) (d : Part) → RestUpTo s traces l.fn.parts from l.until → k < l.part-index
+  gone : (s : Config) (traces : List (List Entry)) (from k : ℕ) (d : UnitState) → RestUpTo s traces l.fn.parts from l.until → k < l.part-index
       → IsPart s traces (unit_at s k) l.until (get_or l.parts k d);
-  left : (k : ℕ) (d : Part) → l.part-index ≤ k → get_or l.parts k d ≡ get_or l.fn.parts k d;
+  left : (k : ℕ) (d : UnitState) → l.part-index ≤ k → get_or l.parts k d ≡ get_or l.fn.parts k d;
 }

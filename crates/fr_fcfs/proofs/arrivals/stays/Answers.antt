@@ -18,10 +18,10 @@ loop-slot-preserved c s history stands knows =
     (λ d. subst P (get_or_default requests slot _ d c.loop-slot-test.true) (c.if-not-comes_after.ensures s history refl stands knows))
 
 pub returns : goal.returns
-returns c s history earlier always stands heads high whole =
+returns c s history earlier always stands bank_candidates high whole =
     let requests = c.args.queue.now.requests in
     let from = c.args.from in
-    let knows : KnowsRows c.args.heads.now history = record { requests = requests; stands = heads } in
+    let knows : KnowsRows c.args.bank_candidates.now history = record { requests = requests; stands = bank_candidates } in
     let P = ComesAfter s history c.args.cycle c.is_column-hit.result in
     let same = c.requests-requests.ensures in
     let within : AllWithin P requests from (length requests) =

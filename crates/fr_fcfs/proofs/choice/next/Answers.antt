@@ -13,7 +13,7 @@ loop-rank-init c = record {
   rank = omega (arith, c.ranks-rank.ensures);
   next = λ s history stand n all.
       chosen_start s history (candidates_of s c.args.queue.now) c.ranks-rank.result c.args.now c.next_of_requests-next.result
-      (c.next_of_requests-next.ensures.next s history stand.banks_stand stand.heads_stand stand.high_is) n (omega (arith, c.ranks-rank.ensures, all));
+      (c.next_of_requests-next.ensures.next s history stand.banks_stand stand.candidates_stand stand.high_is) n (omega (arith, c.ranks-rank.ensures, all));
   place = c.next_of_requests-next.ensures.place;
 }
 
@@ -29,7 +29,7 @@ loop-rank-preserved c =
           refreshes_more s history (candidates_of s c.args.queue.now) rank c.args.refresh.now.ranks c.args.now c.first_due-due.result c.loop-rank.next c.with_refresh.new.next is_due (omega arith)
           (λ m whole.
           subst (λ k. IsNext (chosen_from s history (candidates_of s c.args.queue.now) k m) c.args.now c.loop-rank.next) after (c.loop-rank.invariant.next s history stand m (omega arith)))
-          (λ commands rest same before. c.with_refresh.ensures.next s history commands rest c.args.now stand.banks_stand (record { requests = requests; stands = stand.heads_stand }) stand.groups_are is_due.from_now same before) n all;
+          (λ commands rest same before. c.with_refresh.ensures.next s history commands rest c.args.now stand.banks_stand (record { requests = requests; stands = stand.candidates_stand }) stand.groups_are is_due.from_now same before) n all;
       place = c.with_refresh.ensures.place requests c.loop-rank.invariant.place;
     }
 
@@ -48,4 +48,4 @@ returns-then-not-is_due_by-clause-next c s history stand =
     let none : is_some (lowest_owed c.args.refresh.now cycle) ≡ false = sym c.is_due_by.ensures ∙ c.if-not-is_due_by.true in
     subst (IsNext (choice_in s history c.args.queue.now) c.args.now) (sym c.in-Some.is)
     (next_quiet s history requests c.args.refresh.now c.args.now cycle c.in-Some.field-0-1.command stand.refreshes_stand none
-    (c.in-Some.ensures.next s history stand.banks_stand stand.heads_stand stand.high_is))
+    (c.in-Some.ensures.next s history stand.banks_stand stand.candidates_stand stand.high_is))

@@ -1,7 +1,7 @@
 use Rattle.std.proofs.Common.{◌≡◌, ℕ, ◌+◌, ◌≤◌, List}
 use Rattle.std.specs.Option.{IfSome}
 use Rattle.sim_base.specs.declared.config.Config.{Config}
-use Rattle.sim_base.specs.declared.command.CommandRow.{CommandRow}
+use Rattle.sim_base.specs.declared.command.IssuedCommand.{IssuedCommand}
 use Rattle.fr_fcfs.specs.Requests.{candidates_of}
 use Rattle.fr_fcfs.specs.Cycles.{IsNext}
 use Rattle.fr_fcfs.specs.Choices.{StandFor, IsFor}
@@ -12,7 +12,7 @@ use Rattle.fr_fcfs.proofs.choice.next.Given as goal
 abbrev pub invariant-loop-rank : goal.invariant-loop-rank
 invariant-loop-rank l = record {
   rank : l.rank ≤ l.refresh.ranks;
-  next : (s : Config) (history : List CommandRow) → StandFor l.heads l.banks l.refresh l.queue l.groups s history → (n : ℕ) → l.rank + n ≡ l.refresh.ranks
+  next : (s : Config) (history : List IssuedCommand) → StandFor l.bank_candidates l.banks l.refresh l.queue l.groups s history → (n : ℕ) → l.rank + n ≡ l.refresh.ranks
       → IsNext (chosen_from s history (candidates_of s l.queue) l.rank n) l.now l.next;
   place : IfSome l.next (λ next. IsFor l.queue.requests next.1);
 }

@@ -8,7 +8,7 @@ use Rattle.fr_fcfs.proofs.choice.with_refresh.Goals as goal
 use Rattle.fr_fcfs.proofs.choice.with_refresh.Goals.{in_default-next-via-in-Some-next+else-cycle-due, in_default-next-via-in_default-next}
 
 pub returns-in_default-next-clause-next : goal.returns-in_default-next-clause-next
-returns-in_default-next-clause-next c s history commands rest now stands heads groups late is next =
+returns-in_default-next-clause-next c s history commands rest now stands bank_candidates groups late is next =
     let due = c.in-Some.due in
     let command = refresh_command s history c.args.rank in
     let need = c.refresh_need-need in
@@ -19,5 +19,5 @@ returns-in_default-next-clause-next c s history commands rest now stands heads g
           let before = subst (IsNext rest now) w.in-Some-next.is next in λ t later sooner. before.none_before t later (omega arith)
       | in_default-next-via-in_default-next w ↦ let never = subst (IsNext rest now) w.in_default-next.is next in λ t later sooner. never t later
     ] in
-    let first = next_later s history command due need.result.ready now commands rest refreshed (need.ensures.ready s history stands heads groups) from none in
-    subst (λ k. IsNextAt commands now k need.result.command) (sym c.max.ensures) (subst (IsNextAt commands now (max due need.result.ready)) (sym (need.ensures.command s history heads groups)) first)
+    let first = next_later s history command due need.result.ready now commands rest refreshed (need.ensures.ready s history stands bank_candidates groups) from none in
+    subst (λ k. IsNextAt commands now k need.result.command) (sym c.max.ensures) (subst (IsNextAt commands now (max due need.result.ready)) (sym (need.ensures.command s history bank_candidates groups)) first)

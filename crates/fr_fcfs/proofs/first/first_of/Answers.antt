@@ -1,13 +1,13 @@
 -- The offers of all banks, from none on.
 use Rattle.std.proofs.Common.{◌<◌, ◌≤◌, sym, subst, refl, Some, None, length, arith}
-use Rattle.heads.specs.Heads.{first_place}
+use Rattle.bank_candidates.specs.Candidates.{first_place}
 use Rattle.fr_fcfs.specs.Offers.{no_offer, hits_now, rows_now, IsBestSoFar}
 use Rattle.fr_fcfs.proofs.SoFar.{none_so_far, found, none_found}
 use Rattle.fr_fcfs.proofs.Below.{first_ready_is}
 use Rattle.fr_fcfs.proofs.first.first_of.Goals as goal
 
 pub returns-then-best-room-clause-first : goal.returns-then-best-room-clause-first
-returns-then-best-room-clause-first c s history banks heads going_are =
+returns-then-best-room-clause-first c s history banks bank_candidates going_are =
     let requests = c.args.queue.now.requests in
     let kinds = c.args.kinds in
     let best = c.with_banks.new.best in
@@ -17,10 +17,10 @@ returns-then-best-room-clause-first c s history banks heads going_are =
     (none_so_far (length requests) c.args.now (λ cycle. None) (λ cycle. None) (λ cycle late. refl) (λ cycle late. refl)) in
     first_ready_is s history c.args.queue.now kinds c.args.now (Some best) going_are inside
     (found (length requests) c.args.now (λ cycle. first_place (hits_now s history kinds cycle) requests) (λ cycle. first_place (rows_now s history requests kinds cycle) requests) best inside
-    (c.with_banks.ensures s history requests banks heads c.requires.places start))
+    (c.with_banks.ensures s history requests banks bank_candidates c.requires.places start))
 
 pub returns-else-best-room-clause-first : goal.returns-else-best-room-clause-first
-returns-else-best-room-clause-first c s history banks heads going_are =
+returns-else-best-room-clause-first c s history banks bank_candidates going_are =
     let requests = c.args.queue.now.requests in
     let kinds = c.args.kinds in
     let best = c.with_banks.new.best in
@@ -30,4 +30,4 @@ returns-else-best-room-clause-first c s history banks heads going_are =
     (none_so_far (length requests) c.args.now (λ cycle. None) (λ cycle. None) (λ cycle late. refl) (λ cycle late. refl)) in
     first_ready_is s history c.args.queue.now kinds c.args.now None going_are tt
     (none_found (length requests) c.args.now (λ cycle. first_place (hits_now s history kinds cycle) requests) (λ cycle. first_place (rows_now s history requests kinds cycle) requests) best outside
-    (c.with_banks.ensures s history requests banks heads c.requires.places start))
+    (c.with_banks.ensures s history requests banks bank_candidates c.requires.places start))

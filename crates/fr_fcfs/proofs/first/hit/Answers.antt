@@ -1,12 +1,12 @@
 use Rattle.std.proofs.Common.{◌&&◌, ◌||◌, ◌∙◌}
-use Rattle.heads.specs.Stands.{heads_of}
+use Rattle.bank_candidates.specs.Stands.{candidates_of_bank}
 use Rattle.fr_fcfs.proofs.BankMore.{some_allowed}
 use Rattle.fr_fcfs.proofs.first.hit.Goals as goal
 
 pub returns : goal.returns
 returns c k d exists =
     let kinds = c.args.kinds in
-    let h = heads_of c.args.heads.now k d in
+    let h = candidates_of_bank c.args.bank_candidates.now k d in
     c.union.ensures k
     ∙ (λ i. c.banks_if-reads.ensures k i || c.banks_if-writes.ensures k i)
     ∙ (λ i. (kinds.reads && c.hit.ensures.each k d exists i) || (kinds.writes && c.hit-2.ensures.each k d exists i))

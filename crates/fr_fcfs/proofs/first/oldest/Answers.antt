@@ -1,5 +1,5 @@
 use Rattle.std.proofs.Common.{◌∙◌}
-use Rattle.heads.specs.Moves.{earlier}
+use Rattle.bank_candidates.specs.Moves.{earlier}
 use Rattle.fr_fcfs.specs.Offers.{if_allowed}
 use Rattle.fr_fcfs.proofs.first.oldest.Goals as goal
 

@@ -1,9 +1,9 @@
 -- One bank less is left, and then none.
 use Rattle.std.proofs.Common.{ℕ, refl, sym, ap, length, ◌∙◌}
-use Rattle.heads.specs.Heads.{first_place}
-use Rattle.heads.specs.Moves.{earlier}
-use Rattle.heads.specs.Sets.{is_in}
-use Rattle.heads.specs.Stands.{bank_count, heads_of}
+use Rattle.bank_candidates.specs.Candidates.{first_place}
+use Rattle.bank_candidates.specs.Moves.{earlier}
+use Rattle.bank_candidates.specs.Sets.{is_in}
+use Rattle.bank_candidates.specs.Stands.{bank_count, candidates_of_bank}
 use Rattle.fr_fcfs.specs.Offers.{only, hits_now, hits_in}
 use Rattle.fr_fcfs.proofs.Bests.{first_alone}
 use Rattle.fr_fcfs.proofs.Beside.{place_beside, beside_all, beside_more, beside_nothing, left_before, size_less}
@@ -18,14 +18,14 @@ loop-bank-init c =
     let rest = c.hit-rest.result in
     record {
       within = c.hit-rest.ensures.within;
-      so_far = λ s history requests hits rows stands heads places before.
+      so_far = λ s history requests hits rows stands bank_candidates places before.
           so_far_same (length requests) now hits rows (λ cycle. earlier (hits cycle) (place_beside (λ k. is_in rest k) (hits_now s history (only write) cycle) requests)) rows c.args.best.now
           (λ cycle late.
           sym
           (ap (earlier (hits cycle))
-          (beside_nothing (λ k. is_in rest k) (bank_count c.args.heads.now) (hits_now s history (only write) cycle) requests heads.within
+          (beside_nothing (λ k. is_in rest k) (bank_count c.args.bank_candidates.now) (hits_now s history (only write) cycle) requests bank_candidates.within
           (λ k exists off.
-          hit_none s history _ requests write k (heads_of c.args.heads.now k nowhere) places (heads.heads_are k nowhere exists) (heads.rows_are k nowhere exists)
+          hit_none s history _ requests write k (candidates_of_bank c.args.bank_candidates.now k nowhere) places (bank_candidates.candidates_are k nowhere exists) (bank_candidates.rows_are k nowhere exists)
           (sym (c.hit-rest.ensures.each k nowhere exists) ∙ off) cycle))
           ∙ first_alone (hits cycle)))
           (λ cycle late. refl) before;
@@ -45,7 +45,7 @@ loop-bank-preserved c =
     let after = c.without-rest.result in
     record {
       within = λ k still. c.loop-bank.invariant.within k (left_before (λ j. is_in rest j) (λ j. is_in after j) bank c.without-rest.ensures.same c.without-rest.ensures.others k still);
-      so_far = λ s history requests hits rows stands heads places before.
+      so_far = λ s history requests hits rows stands bank_candidates places before.
           let here = λ (cycle : ℕ). place_beside (λ k. is_in rest k) (hits_now s history (only write) cycle) requests in
           let so_far = λ (cycle : ℕ). earlier (hits cycle) (here cycle) in
           so_far_same (length requests) now (λ cycle. earlier (so_far cycle) (hits_in s history requests (only write) bank cycle)) rows
@@ -57,13 +57,13 @@ loop-bank-preserved c =
           (beside_more (λ k. is_in rest k) (λ k. is_in after k) bank (hits_now s history (only write) cycle) requests c.in-Some.ensures.first c.without-rest.ensures.same
           c.without-rest.ensures.others)))
           (λ cycle late. refl)
-          (c.with_hit.ensures s history requests so_far rows stands heads places (c.loop-bank.invariant.so_far s history requests hits rows stands heads places before));
+          (c.with_hit.ensures s history requests so_far rows stands bank_candidates places (c.loop-bank.invariant.so_far s history requests hits rows stands bank_candidates places before));
     }
 
 pub returns : goal.returns
-returns c s history requests hits rows stands heads places before =
+returns c s history requests hits rows stands bank_candidates places before =
     let rest = c.loop-bank.rest in
     so_far_same (length requests) c.args.now (λ cycle. earlier (hits cycle) (place_beside (λ k. is_in rest k) (hits_now s history (only c.args.write) cycle) requests)) rows
     (λ cycle. earlier (hits cycle) (first_place (hits_now s history (only c.args.write) cycle) requests)) rows c.loop-bank.best
     (λ cycle late. ap (earlier (hits cycle)) (beside_all (λ k. is_in rest k) (hits_now s history (only c.args.write) cycle) requests c.in_default.ensures.none)) (λ cycle late. refl)
-    (c.loop-bank.invariant.so_far s history requests hits rows stands heads places before)
+    (c.loop-bank.invariant.so_far s history requests hits rows stands bank_candidates places before)

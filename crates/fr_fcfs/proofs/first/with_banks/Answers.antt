@@ -1,19 +1,19 @@
 -- What opens or closes a row, and then the row hits of each kind that goes.
 use Rattle.std.proofs.Common.{ℕ, true, false, ◌&&◌, None, refl, length}
-use Rattle.heads.specs.Heads.{first_place}
-use Rattle.heads.specs.Moves.{earlier}
+use Rattle.bank_candidates.specs.Candidates.{first_place}
+use Rattle.bank_candidates.specs.Moves.{earlier}
 use Rattle.fr_fcfs.specs.Offers.{only, hits_now, rows_now}
 use Rattle.fr_fcfs.proofs.BankMore.{both_hits}
 use Rattle.fr_fcfs.proofs.SoFar.{so_far_same}
 use Rattle.fr_fcfs.proofs.first.with_banks.Goals as goal
 
 pub returns : goal.returns
-returns c s history requests stands heads places before =
+returns c s history requests stands bank_candidates places before =
     let kinds = c.args.kinds in
     let rows = λ (cycle : ℕ). first_place (rows_now s history requests kinds cycle) requests in
     let reads = λ (cycle : ℕ). first_place (λ r. kinds.reads && hits_now s history (only false) cycle r) requests in
     let writes = λ (cycle : ℕ). first_place (λ r. kinds.writes && hits_now s history (only true) cycle r) requests in
     so_far_same (length requests) c.args.now (λ cycle. earlier (reads cycle) (writes cycle)) rows (λ cycle. first_place (hits_now s history kinds cycle) requests) rows c.with_hits-2.new.best
     (λ cycle late. both_hits s history requests kinds cycle) (λ cycle late. refl)
-    (c.with_hits-2.ensures s history requests reads rows stands heads places
-    (c.with_hits.ensures s history requests (λ cycle. None) rows stands heads places (c.with_rows.ensures s history requests (λ cycle. None) stands heads places before)))
+    (c.with_hits-2.ensures s history requests reads rows stands bank_candidates places
+    (c.with_hits.ensures s history requests (λ cycle. None) rows stands bank_candidates places (c.with_rows.ensures s history requests (λ cycle. None) stands bank_candidates places before)))

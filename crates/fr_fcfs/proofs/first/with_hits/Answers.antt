@@ -1,21 +1,21 @@
 -- Row hits that do not go, or are left out since they are ready only after the cycle of the best offer.
 use Rattle.std.proofs.Common.{◌&&◌, refl, ap, sym, length, ◌∙◌, arith}
-use Rattle.heads.specs.Heads.{first_place}
-use Rattle.heads.specs.Moves.{earlier}
+use Rattle.bank_candidates.specs.Candidates.{first_place}
+use Rattle.bank_candidates.specs.Moves.{earlier}
 use Rattle.fr_fcfs.specs.Offers.{only, hits_now}
 use Rattle.fr_fcfs.proofs.BankMore.{hits_before, none_goes, all_go}
 use Rattle.fr_fcfs.proofs.SoFar.{hits_late, so_far_same}
 use Rattle.fr_fcfs.proofs.first.with_hits.Goals as goal
 
 pub returns-then-not-goes : goal.returns-then-not-goes
-returns-then-not-goes c s history requests hits rows stands heads places so_far =
+returns-then-not-goes c s history requests hits rows stands bank_candidates places so_far =
     let goes = c.args.goes in
     let test = hits_now s history (only c.args.write) in
     so_far_same (length requests) c.args.now hits rows (λ cycle. earlier (hits cycle) (first_place (λ r. goes && test cycle r) requests)) rows c.args.best.now
     (λ cycle late. none_goes hits goes test requests c.if-not-goes.true cycle) (λ cycle late. refl) so_far
 
 pub returns-then-best-data_floor : goal.returns-then-best-data_floor
-returns-then-best-data_floor c s history requests hits rows stands heads places so_far =
+returns-then-best-data_floor c s history requests hits rows stands bank_candidates places so_far =
     let write = c.args.write in
     let goes = c.args.goes in
     let floor = c.data_floor.result in
@@ -28,10 +28,10 @@ returns-then-best-data_floor c s history requests hits rows stands heads places 
     so_far
 
 pub returns : goal.returns
-returns c s history requests hits rows stands heads places so_far =
+returns c s history requests hits rows stands bank_candidates places so_far =
     let goes = c.args.goes in
     let test = hits_now s history (only c.args.write) in
     so_far_same (length requests) c.args.now (λ cycle. earlier (hits cycle) (first_place (test cycle) requests)) rows
     (λ cycle. earlier (hits cycle) (first_place (λ r. goes && test cycle r) requests)) rows c.with_all_hits.new.best
     (λ cycle late. ap (earlier (hits cycle)) (sym (all_go goes (test cycle) requests c.if-not-goes.false))) (λ cycle late. refl)
-    (c.with_all_hits.ensures s history requests hits rows stands heads places so_far)
+    (c.with_all_hits.ensures s history requests hits rows stands bank_candidates places so_far)

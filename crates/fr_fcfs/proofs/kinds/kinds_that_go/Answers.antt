@@ -5,7 +5,7 @@ use Rattle.fr_fcfs.proofs.Favoured.{favour_never, of_all_kinds}
 use Rattle.fr_fcfs.proofs.kinds.kinds_that_go.Goals as goal
 
 pub returns-then-high-eq0 : goal.returns-then-high-eq0
-returns-then-high-eq0 c s open_rows high heads =
+returns-then-high-eq0 c s open_rows high bank_candidates =
     let queue = c.args.queue.now in
     let never : s.write_high ≡ 0 = omega (arith, high, c.if-high-eq0.true, c.high.ensures) in
     sym (favour_never s queue never) ∙ of_all_kinds (first_of_lines queue.requests)

@@ -2,7 +2,7 @@
 use Rattle.std.proofs.Common.{sym, ap, subst, ◌∙◌}
 use Rattle.sim_base.specs.Rules.{open_row}
 use Rattle.sim_base.specs.Scheduling.{needed, needed_at, is_column_command}
-use Rattle.heads.specs.Stands.{IsAmong}
+use Rattle.bank_candidates.specs.Stands.{IsAmong}
 use Rattle.fr_fcfs.proofs.Legal.{column_needed}
 use Rattle.fr_fcfs.proofs.needs.needed.Goals as goal
 
@@ -16,4 +16,4 @@ returns-clause-column c hit =
     c.needed_at.ensures ∙ column_needed c.open_row.result c.args.request (ap is_column_command (sym c.needed_at.ensures) ∙ hit)
 
 pub open_row-requires : goal.open_row-requires
-open_row-requires c = subst (IsAmong c.args.heads.now) (sym c.bank_id-bank.ensures) c.requires
+open_row-requires c = subst (IsAmong c.args.bank_candidates.now) (sym c.bank_id-bank.ensures) c.requires

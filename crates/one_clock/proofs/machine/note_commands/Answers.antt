@@ -14,9 +14,9 @@ bounds-steps-channel c = below_units _ _ _ _ c.requires.steps (omega arith)
 pub loop-channel-preserved : goal.loop-channel-preserved
 loop-channel-preserved c =
     let here = c.loop-channel.channel in
-    c.in_ok-push_row.ensures {u = tt}
+    c.in_ok-push_command.ensures {u = tt}
     ∙ ap₂ (λ xs o. xs ++ option_to_list o) c.loop-channel.invariant
-    (c.issued_row.ensures ∙ ap (λ (x : ChannelStep). issued_at here c.args.cycle x.command) (at_unit_of _ _ _ here _ c.requires.steps (omega arith)))
+    (c.issued_command.ensures ∙ ap (λ (x : ChannelStep). issued_at here c.args.cycle x.command) (at_unit_of _ _ _ here _ c.requires.steps (omega arith)))
     ∙ sym (issued_more c.args.s.now c.args.traces.now c.args.cycle here)
 
 pub returns : goal.returns

@@ -13,11 +13,11 @@ loop-core-init c =
     let after = core_view c.args.s.now c.args.traces.now (run c.args.s.now c.args.traces.now (c.args.cycle + 1)) in
     c.requires.cores ∙ sym (halfway_none after before c.args.s.now.cores)
 
-pub bounds-rows-i : goal.bounds-rows-i
-bounds-rows-i c = below_units _ _ _ _ c.requires.rows c.loop-core-test.true
+pub bounds-past_steps-i : goal.bounds-past_steps-i
+bounds-past_steps-i c = below_units _ _ _ _ c.requires.past_steps c.loop-core-test.true
 
 pub note_core-requires-clause-row : goal.note_core-requires-clause-row
-note_core-requires-clause-row c = at_unit_of _ _ _ _ _ c.requires.rows c.loop-core-test.true
+note_core-requires-clause-row c = at_unit_of _ _ _ _ _ c.requires.past_steps c.loop-core-test.true
 
 pub index_mut-requires : goal.index_mut-requires
 index_mut-requires c =

@@ -1,10 +1,10 @@
 -- The core has a row for each cycle.
 use Rattle.std.proofs.Common.{◌≡◌, length, ap, ◌∙◌, arith}
-use Rattle.one_clock.proofs.Next.{length_rows}
+use Rattle.one_clock.proofs.Next.{length_steps}
 use Rattle.one_clock.proofs.sending.requests_of_core.Goals as goal
 
 pub issued_count-first-requires : goal.issued_count-first-requires
 issued_count-first-requires c =
-    let f : length c.rows.result.now ≡ c.args.cycle =
-    ap length c.rows.ensures ∙ length_rows c.args.s.now c.args.traces.now c.args.cycle c.args.core c.args.past.now c.requires.past in
+    let f : length c.past_steps.result.now ≡ c.args.cycle =
+    ap length c.past_steps.ensures ∙ length_steps c.args.s.now c.args.traces.now c.args.cycle c.args.core c.args.past.now c.requires.past in
     omega arith

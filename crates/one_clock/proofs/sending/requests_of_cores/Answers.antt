@@ -6,14 +6,14 @@ use Rattle.one_clock.proofs.sending.requests_of_cores.Goals as goal
 pub bounds-cores-i : goal.bounds-cores-i
 bounds-cores-i c = below_units _ _ _ _ c.requires.cores c.loop-core-test.true
 
-pub bounds-rows-i : goal.bounds-rows-i
-bounds-rows-i c = below_units _ _ _ _ c.requires.rows c.loop-core-test.true
+pub bounds-past_steps-i : goal.bounds-past_steps-i
+bounds-past_steps-i c = below_units _ _ _ _ c.requires.past_steps c.loop-core-test.true
 
 pub requests_of_core-requires-clause-past : goal.requests_of_core-requires-clause-past
 requests_of_core-requires-clause-past c = c.index-cores-i.is ∙ at_unit_of _ _ _ _ _ c.requires.cores c.loop-core-test.true
 
 pub requests_of_core-requires-clause-row : goal.requests_of_core-requires-clause-row
-requests_of_core-requires-clause-row c = at_unit_of _ _ _ _ _ c.requires.rows c.loop-core-test.true
+requests_of_core-requires-clause-row c = at_unit_of _ _ _ _ _ c.requires.past_steps c.loop-core-test.true
 
 pub loop-core-preserved : goal.loop-core-preserved
 loop-core-preserved c =

@@ -8,12 +8,12 @@ use Rattle.one_clock.proofs.tally.count_core.Goals as goal
 pub core_cycle_stats-requires-clause-issued : goal.core_cycle_stats-requires-clause-issued
 core_cycle_stats-requires-clause-issued c =
     core_stats_issued c.args.s.now c.args.traces.now c.args.cycle c.args.core c.args.past.now c.args.counts c.requires.past c.requires.counts
-    ∙ ap issued_before (sym c.rows-rows.ensures)
+    ∙ ap issued_before (sym c.past_steps-past_steps.ensures)
 
 pub core_cycle_stats-requires-clause-retired : goal.core_cycle_stats-requires-clause-retired
 core_cycle_stats-requires-clause-retired c =
     core_stats_retired c.args.s.now c.args.traces.now c.args.cycle c.args.core c.args.past.now c.args.counts c.requires.past c.requires.counts
-    ∙ ap retired_before (sym c.rows-rows.ensures)
+    ∙ ap retired_before (sym c.past_steps-past_steps.ensures)
 
 pub core_cycle_stats-requires-clause-within : goal.core_cycle_stats-requires-clause-within
 core_cycle_stats-requires-clause-within c =
@@ -25,8 +25,8 @@ joined-requires c =
     core_stats_fit c.args.s.now c.args.traces.now c.args.cycle c.args.core c.args.past.now c.args.step c.args.counts c.in_ok-more.more
     c.requires.core_in c.requires.past c.requires.step c.requires.counts
     (c.in_ok-more.ensures.value
-    ∙ ap₂ (λ t r. core_cycle_with t r c.args.step.0 c.args.step.1 (replies_in (length r) c.inbox-inbox.result.now)) c.trace_of_core-trace.ensures c.rows-rows.ensures
-    ∙ ap (λ m. core_cycle_with (trace_of c.args.traces.now c.args.core) c.args.past.now.rows c.args.step.0 c.args.step.1 (replies_in (length c.args.past.now.rows) m)) c.inbox-inbox.ensures)
+    ∙ ap₂ (λ t r. core_cycle_with t r c.args.step.0 c.args.step.1 (replies_in (length r) c.inbox-inbox.result.now)) c.trace_of_core-trace.ensures c.past_steps-past_steps.ensures
+    ∙ ap (λ m. core_cycle_with (trace_of c.args.traces.now c.args.core) c.args.past.now.past_steps c.args.step.0 c.args.step.1 (replies_in (length c.args.past.now.past_steps) m)) c.inbox-inbox.ensures)
     c.requires.early
     (subst (λ t. length t < 2 ^ 64) c.trace_of_core-trace.ensures (omega (arith, c.core_cycle_stats.ensures.trace_fits)))
     (subst (λ m. length m < 2 ^ 64) c.inbox-inbox.ensures c.core_cycle_stats.ensures.inbox_fits)

@@ -6,7 +6,7 @@ use Rattle.std.proofs.lemmas.List.Sums.{count_by-le-length}
 use Rattle.sim_base.specs.Scheduling.{asks_for_line}
 use Rattle.queue_columns.specs.Marks.{mark, is_marked}
 use Rattle.queue_columns.proofs.Eligible.{length-eligible}
-use Rattle.queue.proofs.Kept.{eligible_pushed, waiting_pushed, writes_pushed, byte_is, mark_le}
+use Rattle.queue.proofs.Kept.{eligible_pushed, blocked_pushed, writes_pushed, byte_is, mark_le}
 use Rattle.queue_columns.specs.Columns.{AreCounted}
 use Rattle.queue.specs.Kept.{AreKept}
 use Rattle.queue.specs.View.{drains_by}
@@ -43,17 +43,17 @@ overflow_add-self c =
     let long : length q.aged.marks ≡ length q.aged.requests = ap length c.self.invariant.eligible_are ∙ length-eligible q.aged.requests in
     let few = count_by-le-length (λ word. not (is_marked word)) q.aged.marks in
     let byte : c.from.result ≤ 1 = omega (arith, c.from.ensures ∙ byte_is c.is_line_asked-asked.result, mark_le c.is_line_asked-asked.result) in
-    omega (arith, few, long, free, c.self.invariant.waiting_are, byte)
+    omega (arith, few, long, free, c.self.invariant.blocked_are, byte)
 
 -- the request is taken in, with these counts of what writes
 taken_in : (c : After-from) (lines : Vec ℕ Global) (writes : ℕ) (drains : Bool)
     → lines.items ≡ set c.self.inside.lines.items c.line_slot-line.result (c.index-alike.result.now + 1)
     → c.self.inside.writes + cond c.args.request.write 1 0 ≡ writes
-    → drains ≡ drains_by c.self.inside.high c.self.inside.low c.self.inside.settled writes
+    → drains ≡ drains_by c.self.inside.high c.self.inside.low c.self.inside.drain_decided writes
     → AreKept (record c.self.inside {
       aged = c.push.new.self;
       lines = lines;
-      waiting = c.self.inside.waiting + c.from.result;
+      blocked = c.self.inside.blocked + c.from.result;
       writes = writes;
       drains = drains;
     })
@@ -69,8 +69,8 @@ taken_in c lines writes drains lines_are writes_is drains_is =
     record {
       eligible_are =
           eligible_pushed q.aged.marks _ q.aged.requests _ c.args.request (mark (not c.is_line_asked-asked.result)) c.is_line_asked-asked.result kept.eligible_are c.push.ensures.marks refl asked more;
-      waiting_are =
-          waiting_pushed q.aged.marks _ q.waiting c.from.result (mark (not c.is_line_asked-asked.result)) c.is_line_asked-asked.result kept.waiting_are c.push.ensures.marks refl c.from.ensures;
+      blocked_are =
+          blocked_pushed q.aged.marks _ q.blocked c.from.result (mark (not c.is_line_asked-asked.result)) c.is_line_asked-asked.result kept.blocked_are c.push.ensures.marks refl c.from.ensures;
       masked = omega (arith, kept.masked, ap length lines_are, length-set q.lines.items slot (c.index-alike.result.now + 1));
       lines_are =
           subst (λ counts. AreCounted q.mask counts c.push.new.self.requests) (sym lines_are)

@@ -7,10 +7,10 @@ use Rattle.std.specs.List.{remove, position_or_len}
 use mir.Val.{bool_byte}
 use Rattle.sim_base.specs.Places.{is_line}
 use Rattle.sim_base.specs.declared.message.Request.{Request}
-use Rattle.queue_columns.specs.Columns.{waiting_count, AreCounted}
+use Rattle.queue_columns.specs.Columns.{blocked_count, AreCounted}
 use Rattle.queue.proofs.Counted.{none_asks, some_counted, counted_removed}
 use Rattle.queue_columns.proofs.Eligible.{length-eligible}
-use Rattle.queue.proofs.Kept.{writes_removed, waiting_removed, byte_is}
+use Rattle.queue.proofs.Kept.{writes_removed, blocked_removed, byte_is}
 use Rattle.queue.proofs.Served.{IsServed, served_kept, drains_still}
 use Rattle.queue.proofs.Queue.serve.Goals as goal
 use Rattle.queue.proofs.Queue.serve.Goals.{After-from, then-was_first, else-was_first}
@@ -45,8 +45,8 @@ overflow_sub-alike c =
     let count_is : c.index.result.now ≡ get_or q.lines.items slot 0 = c.index.ensures ∙ get_or_default q.lines.items slot c.index.result.now 0 below in
     omega (arith, count_is, some_counted q.mask n q.lines.items q.aged.requests r slot c.self.invariant.lines_are c.line_slot-line.ensures.value below exists request)
 
-pub give_turn-waited-requires-clause-waiting : goal.give_turn-waited-requires-clause-waiting
-give_turn-waited-requires-clause-waiting c =
+pub unblock_next-waited-requires-clause-blocked : goal.unblock_next-waited-requires-clause-blocked
+unblock_next-waited-requires-clause-blocked c =
     let q = c.self.inside in
     let n = c.args.slot in
     let word = get_or c.eligible.result.now n 0 in
@@ -54,12 +54,12 @@ give_turn-waited-requires-clause-waiting c =
     let long : length q.aged.marks ≡ length q.aged.requests = ap length c.self.invariant.eligible_are ∙ length-eligible q.aged.requests in
     let marked : n < length q.aged.marks = omega (arith, long, exists) in
     let word_is : word ≡ get_or q.aged.marks n word = ap (λ xs. get_or xs n 0) c.eligible.ensures ∙ get_or_default q.aged.marks n 0 word marked in
-    let left = waiting_removed q.aged.marks _ n word marked word_is c.remove.ensures.marks in
+    let left = blocked_removed q.aged.marks _ n word marked word_is c.remove.ensures.marks in
     let none : cond {A = ℕ} (not (eqb word 1)) 1 0 ≡ 0 = ap (λ b. cond {A = ℕ} (not b) 1 0) (eq-eqb word 1 c.if-was_first.true) in
-    omega (arith, left, none, c.self.invariant.waiting_are)
+    omega (arith, left, none, c.self.invariant.blocked_are)
 
-pub give_turn-waited-requires-clause-alike : goal.give_turn-waited-requires-clause-alike
-give_turn-waited-requires-clause-alike c none =
+pub unblock_next-waited-requires-clause-alike : goal.unblock_next-waited-requires-clause-alike
+unblock_next-waited-requires-clause-alike c none =
     let q = c.self.inside in
     let n = c.args.slot in
     let r = get_or c.requests.result.now n absent in
@@ -90,8 +90,8 @@ overflow_sub-self-then-request c =
     ] in
     omega (arith, counted, same, one)
 
-pub give_turn-waited-requires-clause-same_length : goal.give_turn-waited-requires-clause-same_length
-give_turn-waited-requires-clause-same_length c =
+pub unblock_next-waited-requires-clause-same_length : goal.unblock_next-waited-requires-clause-same_length
+unblock_next-waited-requires-clause-same_length c =
     let q = c.self.inside in
     let n = c.args.slot in
     let exists : n < length q.aged.requests = omega (arith, ap (λ v. length v.requests) c.self.view_is, c.requires) in
@@ -108,15 +108,15 @@ overflow_sub-self c =
     let long : length q.aged.marks ≡ length q.aged.requests = ap length c.self.invariant.eligible_are ∙ length-eligible q.aged.requests in
     let marked : n < length q.aged.marks = omega (arith, long, exists) in
     let word_is : word ≡ get_or q.aged.marks n word = ap (λ xs. get_or xs n 0) c.eligible.ensures ∙ get_or_default q.aged.marks n 0 word marked in
-    let left = waiting_removed q.aged.marks _ n word marked word_is c.remove.ensures.marks in
+    let left = blocked_removed q.aged.marks _ n word marked word_is c.remove.ensures.marks in
     elim c.if-was_first.branch [
       | then-was_first w ↦
-          let done : c.from.result ≡ cond {A = ℕ} w.give_turn-waited.result 1 0 = c.from.ensures ∙ ap bool_byte w.waited-is ∙ byte_is w.give_turn-waited.result in
-          omega (arith, done, w.give_turn-waited.ensures.waited, left, c.self.invariant.waiting_are, ap (λ s. s.waiting) w.self-inside-is)
+          let done : c.from.result ≡ cond {A = ℕ} w.unblock_next-waited.result 1 0 = c.from.ensures ∙ ap bool_byte w.waited-is ∙ byte_is w.unblock_next-waited.result in
+          omega (arith, done, w.unblock_next-waited.ensures.waited, left, c.self.invariant.blocked_are, ap (λ s. s.blocked) w.self-inside-is)
       | else-was_first w ↦
           let done : c.from.result ≡ 1 = c.from.ensures ∙ ap bool_byte w.waited-is in
           let one : cond {A = ℕ} (not (eqb word 1)) 1 0 ≡ 1 = ap (λ b. cond {A = ℕ} (not b) 1 0) (ne_eqb word 1 w.if-was_first.false) in
-          omega (arith, done, one, left, c.self.invariant.waiting_are, ap (λ s. s.waiting) w.self-inside-is)
+          omega (arith, done, one, left, c.self.invariant.blocked_are, ap (λ s. s.blocked) w.self-inside-is)
     ]
 
 -- the request is taken out, and those that wait are counted anew
@@ -134,7 +134,7 @@ left_over c =
     let word_is : word ≡ get_or q.aged.marks n word = ap (λ xs. get_or xs n 0) c.eligible.ensures ∙ get_or_default q.aged.marks n 0 word marked in
     let request : r ≡ get_or q.aged.requests n r = ap (λ xs. get_or xs n absent) c.requests.ensures ∙ get_or_default q.aged.requests n absent r exists in
     let fewer = c.remove.ensures.requests in
-    let counted = waiting_removed q.aged.marks _ n word marked word_is c.remove.ensures.marks in
+    let counted = blocked_removed q.aged.marks _ n word marked word_is c.remove.ensures.marks in
     let slot = c.line_slot-line.result in
     let below : slot < length q.lines.items = omega (arith, c.line_slot-line.ensures.within, kept.masked) in
     let count_is : c.index.result.now ≡ get_or q.lines.items slot 0 = c.index.ensures ∙ get_or_default q.lines.items slot c.index.result.now 0 below in
@@ -145,10 +145,10 @@ left_over c =
     elim c.if-was_first.branch [
       | then-was_first w ↦
           let h = w.self-inside-is in
-          let turned = w.give_turn-waited.ensures in
-          let done : c.from.result ≡ cond {A = ℕ} w.give_turn-waited.result 1 0 = c.from.ensures ∙ ap bool_byte w.waited-is ∙ byte_is w.give_turn-waited.result in
+          let turned = w.unblock_next-waited.ensures in
+          let done : c.from.result ≡ cond {A = ℕ} w.unblock_next-waited.result 1 0 = c.from.ensures ∙ ap bool_byte w.waited-is ∙ byte_is w.unblock_next-waited.result in
           let none : cond {A = ℕ} (not (eqb word 1)) 1 0 ≡ 0 = ap (λ b. cond {A = ℕ} (not b) 1 0) (eq-eqb word 1 w.if-was_first.true) in
-          let counts = ap (λ s. waiting_count s.aged.marks) h in
+          let counts = ap (λ s. blocked_count s.aged.marks) h in
           record {
             exists = exists;
             request = request;
@@ -158,7 +158,7 @@ left_over c =
             writes = ap (λ s. s.writes) h;
             high = ap (λ s. s.high) h;
             low = ap (λ s. s.low) h;
-            settled = ap (λ s. s.settled) h;
+            drain_decided = ap (λ s. s.drain_decided) h;
             drains = ap (λ s. s.drains) h;
             requests = ap (λ s. s.aged.requests) h ∙ turned.requests ∙ fewer;
             turn = λ _.
@@ -169,13 +169,13 @@ left_over c =
             mask = ap (λ s. s.mask) h;
             long = ap (λ s. length s.lines.items) h ∙ length-set q.lines.items slot (c.index.result.now - 1);
             counted = λ k within. ap (λ s. get_or s.lines.items k 0) h ∙ one_less k (omega (arith, within, ap (λ s. length s.lines.items) h));
-            waited = omega (arith, done, none, counts, turned.waited, counted, kept.waiting_are, ap (λ s. s.waiting) h);
+            waited = omega (arith, done, none, counts, turned.waited, counted, kept.blocked_are, ap (λ s. s.blocked) h);
           }
       | else-was_first w ↦
           let h = w.self-inside-is in
           let done : c.from.result ≡ 1 = c.from.ensures ∙ ap bool_byte w.waited-is in
           let one : cond {A = ℕ} (not (eqb word 1)) 1 0 ≡ 1 = ap (λ b. cond {A = ℕ} (not b) 1 0) (ne_eqb word 1 w.if-was_first.false) in
-          let counts = ap (λ s. waiting_count s.aged.marks) h in
+          let counts = ap (λ s. blocked_count s.aged.marks) h in
           record {
             exists = exists;
             request = request;
@@ -185,7 +185,7 @@ left_over c =
             writes = ap (λ s. s.writes) h;
             high = ap (λ s. s.high) h;
             low = ap (λ s. s.low) h;
-            settled = ap (λ s. s.settled) h;
+            drain_decided = ap (λ s. s.drain_decided) h;
             drains = ap (λ s. s.drains) h;
             requests = ap (λ s. s.aged.requests) h ∙ fewer;
             turn = λ yes. absurd (w.if-was_first.false (eqb-true word 1 yes));
@@ -193,7 +193,7 @@ left_over c =
             mask = ap (λ s. s.mask) h;
             long = ap (λ s. length s.lines.items) h ∙ length-set q.lines.items slot (c.index.result.now - 1);
             counted = λ k within. ap (λ s. get_or s.lines.items k 0) h ∙ one_less k (omega (arith, within, ap (λ s. length s.lines.items) h));
-            waited = omega (arith, done, one, counts, counted, kept.waiting_are, ap (λ s. s.waiting) h);
+            waited = omega (arith, done, one, counts, counted, kept.blocked_are, ap (λ s. s.blocked) h);
           }
     ]
 

@@ -1,14 +1,14 @@
 -- What was written or waits are the header and the rows that came. Those that are left follow them in the table.
 use Rattle.std.proofs.Common.{◌≡◌, List, ◌++◌, length}
 use Rattle.std.specs.Io.KnownBytes.{Appends}
-use Rattle.sim_base.specs.declared.command.CommandRow.{CommandRow}
+use Rattle.sim_base.specs.declared.command.IssuedCommand.{IssuedCommand}
 use Rattle.reports.specs.Commands.{commands_text}
 use Rattle.reports.specs.Tables.{held}
 use Rattle.reports.proofs.commands.write_rows.Given as goal
 
 abbrev pub invariant-loop-row : goal.invariant-loop-row
 invariant-loop-row g l =
-    (came : List CommandRow) × (came ++ l.rows ≡ l.fn.commands)
+    (came : List IssuedCommand) × (came ++ l.rows ≡ l.fn.commands)
     × Appends (held g.W.Write.contents l.fn.writer l.fn.table) (held g.W.Write.contents l.writer l.table) (commands_text l.ranks came)
 
 abbrev pub decreases-loop-row : goal.decreases-loop-row

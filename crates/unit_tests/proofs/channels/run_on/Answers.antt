@@ -7,19 +7,19 @@ use Rattle.channel_step.specs.declared.channel.Channel.{Channel}
 use Rattle.unit_tests.specs.declared.one_read.TheConstants.{BANK}
 use Rattle.unit_tests.proofs.channels.run_on.Goals as goal
 
-with-rank : (d : Channel) (s : Config) (channel : ℕ) (rows : List (Option Command)) (mail : List Message) → StandsFor d s channel rows mail → s.ranks ≡ 1 → HasRank d 0
-with-rank d s channel rows mail h e = record { s = s; channel = channel; rows = rows; mail = mail; stands = h; rank_in = omega arith }
+with-rank : (d : Channel) (s : Config) (channel : ℕ) (steps : List (Option Command)) (mail : List Message) → StandsFor d s channel steps mail → s.ranks ≡ 1 → HasRank d 0
+with-rank d s channel steps mail h e = record { s = s; channel = channel; steps = steps; mail = mail; stands = h; rank_in = omega arith }
 
-with-bank : (d : Channel) (s : Config) (channel : ℕ) (rows : List (Option Command)) (mail : List Message) → StandsFor d s channel rows mail → s.ranks ≡ 1 → HasBank d BANK
-with-bank d s channel rows mail h e =
+with-bank : (d : Channel) (s : Config) (channel : ℕ) (steps : List (Option Command)) (mail : List Message) → StandsFor d s channel steps mail → s.ranks ≡ 1 → HasBank d BANK
+with-bank d s channel steps mail h e =
     let groups : 2 ≤ s.groups = s.memory_in_range.groups_in.0 in
-    record { s = s; channel = channel; rows = rows; mail = mail; stands = h; rank_in = omega arith; group_in = omega arith; bank_in = omega arith }
+    record { s = s; channel = channel; steps = steps; mail = mail; stands = h; rank_in = omega arith; group_in = omega arith; bank_in = omega arith }
 
 pub run-requires-clause-can_run : goal.run-requires-clause-can_run
 run-requires-clause-can_run g c = record {
   s = c.args.config.now;
   channel = 0;
-  rows = [];
+  steps = [];
   mail = [];
   stands = c.requires.start;
   at = refl;

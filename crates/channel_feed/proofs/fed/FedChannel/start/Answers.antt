@@ -2,8 +2,8 @@ use Rattle.std.proofs.Common.{◌≡◌, ◌∙◌, refl, sym, subst, ap, length
 use Rattle.sim_base.specs.declared.config.Config.{Config}
 use Rattle.channel_step.specs.Channels.{StandsFor}
 use Rattle.channel_feed.specs.Kept.{IsKept}
-use Rattle.channel_feed.specs.Rows.{rows_of}
-use Rattle.channel_feed.proofs.Keeping.{kept-start, rows_of-none}
+use Rattle.channel_feed.specs.Rows.{channel_steps_of}
+use Rattle.channel_feed.proofs.Keeping.{kept-start, channel_steps_of-none}
 use Rattle.channel_feed.proofs.fed.FedChannel.start.Goals as goal
 
 pub invariant_of-result : goal.invariant_of-result
@@ -27,6 +27,6 @@ returns c =
       config_is = c.in_ok-copy.ensures {u = tt};
       number_is = refl;
       now_is = refl;
-      rows_are = ap (rows_of 0) c.new.ensures.items ∙ rows_of-none;
+      rows_are = ap (channel_steps_of 0) c.new.ensures.items ∙ channel_steps_of-none;
       mail_is = c.new-2.ensures.items;
     }

@@ -8,52 +8,52 @@ use Rattle.channel_step.proofs.channel.Channel.look.Goals as goal
 use Rattle.channel_step.proofs.channel.Channel.look.Goals.{in_default-via-in-Some+else-cycle-end, in_default-via-in_default}
 
 pub find-found-requires-clause-places : goal.find-found-requires-clause-places
-find-found-requires-clause-places c = cycle-in_banks c.args.self.now c.args.now c.args.self.now.waiting.queue c.requires refl
+find-found-requires-clause-places c = cycle-in_banks c.args.self.now c.args.now c.args.self.now.marked_queue.queue c.requires refl
 
 pub find-found-requires-clause-banks : goal.find-found-requires-clause-banks
 find-found-requires-clause-banks c = let i = c.requires.is_in in omega (arith, i.made_for.banks_are, i.banks_stand.ranks)
 
 pub returns-in-Some-clause-next : goal.returns-in-Some-clause-next
-returns-in-Some-clause-next c s channel rows mail h at =
+returns-in-Some-clause-next c s channel steps mail h at =
     let x = c.args.self.now in
-    let q = x.waiting.queue in
-    let found = (c.in-Some.ensures {u = tt}) s (issued_commands channel rows) (cycle-stands x s channel rows mail q h refl) (ahead-from _ _ _ _ h.foresees) (omega (arith, h.cycle_is, at)) in
-    found-before x s channel rows mail c.args.now c.args.end c.in-Some.cycle c.in-Some.choice.command q h at refl found.0 c.if-cycle-end.true
+    let q = x.marked_queue.queue in
+    let found = (c.in-Some.ensures {u = tt}) s (issued_commands channel steps) (cycle-stands x s channel steps mail q h refl) (ahead-from _ _ _ _ h.foresees) (omega (arith, h.cycle_is, at)) in
+    found-before x s channel steps mail c.args.now c.args.end c.in-Some.cycle c.in-Some.choice.command q h at refl found.0 c.if-cycle-end.true
 
 pub returns-in-Some-clause-place : goal.returns-in-Some-clause-place
 returns-in-Some-clause-place c =
     let p = c.requires in
     let x = c.args.self.now in
-    ((c.in-Some.ensures {u = tt}) p.s (issued_commands p.channel p.rows) (cycle-stands x p.s p.channel p.rows p.mail x.waiting.queue p.is_in refl) (ahead-from _ _ _ _ p.is_in.foresees) (omega (arith, p.is_in.cycle_is, p.at))).1
+    ((c.in-Some.ensures {u = tt}) p.s (issued_commands p.channel p.steps) (cycle-stands x p.s p.channel p.steps p.mail x.marked_queue.queue p.is_in refl) (ahead-from _ _ _ _ p.is_in.foresees) (omega (arith, p.is_in.cycle_is, p.at))).1
 
 pub returns-in_default-clause-in_cycle : goal.returns-in_default-clause-in_cycle
-returns-in_default-clause-in_cycle c s channel rows mail h =
+returns-in_default-clause-in_cycle c s channel steps mail h =
     let x = c.args.self.now in
     let p = c.requires in
     let here : c.args.now ≡ x.cycle = omega (arith, p.is_in.cycle_is, p.at) in
-    kept-in_cycle x s channel rows mail c.args.now c.find-found.result h here
-    (c.find-found.ensures s (issued_commands channel rows) (cycle-stands x s channel rows mail x.waiting.queue h refl) (ahead-from _ _ _ _ h.foresees) (omega arith))
+    kept-in_cycle x s channel steps mail c.args.now c.find-found.result h here
+    (c.find-found.ensures s (issued_commands channel steps) (cycle-stands x s channel steps mail x.marked_queue.queue h refl) (ahead-from _ _ _ _ h.foresees) (omega arith))
 
 pub returns-in_default-clause-next : goal.returns-in_default-clause-next
-returns-in_default-clause-next c s channel rows mail h at =
+returns-in_default-clause-next c s channel steps mail h at =
     let x = c.args.self.now in
-    let q = x.waiting.queue in
-    let history = issued_commands channel rows in
-    let stand = cycle-stands x s channel rows mail q h refl in
+    let q = x.marked_queue.queue in
+    let history = issued_commands channel steps in
+    let stand = cycle-stands x s channel steps mail q h refl in
     let here : x.cycle ≤ c.args.now = omega (arith, h.cycle_is, at) in
     elim c.in_default.branch [
       | in_default-via-in-Some+else-cycle-end w ↦
           let found = ((w.in-Some.ensures {u = tt}) s history stand (ahead-from _ _ _ _ h.foresees) here).0 in
-          none-before x s channel rows mail c.args.now c.args.end q h at refl (λ t l m. found.none_before t l (omega (arith, w.if-cycle-end.false)))
+          none-before x s channel steps mail c.args.now c.args.end q h at refl (λ t l m. found.none_before t l (omega (arith, w.if-cycle-end.false)))
       | in_default-via-in_default w ↦
-          none-before x s channel rows mail c.args.now c.args.end q h at refl
+          none-before x s channel steps mail c.args.now c.args.end q h at refl
           (λ t l m. (subst (IsNext (choice_in s history q) c.args.now) w.in_default.is (c.find-found.ensures s history stand (ahead-from _ _ _ _ h.foresees) here).0) t l)
     ]
 
 pub returns-then-waits_until-clause-next : goal.returns-then-waits_until-clause-next
-returns-then-waits_until-clause-next c s channel rows mail h at =
+returns-then-waits_until-clause-next c s channel steps mail h at =
     let x = c.args.self.now in
-    let q = x.waiting.queue in
+    let q = x.marked_queue.queue in
     let here : x.cycle ≤ c.args.now = omega (arith, h.cycle_is, at) in
-    none-before x s channel rows mail c.args.now c.args.end q h at refl
-    (λ t l m. c.if-waits_until.ensures (choice_in s (issued_commands channel rows) q) q.requests x.cycle refl (ahead-from _ _ _ _ h.foresees) t (omega arith) m)
+    none-before x s channel steps mail c.args.now c.args.end q h at refl
+    (λ t l m. c.if-waits_until.ensures (choice_in s (issued_commands channel steps) q) q.requests x.cycle refl (ahead-from _ _ _ _ h.foresees) t (omega arith) m)

@@ -8,22 +8,22 @@ use Rattle.channel_step.proofs.Foreseen.{ahead-from}
 use Rattle.channel_step.proofs.channel.Channel.next_act.Goals as goal
 
 pub find-requires-clause-places : goal.find-requires-clause-places
-find-requires-clause-places c = at-in_banks c.args.self.now c.args.from c.args.self.now.waiting.queue c.requires refl
+find-requires-clause-places c = at-in_banks c.args.self.now c.args.from c.args.self.now.marked_queue.queue c.requires refl
 
 pub find-requires-clause-banks : goal.find-requires-clause-banks
 find-requires-clause-banks c = let i = c.requires.stands in omega (arith, i.made_for.banks_are, i.banks_stand.ranks)
 
 pub returns-in-Some-clause-first : goal.returns-in-Some-clause-first
-returns-in-Some-clause-first c s channel rows mail h at =
+returns-in-Some-clause-first c s channel steps mail h at =
     let x = c.args.self.now in
-    let q = x.waiting.queue in
-    let found = (c.in-Some.ensures {u = tt}) s (issued_commands channel rows) (at-stand x s channel rows mail q h refl) (ahead-from _ _ _ _ h.foresees) (omega (arith, h.cycle_is, at)) in
-    at-first x s channel rows mail c.args.from q (Some c.in-Some.cycle) h at refl
-    (first_cycle (choice_in s (issued_commands channel rows) q) c.args.from c.in-Some.cycle c.in-Some.field-0-1.command found.0)
+    let q = x.marked_queue.queue in
+    let found = (c.in-Some.ensures {u = tt}) s (issued_commands channel steps) (at-stand x s channel steps mail q h refl) (ahead-from _ _ _ _ h.foresees) (omega (arith, h.cycle_is, at)) in
+    at-first x s channel steps mail c.args.from q (Some c.in-Some.cycle) h at refl
+    (first_cycle (choice_in s (issued_commands channel steps) q) c.args.from c.in-Some.cycle c.in-Some.field-0-1.command found.0)
 
 pub returns-in-None-clause-first : goal.returns-in-None-clause-first
-returns-in-None-clause-first c s channel rows mail h at =
+returns-in-None-clause-first c s channel steps mail h at =
     let x = c.args.self.now in
-    let q = x.waiting.queue in
-    let found = (c.in-None.ensures {u = tt}) s (issued_commands channel rows) (at-stand x s channel rows mail q h refl) (ahead-from _ _ _ _ h.foresees) (omega (arith, h.cycle_is, at)) in
-    at-first x s channel rows mail c.args.from q None h at refl (λ t late. ap is_some (found.0 t late))
+    let q = x.marked_queue.queue in
+    let found = (c.in-None.ensures {u = tt}) s (issued_commands channel steps) (at-stand x s channel steps mail q h refl) (ahead-from _ _ _ _ h.foresees) (omega (arith, h.cycle_is, at)) in
+    at-first x s channel steps mail c.args.from q None h at refl (λ t late. ap is_some (found.0 t late))

@@ -8,4 +8,4 @@ open_row-requires c =
     record { number = omega (arith, h.stands.made_for.banks_are, h.rank_in, h.group_in, h.bank_in, groups); group = omega (arith, h.group_in, groups); bank = h.bank_in }
 
 pub returns : goal.returns
-returns c s channel rows mail stands = c.open_row.ensures _ _ stands.heads_stand
+returns c s channel steps mail stands = c.open_row.ensures _ _ stands.candidates_stand

@@ -10,16 +10,16 @@ loop-now-init c = (
   omega arith,
   omega arith,
   omega arith,
-  λ s channel rows mail h at f.
-      turned-none c.args.self.now s channel rows mail c.args.inbox.now c.args.from c.args.until c.args.commands.now c.args.messages.now.items h f,
+  λ s channel steps mail h at f.
+      turned-none c.args.self.now s channel steps mail c.args.inbox.now c.args.from c.args.until c.args.commands.now c.args.messages.now.items h f,
 )
 
 pub turn-requires-clause-can_run : goal.turn-requires-clause-can_run
 turn-requires-clause-can_run c =
     let p = c.requires.can_run in
     let l = c.loop-now in
-    let h = l.invariant.3 p.s p.channel p.rows p.mail p.stands p.at p.fit in
-    run-can_go_on l.self p.s p.channel p.rows p.mail c.args.inbox.now c.args.from l.now c.args.until l.arrived h.issued h.sent p.at l.invariant.1 h.has_run
+    let h = l.invariant.3 p.s p.channel p.steps p.mail p.stands p.at p.fit in
+    run-can_go_on l.self p.s p.channel p.steps p.mail c.args.inbox.now c.args.from l.now c.args.until l.arrived h.issued h.sent p.at l.invariant.1 h.has_run
 
 pub loop-now-preserved : goal.loop-now-preserved
 loop-now-preserved c =
@@ -29,26 +29,26 @@ loop-now-preserved c =
       omega (arith, l.invariant.0, done.some, ap length (take_rest c.args.inbox.now l.arrived), length-drop l.arrived c.args.inbox.now),
       omega (arith, l.invariant.1, done.from_now),
       omega (arith, done.within),
-      λ s channel rows mail stands at f.
+      λ s channel steps mail stands at f.
           let inbox = c.args.inbox.now in
-          let h = l.invariant.3 s channel rows mail stands at f in
-          let before = channel_run s channel rows (mail ++ inbox) (l.now - c.args.from) in
+          let h = l.invariant.3 s channel steps mail stands at f in
+          let before = channel_run s channel steps (mail ++ inbox) (l.now - c.args.from) in
           let there = mail ++ take l.arrived inbox in
-          turned-more l.self c.turn.new.self s channel rows mail inbox c.args.from l.now c.args.until l.arrived turn.arrived turn.last _ _ _ _ _ _ at l.invariant.1 done.from_now h
-          (done.done s channel before there h.has_run.stands (run-length s channel rows (mail ++ inbox) c.args.from l.now at l.invariant.1)
-          (run-fit l.self s channel rows mail inbox c.args.from l.now c.args.until l.arrived h.issued h.sent h.has_run)),
+          turned-more l.self c.turn.new.self s channel steps mail inbox c.args.from l.now c.args.until l.arrived turn.arrived turn.last _ _ _ _ _ _ at l.invariant.1 done.from_now h
+          (done.done s channel before there h.has_run.stands (run-length s channel steps (mail ++ inbox) c.args.from l.now at l.invariant.1)
+          (run-fit l.self s channel steps mail inbox c.args.from l.now c.args.until l.arrived h.issued h.sent h.has_run)),
     )
 
 pub returns : goal.returns
-returns c s channel rows mail stands at f =
+returns c s channel steps mail stands at f =
     let l = c.loop-now in
     let end : l.now ≡ c.args.until = omega (arith, l.invariant.2) in
-    let h = subst (λ t. HasTurned l.self s channel rows mail c.args.inbox.now c.args.from t c.args.until l.arrived c.args.commands.now l.commands c.args.messages.now.items l.messages.items) end
-    (l.invariant.3 s channel rows mail stands at f) in
+    let h = subst (λ t. HasTurned l.self s channel steps mail c.args.inbox.now c.args.from t c.args.until l.arrived c.args.commands.now l.commands c.args.messages.now.items l.messages.items) end
+    (l.invariant.3 s channel steps mail stands at f) in
     record {
       issued = h.issued;
       sent = h.sent;
-      stands = run-ends l.self s channel rows mail c.args.inbox.now c.args.from c.args.until l.arrived h.issued h.sent h.has_run;
+      stands = run-ends l.self s channel steps mail c.args.inbox.now c.args.from c.args.until l.arrived h.issued h.sent h.has_run;
       commands_are = h.has_run.commands_are;
       messages_are = h.has_run.messages_are;
       commands_behind = h.commands_are;

@@ -10,9 +10,9 @@ use Rattle.channel_step.proofs.channel.Channel.run.Given as goal
 abbrev pub invariant-loop-now : goal.invariant-loop-now
 invariant-loop-now l =
     (l.arrived ≤ length l.inbox) × (l.fn.from ≤ l.now) × (l.now ≤ l.fn.until)
-    × ((s : Config) (channel : ℕ) (rows : List (Option Command)) (mail : List Message)
-    → StandsFor l.fn.self s channel rows mail → length rows ≡ l.fn.from → IsFit s channel rows mail l.inbox l.fn.from l.fn.until
-    → HasTurned l.self s channel rows mail l.inbox l.fn.from l.now l.fn.until l.arrived l.fn.commands l.commands l.fn.messages.items l.messages.items)
+    × ((s : Config) (channel : ℕ) (steps : List (Option Command)) (mail : List Message)
+    → StandsFor l.fn.self s channel steps mail → length steps ≡ l.fn.from → IsFit s channel steps mail l.inbox l.fn.from l.fn.until
+    → HasTurned l.self s channel steps mail l.inbox l.fn.from l.now l.fn.until l.arrived l.fn.commands l.commands l.fn.messages.items l.messages.items)
 
 abbrev pub decreases-loop-now : goal.decreases-loop-now
 decreases-loop-now l = l.fn.until - l.now

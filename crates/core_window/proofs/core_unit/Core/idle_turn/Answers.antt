@@ -3,7 +3,7 @@ use Rattle.std.proofs.Common.{◌≡◌, ◌-◌, ap, sym, ◌∙◌, cond, eqb,
 use Rattle.sim_base.specs.declared.trace.Stop.TheVariants.{End, Window}
 use Rattle.core_window.specs.CoreViews.{view_of}
 use Rattle.core_window.specs.Inside.{Does}
-use Rattle.core_window.specs.Rests.{idle_row}
+use Rattle.core_window.specs.Rests.{idle_step}
 use Rattle.core_window.proofs.Sticking.{stuck_cause, stuck_cause-full, stuck-does}
 use Rattle.core_window.proofs.Turning.{IsSound, sound}
 use Rattle.core_window.proofs.core_unit.Core.idle_turn.Goals as goal
@@ -16,5 +16,5 @@ returns-clause-does c =
     let cause : stuck_cause a c.args.self.now.found.two ≡ c.cause_where_full-why.result =
     stuck_cause-full a c.args.self.now.found.two (omega (arith, c.args.self.now.config.core_in_range.width_in)) full
     ∙ sym (c.cause_where_full-why.ensures ∙ ap (λ n. cond (eqb a.stats.issued n) End Window) c.len.ensures.value) in
-    subst (λ why. Does a idle_row why None) cause
+    subst (λ why. Does a idle_step why None) cause
     (stuck-does a c.args.self.now.found.one c.args.self.now.found.two c.args.self.now.found.entry c.args.self.now.seen c.requires.undone c.requires.full)

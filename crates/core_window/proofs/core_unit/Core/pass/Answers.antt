@@ -6,5 +6,5 @@ use Rattle.core_window.proofs.core_unit.Core.pass.Goals as goal
 
 pub count_cycles-requires : goal.count_cycles-requires
 count_cycles-requires c =
-    steady-fits (view_of c.args.self.now) c.args.cycles c.args.row c.args.why c.requires.stands c.requires.steady c.requires.some
+    steady-fits (view_of c.args.self.now) c.args.cycles c.args.core_step c.args.why c.requires.stands c.requires.steady c.requires.some
     (omega (arith, c.len.ensures.value, c.len.ensures.limit)) c.requires.early

@@ -6,12 +6,12 @@ use Rattle.core_window.proofs.core_unit.Core.rest_or_step.Goals as goal
 
 pub pass-requires-clause-steady : goal.pass-requires-clause-steady
 pass-requires-clause-steady c =
-    rest-steady (view_of c.args.self.now) c.turn-turn.result.row c.turn-turn.result.why c.turn-turn.result.memory _ c.if-turn-eq0.true c.if-turn-eq0-2.true c.turn-turn.ensures.does
+    rest-steady (view_of c.args.self.now) c.turn-turn.result.core_step c.turn-turn.result.why c.turn-turn.result.memory _ c.if-turn-eq0.true c.if-turn-eq0-2.true c.turn-turn.ensures.does
 
 pub returns-then-turn-eq0-2 : goal.returns-then-turn-eq0-2
 returns-then-turn-eq0-2 c =
-    steady-goes (view_of c.args.self.now) (view_of c.pass.new.self) _ c.args.until c.turn-turn.result.row c.turn-turn.result.why c.args.sent.now.items
-    (rest-steady (view_of c.args.self.now) c.turn-turn.result.row c.turn-turn.result.why c.turn-turn.result.memory _ c.if-turn-eq0.true c.if-turn-eq0-2.true c.turn-turn.ensures.does)
+    steady-goes (view_of c.args.self.now) (view_of c.pass.new.self) _ c.args.until c.turn-turn.result.core_step c.turn-turn.result.why c.args.sent.now.items
+    (rest-steady (view_of c.args.self.now) c.turn-turn.result.core_step c.turn-turn.result.why c.turn-turn.result.memory _ c.if-turn-eq0.true c.if-turn-eq0-2.true c.turn-turn.ensures.does)
     c.pass.ensures (omega arith) (omega arith)
 
 pub returns-else-turn-eq0 : goal.returns-else-turn-eq0

@@ -11,5 +11,5 @@ returns-in-Some-clause-silent c =
     c.args.self.now.seen c.plain_cycles.ensures (omega (arith, c.requires.at, c.saturating_add.ensures))
 
 pub returns-in-None-clause-silent : goal.returns-in-None-clause-silent
-returns-in-None-clause-silent c s core trace rows mail h =
-    rest-silent s core trace rows mail 18446744073709551615 (subst (IsNextAct s core trace rows mail) c.in-None.is (c.next_act.ensures s core trace rows mail h))
+returns-in-None-clause-silent c s core trace steps mail h =
+    rest-silent s core trace steps mail 18446744073709551615 (subst (IsNextAct s core trace steps mail) c.in-None.is (c.next_act.ensures s core trace steps mail h))

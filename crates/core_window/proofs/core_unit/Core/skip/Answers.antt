@@ -4,7 +4,7 @@ use Rattle.std.specs.Prelude.{replicate}
 use Rattle.statistics.specs.Cores.{core_joined, core_times, CoreFits}
 use Rattle.statistics.specs.declared.cores.CoreStats.{CoreStats}
 use Rattle.core_window.specs.CoreViews.{view_of}
-use Rattle.core_window.specs.Rests.{idle_row, Rests}
+use Rattle.core_window.specs.Rests.{idle_step, Rests}
 use Rattle.core_window.specs.Stands.{StandsFor}
 use Rattle.core_window.specs.Views.{CoreView}
 use Rattle.core_window.proofs.Resting.{idle_counts, rest-standing, skipped, skip-fits}
@@ -17,10 +17,10 @@ pub joined-self-requires : goal.joined-self-requires
 joined-self-requires c =
     subst (λ (x : CoreStats). CoreFits (core_joined c.args.self.now.stats x))
     (sym (c.times.ensures ∙ ap (core_times (c.args.until - c.args.self.now.cycle)) c.cycle_counts-idle.ensures))
-    (skip-fits (view_of c.args.self.now) c.args.until c.turn-turn.result.row c.turn-turn.result.why c.turn-turn.result.memory c.requires.stands c.turn-turn.ensures.does c.requires.early)
+    (skip-fits (view_of c.args.self.now) c.args.until c.turn-turn.result.core_step c.turn-turn.result.why c.turn-turn.result.memory c.requires.stands c.turn-turn.ensures.does c.requires.early)
 
 pub returns : goal.returns
-returns c s core trace rows mail h =
+returns c s core trace steps mail h =
     let a = view_of c.args.self.now in
     let n = c.args.until - a.now in
     let why = c.turn-turn.result.why in
@@ -28,5 +28,5 @@ returns c s core trace rows mail h =
     let now : a.now + n ≡ c.args.until = omega (arith, c.requires.stands.since) in
     let counted : core_joined a.stats (core_times n (idle_counts why a.now)) ≡ c.joined-self.result =
     sym (c.joined-self.ensures ∙ ap (core_joined a.stats) (c.times.ensures ∙ ap (core_times n) c.cycle_counts-idle.ensures)) in
-    subst (λ (v : CoreView). StandsFor s core trace (rows ++ replicate n idle_row) mail v × Rests s core trace rows mail n) (ap₂ with now counted)
-    (skipped a c.args.until c.turn-turn.result.row why c.turn-turn.result.memory c.requires.stands c.turn-turn.ensures.does s core trace rows mail h)
+    subst (λ (v : CoreView). StandsFor s core trace (steps ++ replicate n idle_step) mail v × Rests s core trace steps mail n) (ap₂ with now counted)
+    (skipped a c.args.until c.turn-turn.result.core_step why c.turn-turn.result.memory c.requires.stands c.turn-turn.ensures.does s core trace steps mail h)

@@ -4,7 +4,7 @@ use Rattle.std.specs.Prelude.{filter}
 use Rattle.statistics.specs.declared.cores.CoreStats.{CoreStats}
 use Rattle.core_window.specs.CoreViews.{view_of}
 use Rattle.core_window.specs.Views.{CoreView}
-use Rattle.core_window.specs.declared.waiting.WaitingRead.{WaitingRead}
+use Rattle.core_window.specs.declared.outstanding.OutstandingRead.{OutstandingRead}
 use Rattle.core_window.proofs.Taking.{found-own}
 use Rattle.core_window.proofs.core_unit.Core.take_reply.Goals as goal
 
@@ -13,13 +13,13 @@ returns-in-Some c read e =
     let v = view_of c.args.self.now in
     let found : Some c.in-Some.read ≡ Some read = sym c.in-Some.is ∙ c.take_read.ensures.found ∙ e in
     let same : c.in-Some.read ≡ read = some_same c.in-Some.read read found in
-    let own : c.args.entry ≡ read.entry = sym (found-own c.args.entry v.waiting read e) in
-    let with : List WaitingRead → CoreStats → CoreView = λ ws st. record v { waiting = ws; stats = st } in
+    let own : c.args.entry ≡ read.entry = sym (found-own c.args.entry v.outstanding read e) in
+    let with : List OutstandingRead → CoreStats → CoreView = λ ws st. record v { outstanding = ws; stats = st } in
     let counted : ℕ → CoreStats = λ n. record v.stats { replies = v.stats.replies + 1; read_latency = v.stats.read_latency + n } in
-    let others : ℕ → List WaitingRead = λ n. filter (λ (r : WaitingRead). not (eqb r.entry n)) v.waiting in
-    ap₂ with (c.take_read.ensures.others ∙ ap others own) (c.count_reply.ensures ∙ ap counted (c.saturating_sub.ensures ∙ ap (λ (r : WaitingRead). c.args.self.now.cycle - r.issued) same))
+    let others : ℕ → List OutstandingRead = λ n. filter (λ (r : OutstandingRead). not (eqb r.entry n)) v.outstanding in
+    ap₂ with (c.take_read.ensures.others ∙ ap others own) (c.count_reply.ensures ∙ ap counted (c.saturating_sub.ensures ∙ ap (λ (r : OutstandingRead). c.args.self.now.cycle - r.issued) same))
   where
-    some_same : (a b : WaitingRead) → Some a ≡ Some b → a ≡ b
+    some_same : (a b : OutstandingRead) → Some a ≡ Some b → a ≡ b
     some_same a b h = cc
 
 pub returns-in_default : goal.returns-in_default

@@ -7,7 +7,7 @@ use Rattle.sim_base.specs.Windows.{lacks_credit}
 use Rattle.core_window.specs.Causes.{first_undone, issue_count, cause_at}
 use Rattle.core_window.specs.CoreViews.{view_of}
 use Rattle.core_window.specs.Turns.{IsLast}
-use Rattle.core_window.specs.declared.waiting.WaitingRead.{WaitingRead}
+use Rattle.core_window.specs.declared.outstanding.OutstandingRead.{OutstandingRead}
 use Rattle.statistics.specs.declared.final_state.Credits.{Credits}
 use Rattle.core_window.proofs.Stopping.{is_last}
 use Rattle.core_window.proofs.Turning.{IsSound, sound, turn-is, lacks_here, lazy-count, issues_within}
@@ -18,23 +18,23 @@ pub overflow_add-gone : goal.overflow_add-gone
 overflow_add-gone c = let h : IsSound (view_of c.args.self.now) = sound _ c.requires in omega arith
 
 pub returns-clause-does : goal.returns-clause-does
-returns-clause-does c v s core trace rows mail i h =
+returns-clause-does c v s core trace steps mail i h =
     let a = view_of c.args.self.now in
     let one = c.args.self.now.found.one in
     let two = c.args.self.now.found.two in
     let r = c.retire_count-retired.result in
     let gone = a.stats.retired + r in
-    let full : Bool = ltb one (length a.trace) && lacks_credit a.config core mail (core_messages s core trace rows) (length rows) (slice_get a.trace one) in
-    let lack = λ (b : Bool). b && lacks_credit a.config core mail (core_messages s core trace rows) (length rows) (slice_get a.trace one) in
+    let full : Bool = ltb one (length a.trace) && lacks_credit a.config core mail (core_messages s core trace steps) (length steps) (slice_get a.trace one) in
+    let lack = λ (b : Bool). b && lacks_credit a.config core mail (core_messages s core trace steps) (length steps) (slice_get a.trace one) in
     let lacks = c.if-self-near.lacks in
     let seen = c.args.self.now.seen in
     let near : one < min (a.stats.issued + min a.config.width (a.config.window - (a.stats.issued - gone))) (length a.trace) → lacks ≡ full = λ l. elim c.if-self-near.branch [
       | then-self-near w ↦
           let inside : one < length a.trace = omega arith in
           w.lacks-is
-          ∙ lacks_here s core trace rows mail a v c.args.self.now.found.entry w.is_without_credit-lacks.result i h
+          ∙ lacks_here s core trace steps mail a v c.args.self.now.found.entry w.is_without_credit-lacks.result i h
           (λ held says. w.is_without_credit-lacks.ensures a.config held c.args.self.now.known.placed (λ channel b. ap (λ (cs : List Credits). slice_get cs channel) w.deref-then-self-near.ensures.value ∙ says channel b))
-          ∙ ap (lacks_credit a.config core mail (core_messages s core trace rows) (length rows)) (sym (seen.is_at inside))
+          ∙ ap (lacks_credit a.config core mail (core_messages s core trace steps) (length steps)) (sym (seen.is_at inside))
           ∙ ap lack (sym (lt-ltb one (length a.trace) inside))
       | else-self-near w ↦ absurd (omega (arith, w.if-self-near.false, c.most_issued-near.ensures, c.from.ensures, c.len-len.ensures.value))
     ] in
@@ -48,15 +48,15 @@ returns-clause-does c v s core trace rows mail i h =
     let cause : cause_at a.config.width a.config.window (length a.trace) a.stats.issued gone two c.issue_of-issue.result.count ≡ c.issue_of-issue.result.why =
     sym (c.issue_of-issue.ensures.why
     ∙ ap₂ (λ n k. cause_at a.config.width a.config.window n a.stats.issued (a.stats.retired + k) two c.issue_of-issue.result.count) c.len-len.ensures.value c.from.ensures) in
-    turn-is s core trace rows mail (view_of c.args.self.now) v r one two full
+    turn-is s core trace steps mail (view_of c.args.self.now) v r one two full
     c.issue_of-issue.result.count c.issue_of-issue.result.why c.entry_issued-memory.result i h
     (record {
-      retired = c.retire_count-retired.ensures ∙ ap (λ (ws : List WaitingRead). min a.config.width (first_undone a.stats.issued ws - a.stats.retired)) c.deref.ensures.value;
+      retired = c.retire_count-retired.ensures ∙ ap (λ (ws : List OutstandingRead). min a.config.width (first_undone a.stats.issued ws - a.stats.retired)) c.deref.ensures.value;
       ahead = seen.ahead;
       credit = refl;
       last = λ may. subst
-          (λ why. IsLast a.config core a.trace mail (core_messages s core trace rows) (length rows) a.stats.issued gone one two full c.issue_of-issue.result.count why) cause
-          (is_last a.config core a.trace mail (core_messages s core trace rows) (length rows) a.stats.issued gone one two full may c.issue_of-issue.result.count count);
+          (λ why. IsLast a.config core a.trace mail (core_messages s core trace steps) (length steps) a.stats.issued gone one two full c.issue_of-issue.result.count why) cause
+          (is_last a.config core a.trace mail (core_messages s core trace steps) (length steps) a.stats.issued gone one two full may c.issue_of-issue.result.count count);
       issues = c.entry_issued-memory.ensures.issued a.trace seen
           (issues_within a.trace a.config.width a.config.window a.stats.issued gone one two c.issue_of-issue.result.count full seen.ahead (sound _ c.requires).issued count)
           (sound _ c.requires).issued;

@@ -3,8 +3,8 @@ use Rattle.std.specs.Arc.{arc_value}
 use Rattle.epochs.specs.Parts.{IsJob, HasRun}
 use Rattle.epochs.proofs.job.Job.run.Goals as goal
 
-pub run_and_tell-requires : goal.run_and_tell-requires
-run_and_tell-requires c =
+pub run-requires : goal.run-requires
+run-requires c =
     let j = c.self.inside in
     let s = (arc_value j.machine).config in
     let traces = (arc_value j.machine).traces.items in
@@ -23,10 +23,6 @@ invariant_of-result c =
     let s = (arc_value j.machine).config in
     let traces = (arc_value j.machine).traces.items in
     let ready = subst (λ p. IsJob s traces j.name p c.deref.result.now) (sym c.deref_mut.ensures.value) (subst (IsJob s traces j.name j.part.value) (sym c.deref.ensures.value) c.self.invariant) in
-    let told = c.in_ok-send.ensures {u = tt} s traces j.name.unit ready in
+    let told = c.in_ok-run.ensures {u = tt} s traces j.name.unit ready in
     let onto = HasRun s traces j.name.unit j.name.from j.name.until in
-    record {
-      ran = subst (onto c.run_and_tell.new.self) (sym (told.onto.behind ∙ ap (λ z. z ++ told.onto.messages) c.clear.ensures.items)) told.onto.ran;
-      since = told.since;
-      silent = told.silent;
-    }
+    subst (onto c.run.new.self) (sym (told.behind ∙ ap (λ z. z ++ told.messages) c.clear.ensures.items)) told.ran

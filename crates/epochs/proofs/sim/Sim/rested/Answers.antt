@@ -11,5 +11,6 @@ invariant_of-result c =
     let len : c.len.result ≡ length f.parts.items = search rules in
     record {
       counted = sim.counted;
+      count = (c.in_ok-slots.ensures {u = tt}).count ∙ sim.count;
       asleep = awake-sim m.config m.traces.items f.now f.phase f.parts.items f.links c.in_ok-slots.slots.items c.in_ok-words.words.items sim (c.in_ok-slots.ensures {u = tt}) (c.in_ok-words.ensures.items_if_clones_equal (λ _ e. e) ∙ ap (λ n. replicate n f.now) len);
     }

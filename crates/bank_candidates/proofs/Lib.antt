@@ -1,0 +1,12 @@
+pub mod Bits
+pub mod Positions
+pub mod Entries
+pub mod Searches
+pub mod Hits
+pub mod Blocked
+pub mod SomeKind
+pub mod OneBank
+pub mod Stood
+pub mod Words
+pub mod Tagged
+pub mod Counted

@@ -1,0 +1,145 @@
+-- Words of places, one of which is written, or which all move.
+use Rattle.std.proofs.Common.{◌≡◌, ℕ, zero, suc, ◌+◌, ◌-◌, ◌*◌, ◌^◌, ◌<◌, ◌≤◌, ◌≢◌, min, Bool, true, false, not, cond, ltb, List, length, get_or, set, Option, Some, None, refl, sym, ap, ◌∙◌, inl, inr, arith, add-one, get_or-set_same, get_or-set_other}
+use Rattle.std.proofs.lemmas.Bool.{cases_lt, cases_eq, cond-true, cond-false, lt-ltb, le-ltb}
+use Rattle.std.specs.Option.{is_some}
+use Rattle.bank_candidates.specs.declared.sets.BankSet.{BankSet}
+use Rattle.bank_candidates.specs.Candidates.{kind_number}
+use Rattle.bank_candidates.specs.Moves.{past, kind_past}
+use Rattle.bank_candidates.specs.Places.{candidate_of, word_of, column, candidate_in, kind_in, moved}
+use Rattle.bank_candidates.specs.Sets.{is_in}
+
+-- the word of a bank is that of its kind
+pub index_is : (bank : ℕ) (write hit : Bool) → 4 * bank + column write hit ≡ 2 * kind_number bank write + cond hit 1 0
+index_is bank true true = omega arith
+index_is bank true false = omega arith
+index_is bank false true = omega arith
+index_is bank false false = omega arith
+
+pub column_few : (write hit : Bool) → column write hit < 4
+column_few true true = omega arith
+column_few true false = omega arith
+column_few false true = omega arith
+column_few false false = omega arith
+
+pub candidate_word : (o : Option ℕ) → candidate_of (word_of o) ≡ o
+candidate_word None = refl
+candidate_word (Some k) = ap candidate_of (add-one k)
+
+abbrev pub Agree : List ℕ → List BankSet → Type 0
+Agree words sets = (bank number : ℕ) (d : BankSet) → number < 4 → is_in (get_or sets number d) bank ≡ is_some (candidate_of (get_or words (4 * bank + number) 0))
+
+-- one word written, and its set
+pub set_agrees : (words : List ℕ) (sets : List BankSet) (bank number : ℕ) (candidate : Option ℕ) (s : BankSet) → length sets ≡ 4 → 4 * bank + 3 < length words → number < 4
+    → Agree words sets → is_in s bank ≡ is_some candidate → ((k : ℕ) → k ≢ bank → is_in s k ≡ is_in (get_or sets number s) k)
+    → Agree (set words (4 * bank + number) (word_of candidate)) (set sets number s)
+set_agrees words sets bank number candidate s four room few agree same others b n d within =
+    let index = 4 * bank + number in
+    elim (cases_eq n number) [
+      | inl n_is ↦
+          let set_is : get_or (set sets number s) n d ≡ s = ap (λ m. get_or (set sets number s) m d) n_is ∙ get_or-set_same sets number s d (omega arith) in
+          ap (λ x. is_in x b) set_is ∙ (elim (cases_eq b bank) [
+            | inl b_is ↦
+                let here : 4 * b + n ≡ index = omega arith in
+                ap (is_in s) b_is ∙ same
+                ∙ ap is_some (sym (ap candidate_of (ap (λ m. get_or (set words index (word_of candidate)) m 0) here ∙ get_or-set_same words index (word_of candidate) 0 (omega arith)) ∙ candidate_word candidate))
+            | inr apart ↦
+                let there : 4 * b + n ≡ index → ⊥ = λ e. apart (omega arith) in
+                others b apart ∙ ap (λ m. is_in (get_or sets m s) b) (sym n_is) ∙ agree b n s within
+                ∙ ap (λ w. is_some (candidate_of w)) (sym (get_or-set_other words index (4 * b + n) (word_of candidate) 0 there))
+          ])
+      | inr apart ↦
+          let there : 4 * b + n ≡ index → ⊥ = λ e. apart (omega arith) in
+          ap (λ x. is_in x b) (get_or-set_other sets number n s d apart) ∙ agree b n d within
+          ∙ ap (λ w. is_some (candidate_of w)) (sym (get_or-set_other words index (4 * b + n) (word_of candidate) 0 there))
+    ]
+
+-- the word that was written is read
+pub read_same : (words : List ℕ) (bank : ℕ) (write hit : Bool) (candidate : Option ℕ) → 4 * bank + 3 < length words
+    → candidate_in (set words (4 * bank + column write hit) (word_of candidate)) (kind_number bank write) hit ≡ candidate
+read_same words bank write hit candidate room =
+    let index = 4 * bank + column write hit in
+    let within : index < length words = omega (arith, column_few write hit) in
+    ap (λ n. candidate_of (get_or (set words index (word_of candidate)) n 0)) (sym (index_is bank write hit))
+    ∙ ap candidate_of (get_or-set_same words index (word_of candidate) 0 within) ∙ candidate_word candidate
+
+-- and the others are as they were
+pub read_beside : (words : List ℕ) (bank : ℕ) (write hit : Bool) (word : ℕ)
+    → candidate_in (set words (4 * bank + column write hit) word) (kind_number bank write) (not hit) ≡ candidate_in words (kind_number bank write) (not hit)
+read_beside words bank write hit word =
+    ap candidate_of (get_or-set_other words (4 * bank + column write hit) (2 * kind_number bank write + cond (not hit) 1 0) word 0 (apart hit))
+  where
+    apart : (h : Bool) → 2 * kind_number bank write + cond (not h) 1 0 ≡ 4 * bank + column write h → ⊥
+    apart true e = let i = index_is bank write true in omega arith
+    apart false e = let i = index_is bank write false in omega arith
+
+pub read_other : (words : List ℕ) (bank : ℕ) (write hit : Bool) (word kind : ℕ) → kind ≢ kind_number bank write
+    → kind_in (set words (4 * bank + column write hit) word) kind ≡ kind_in words kind
+read_other words bank write hit word kind other =
+    let index = 4 * bank + column write hit in
+    let is = index_is bank write hit in
+    (λ i. record { oldest = candidate_of (get_or-set_other words index (2 * kind + 0) word 0 (apart hit 0 (omega arith) is) i); hit = candidate_of (get_or-set_other words index (2 * kind + 1) word 0 (apart hit 1 (omega arith) is) i) })
+  where
+    apart : (h : Bool) (n : ℕ) → n < 2 → 4 * bank + column write hit ≡ 2 * kind_number bank write + cond h 1 0 → 2 * kind + n ≡ 4 * bank + column write hit → ⊥
+    apart true n few is e = other (omega arith)
+    apart false n few is e = other (omega arith)
+
+-- a word moves as its place does
+pub moved_candidate : (slot word : ℕ) → candidate_of (moved (slot + 1) word) ≡ past slot (candidate_of word)
+moved_candidate slot zero = ap candidate_of none
+  where
+    none : zero - min (zero - (slot + 1)) 1 ≡ 0
+    none = omega arith
+moved_candidate slot (suc k) = elim (cases_lt slot k) [
+  | inl behind ↦ ap candidate_of (back behind) ∙ ap Some (sym (cond-true (ltb slot k) (k - 1) k (lt-ltb slot k behind)))
+  | inr front ↦ ap candidate_of (stays front) ∙ ap Some (sym (cond-false (ltb slot k) (k - 1) k (le-ltb slot k front)))
+]
+  where
+    back : slot < k → suc k - min (suc k - (slot + 1)) 1 ≡ suc (k - 1)
+    back behind = omega arith
+
+    stays : k ≤ slot → suc k - min (suc k - (slot + 1)) 1 ≡ suc k
+    stays front = omega arith
+
+-- no place stands behind the last that has a word
+far_word : (slot word : ℕ) → word < 2 ^ 16 → moved (min slot 65534 + 1) word ≡ moved (slot + 1) word
+far_word slot word short = elim (cases_lt slot 65534) [
+  | inl near ↦ ap (λ n. moved (n + 1) word) (less near)
+  | inr far ↦ none far ∙ sym (also far)
+]
+  where
+    less : slot < 65534 → min slot 65534 ≡ slot
+    less near = omega arith
+
+    none : 65534 ≤ slot → moved (min slot 65534 + 1) word ≡ word
+    none far = omega arith
+
+    also : 65534 ≤ slot → moved (slot + 1) word ≡ word
+    also far = omega arith
+
+pub kind_moves : (slot least : ℕ) (old new : List ℕ) → least ≡ min slot 65534 + 1 → ((k : ℕ) → get_or old k 0 < 2 ^ 16) → ((k : ℕ) → get_or new k 0 ≡ moved least (get_or old k 0))
+    → (kind : ℕ) → kind_in new kind ≡ kind_past slot (kind_in old kind)
+kind_moves slot least old new is short each kind =
+    let candidate : (n : ℕ) → candidate_of (get_or new n 0) ≡ past slot (candidate_of (get_or old n 0)) =
+    λ n. ap candidate_of (each n ∙ ap (λ m. moved m (get_or old n 0)) is ∙ far_word slot (get_or old n 0) (short n)) ∙ moved_candidate slot (get_or old n 0) in
+    (λ i. record { oldest = candidate (2 * kind + 0) i; hit = candidate (2 * kind + 1) i })
+
+-- a set stays as it was, since no word becomes 0
+pub moved_agrees : (least : ℕ) (old new : List ℕ) (sets : List BankSet) → 1 ≤ least → ((k : ℕ) → get_or new k 0 ≡ moved least (get_or old k 0)) → Agree old sets → Agree new sets
+moved_agrees least old new sets more each agree bank number d few =
+    let n = 4 * bank + number in
+    agree bank number d few ∙ sym (ap (λ w. is_some (candidate_of w)) (each n) ∙ stays (get_or old n 0))
+  where
+    stays : (w : ℕ) → is_some (candidate_of (moved least w)) ≡ is_some (candidate_of w)
+    stays zero = ap (λ n. is_some (candidate_of n)) (none)
+      where
+        none : zero - min (zero - least) 1 ≡ 0
+        none = omega arith
+    stays (suc k) = ap (λ n. is_some (candidate_of n)) (known k)
+      where
+        known : (k : ℕ) → suc k - min (suc k - least) 1 ≡ suc (k - min (suc k - least) 1)
+        known k = omega arith
+
+-- the word of a place is the one that is looked for
+pub word_there : (slot word : ℕ) → word < 2 ^ 16 → candidate_of word ≡ Some slot → word ≡ min slot 65534 + 1
+word_there slot zero short is = cc
+word_there slot (suc k) short is = let same : k ≡ slot = cc in omega arith

@@ -1,0 +1,17 @@
+use Rattle.std.proofs.Common.{None, ap, ◌∙◌, arith}
+use Rattle.sim_base.specs.Rules.{open_row}
+use Rattle.bank_candidates.specs.declared.entry.CandidatesOfBank.{CandidatesOfBank}
+use Rattle.bank_candidates.specs.Candidates.{bank_at}
+use Rattle.bank_candidates.proofs.Stood.{bank_at_number}
+use Rattle.bank_candidates.proofs.all_banks.BankCandidates.open_row.Goals as goal
+
+pub row_of-requires : goal.row_of-requires
+row_of-requires c = omega (arith, c.requires.number, c.number_of.ensures)
+
+pub returns : goal.returns
+returns c requests history stands =
+    let b = c.args.bank in
+    let none : CandidatesOfBank = record { row = None; reads = record { oldest = None; hit = None }; writes = record { oldest = None; hit = None } } in
+    c.row_of.ensures none
+    ∙ stands.rows_are c.number_of.result none (omega (arith, c.requires.number, c.number_of.ensures))
+    ∙ ap (λ x. open_row x history) (ap bank_at c.number_of.ensures ∙ bank_at_number b c.requires.group c.requires.bank)

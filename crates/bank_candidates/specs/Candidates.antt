@@ -1,0 +1,87 @@
+-- What the candidates of a queue stand for.
+--     bank_at number, number_of bank      the bank with a number, and the number of a bank
+--     asks bank write r      a request asks to write to a bank, or to read from it
+--     hits bank write row r      it does, and for the row that is open there
+--     wants bank write row r      it does, and for this row if one is given
+--     RowsFit requests      each asks for a row whose number has 32 bits
+--     first_place test requests      the place of the first request that may be served and passes a test
+--     kind_number bank write, kind_of r      the number of a bank and a kind, and of those that a request asks for
+--     kind_count kind requests      how many ask for a bank and a kind
+--     NoneBlocked kind requests      none that asks for a bank and a kind blocked for an older one of its line
+--     AreCandidates requests bank candidates      each candidate of a bank is the place of the first such request
+use Rattle.std.specs.Prelude.{◌≡◌, ℕ, ◌+◌, ◌*◌, ◌/◌, ◌%◌, ◌^◌, ◌<◌, ◌==◌, Bool, true, false, not, ◌&&◌, List, All, count_by, position, Option, Some, None, if◌then◌else◌}
+use Rattle.std.specs.List.{list_any, zip}
+use Rattle.sim_base.specs.declared.message.Request.{Request}
+use Rattle.sim_base.specs.declared.place.BankId.{BankId}
+use Rattle.sim_base.specs.Rules.{is_row}
+use Rattle.queue_columns.specs.Marks.{is_marked}
+use Rattle.queue_columns.specs.Columns.{bank_number, eligible_column}
+use Rattle.bank_candidates.specs.declared.entry.CandidatesOfKind.{CandidatesOfKind}
+use Rattle.bank_candidates.specs.declared.entry.CandidatesOfBank.{CandidatesOfBank}
+
+-- the bank with a number
+abbrev pub bank_at : ℕ → BankId
+bank_at number = record { rank = number / 16; group = number / 4 % 4; bank = number % 4 }
+
+-- the number of a bank
+abbrev pub number_of : BankId → ℕ
+number_of bank = (bank.rank * 4 + bank.group) * 4 + bank.bank
+
+-- a request asks to write to a bank, or to read from it
+abbrev pub asks : ℕ → Bool → Request → Bool
+asks bank write r = (bank_number r.place == bank) && (if write then r.write else not r.write)
+
+-- the same, and for the row that is open there
+abbrev pub hits : ℕ → Bool → Option ℕ → Request → Bool
+hits bank write row r = asks bank write r && is_row r.place.row row
+
+-- the same, and for a row if one is given
+abbrev pub wants : ℕ → Bool → Option ℕ → Request → Bool
+wants bank write None r = asks bank write r
+wants bank write (Some row) r = asks bank write r && (r.place.row == row)
+
+-- each request asks for a row whose number has 32 bits
+abbrev pub RowsFit : List Request → Type 0
+RowsFit requests = All (λ r. r.place.row < 2 ^ 32) requests
+
+-- a request at a place of the queue may be served, and passes a test
+abbrev pub passes : (Request → Bool) → Request × ℕ → Bool
+passes test e = is_marked e.1 && test e.0
+
+-- the requests, each with its mark
+abbrev pub entries : List Request → List (Request × ℕ)
+entries requests = zip requests (eligible_column requests)
+
+-- the place of the first request that may be served and passes a test
+abbrev pub first_place : (Request → Bool) → List Request → Option ℕ
+first_place test requests = position (passes test) (entries requests)
+
+-- the number of a bank and a kind: twice that of the bank, and one more to write
+abbrev pub kind_number : ℕ → Bool → ℕ
+kind_number bank write = bank * 2 + (if write then 1 else 0)
+
+-- the number of the bank and the kind of a request
+abbrev pub kind_of : Request → ℕ
+kind_of r = kind_number (bank_number r.place) r.write
+
+-- how many requests ask for a bank and a kind
+abbrev pub kind_count : ℕ → List Request → ℕ
+kind_count kind requests = count_by (λ r. kind_of r == kind) requests
+
+-- a request at a place asks for a bank and a kind, and is blocked by an older one of its line
+abbrev pub blocked : ℕ → Request × ℕ → Bool
+blocked kind e = not (is_marked e.1) && (kind_of e.0 == kind)
+
+-- no request that asks for a bank and a kind is blocked by an older one of its line
+abbrev pub NoneBlocked : ℕ → List Request → Type 0
+NoneBlocked kind requests = list_any (blocked kind) (entries requests) ≡ false
+
+-- the candidates of a bank to read or to write, where this row is open
+pub record AreFirst (requests : List Request) (bank : ℕ) (write : Bool) (row : Option ℕ) (candidates : CandidatesOfKind) : Type 0 where
+  pub oldest_is : candidates.oldest ≡ first_place (asks bank write) requests
+  pub hit_is : candidates.hit ≡ first_place (hits bank write row) requests
+
+-- the candidates of a bank
+pub record AreCandidates (requests : List Request) (bank : ℕ) (candidates : CandidatesOfBank) : Type 0 where
+  pub reads_are : AreFirst requests bank false candidates.row candidates.reads
+  pub writes_are : AreFirst requests bank true candidates.row candidates.writes

@@ -1,0 +1,5 @@
+pub mod Candidates
+pub mod Moves
+pub mod Places
+pub mod Sets
+pub mod Stands

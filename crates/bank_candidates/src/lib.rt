@@ -1,0 +1,13 @@
+//! The candidates of a channel's queue: of each bank, to read and to write, the first request that may be served, and the first of
+//! these that asks for the bank's open row.
+#![tactic(auto)]
+
+pub mod all_banks;
+mod entry;
+mod places;
+mod search;
+mod sets;
+
+pub use all_banks::BankCandidates;
+pub use entry::{CandidatesOfBank, CandidatesOfKind};
+pub use sets::BankSet;

@@ -1,5 +1,0 @@
-pub mod Heads
-pub mod Moves
-pub mod Places
-pub mod Sets
-pub mod Stands

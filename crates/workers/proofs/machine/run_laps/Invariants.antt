@@ -1,0 +1,9 @@
+-- The run is the same, and not past the limit; in each turn it comes nearer to it.
+use Rattle.std.proofs.Common.{◌≡◌, ◌≤◌, ◌-◌}
+use Rattle.workers.proofs.machine.run_laps.Given as goal
+
+abbrev pub invariant-loop-alloc : goal.invariant-loop-alloc
+invariant-loop-alloc g l = (l.sim.machine ≡ l.fn.sim.machine) × (l.sim.traces ≡ l.fn.sim.traces) × (l.sim.now ≤ l.limit)
+
+abbrev pub decreases-loop-alloc : goal.decreases-loop-alloc
+decreases-loop-alloc g l = l.limit - l.sim.now
