@@ -235,10 +235,11 @@ fn phases_of<R: Threads + Wait + Sync>(
 
 /// Four cores read one line each, up to a cycle far off. The requests come in cycle 2, where the row is opened. It is read in the
 /// cycles 5, 10, 15 and 20, as the lines lie in one group. The credits come two cycles later, and the replies in 15, 20, 25 and
-/// 30. Where nothing happens, there is no phase: a phase begins in the cycles 0, 2, 5, 7, 10, 12, 15, 17, 20, 22, 25 and 30.
+/// 30. Where nothing happens, there is no phase: a phase begins in the cycles 0, 2, 5, 7, 10, 12, 15, 17, 20, 22, 25 and 30. A run goes by
+/// laps of 4,096 cycles, 8,192 and so on, and each begins with a phase: three more up to cycle 60,000, in 4,096, 12,288 and 28,672.
 #[test]
 fn a_machine_works_where_something_happens(rt: HostRuntime) -> Result<(), Fail> {
-    for (limit, phases) in [(16, 7), (60_000, 12)] {
+    for (limit, phases) in [(16, 7), (60_000, 15)] {
         let found = phases_of(&rt, rt.alloc(), limit)?;
         expect(&rt, &found, &(limit, phases));
     }
