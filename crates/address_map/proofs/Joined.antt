@@ -200,13 +200,13 @@ unfolding room
 room-positive fs = pow_pos (width_of_all fs)
 
 -- One field more: the sum stays below the scale of the next field, and there is room for the fields that are left.
-pub record Turned (address scale value size rest : ℕ) : Type 0 where
+pub record HasAdded (address scale value size rest : ℕ) : Type 0 where
   pub below : address + scale * value < scale * size
   pub fits : scale * size * rest ≤ 2 ^ 44
   pub small : scale * size ≤ 2 ^ 44
 
-turned : (address scale value size all rest : ℕ) → address < scale → value < size → size * rest ≤ all → 0 < rest → scale * all ≤ 2 ^ 44 → Turned address scale value size rest
-turned address scale value size all rest a v r p h =
+has_added : (address scale value size all rest : ℕ) → address < scale → value < size → size * rest ≤ all → 0 < rest → scale * all ≤ 2 ^ 44 → HasAdded address scale value size rest
+has_added address scale value size all rest a v r p h =
     let up : scale * suc value ≤ scale * size = mul-le scale (suc value) scale size (omega arith) v in
     let one : scale * suc value ≡ scale * value + scale = mul-suc scale value in
     let inner : scale * (size * rest) ≤ scale * all = mul-le scale (size * rest) scale all (omega arith) r in
@@ -216,10 +216,10 @@ turned address scale value size all rest a v r p h =
 
 pub one_more : (s : Config) (p : Place) (fs : List Field) (i : ℕ) (d : Field) (address scale : ℕ) → PlaceInRange s p → i < length fs
     → address < scale → scale * room (drop i fs) ≤ 2 ^ 44
-    → Turned address scale (value_of p (get_or fs i d)) (field_size s (get_or fs i d)) (room (drop (i + 1) fs))
+    → HasAdded address scale (value_of p (get_or fs i d)) (field_size s (get_or fs i d)) (room (drop (i + 1) fs))
 one_more s p fs i d address scale h inside below fits =
     let f = get_or fs i d in
-    turned address scale (value_of p f) (field_size s f) (room (drop i fs)) (room (drop (i + 1) fs)) below (value_of-below s p h f)
+    has_added address scale (value_of p f) (field_size s f) (room (drop i fs)) (room (drop (i + 1) fs)) below (value_of-below s p h f)
     (rw (room-step fs i d inside) (mul-le (field_size s f) (room (drop (i + 1) fs)) (2 ^ width_of f) (room (drop (i + 1) fs)) (field_size-room s f) (omega arith)))
     (room-positive (drop (i + 1) fs)) fits
 
@@ -227,5 +227,5 @@ one_more s p fs i d address scale h inside below fits =
 pub sum-step : (address scale n size value : ℕ) → address + scale * (n * size + value) ≡ address + scale * value + scale * size * n
 sum-step address scale n size value =
     let apart : scale * (n * size + value) ≡ scale * (n * size) + scale * value = mul-add scale (n * size) value in
-    let turn : scale * (n * size) ≡ scale * size * n = ap (λ m. scale * m) (mul_comm n size) ∙ sym (mul_assoc scale size n) in
+    let added : scale * (n * size) ≡ scale * size * n = ap (λ m. scale * m) (mul_comm n size) ∙ sym (mul_assoc scale size n) in
     omega arith

@@ -1,6 +1,6 @@
 //! Where an address lies, by shifts and masks: each field of an address has a power of two of values.
 
-ghost use Rattle.std.specs.Prelude.{◌≡◌, ◌^◌, ◌<◌, ℕ};
+ghost use Rattle.std.specs.Prelude.{◌≡◌, ◌^◌, ◌<◌};
 ghost use Rattle.sim_base.specs.Fields.{is_field};
 ghost use Rattle.sim_base.specs.Places.{field_size};
 

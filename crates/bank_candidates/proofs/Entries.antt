@@ -97,7 +97,7 @@ or_false : (a : Bool) → (a || false) ≡ a
 or_false true = refl
 or_false false = refl
 
--- the first place moves past a request that does not pass, where none behind it has its turn
+-- the first place moves past a request that does not pass, where none behind it is eligible
 split_skipped : (test : Request → Bool) (older later : List Request) (r : Request) → (not (asks_for_line r.place older) && test r) ≡ false
     → position (passes test) (zip later (marks_after (λ p. asks_for_line p older || is_line r.place p) later))
     ≡ position (passes test) (zip later (marks_after (λ p. asks_for_line p older) later))

@@ -1,4 +1,4 @@
--- The oldest request of a bank and a kind asks for a row, or the first that does stands behind it.
+-- The oldest request of a bank and an access asks for a row, or the first that does stands behind it.
 use Rattle.std.proofs.Common.{◌≡◌, ℕ, ◌+◌, ◌<◌, Bool, true, false, ◌&&◌, eqb, List, length, get_or, Some, refl, sym, ap, ◌∙◌}
 use Rattle.std.proofs.lemmas.Bool.{true≢false}
 use Rattle.std.proofs.lemmas.List.{get_or_default}

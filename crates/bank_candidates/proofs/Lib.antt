@@ -4,7 +4,7 @@ pub mod Entries
 pub mod Searches
 pub mod Hits
 pub mod Blocked
-pub mod SomeKind
+pub mod SomeAccess
 pub mod OneBank
 pub mod Stood
 pub mod Words

@@ -8,9 +8,9 @@ use Rattle.sim_base.specs.Scheduling.{asks_for_line, or_else}
 use Rattle.sim_base.specs.declared.message.Request.{Request}
 use Rattle.queue_columns.specs.Columns.{bank_number}
 use Rattle.queue_columns.proofs.SameLine.{line_same}
-use Rattle.bank_candidates.specs.declared.entry.CandidatesOfKind.{CandidatesOfKind}
+use Rattle.bank_candidates.specs.declared.entry.AccessCandidates.{AccessCandidates}
 use Rattle.bank_candidates.specs.Candidates.{asks, hits, first_place, AreFirst}
-use Rattle.bank_candidates.specs.Moves.{past, kind_past}
+use Rattle.bank_candidates.specs.Moves.{past, access_past}
 use Rattle.bank_candidates.proofs.Entries.{first_push, left_apart}
 
 else_none : (o : Option ℕ) → or_else o None ≡ o
@@ -33,18 +33,18 @@ never_more true a b none = ap (λ t. t && b) none
 never_more false a b none = refl
 
 -- candidates that a new request is not for
-pub kind_kept : (older : List Request) (r : Request) (bank : ℕ) (write : Bool) (row : Option ℕ) (h : CandidatesOfKind)
+pub access_kept : (older : List Request) (r : Request) (bank : ℕ) (write : Bool) (row : Option ℕ) (h : AccessCandidates)
     → (not (asks_for_line r.place older) && asks bank write r) ≡ false → AreFirst older bank write row h → AreFirst (older ++ r ∷ []) bank write row h
-kind_kept older r bank write row h none first = record {
+access_kept older r bank write row h none first = record {
   oldest_is = first.oldest_is ∙ first_kept (asks bank write) older r none;
   hit_is = first.hit_is ∙ first_kept (hits bank write row) older r (never_more (not (asks_for_line r.place older)) (asks bank write r) (is_row r.place.row row) none);
 }
 
 -- candidates that it is for
-pub kind_joined : (older : List Request) (r : Request) (bank slot : ℕ) (write : Bool) (row : Option ℕ) (hit : Bool) (h j : CandidatesOfKind) → slot ≡ length older
+pub access_joined : (older : List Request) (r : Request) (bank slot : ℕ) (write : Bool) (row : Option ℕ) (hit : Bool) (h j : AccessCandidates) → slot ≡ length older
     → asks_for_line r.place older ≡ false → asks bank write r ≡ true → hit ≡ is_row r.place.row row → j.oldest ≡ or_else h.oldest (Some slot)
     → j.hit ≡ cond hit (or_else h.hit (Some slot)) h.hit → AreFirst older bank write row h → AreFirst (older ++ r ∷ []) bank write row j
-kind_joined older r bank slot write row hit h j long asked is hit_is oldest_joined hit_joined first =
+access_joined older r bank slot write row hit h j long asked is hit_is oldest_joined hit_joined first =
     let may : (b : Bool) → (not (asks_for_line r.place older) && b) ≡ b = λ b. ap (λ t. not t && b) asked in
     let wants : hits bank write row r ≡ hit = ap (λ t. t && is_row r.place.row row) is ∙ sym hit_is in
     record {
@@ -64,8 +64,8 @@ kind_joined older r bank slot write row hit h j long asked is hit_is oldest_join
 pub asks_own : (r : Request) (bank : ℕ) → bank ≡ bank_number r.place → asks bank r.write r ≡ true
 asks_own r bank is =
     let here : eqb (bank_number r.place) bank ≡ true = eq-eqb (bank_number r.place) bank (sym is) in
-    let kind : (w : Bool) → cond w w (not w) ≡ true = λ w. elim w as (λ v. cond v v (not v) ≡ true) [ true ↦ refl | false ↦ refl ] in
-    and_from (eqb (bank_number r.place) bank) (cond r.write r.write (not r.write)) here (kind r.write)
+    let access : (w : Bool) → cond w w (not w) ≡ true = λ w. elim w as (λ v. cond v v (not v) ≡ true) [ true ↦ refl | false ↦ refl ] in
+    and_from (eqb (bank_number r.place) bank) (cond r.write r.write (not r.write)) here (access r.write)
 
 pub asks_elsewhere : (r : Request) (bank : ℕ) (write : Bool) → eqb (bank_number r.place) bank ≡ false → asks bank write r ≡ false
 asks_elsewhere r bank write apart = ap (λ b. b && cond write r.write (not r.write)) apart
@@ -76,10 +76,10 @@ other_line r bank write apart x is =
     false_from_ne_true (is_line r.place x.place)
     (λ same. true≢false (sym there.0 ∙ ap (λ p. eqb (bank_number p) bank) (sym (line_same r.place x.place same)) ∙ apart))
 
--- candidates of a kind, once a request of another bank has left
-pub kind_left : (rs : List Request) (slot : ℕ) (r : Request) (bank : ℕ) (write : Bool) (row : Option ℕ) (h : CandidatesOfKind) → slot < length rs → r ≡ get_or rs slot r
-    → eqb (bank_number r.place) bank ≡ false → AreFirst rs bank write row h → AreFirst (remove rs slot) bank write row (kind_past slot h)
-kind_left rs slot r bank write row h within here apart first = record {
+-- candidates of an access, once a request of another bank has left
+pub access_left : (rs : List Request) (slot : ℕ) (r : Request) (bank : ℕ) (write : Bool) (row : Option ℕ) (h : AccessCandidates) → slot < length rs → r ≡ get_or rs slot r
+    → eqb (bank_number r.place) bank ≡ false → AreFirst rs bank write row h → AreFirst (remove rs slot) bank write row (access_past slot h)
+access_left rs slot r bank write row h within here apart first = record {
   oldest_is =
       ap (past slot) first.oldest_is
       ∙ sym (left_apart (asks bank write) rs slot r within here (asks_elsewhere r bank write apart) (other_line r bank write apart));

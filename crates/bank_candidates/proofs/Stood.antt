@@ -14,13 +14,13 @@ use Rattle.queue_columns.specs.Columns.{bank_number, eligible_column}
 use Rattle.queue_columns.proofs.Eligible.{marks_after, length-marks, split_marks, around}
 use Rattle.bank_candidates.specs.declared.entry.CandidatesOfBank.{CandidatesOfBank}
 use Rattle.bank_candidates.specs.declared.all_banks.BankCandidates.{BankCandidates}
-use Rattle.bank_candidates.specs.Candidates.{asks, AreFirst, AreCandidates, RowsFit, NoneBlocked, kind_number, kind_of, bank_at, number_of}
-use Rattle.bank_candidates.specs.Moves.{kind_past}
-use Rattle.bank_candidates.specs.Places.{candidate_in, kind_in}
+use Rattle.bank_candidates.specs.Candidates.{asks, AreFirst, AreCandidates, RowsFit, NoneBlocked, access_number, access_of, bank_at, number_of}
+use Rattle.bank_candidates.specs.Moves.{access_past}
+use Rattle.bank_candidates.specs.Places.{candidate_in, access_in}
 use Rattle.bank_candidates.specs.Stands.{bank_count, candidates_of_bank, StandsFor, with_row, closed_in}
-use Rattle.bank_candidates.proofs.OneBank.{kind_kept, kind_joined, kind_left, asks_own}
+use Rattle.bank_candidates.proofs.OneBank.{access_kept, access_joined, access_left, asks_own}
 use Rattle.bank_candidates.proofs.Counted.{AreCounted}
-use Rattle.bank_candidates.proofs.Blocked.{blocked_push, waits_left, noted_other, noted_here, wants_kind, kind_bank, kind_write}
+use Rattle.bank_candidates.proofs.Blocked.{blocked_push, waits_left, noted_other, noted_here, wants_access, access_bank, access_write}
 
 -- an item that a list has at a place
 pub item_at : {X : Type 0} (xs : List X) (k : ℕ) → k < length xs → (x : X) × (x ≡ get_or xs k x)
@@ -44,7 +44,7 @@ pub left_more : {X : Type 0} (xs ys : List X) (i : ℕ) (y : X) → ((k : ℕ) (
     → get_or (set ys i y) k d ≡ get_or xs k d
 left_more xs ys i y left k d late = let apart : k ≡ i → ⊥ = λ same. omega arith in get_or-set_other ys i k y d apart ∙ left k d (omega arith)
 
--- banks and kinds that are not noted have none that is blocked
+-- banks and accesses that are not noted have none that is blocked
 abbrev pub AreNotBlocked : List Bool → List Request → Type 0
 AreNotBlocked noted requests = (bank : ℕ) → get_or noted bank true ≡ false → NoneBlocked bank requests
 
@@ -53,11 +53,11 @@ pub record AreStanding (rows : List (Option ℕ)) (words : List ℕ) (noted : Li
   pub within : All (λ r. bank_number r.place < length rows) requests
   pub fit : RowsFit requests
   pub opened : (bank : ℕ) → bank < length rows → get_or rows bank None ≡ open_rows bank
-  pub first : (bank : ℕ) (write : Bool) → bank < length rows → AreFirst requests bank write (open_rows bank) (kind_in words (kind_number bank write))
+  pub first : (bank : ℕ) (write : Bool) → bank < length rows → AreFirst requests bank write (open_rows bank) (access_in words (access_number bank write))
   pub none_blocked : AreNotBlocked noted requests
 
 pub candidates_read : (candidates : BankCandidates) (bank : ℕ) (d : CandidatesOfBank) → bank < bank_count candidates
-    → record { row = get_or candidates.rows.items bank None; reads = kind_in candidates.places.words.items (kind_number bank false); writes = kind_in candidates.places.words.items (kind_number bank true) }
+    → record { row = get_or candidates.rows.items bank None; reads = access_in candidates.places.words.items (access_number bank false); writes = access_in candidates.places.words.items (access_number bank true) }
     ≡ candidates_of_bank candidates bank d
 candidates_read candidates bank d exists = sym (cond-true (ltb bank (bank_count candidates)) _ d (lt-ltb bank (bank_count candidates) exists))
 
@@ -74,23 +74,23 @@ to_parts candidates requests open_rows stands =
       fit = stands.rows_fit;
       opened = opened;
       first = λ bank write exists.
-          subst (λ row. AreFirst requests bank write row (kind_in candidates.places.words.items (kind_number bank write))) (opened bank exists) (of_kind bank write exists (known bank exists));
+          subst (λ row. AreFirst requests bank write row (access_in candidates.places.words.items (access_number bank write))) (opened bank exists) (of_access bank write exists (known bank exists));
       none_blocked = stands.blocked_are;
     }
   where
-    of_kind : (bank : ℕ) (write : Bool) → bank < bank_count candidates
-        → AreCandidates requests bank (record { row = get_or candidates.rows.items bank None; reads = kind_in candidates.places.words.items (kind_number bank false); writes = kind_in candidates.places.words.items (kind_number bank true) })
-        → AreFirst requests bank write (get_or candidates.rows.items bank None) (kind_in candidates.places.words.items (kind_number bank write))
-    of_kind bank true exists are = are.writes_are
-    of_kind bank false exists are = are.reads_are
+    of_access : (bank : ℕ) (write : Bool) → bank < bank_count candidates
+        → AreCandidates requests bank (record { row = get_or candidates.rows.items bank None; reads = access_in candidates.places.words.items (access_number bank false); writes = access_in candidates.places.words.items (access_number bank true) })
+        → AreFirst requests bank write (get_or candidates.rows.items bank None) (access_in candidates.places.words.items (access_number bank write))
+    of_access bank true exists are = are.writes_are
+    of_access bank false exists are = are.reads_are
 
 pub from_parts : (candidates : BankCandidates) (requests : List Request) (open_rows : ℕ → Option ℕ)
     → AreStanding candidates.rows.items candidates.places.words.items candidates.blocked.items requests open_rows
     → AreCounted candidates.counts.items requests → StandsFor candidates requests open_rows
 from_parts candidates requests open_rows parts counted =
     let first : (bank : ℕ) (write : Bool) → bank < bank_count candidates
-    → AreFirst requests bank write (get_or candidates.rows.items bank None) (kind_in candidates.places.words.items (kind_number bank write)) =
-    λ bank write exists. subst (λ row. AreFirst requests bank write row (kind_in candidates.places.words.items (kind_number bank write))) (sym (parts.opened bank exists)) (parts.first bank write exists) in
+    → AreFirst requests bank write (get_or candidates.rows.items bank None) (access_in candidates.places.words.items (access_number bank write)) =
+    λ bank write exists. subst (λ row. AreFirst requests bank write row (access_in candidates.places.words.items (access_number bank write))) (sym (parts.opened bank exists)) (parts.first bank write exists) in
     record {
       within = parts.within;
       rows_fit = parts.fit;
@@ -132,80 +132,80 @@ never : (t : Bool) → (t && false) ≡ false
 never true = refl
 never false = refl
 
--- a request asks for no other bank and kind than its own
-asks_own_kind : (r : Request) (bank : ℕ) (write : Bool) → (kind_number bank write ≡ kind_of r → ⊥) → asks bank write r ≡ false
-asks_own_kind r bank write apart = false_from_ne_true (asks bank write r) (λ is. apart (sym (eqb-true (kind_of r) (kind_number bank write) (wants_kind bank write None r is))))
+-- a request asks for no other bank and access than its own
+asks_own_access : (r : Request) (bank : ℕ) (write : Bool) → (access_number bank write ≡ access_of r → ⊥) → asks bank write r ≡ false
+asks_own_access r bank write apart = false_from_ne_true (asks bank write r) (λ is. apart (sym (eqb-true (access_of r) (access_number bank write) (wants_access bank write None r is))))
 
 -- a request more, which may be served
 pub joined_stand : (rows : List (Option ℕ)) (old new : List ℕ) (noted : List Bool) (older : List Request) (r : Request) (open_rows : ℕ → Option ℕ) (slot : ℕ) (hit : Bool)
     → slot ≡ length older → bank_number r.place < length rows → r.place.row < 2 ^ 32 → asks_for_line r.place older ≡ false
-    → hit ≡ is_row r.place.row (get_or rows (bank_number r.place) None) → candidate_in new (kind_of r) false ≡ or_else (candidate_in old (kind_of r) false) (Some slot)
-    → candidate_in new (kind_of r) true ≡ cond hit (or_else (candidate_in old (kind_of r) true) (Some slot)) (candidate_in old (kind_of r) true)
-    → ((kind : ℕ) → (kind ≡ kind_of r → ⊥) → kind_in new kind ≡ kind_in old kind) → AreStanding rows old noted older open_rows → AreStanding rows new noted (older ++ r ∷ []) open_rows
+    → hit ≡ is_row r.place.row (get_or rows (bank_number r.place) None) → candidate_in new (access_of r) false ≡ or_else (candidate_in old (access_of r) false) (Some slot)
+    → candidate_in new (access_of r) true ≡ cond hit (or_else (candidate_in old (access_of r) true) (Some slot)) (candidate_in old (access_of r) true)
+    → ((access : ℕ) → (access ≡ access_of r → ⊥) → access_in new access ≡ access_in old access) → AreStanding rows old noted older open_rows → AreStanding rows new noted (older ++ r ∷ []) open_rows
 joined_stand rows old new noted older r open_rows slot hit long exists short asked hit_is oldest_joined hit_joined others stands =
     let own = bank_number r.place in
     record {
       within = All-push (λ (x : Request). bank_number x.place < length rows) older r stands.within exists;
       fit = All-push (λ (x : Request). x.place.row < 2 ^ 32) older r stands.fit short;
       opened = stands.opened;
-      first = λ bank write there. elim (cases_eq (kind_number bank write) (kind_of r)) [
+      first = λ bank write there. elim (cases_eq (access_number bank write) (access_of r)) [
         | inl same ↦
-            let bank_is : own ≡ bank = sym (kind_bank bank own write r.write same) in
-            let write_is : r.write ≡ write = kind_write own bank r.write write (sym same) in
-            let here : AreFirst (older ++ r ∷ []) own r.write (open_rows own) (kind_in new (kind_of r)) =
-            kind_joined older r own slot r.write (open_rows own) hit (kind_in old (kind_of r)) (kind_in new (kind_of r)) long asked (asks_own r own refl)
+            let bank_is : own ≡ bank = sym (access_bank bank own write r.write same) in
+            let write_is : r.write ≡ write = access_write own bank r.write write (sym same) in
+            let here : AreFirst (older ++ r ∷ []) own r.write (open_rows own) (access_in new (access_of r)) =
+            access_joined older r own slot r.write (open_rows own) hit (access_in old (access_of r)) (access_in new (access_of r)) long asked (asks_own r own refl)
             (hit_is ∙ ap (is_row r.place.row) (stands.opened own exists)) oldest_joined hit_joined (stands.first own r.write exists) in
-            subst (λ b. AreFirst (older ++ r ∷ []) b write (open_rows b) (kind_in new (kind_number b write))) bank_is
-            (subst (λ w. AreFirst (older ++ r ∷ []) own w (open_rows own) (kind_in new (kind_number own w))) write_is here)
+            subst (λ b. AreFirst (older ++ r ∷ []) b write (open_rows b) (access_in new (access_number b write))) bank_is
+            (subst (λ w. AreFirst (older ++ r ∷ []) own w (open_rows own) (access_in new (access_number own w))) write_is here)
         | inr apart ↦
-            subst (AreFirst (older ++ r ∷ []) bank write (open_rows bank)) (sym (others (kind_number bank write) apart))
-            (kind_kept older r bank write (open_rows bank) (kind_in old (kind_number bank write))
-            (ap (λ b. not (asks_for_line r.place older) && b) (asks_own_kind r bank write apart) ∙ never (not (asks_for_line r.place older))) (stands.first bank write there))
+            subst (AreFirst (older ++ r ∷ []) bank write (open_rows bank)) (sym (others (access_number bank write) apart))
+            (access_kept older r bank write (open_rows bank) (access_in old (access_number bank write))
+            (ap (λ b. not (asks_for_line r.place older) && b) (asks_own_access r bank write apart) ∙ never (not (asks_for_line r.place older))) (stands.first bank write there))
       ];
-      none_blocked = λ kind is. blocked_push kind older r (stands.none_blocked kind is) (ap (λ t. t && eqb (kind_of r) kind) asked);
+      none_blocked = λ access is. blocked_push access older r (stands.none_blocked access is) (ap (λ t. t && eqb (access_of r) access) asked);
     }
 
 -- one that is blocked by an older one of its line, as is noted
 pub unjoined_stand : (rows : List (Option ℕ)) (words : List ℕ) (noted : List Bool) (older : List Request) (r : Request) (open_rows : ℕ → Option ℕ)
     → bank_number r.place < length rows → r.place.row < 2 ^ 32 → asks_for_line r.place older ≡ true → AreStanding rows words noted older open_rows
-    → AreStanding rows words (set noted (kind_of r) true) (older ++ r ∷ []) open_rows
+    → AreStanding rows words (set noted (access_of r) true) (older ++ r ∷ []) open_rows
 unjoined_stand rows words noted older r open_rows exists short asked stands =
-    let own = kind_of r in
+    let own = access_of r in
     record {
       within = All-push (λ (x : Request). bank_number x.place < length rows) older r stands.within exists;
       fit = All-push (λ (x : Request). x.place.row < 2 ^ 32) older r stands.fit short;
       opened = stands.opened;
       first = λ bank write there.
-          kind_kept older r bank write (open_rows bank) (kind_in words (kind_number bank write)) (ap (λ b. not b && asks bank write r) asked) (stands.first bank write there);
-      none_blocked = λ kind is. elim (cases_eq kind own) [
+          access_kept older r bank write (open_rows bank) (access_in words (access_number bank write)) (ap (λ b. not b && asks bank write r) asked) (stands.first bank write there);
+      none_blocked = λ access is. elim (cases_eq access own) [
         | inl here ↦ absurd (noted_here noted own (ap (λ n. get_or (set noted own true) n true) (sym here) ∙ is))
         | inr apart ↦
-            blocked_push kind older r (stands.none_blocked kind (noted_other noted own kind true apart is))
-            (ap (λ t. asks_for_line r.place older && t) (ne_eqb own kind (λ e. apart (sym e))) ∙ never (asks_for_line r.place older))
+            blocked_push access older r (stands.none_blocked access (noted_other noted own access true apart is))
+            (ap (λ t. asks_for_line r.place older && t) (ne_eqb own access (λ e. apart (sym e))) ∙ never (asks_for_line r.place older))
       ];
     }
 
 pub All-remove : {X : Type 0} (P : X → Type 0) (xs : List X) (k : ℕ) → All P xs → All P (remove xs k)
 All-remove P xs k all = All-append P (take k xs) (drop (suc k) xs) (All-take P k xs all) (All-drop P (suc k) xs all)
 
--- banks and kinds of which none is blocked, once a request has left
+-- banks and accesses of which none is blocked, once a request has left
 pub unblocked_left : (noted : List Bool) (rs : List Request) (slot : ℕ) → slot < length rs → AreNotBlocked noted rs → AreNotBlocked noted (remove rs slot)
 unblocked_left noted rs slot within none_blocked bank is = let item = item_at rs slot within in waits_left bank rs slot item.0 within item.1 (none_blocked bank is)
 
 -- a request less
 pub served_stand : (rows : List (Option ℕ)) (old new : List ℕ) (noted : List Bool) (rs : List Request) (slot : ℕ) (r : Request) (open_rows : ℕ → Option ℕ) → slot < length rs
-    → r ≡ get_or rs slot r → ((write : Bool) → AreFirst (remove rs slot) (bank_number r.place) write (open_rows (bank_number r.place)) (kind_in new (kind_number (bank_number r.place) write)))
-    → ((bank : ℕ) (write : Bool) → (bank ≡ bank_number r.place → ⊥) → kind_in new (kind_number bank write) ≡ kind_past slot (kind_in old (kind_number bank write)))
+    → r ≡ get_or rs slot r → ((write : Bool) → AreFirst (remove rs slot) (bank_number r.place) write (open_rows (bank_number r.place)) (access_in new (access_number (bank_number r.place) write)))
+    → ((bank : ℕ) (write : Bool) → (bank ≡ bank_number r.place → ⊥) → access_in new (access_number bank write) ≡ access_past slot (access_in old (access_number bank write)))
     → AreStanding rows old noted rs open_rows → AreStanding rows new noted (remove rs slot) open_rows
 served_stand rows old new noted rs slot r open_rows within request own others stands = record {
   within = All-remove (λ (x : Request). bank_number x.place < length rows) rs slot stands.within;
   fit = All-remove (λ (x : Request). x.place.row < 2 ^ 32) rs slot stands.fit;
   opened = stands.opened;
   first = λ bank write there. elim (cases_eq bank (bank_number r.place)) [
-    | inl same ↦ subst (λ b. AreFirst (remove rs slot) b write (open_rows b) (kind_in new (kind_number b write))) (sym same) (own write)
+    | inl same ↦ subst (λ b. AreFirst (remove rs slot) b write (open_rows b) (access_in new (access_number b write))) (sym same) (own write)
     | inr apart ↦
         subst (AreFirst (remove rs slot) bank write (open_rows bank)) (sym (others bank write apart))
-        (kind_left rs slot r bank write (open_rows bank) (kind_in old (kind_number bank write)) within request (ne_eqb (bank_number r.place) bank (λ e. apart (sym e))) (stands.first bank write there))
+        (access_left rs slot r bank write (open_rows bank) (access_in old (access_number bank write)) within request (ne_eqb (bank_number r.place) bank (λ e. apart (sym e))) (stands.first bank write there))
   ];
   none_blocked = unblocked_left noted rs slot within stands.none_blocked;
 }
@@ -216,15 +216,15 @@ unblocked_empty noted rs bank none_blocked none other is = elim (cases_eq other 
   | inr apart ↦ none_blocked other (noted_other noted bank other false apart is)
 ]
 
--- where other kinds are noted
+-- where other accesses are noted
 pub noted_stand : (rows : List (Option ℕ)) (words : List ℕ) (noted now : List Bool) (requests : List Request) (open_rows : ℕ → Option ℕ) → AreNotBlocked now requests
     → AreStanding rows words noted requests open_rows → AreStanding rows words now requests open_rows
 noted_stand rows words noted now requests open_rows none_blocked stands = record { within = stands.within; fit = stands.fit; opened = stands.opened; first = stands.first; none_blocked = none_blocked }
 
 -- one bank that is opened or closed
 pub row_stand : (rows : List (Option ℕ)) (old new : List ℕ) (noted : List Bool) (requests : List Request) (open_rows : ℕ → Option ℕ) (number : ℕ) (row : Option ℕ) → number < length rows
-    → ((write : Bool) → AreFirst requests number write row (kind_in new (kind_number number write)))
-    → ((other : ℕ) (write : Bool) → (other ≡ number → ⊥) → kind_in new (kind_number other write) ≡ kind_in old (kind_number other write))
+    → ((write : Bool) → AreFirst requests number write row (access_in new (access_number number write)))
+    → ((other : ℕ) (write : Bool) → (other ≡ number → ⊥) → access_in new (access_number other write) ≡ access_in old (access_number other write))
     → AreStanding rows old noted requests open_rows → AreStanding (set rows number row) new noted requests (with_row number row open_rows)
 row_stand rows old new noted requests open_rows number row exists own others stands =
     let long : length (set rows number row) ≡ length rows = length-set rows number row in
@@ -239,10 +239,10 @@ row_stand rows old new noted requests open_rows number row exists own others sta
       ];
       first = λ bank write within. elim (cases_eq bank number) [
         | inl same ↦
-            subst (λ b. AreFirst requests b write (with_row number row open_rows b) (kind_in new (kind_number b write))) (sym same)
-            (subst (λ o. AreFirst requests number write o (kind_in new (kind_number number write))) (sym here) (own write))
+            subst (λ b. AreFirst requests b write (with_row number row open_rows b) (access_in new (access_number b write))) (sym same)
+            (subst (λ o. AreFirst requests number write o (access_in new (access_number number write))) (sym here) (own write))
         | inr apart ↦
-            subst (λ o. AreFirst requests bank write o (kind_in new (kind_number bank write))) (sym (there bank apart))
+            subst (λ o. AreFirst requests bank write o (access_in new (access_number bank write))) (sym (there bank apart))
             (subst (AreFirst requests bank write (open_rows bank)) (sym (others bank write apart)) (stands.first bank write (omega (arith, long))))
       ];
       none_blocked = stands.none_blocked;
@@ -332,14 +332,14 @@ bank_named n b group bank = elim (cases_eq n (number_of b)) [
 
 -- candidates of closed banks and of no request
 pub first_stand : (candidates : BankCandidates) (banks : ℕ) → candidates.rows.items ≡ replicate banks None → candidates.counts.items ≡ replicate (2 * banks) 0
-    → ((kind : ℕ) (hit : Bool) → candidate_in candidates.places.words.items kind hit ≡ None) → StandsFor candidates [] (λ bank. None)
+    → ((access : ℕ) (hit : Bool) → candidate_in candidates.places.words.items access hit ≡ None) → StandsFor candidates [] (λ bank. None)
 first_stand candidates banks closed counts none = from_parts candidates [] (λ bank. None) (record {
   within = λ k d there. absurd (omega arith);
   fit = λ k d there. absurd (omega arith);
   opened = λ bank exists. ap (λ xs. get_or xs bank None) closed ∙ get_or-replicate banks bank None None (omega (arith, ap length closed, length-replicate banks (let none : Option ℕ = None in none)));
-  first = λ bank write exists. record { oldest_is = none (kind_number bank write) false; hit_is = none (kind_number bank write) true };
-  none_blocked = λ kind is. refl;
-}) (λ kind exists. ap (λ xs. get_or xs kind 0) counts ∙ get_or-replicate (2 * banks) kind 0 0 (omega (arith, ap length counts, length-replicate {A = ℕ} (2 * banks) 0)))
+  first = λ bank write exists. record { oldest_is = none (access_number bank write) false; hit_is = none (access_number bank write) true };
+  none_blocked = λ access is. refl;
+}) (λ access exists. ap (λ xs. get_or xs access 0) counts ∙ get_or-replicate (2 * banks) access 0 0 (omega (arith, ap length counts, length-replicate {A = ℕ} (2 * banks) 0)))
 
 -- the bank with the number of a bank
 pub bank_at_number : (b : BankId) → b.group < 4 → b.bank < 4 → bank_at (number_of b) ≡ b

@@ -3,13 +3,13 @@ use Rattle.std.proofs.Common.{◌≡◌, ℕ, zero, suc, ◌+◌, ◌-◌, ◌*�
 use Rattle.std.proofs.lemmas.Bool.{cases_lt, cases_eq, cond-true, cond-false, lt-ltb, le-ltb}
 use Rattle.std.specs.Option.{is_some}
 use Rattle.bank_candidates.specs.declared.sets.BankSet.{BankSet}
-use Rattle.bank_candidates.specs.Candidates.{kind_number}
-use Rattle.bank_candidates.specs.Moves.{past, kind_past}
-use Rattle.bank_candidates.specs.Places.{candidate_of, word_of, column, candidate_in, kind_in, moved}
+use Rattle.bank_candidates.specs.Candidates.{access_number}
+use Rattle.bank_candidates.specs.Moves.{past, access_past}
+use Rattle.bank_candidates.specs.Places.{candidate_of, word_of, column, candidate_in, access_in, moved}
 use Rattle.bank_candidates.specs.Sets.{is_in}
 
--- the word of a bank is that of its kind
-pub index_is : (bank : ℕ) (write hit : Bool) → 4 * bank + column write hit ≡ 2 * kind_number bank write + cond hit 1 0
+-- the word of a bank is that of its access
+pub index_is : (bank : ℕ) (write hit : Bool) → 4 * bank + column write hit ≡ 2 * access_number bank write + cond hit 1 0
 index_is bank true true = omega arith
 index_is bank true false = omega arith
 index_is bank false true = omega arith
@@ -55,7 +55,7 @@ set_agrees words sets bank number candidate s four room few agree same others b 
 
 -- the word that was written is read
 pub read_same : (words : List ℕ) (bank : ℕ) (write hit : Bool) (candidate : Option ℕ) → 4 * bank + 3 < length words
-    → candidate_in (set words (4 * bank + column write hit) (word_of candidate)) (kind_number bank write) hit ≡ candidate
+    → candidate_in (set words (4 * bank + column write hit) (word_of candidate)) (access_number bank write) hit ≡ candidate
 read_same words bank write hit candidate room =
     let index = 4 * bank + column write hit in
     let within : index < length words = omega (arith, column_few write hit) in
@@ -64,22 +64,22 @@ read_same words bank write hit candidate room =
 
 -- and the others are as they were
 pub read_beside : (words : List ℕ) (bank : ℕ) (write hit : Bool) (word : ℕ)
-    → candidate_in (set words (4 * bank + column write hit) word) (kind_number bank write) (not hit) ≡ candidate_in words (kind_number bank write) (not hit)
+    → candidate_in (set words (4 * bank + column write hit) word) (access_number bank write) (not hit) ≡ candidate_in words (access_number bank write) (not hit)
 read_beside words bank write hit word =
-    ap candidate_of (get_or-set_other words (4 * bank + column write hit) (2 * kind_number bank write + cond (not hit) 1 0) word 0 (apart hit))
+    ap candidate_of (get_or-set_other words (4 * bank + column write hit) (2 * access_number bank write + cond (not hit) 1 0) word 0 (apart hit))
   where
-    apart : (h : Bool) → 2 * kind_number bank write + cond (not h) 1 0 ≡ 4 * bank + column write h → ⊥
+    apart : (h : Bool) → 2 * access_number bank write + cond (not h) 1 0 ≡ 4 * bank + column write h → ⊥
     apart true e = let i = index_is bank write true in omega arith
     apart false e = let i = index_is bank write false in omega arith
 
-pub read_other : (words : List ℕ) (bank : ℕ) (write hit : Bool) (word kind : ℕ) → kind ≢ kind_number bank write
-    → kind_in (set words (4 * bank + column write hit) word) kind ≡ kind_in words kind
-read_other words bank write hit word kind other =
+pub read_other : (words : List ℕ) (bank : ℕ) (write hit : Bool) (word access : ℕ) → access ≢ access_number bank write
+    → access_in (set words (4 * bank + column write hit) word) access ≡ access_in words access
+read_other words bank write hit word access other =
     let index = 4 * bank + column write hit in
     let is = index_is bank write hit in
-    (λ i. record { oldest = candidate_of (get_or-set_other words index (2 * kind + 0) word 0 (apart hit 0 (omega arith) is) i); hit = candidate_of (get_or-set_other words index (2 * kind + 1) word 0 (apart hit 1 (omega arith) is) i) })
+    (λ i. record { oldest = candidate_of (get_or-set_other words index (2 * access + 0) word 0 (apart hit 0 (omega arith) is) i); hit = candidate_of (get_or-set_other words index (2 * access + 1) word 0 (apart hit 1 (omega arith) is) i) })
   where
-    apart : (h : Bool) (n : ℕ) → n < 2 → 4 * bank + column write hit ≡ 2 * kind_number bank write + cond h 1 0 → 2 * kind + n ≡ 4 * bank + column write hit → ⊥
+    apart : (h : Bool) (n : ℕ) → n < 2 → 4 * bank + column write hit ≡ 2 * access_number bank write + cond h 1 0 → 2 * access + n ≡ 4 * bank + column write hit → ⊥
     apart true n few is e = other (omega arith)
     apart false n few is e = other (omega arith)
 
@@ -116,12 +116,12 @@ far_word slot word short = elim (cases_lt slot 65534) [
     also : 65534 ≤ slot → moved (slot + 1) word ≡ word
     also far = omega arith
 
-pub kind_moves : (slot least : ℕ) (old new : List ℕ) → least ≡ min slot 65534 + 1 → ((k : ℕ) → get_or old k 0 < 2 ^ 16) → ((k : ℕ) → get_or new k 0 ≡ moved least (get_or old k 0))
-    → (kind : ℕ) → kind_in new kind ≡ kind_past slot (kind_in old kind)
-kind_moves slot least old new is short each kind =
+pub access_moves : (slot least : ℕ) (old new : List ℕ) → least ≡ min slot 65534 + 1 → ((k : ℕ) → get_or old k 0 < 2 ^ 16) → ((k : ℕ) → get_or new k 0 ≡ moved least (get_or old k 0))
+    → (access : ℕ) → access_in new access ≡ access_past slot (access_in old access)
+access_moves slot least old new is short each access =
     let candidate : (n : ℕ) → candidate_of (get_or new n 0) ≡ past slot (candidate_of (get_or old n 0)) =
     λ n. ap candidate_of (each n ∙ ap (λ m. moved m (get_or old n 0)) is ∙ far_word slot (get_or old n 0) (short n)) ∙ moved_candidate slot (get_or old n 0) in
-    (λ i. record { oldest = candidate (2 * kind + 0) i; hit = candidate (2 * kind + 1) i })
+    (λ i. record { oldest = candidate (2 * access + 0) i; hit = candidate (2 * access + 1) i })
 
 -- a set stays as it was, since no word becomes 0
 pub moved_agrees : (least : ℕ) (old new : List ℕ) (sets : List BankSet) → 1 ≤ least → ((k : ℕ) → get_or new k 0 ≡ moved least (get_or old k 0)) → Agree old sets → Agree new sets

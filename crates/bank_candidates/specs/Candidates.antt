@@ -5,9 +5,9 @@
 --     wants bank write row r      it does, and for this row if one is given
 --     RowsFit requests      each asks for a row whose number has 32 bits
 --     first_place test requests      the place of the first request that may be served and passes a test
---     kind_number bank write, kind_of r      the number of a bank and a kind, and of those that a request asks for
---     kind_count kind requests      how many ask for a bank and a kind
---     NoneBlocked kind requests      none that asks for a bank and a kind blocked for an older one of its line
+--     access_number bank write, access_of r      the number of a bank and an access, and of those that a request asks for
+--     access_count access requests      how many ask for a bank and an access
+--     NoneBlocked access requests      none that asks for a bank and an access blocked for an older one of its line
 --     AreCandidates requests bank candidates      each candidate of a bank is the place of the first such request
 use Rattle.std.specs.Prelude.{◌≡◌, ℕ, ◌+◌, ◌*◌, ◌/◌, ◌%◌, ◌^◌, ◌<◌, ◌==◌, Bool, true, false, not, ◌&&◌, List, All, count_by, position, Option, Some, None, if◌then◌else◌}
 use Rattle.std.specs.List.{list_any, zip}
@@ -16,7 +16,7 @@ use Rattle.sim_base.specs.declared.place.BankId.{BankId}
 use Rattle.sim_base.specs.Rules.{is_row}
 use Rattle.queue_columns.specs.Marks.{is_marked}
 use Rattle.queue_columns.specs.Columns.{bank_number, eligible_column}
-use Rattle.bank_candidates.specs.declared.entry.CandidatesOfKind.{CandidatesOfKind}
+use Rattle.bank_candidates.specs.declared.entry.AccessCandidates.{AccessCandidates}
 use Rattle.bank_candidates.specs.declared.entry.CandidatesOfBank.{CandidatesOfBank}
 
 -- the bank with a number
@@ -56,28 +56,28 @@ entries requests = zip requests (eligible_column requests)
 abbrev pub first_place : (Request → Bool) → List Request → Option ℕ
 first_place test requests = position (passes test) (entries requests)
 
--- the number of a bank and a kind: twice that of the bank, and one more to write
-abbrev pub kind_number : ℕ → Bool → ℕ
-kind_number bank write = bank * 2 + (if write then 1 else 0)
+-- the number of a bank and an access: twice that of the bank, and one more to write
+abbrev pub access_number : ℕ → Bool → ℕ
+access_number bank write = bank * 2 + (if write then 1 else 0)
 
--- the number of the bank and the kind of a request
-abbrev pub kind_of : Request → ℕ
-kind_of r = kind_number (bank_number r.place) r.write
+-- the number of the bank and the access of a request
+abbrev pub access_of : Request → ℕ
+access_of r = access_number (bank_number r.place) r.write
 
--- how many requests ask for a bank and a kind
-abbrev pub kind_count : ℕ → List Request → ℕ
-kind_count kind requests = count_by (λ r. kind_of r == kind) requests
+-- how many requests ask for a bank and an access
+abbrev pub access_count : ℕ → List Request → ℕ
+access_count access requests = count_by (λ r. access_of r == access) requests
 
--- a request at a place asks for a bank and a kind, and is blocked by an older one of its line
+-- a request at a place asks for a bank and an access, and is blocked by an older one of its line
 abbrev pub blocked : ℕ → Request × ℕ → Bool
-blocked kind e = not (is_marked e.1) && (kind_of e.0 == kind)
+blocked access e = not (is_marked e.1) && (access_of e.0 == access)
 
--- no request that asks for a bank and a kind is blocked by an older one of its line
+-- no request that asks for a bank and an access is blocked by an older one of its line
 abbrev pub NoneBlocked : ℕ → List Request → Type 0
-NoneBlocked kind requests = list_any (blocked kind) (entries requests) ≡ false
+NoneBlocked access requests = list_any (blocked access) (entries requests) ≡ false
 
 -- the candidates of a bank to read or to write, where this row is open
-pub record AreFirst (requests : List Request) (bank : ℕ) (write : Bool) (row : Option ℕ) (candidates : CandidatesOfKind) : Type 0 where
+pub record AreFirst (requests : List Request) (bank : ℕ) (write : Bool) (row : Option ℕ) (candidates : AccessCandidates) : Type 0 where
   pub oldest_is : candidates.oldest ≡ first_place (asks bank write) requests
   pub hit_is : candidates.hit ≡ first_place (hits bank write row) requests
 

@@ -2,11 +2,11 @@
 --     candidate_of word, word_of candidate      the place that a word tells, and the word of a place
 --     IsShort candidate      a place that has a word
 --     column write hit      the set of the banks with a candidate: the oldest or the first hit, to write or to read
---     candidate_in words kind hit      a candidate of a bank and a kind
---     kind_in words kind      both of them
+--     candidate_in words access hit      a candidate of a bank and an access
+--     access_in words access      both of them
 --     moved least word      a word, once a request has left the place before the one of the word `least`
 use Rattle.std.specs.Prelude.{ℕ, zero, suc, ◌+◌, ◌-◌, ◌*◌, ◌^◌, ◌<◌, min, Bool, false, true, List, slice_index_or, Option, Some, None, IfSome, if◌then◌else◌}
-use Rattle.bank_candidates.specs.declared.entry.CandidatesOfKind.{CandidatesOfKind}
+use Rattle.bank_candidates.specs.declared.entry.AccessCandidates.{AccessCandidates}
 
 -- the place that a word tells: the word is one more, and 0 where there is none
 abbrev pub candidate_of : ℕ → Option ℕ
@@ -26,13 +26,13 @@ IsShort candidate = IfSome candidate (λ k. k < 2 ^ 16 - 1)
 abbrev pub column : Bool → Bool → ℕ
 column write hit = (if write then 2 else 0) + (if hit then 1 else 0)
 
--- a candidate of a bank and a kind: the oldest, or the first hit
+-- a candidate of a bank and an access: the oldest, or the first hit
 abbrev pub candidate_in : List ℕ → ℕ → Bool → Option ℕ
-candidate_in words kind hit = candidate_of (slice_index_or words (2 * kind + (if hit then 1 else 0)) 0)
+candidate_in words access hit = candidate_of (slice_index_or words (2 * access + (if hit then 1 else 0)) 0)
 
 -- both of them
-abbrev pub kind_in : List ℕ → ℕ → CandidatesOfKind
-kind_in words kind = record { oldest = candidate_in words kind false; hit = candidate_in words kind true }
+abbrev pub access_in : List ℕ → ℕ → AccessCandidates
+access_in words access = record { oldest = candidate_in words access false; hit = candidate_in words access true }
 
 -- a word, once a request has left its place: `least` is the word of the place behind it
 abbrev pub moved : ℕ → ℕ → ℕ

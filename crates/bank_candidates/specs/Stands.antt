@@ -8,8 +8,8 @@ use Rattle.sim_base.specs.declared.place.BankId.{BankId}
 use Rattle.queue_columns.specs.Columns.{bank_number}
 use Rattle.bank_candidates.specs.declared.entry.CandidatesOfBank.{CandidatesOfBank}
 use Rattle.bank_candidates.specs.declared.all_banks.BankCandidates.{BankCandidates}
-use Rattle.bank_candidates.specs.Candidates.{number_of, kind_number, RowsFit, NoneBlocked, kind_count, AreCandidates}
-use Rattle.bank_candidates.specs.Places.{kind_in}
+use Rattle.bank_candidates.specs.Candidates.{number_of, access_number, RowsFit, NoneBlocked, access_count, AreCandidates}
+use Rattle.bank_candidates.specs.Places.{access_in}
 
 -- how many banks they were made for
 abbrev pub bank_count : BankCandidates → ℕ
@@ -19,19 +19,19 @@ bank_count candidates = length candidates.rows.items
 abbrev pub candidates_of_bank : BankCandidates → ℕ → CandidatesOfBank → CandidatesOfBank
 candidates_of_bank candidates bank d =
     let words = candidates.places.words.items in
-    let own : CandidatesOfBank = record { row = slice_index_or candidates.rows.items bank None; reads = kind_in words (kind_number bank false); writes = kind_in words (kind_number bank true) } in
+    let own : CandidatesOfBank = record { row = slice_index_or candidates.rows.items bank None; reads = access_in words (access_number bank false); writes = access_in words (access_number bank true) } in
     if nat_lt bank (bank_count candidates) then own else d
 
 -- Every request asks for one of the banks, and for a row of 32 bits; of each bank the row is the one that is open, each candidate is
 -- the place of the first such request, some request may be blocked by an older one of its line only where that was noted, and each
--- counter says how many requests ask for its bank and kind.
+-- counter says how many requests ask for its bank and access.
 pub record StandsFor (candidates : BankCandidates) (requests : List Request) (open_rows : ℕ → Option ℕ) : Type 0 where
   pub within : All (λ r. bank_number r.place < bank_count candidates) requests
   pub rows_fit : RowsFit requests
   pub rows_are : (bank : ℕ) (d : CandidatesOfBank) → bank < bank_count candidates → (candidates_of_bank candidates bank d).row ≡ open_rows bank
   pub candidates_are : (bank : ℕ) (d : CandidatesOfBank) → bank < bank_count candidates → AreCandidates requests bank (candidates_of_bank candidates bank d)
-  pub blocked_are : (kind : ℕ) → slice_index_or candidates.blocked.items kind true ≡ false → NoneBlocked kind requests
-  pub counts_are : (kind : ℕ) → kind < length candidates.counts.items → slice_index_or candidates.counts.items kind 0 ≡ kind_count kind requests
+  pub blocked_are : (access : ℕ) → slice_index_or candidates.blocked.items access true ≡ false → NoneBlocked access requests
+  pub counts_are : (access : ℕ) → access < length candidates.counts.items → slice_index_or candidates.counts.items access 0 ≡ access_count access requests
 
 -- the rows that are open once the bank with a number has this row
 abbrev pub with_row : ℕ → Option ℕ → (ℕ → Option ℕ) → ℕ → Option ℕ

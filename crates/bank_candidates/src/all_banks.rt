@@ -3,7 +3,7 @@
 ghost use Rattle.std.specs.Prelude.{◌≡◌, ◌*◌, ◌≤◌, length};
 
 use crate::entry::{
-    CandidatesOfBank, CandidatesOfKind, is_open, kind_number, number_of, only_moves,
+    AccessCandidates, CandidatesOfBank, access_number, is_open, number_of, only_moves,
 };
 use crate::places::Places;
 use crate::search::Departure;
@@ -21,9 +21,9 @@ pub struct BankCandidates {
     /// The row that is open in each bank.
     rows: Vec<Option<u32>>,
     places: Places,
-    /// Of each bank and kind, by number, whether some such request may be blocked by an older one of its line.
+    /// Of each bank and access, by number, whether some such request may be blocked by an older one of its line.
     blocked: Vec<bool>,
-    /// Of each bank and kind, by number, how many requests of the queue ask for it.
+    /// Of each bank and access, by number, how many requests of the queue ask for it.
     counts: Vec<u16>,
     ghost few: { length rows.items ≤ 64 },
     ghost all_places: { length places.words.items ≡ 4 * length rows.items },
@@ -40,7 +40,7 @@ impl BankCandidates {
     ghost use Rattle.sim_base.specs.declared.message.Request.{Request};
     ghost use Rattle.queue_columns.specs.Columns.{bank_number};
     ghost use Rattle.bank_candidates.specs.declared.entry.CandidatesOfBank.{CandidatesOfBank};
-    ghost use Rattle.bank_candidates.specs.Candidates.{bank_at, number_of, kind_number, kind_count, first_place};
+    ghost use Rattle.bank_candidates.specs.Candidates.{bank_at, number_of, access_number, access_count, first_place};
     ghost use Rattle.bank_candidates.specs.Sets.{is_in};
     ghost use Rattle.bank_candidates.specs.Stands.{bank_count, candidates_of_bank, StandsFor, with_row, closed_in, IsAmong};
 
@@ -73,18 +73,18 @@ impl BankCandidates {
     {
         CandidatesOfBank {
             row: self.rows[bank],
-            reads: self.places.of_kind(bank, false),
-            writes: self.places.of_kind(bank, true),
+            reads: self.places.of_access(bank, false),
+            writes: self.places.of_access(bank, true),
         }
     }
 
     /// The candidates of a bank to write, or to read.
     #[inline(always)]
-    pub fn of_kind(&self, bank: usize, write: bool) -> CandidatesOfKind
+    pub fn of_access(&self, bank: usize, write: bool) -> AccessCandidates
         requires { bank < bank_count self.now }
         ensures { (d : CandidatesOfBank) → result ≡ (if write then (candidates_of_bank self.now bank d).writes else (candidates_of_bank self.now bank d).reads) }
     {
-        self.places.of_kind(bank, write)
+        self.places.of_access(bank, write)
     }
 
     /// The row that is open in a bank, if one is.
@@ -125,31 +125,31 @@ impl BankCandidates {
 
     /// Whether some request to write, or to read, may be served.
     #[inline(always)]
-    pub fn has_kind(&self, write: bool) -> bool
+    pub fn has_access(&self, write: bool) -> bool
         ensures { (requests : List Request) (open_rows : ℕ → Option ℕ) → StandsFor self.now requests open_rows → result ≡ is_some (first_place (is_favoured write) requests) }
     {
         !self.banks_with_candidate(write).is_empty()
     }
 
-    /// Whether it is known that no request for a bank and of a kind is blocked by an older one of its line.
+    /// Whether it is known that no request for a bank and of an access is blocked by an older one of its line.
     #[inline(always)]
     fn is_none_blocked(&self, bank: usize, write: bool) -> bool
         requires { bank < bank_count self.now }
-        ensures { result ≡ not (slice_index_or self.now.blocked.items (kind_number bank write) true) }
+        ensures { result ≡ not (slice_index_or self.now.blocked.items (access_number bank write) true) }
     {
-        !self.blocked[kind_number(bank, write)]
+        !self.blocked[access_number(bank, write)]
     }
 
-    /// Notes that no request of a bank and a kind is blocked, where it is known that there is none.
+    /// Notes that no request of a bank and an access is blocked, where it is known that there is none.
     #[inline(always)]
     fn note_none(&mut self, bank: usize, write: bool, none: bool)
         requires { bank < bank_count self.old }
         ensures banks { bank_count self.new ≡ bank_count self.old }
-        ensures stands { (requests : List Request) (open_rows : ℕ → Option ℕ) → (none ≡ true → kind_count (kind_number bank write) requests ≡ 0)
+        ensures stands { (requests : List Request) (open_rows : ℕ → Option ℕ) → (none ≡ true → access_count (access_number bank write) requests ≡ 0)
             → StandsFor self.old requests open_rows → StandsFor self.new requests open_rows }
     {
         if none {
-            self.blocked[kind_number(bank, write)] = false;
+            self.blocked[access_number(bank, write)] = false;
         }
     }
 
@@ -163,13 +163,13 @@ impl BankCandidates {
             → StandsFor self.old older open_rows → StandsFor self.new (older ++ request ∷ []) open_rows }
     {
         let bank = bank_number(request.place);
-        let kind = kind_number(bank, request.write);
-        self.counts[kind] = self.counts[kind].saturating_add(1);
+        let access = access_number(bank, request.write);
+        self.counts[access] = self.counts[access].saturating_add(1);
         if first_of_line {
             let hit = is_open(self.rows[bank], request.place.row);
             self.places.join(bank, request.write, slot, hit);
         } else {
-            self.blocked[kind] = true;
+            self.blocked[access] = true;
         }
     }
 
@@ -202,9 +202,9 @@ impl BankCandidates {
         let oldest_left = self.places.is_at(bank, write, false, slot);
         let hit_left = self.places.is_at(bank, write, true, slot);
         self.places.move_past(slot);
-        let kind = kind_number(bank, write);
-        let left = self.counts[kind].saturating_sub(1);
-        self.counts[kind] = left;
+        let access = access_number(bank, write);
+        let left = self.counts[access].saturating_sub(1);
+        self.counts[access] = left;
         let empty = left == 0;
         let none_blocked = self.is_none_blocked(bank, write);
         let oldest = only_moves(none_blocked, oldest_left);

@@ -3,8 +3,8 @@
 ghost use Rattle.std.specs.Prelude.{◌≡◌, ◌-◌, ◌<◌, ◌^◌, true, false, List, length, remove};
 ghost use Rattle.sim_base.specs.Rules.{is_row};
 ghost use Rattle.sim_base.specs.declared.message.Request.{Request};
-ghost use Rattle.bank_candidates.specs.Candidates.{number_of, kind_number, AreFirst};
-ghost use Rattle.bank_candidates.specs.Moves.{kind_past, OnlyMoves};
+ghost use Rattle.bank_candidates.specs.Candidates.{number_of, access_number, AreFirst};
+ghost use Rattle.bank_candidates.specs.Moves.{access_past, OnlyMoves};
 ghost use Rattle.bank_candidates.specs.Places.{IsShort};
 
 use crate::search::{Departure, next_hit, next_place};
@@ -13,7 +13,7 @@ use sim_base::place::BankId;
 
 /// The first requests of a bank that may be served, to read or to write: their places in the queue.
 #[derive(Clone, Copy, PartialEq, Eq, Debug)]
-pub struct CandidatesOfKind {
+pub struct AccessCandidates {
     /// The first one.
     pub oldest: Option<usize>,
     /// The first one that asks for the row that is open in the bank.
@@ -24,15 +24,15 @@ pub struct CandidatesOfKind {
 #[derive(Clone, Copy, PartialEq, Eq, Debug)]
 pub struct CandidatesOfBank {
     pub row: Option<u32>,
-    pub reads: CandidatesOfKind,
-    pub writes: CandidatesOfKind,
+    pub reads: AccessCandidates,
+    pub writes: AccessCandidates,
 }
 
-/// The number of a bank and a kind: twice that of the bank, and one more to write.
+/// The number of a bank and an access: twice that of the bank, and one more to write.
 #[inline(always)]
-pub(crate) fn kind_number(bank: usize, write: bool) -> usize
+pub(crate) fn access_number(bank: usize, write: bool) -> usize
     requires { bank < 64 }
-    ensures { result ≡ kind_number bank write }
+    ensures { result ≡ access_number bank write }
 {
     bank * 2 + usize::from(write)
 }
@@ -44,7 +44,7 @@ pub(crate) fn number_of(bank: BankId) -> usize
     (bank.rank as usize * 4 + bank.group as usize) * 4 + bank.bank as usize
 }
 
-/// Whether a candidate only moves: no request of its bank and kind is blocked by an older one of its line, and it did not leave.
+/// Whether a candidate only moves: no request of its bank and access is blocked by an older one of its line, and it did not leave.
 #[inline(always)]
 pub(crate) fn only_moves(none_blocked: bool, left: bool) -> bool
     ensures none_blocked { result ≡ true → none_blocked ≡ true }
@@ -64,7 +64,7 @@ pub(crate) fn is_open(open_row: Option<u32>, row: u32) -> bool
     }
 }
 
-impl CandidatesOfKind {
+impl AccessCandidates {
     /// Once a request of the same bank has left its place in the queue, and they have moved past it.
     #[inline(always)]
     pub(crate) fn after(
@@ -73,12 +73,12 @@ impl CandidatesOfKind {
         departure: Departure,
         write: bool,
         row: Option<u32>,
-    ) -> CandidatesOfKind
+    ) -> AccessCandidates
         requires oldest { IsShort self.oldest }
         requires hit { IsShort self.hit }
         requires queue { length queue.now.requests.now < 2 ^ 16 - 1 }
-        ensures first { (earlier : List Request) (was : CandidatesOfKind) → departure.slot < length earlier → queue.now.requests.now ≡ remove earlier departure.slot → self ≡ kind_past departure.slot was
-            → (departure.oldest ≡ true → OnlyMoves (kind_number departure.bank write) departure.slot earlier was.oldest) → (departure.hit ≡ true → OnlyMoves (kind_number departure.bank write) departure.slot earlier was.hit)
+        ensures first { (earlier : List Request) (was : AccessCandidates) → departure.slot < length earlier → queue.now.requests.now ≡ remove earlier departure.slot → self ≡ access_past departure.slot was
+            → (departure.oldest ≡ true → OnlyMoves (access_number departure.bank write) departure.slot earlier was.oldest) → (departure.hit ≡ true → OnlyMoves (access_number departure.bank write) departure.slot earlier was.hit)
             → AreFirst earlier departure.bank write row was → AreFirst queue.now.requests.now departure.bank write row result }
         ensures oldest { IsShort result.oldest }
         ensures hit { IsShort result.hit }
@@ -96,6 +96,6 @@ impl CandidatesOfKind {
             (Some(row), Some(oldest)) => next_hit(self.hit, queue, departure, oldest, write, row),
             _ => None,
         };
-        CandidatesOfKind { oldest, hit }
+        AccessCandidates { oldest, hit }
     }
 }

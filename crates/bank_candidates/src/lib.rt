@@ -9,5 +9,5 @@ mod search;
 mod sets;
 
 pub use all_banks::BankCandidates;
-pub use entry::{CandidatesOfBank, CandidatesOfKind};
+pub use entry::{AccessCandidates, CandidatesOfBank};
 pub use sets::BankSet;

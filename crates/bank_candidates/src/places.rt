@@ -5,13 +5,13 @@ ghost use Rattle.bank_candidates.specs.declared.sets.BankSet.{BankSet};
 ghost use Rattle.bank_candidates.specs.Sets.{is_in};
 ghost use Rattle.bank_candidates.specs.Places.{candidate_of, word_of, IsShort, column, candidate_in, moved};
 
-use crate::entry::CandidatesOfKind;
+use crate::entry::AccessCandidates;
 use crate::search::{Departure, first_hit};
 use crate::sets::BankSet;
 use queue_columns::Columns;
 use std::alloc::{AllocError, Global};
 
-/// The places of the candidates of all banks: of each bank and kind the first request that may be served, and the first of these that
+/// The places of the candidates of all banks: of each bank and access the first request that may be served, and the first of these that
 /// asks for the open row.
 #[derive(Drop)]
 pub(crate) struct Places {
@@ -89,15 +89,15 @@ impl Places {
     ghost use Rattle.std.specs.Prelude.{ℕ, ◌≡◌, ◌≢◌, ◌+◌, ◌*◌, ◌<◌, ◌≤◌, ◌^◌, ◌-◌, Bool, true, false, not, length, Option, Some, None, is_some, IfOk, List, remove, if◌then◌else◌};
     ghost use Rattle.sim_base.specs.Scheduling.{or_else};
     ghost use Rattle.sim_base.specs.declared.message.Request.{Request};
-    ghost use Rattle.bank_candidates.specs.Candidates.{kind_number, kind_count, AreFirst};
-    ghost use Rattle.bank_candidates.specs.Moves.{kind_past, OnlyMoves};
-    ghost use Rattle.bank_candidates.specs.Places.{kind_in};
+    ghost use Rattle.bank_candidates.specs.Candidates.{access_number, access_count, AreFirst};
+    ghost use Rattle.bank_candidates.specs.Moves.{access_past, OnlyMoves};
+    ghost use Rattle.bank_candidates.specs.Places.{access_in};
 
     /// The places of the candidates of an empty queue.
     pub(crate) fn with_room(alloc: Global, banks: usize) -> Result<Self, AllocError>
         requires { banks ≤ 64 }
         ensures room { IfOk result (λ places. length places.words.items ≡ 4 * banks) }
-        ensures none { IfOk result (λ places. (kind : ℕ) (hit : Bool) → candidate_in places.words.items kind hit ≡ None) }
+        ensures none { IfOk result (λ places. (access : ℕ) (hit : Bool) → candidate_in places.words.items access hit ≡ None) }
     {
         Ok(Places {
             words: vec![in alloc; 0; 4 * banks]?,
@@ -109,7 +109,7 @@ impl Places {
     #[inline(always)]
     pub(crate) fn candidate(&self, bank: usize, write: bool, hit: bool) -> Option<usize>
         requires { 4 * bank + 3 < length self.now.words.items }
-        ensures candidate { result ≡ candidate_in self.now.words.items (kind_number bank write) hit }
+        ensures candidate { result ≡ candidate_in self.now.words.items (access_number bank write) hit }
         ensures short { IsShort result }
     {
         candidate_of(self.words[4 * bank + column(write, hit)])
@@ -117,13 +117,13 @@ impl Places {
 
     /// The candidates of a bank to write, or to read.
     #[inline(always)]
-    pub(crate) fn of_kind(&self, bank: usize, write: bool) -> CandidatesOfKind
+    pub(crate) fn of_access(&self, bank: usize, write: bool) -> AccessCandidates
         requires { 4 * bank + 3 < length self.now.words.items }
-        ensures candidates { result ≡ kind_in self.now.words.items (kind_number bank write) }
+        ensures candidates { result ≡ access_in self.now.words.items (access_number bank write) }
         ensures oldest { IsShort result.oldest }
         ensures hit { IsShort result.hit }
     {
-        CandidatesOfKind {
+        AccessCandidates {
             oldest: self.candidate(bank, write, false),
             hit: self.candidate(bank, write, true),
         }
@@ -132,7 +132,7 @@ impl Places {
     /// The banks with a candidate: the first hit or the oldest, to write or to read.
     #[inline(always)]
     pub(crate) fn banks(&self, write: bool, hit: bool) -> BankSet
-        ensures { (bank : ℕ) → is_in result bank ≡ is_some (candidate_in self.now.words.items (kind_number bank write) hit) }
+        ensures { (bank : ℕ) → is_in result bank ≡ is_some (candidate_in self.now.words.items (access_number bank write) hit) }
     {
         self.sets[column(write, hit)]
     }
@@ -143,9 +143,9 @@ impl Places {
         requires bank { 4 * bank + 3 < length self.old.words.items }
         requires short { IsShort candidate }
         ensures room { length self.new.words.items ≡ length self.old.words.items }
-        ensures same { candidate_in self.new.words.items (kind_number bank write) hit ≡ candidate }
-        ensures beside { candidate_in self.new.words.items (kind_number bank write) (not hit) ≡ candidate_in self.old.words.items (kind_number bank write) (not hit) }
-        ensures others { (kind : ℕ) → kind ≢ kind_number bank write → kind_in self.new.words.items kind ≡ kind_in self.old.words.items kind }
+        ensures same { candidate_in self.new.words.items (access_number bank write) hit ≡ candidate }
+        ensures beside { candidate_in self.new.words.items (access_number bank write) (not hit) ≡ candidate_in self.old.words.items (access_number bank write) (not hit) }
+        ensures others { (access : ℕ) → access ≢ access_number bank write → access_in self.new.words.items access ≡ access_in self.old.words.items access }
     {
         let column = column(write, hit);
         self.words[4 * bank + column] = word_of(candidate);
@@ -163,10 +163,10 @@ impl Places {
         requires bank { 4 * bank + 3 < length self.old.words.items }
         requires short { slot < 2 ^ 16 - 1 }
         ensures room { length self.new.words.items ≡ length self.old.words.items }
-        ensures oldest { let kind = kind_number bank write in candidate_in self.new.words.items kind false ≡ or_else (candidate_in self.old.words.items kind false) (Some slot) }
-        ensures hit { let kind = kind_number bank write in candidate_in self.new.words.items kind true
-            ≡ (if hit then or_else (candidate_in self.old.words.items kind true) (Some slot) else candidate_in self.old.words.items kind true) }
-        ensures others { (kind : ℕ) → kind ≢ kind_number bank write → kind_in self.new.words.items kind ≡ kind_in self.old.words.items kind }
+        ensures oldest { let access = access_number bank write in candidate_in self.new.words.items access false ≡ or_else (candidate_in self.old.words.items access false) (Some slot) }
+        ensures hit { let access = access_number bank write in candidate_in self.new.words.items access true
+            ≡ (if hit then or_else (candidate_in self.old.words.items access true) (Some slot) else candidate_in self.old.words.items access true) }
+        ensures others { (access : ℕ) → access ≢ access_number bank write → access_in self.new.words.items access ≡ access_in self.old.words.items access }
     {
         if self.candidate(bank, write, false).is_none() {
             self.set(bank, write, false, Some(slot));
@@ -178,13 +178,13 @@ impl Places {
 
     /// Writes the candidates of a bank to write, or to read.
     #[inline(always)]
-    pub(crate) fn set_kind(&mut self, bank: usize, write: bool, candidates: CandidatesOfKind)
+    pub(crate) fn set_access(&mut self, bank: usize, write: bool, candidates: AccessCandidates)
         requires bank { 4 * bank + 3 < length self.old.words.items }
         requires oldest { IsShort candidates.oldest }
         requires hit { IsShort candidates.hit }
         ensures room { length self.new.words.items ≡ length self.old.words.items }
-        ensures same { kind_in self.new.words.items (kind_number bank write) ≡ candidates }
-        ensures others { (kind : ℕ) → kind ≢ kind_number bank write → kind_in self.new.words.items kind ≡ kind_in self.old.words.items kind }
+        ensures same { access_in self.new.words.items (access_number bank write) ≡ candidates }
+        ensures others { (access : ℕ) → access ≢ access_number bank write → access_in self.new.words.items access ≡ access_in self.old.words.items access }
     {
         self.set(bank, write, false, candidates.oldest);
         self.set(bank, write, true, candidates.hit);
@@ -195,8 +195,8 @@ impl Places {
     pub(crate) fn close(&mut self, bank: usize)
         requires { 4 * bank + 3 < length self.old.words.items }
         ensures room { length self.new.words.items ≡ length self.old.words.items }
-        ensures own { (write : Bool) → kind_in self.new.words.items (kind_number bank write) ≡ record (kind_in self.old.words.items (kind_number bank write)) { hit = None } }
-        ensures others { (other : ℕ) (write : Bool) → other ≢ bank → kind_in self.new.words.items (kind_number other write) ≡ kind_in self.old.words.items (kind_number other write) }
+        ensures own { (write : Bool) → access_in self.new.words.items (access_number bank write) ≡ record (access_in self.old.words.items (access_number bank write)) { hit = None } }
+        ensures others { (other : ℕ) (write : Bool) → other ≢ bank → access_in self.new.words.items (access_number other write) ≡ access_in self.old.words.items (access_number other write) }
     {
         self.set(bank, false, true, None);
         self.set(bank, true, true, None);
@@ -206,7 +206,7 @@ impl Places {
     #[inline(always)]
     pub(crate) fn is_at(&self, bank: usize, write: bool, hit: bool, slot: usize) -> bool
         requires { 4 * bank + 3 < length self.now.words.items }
-        ensures { result ≡ false → candidate_in self.now.words.items (kind_number bank write) hit ≢ Some slot }
+        ensures { result ≡ false → candidate_in self.now.words.items (access_number bank write) hit ≢ Some slot }
     {
         tells(self.words[4 * bank + column(write, hit)], slot)
     }
@@ -214,7 +214,7 @@ impl Places {
     /// Moves all candidates past a place that a request has left.
     pub(crate) fn move_past(&mut self, slot: usize)
         ensures room { length self.new.words.items ≡ length self.old.words.items }
-        ensures moved { (kind : ℕ) → kind_in self.new.words.items kind ≡ kind_past slot (kind_in self.old.words.items kind) }
+        ensures moved { (access : ℕ) → access_in self.new.words.items access ≡ access_past slot (access_in self.old.words.items access) }
     {
         move_words(&mut self.words, word_behind(slot));
     }
@@ -225,9 +225,9 @@ impl Places {
         requires bank { 4 * bank + 3 < length self.old.words.items }
         requires queue { length queue.now.requests.now < 2 ^ 16 - 1 }
         ensures room { length self.new.words.items ≡ length self.old.words.items }
-        ensures own { (old : Option ℕ) → AreFirst queue.now.requests.now bank write old (kind_in self.old.words.items (kind_number bank write))
-            → AreFirst queue.now.requests.now bank write (Some row) (kind_in self.new.words.items (kind_number bank write)) }
-        ensures others { (kind : ℕ) → kind ≢ kind_number bank write → kind_in self.new.words.items kind ≡ kind_in self.old.words.items kind }
+        ensures own { (old : Option ℕ) → AreFirst queue.now.requests.now bank write old (access_in self.old.words.items (access_number bank write))
+            → AreFirst queue.now.requests.now bank write (Some row) (access_in self.new.words.items (access_number bank write)) }
+        ensures others { (access : ℕ) → access ≢ access_number bank write → access_in self.new.words.items access ≡ access_in self.old.words.items access }
     {
         if let Some(oldest) = self.candidate(bank, write, false) {
             let hit = first_hit(queue, oldest, bank, write, row);
@@ -248,12 +248,12 @@ impl Places {
         requires bank { 4 * departure.bank + 3 < length self.old.words.items }
         requires queue { length queue.now.requests.now < 2 ^ 16 - 1 }
         ensures room { length self.new.words.items ≡ length self.old.words.items }
-        ensures own { (earlier : List Request) (was : CandidatesOfKind) → departure.slot < length earlier → queue.now.requests.now ≡ remove earlier departure.slot
-            → kind_in self.old.words.items (kind_number departure.bank write) ≡ kind_past departure.slot was
-            → (departure.oldest ≡ true → OnlyMoves (kind_number departure.bank write) departure.slot earlier was.oldest) → (departure.hit ≡ true → OnlyMoves (kind_number departure.bank write) departure.slot earlier was.hit)
-            → (departure.empty ≡ true → kind_count (kind_number departure.bank write) queue.now.requests.now ≡ 0) → AreFirst earlier departure.bank write row was
-            → AreFirst queue.now.requests.now departure.bank write row (kind_in self.new.words.items (kind_number departure.bank write)) }
-        ensures others { (kind : ℕ) → kind ≢ kind_number departure.bank write → kind_in self.new.words.items kind ≡ kind_in self.old.words.items kind }
+        ensures own { (earlier : List Request) (was : AccessCandidates) → departure.slot < length earlier → queue.now.requests.now ≡ remove earlier departure.slot
+            → access_in self.old.words.items (access_number departure.bank write) ≡ access_past departure.slot was
+            → (departure.oldest ≡ true → OnlyMoves (access_number departure.bank write) departure.slot earlier was.oldest) → (departure.hit ≡ true → OnlyMoves (access_number departure.bank write) departure.slot earlier was.hit)
+            → (departure.empty ≡ true → access_count (access_number departure.bank write) queue.now.requests.now ≡ 0) → AreFirst earlier departure.bank write row was
+            → AreFirst queue.now.requests.now departure.bank write row (access_in self.new.words.items (access_number departure.bank write)) }
+        ensures others { (access : ℕ) → access ≢ access_number departure.bank write → access_in self.new.words.items access ≡ access_in self.old.words.items access }
     {
         if departure.stay() {
             return;
@@ -264,8 +264,8 @@ impl Places {
             return;
         }
         let candidates = self
-            .of_kind(departure.bank, write)
+            .of_access(departure.bank, write)
             .after(queue, departure, write, row);
-        self.set_kind(departure.bank, write, candidates);
+        self.set_access(departure.bank, write, candidates);
     }
 }

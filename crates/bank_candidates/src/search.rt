@@ -1,8 +1,8 @@
-//! Searches for the first request of a bank and a kind.
+//! Searches for the first request of a bank and an access.
 
-ghost use Rattle.std.specs.Prelude.{◌≡◌, ℕ, ◌-◌, ◌<◌, ◌^◌, ◌==◌, true, false, List, length, remove, Option, Some, IfSome};
+ghost use Rattle.std.specs.Prelude.{◌≡◌, ℕ, ◌-◌, ◌<◌, ◌^◌, ◌==◌, true, List, length, remove, Option, Some, IfSome};
 ghost use Rattle.sim_base.specs.declared.message.Request.{Request};
-ghost use Rattle.bank_candidates.specs.Candidates.{asks, wants, first_place, kind_number};
+ghost use Rattle.bank_candidates.specs.Candidates.{asks, wants, first_place, access_number};
 ghost use Rattle.bank_candidates.specs.Moves.{past, NoneBefore, OnlyMoves};
 ghost use Rattle.bank_candidates.specs.Places.{IsShort};
 
@@ -11,7 +11,7 @@ use queue_columns::Columns;
 use queue_columns::words::{bank_number, tag_word};
 use sim_base::message::Request;
 
-/// The place that a request of a bank has left, and what is known of the requests of the bank and a kind.
+/// The place that a request of a bank has left, and what is known of the requests of the bank and an access.
 #[derive(Clone, Copy)]
 pub(crate) struct Departure {
     pub(crate) slot: usize,
@@ -35,7 +35,7 @@ impl Departure {
     }
 }
 
-/// Whether a request is of a bank and a kind, and asks for a row if one is given.
+/// Whether a request is of a bank and an access, and asks for a row if one is given.
 #[inline(always)]
 fn is_wanted(request: Request, bank: usize, write: bool, row: Option<u32>) -> bool
     ensures { result ≡ wants bank write row request }
@@ -55,7 +55,7 @@ fn asks_for_row(request: Request, row: u32) -> bool
     request.place.row == row
 }
 
-/// The first request from a place on that may be served, is of a bank and a kind, and asks for a row if one is given. The tag of
+/// The first request from a place on that may be served, is of a bank and an access, and asks for a row if one is given. The tag of
 /// each such request is the one searched for, and the tags of others mostly are not.
 pub(crate) fn first_from(
     queue: &Columns<'_>,
@@ -118,7 +118,7 @@ pub(crate) fn next_place(
     requires short { IsShort candidate }
     requires queue { length queue.now.requests.now < 2 ^ 16 - 1 }
     ensures first { (earlier : List Request) (was : Option ℕ) → departure.slot < length earlier → queue.now.requests.now ≡ remove earlier departure.slot
-        → candidate ≡ past departure.slot was → (stays ≡ true → OnlyMoves (kind_number departure.bank write) departure.slot earlier was) → NoneBefore (wants departure.bank write row) queue.now.requests.now least
+        → candidate ≡ past departure.slot was → (stays ≡ true → OnlyMoves (access_number departure.bank write) departure.slot earlier was) → NoneBefore (wants departure.bank write row) queue.now.requests.now least
         → was ≡ first_place (wants departure.bank write row) earlier → result ≡ first_place (wants departure.bank write row) queue.now.requests.now }
     ensures short { IsShort result }
 {
@@ -145,7 +145,7 @@ pub(crate) fn next_hit(
     requires oldest { oldest < 2 ^ 16 - 1 }
     requires queue { length queue.now.requests.now < 2 ^ 16 - 1 }
     ensures first { (earlier : List Request) (was : Option ℕ) → departure.slot < length earlier → queue.now.requests.now ≡ remove earlier departure.slot
-        → candidate ≡ past departure.slot was → (departure.hit ≡ true → OnlyMoves (kind_number departure.bank write) departure.slot earlier was) → Some oldest ≡ first_place (asks departure.bank write) queue.now.requests.now
+        → candidate ≡ past departure.slot was → (departure.hit ≡ true → OnlyMoves (access_number departure.bank write) departure.slot earlier was) → Some oldest ≡ first_place (asks departure.bank write) queue.now.requests.now
         → was ≡ first_place (wants departure.bank write (Some row)) earlier → result ≡ first_place (wants departure.bank write (Some row)) queue.now.requests.now }
     ensures short { IsShort result }
 {

@@ -1,9 +1,16 @@
-//! The table of a few commands, to writers that take all, little or nothing.
+//! Tables of a few commands: to writers that take all, little or nothing, and in pieces.
 
+ghost use Rattle.std.specs.Prelude.{◌≤◌, IfOk};
+ghost use Rattle.command_table.specs.Tables.{IsRising};
+
+use crate::expect::{expect, expect_at};
 use crate::written::{Report, assert_report};
-use command_table::table::CommandTable;
+use command_table::list::CommandList;
+use command_table::table::{CommandTable, Rows};
 use sim_base::command::{Command, IssuedCommand, Source};
 use sim_base::place::BankId;
+use std::alloc::{AllocError, Global};
+use std::process::Abort;
 use std::test::Fail;
 
 const FIRST: BankId = BankId {
@@ -18,28 +25,29 @@ const OTHER_RANK: BankId = BankId {
     bank: 0,
 };
 
+const ACT: IssuedCommand = IssuedCommand {
+    cycle: 2,
+    channel: 0,
+    command: Command::Act {
+        bank: FIRST,
+        row: 0,
+        source: Source { core: 0, entry: 0 },
+    },
+};
+
+const RD: IssuedCommand = IssuedCommand {
+    cycle: 5,
+    channel: 0,
+    command: Command::Rd {
+        bank: FIRST,
+        row: 0,
+        column: 0,
+        source: Source { core: 0, entry: 0 },
+    },
+};
+
 // The commands of one read of the first line.
-const OF_ONE_READ: [IssuedCommand; 2] = [
-    IssuedCommand {
-        cycle: 2,
-        channel: 0,
-        command: Command::Act {
-            bank: FIRST,
-            row: 0,
-            source: Source { core: 0, entry: 0 },
-        },
-    },
-    IssuedCommand {
-        cycle: 5,
-        channel: 0,
-        command: Command::Rd {
-            bank: FIRST,
-            row: 0,
-            column: 0,
-            source: Source { core: 0, entry: 0 },
-        },
-    },
-];
+const OF_ONE_READ: [IssuedCommand; 2] = [ACT, RD];
 
 const ONE_READ: &str = "cycle,channel,command,group,bank,row,column,core,entry
 2,0,ACT,0,0,0,,0,0
@@ -154,4 +162,123 @@ fn writes_commands(rt: HostRuntime) -> Result<(), Fail> {
         assert_report(&rt, rt.alloc(), Report::Commands(*ranks, &table), want)?;
     }
     Ok(())
+}
+
+// Commands of two other channels, some of the cycles of that read.
+const PREA: IssuedCommand = IssuedCommand {
+    cycle: 2,
+    channel: 1,
+    command: Command::Prea { rank: 0 },
+};
+
+const REF: IssuedCommand = IssuedCommand {
+    cycle: 3,
+    channel: 1,
+    command: Command::Ref { rank: 0 },
+};
+
+const LATER_PREA: IssuedCommand = IssuedCommand {
+    cycle: 5,
+    channel: 2,
+    command: Command::Prea { rank: 1 },
+};
+
+const LATER_REF: IssuedCommand = IssuedCommand {
+    cycle: 7,
+    channel: 2,
+    command: Command::Ref { rank: 1 },
+};
+
+// The commands of the three channels by cycle, and those of a cycle by their channel.
+static OF_CHANNELS: [IssuedCommand; 6] = [ACT, PREA, REF, RD, LATER_PREA, LATER_REF];
+
+// The commands of a piece, of which there are three at most.
+type Three = [Option<IssuedCommand>; 3];
+
+const NO_COMMAND: Three = [None, None, None];
+
+// The pieces that end where a channel has given one command.
+static BY_ONE: [Three; 5] = [
+    [Some(ACT), Some(PREA), None],
+    [Some(REF), None, None],
+    [Some(RD), Some(LATER_PREA), None],
+    [Some(LATER_REF), None, None],
+    NO_COMMAND,
+];
+
+// The pieces that end where a channel has given two.
+static BY_TWO: [Three; 3] = [
+    [Some(ACT), Some(PREA), Some(REF)],
+    [Some(RD), Some(LATER_PREA), Some(LATER_REF)],
+    NO_COMMAND,
+];
+
+fn list_of(
+    alloc: Global,
+    first: IssuedCommand,
+    second: IssuedCommand,
+) -> Result<CommandList, AllocError>
+    requires { first.cycle ≤ second.cycle }
+    ensures { IfOk result IsRising }
+{
+    let mut list = CommandList::new(alloc);
+    list.push(first)?;
+    list.push(second)?;
+    Ok(list)
+}
+
+fn table_of(
+    alloc: Global,
+    first: CommandList,
+    second: CommandList,
+    third: CommandList,
+) -> Result<CommandTable, AllocError>
+    requires first { IsRising first }
+    requires second { IsRising second }
+    requires third { IsRising third }
+{
+    Ok(CommandTable::of(vec![in alloc; first, second, third]?))
+}
+
+fn table_of_channels(alloc: Global) -> Result<CommandTable, AllocError> {
+    let first = list_of(alloc, ACT, RD)?;
+    let second = list_of(alloc, PREA, REF)?;
+    let third = list_of(alloc, LATER_PREA, LATER_REF)?;
+    table_of(alloc, first, second, third)
+}
+
+// The next three commands.
+fn next_three(rows: &mut Rows<'_>) -> Three {
+    [rows.next(), rows.next(), rows.next()]
+}
+
+// The commands of each piece.
+fn read_pieces(alloc: Global, table: &CommandTable, most: usize) -> Result<Vec<Three>, AllocError> {
+    let mut read = Vec::new(alloc);
+    for piece in &table.pieces(alloc, most)? {
+        read.push(next_three(&mut piece.rows(alloc)?))?;
+    }
+    Ok(read)
+}
+
+fn assert_pieces(
+    rt: &impl Abort,
+    alloc: Global,
+    table: &CommandTable,
+    most: usize,
+    want: &[Three],
+) -> Result<(), AllocError> {
+    let read = read_pieces(alloc, table, most)?;
+    expect_at(rt, &most, &read.as_slice(), &want);
+    Ok(())
+}
+
+#[test]
+fn cuts_a_table_into_pieces(rt: HostRuntime) -> Result<(), Fail> {
+    let table = table_of_channels(rt.alloc())?;
+    let rows = table.to_vec(rt.alloc())?;
+    expect(&rt, &rows.as_slice(), &OF_CHANNELS.as_slice());
+    assert_pieces(&rt, rt.alloc(), &table, 0, &BY_ONE)?;
+    assert_pieces(&rt, rt.alloc(), &table, 1, &BY_ONE)?;
+    Ok(assert_pieces(&rt, rt.alloc(), &table, 2, &BY_TWO)?)
 }

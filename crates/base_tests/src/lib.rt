@@ -4,6 +4,8 @@
 #[cfg(test)]
 mod addresses;
 #[cfg(test)]
+mod command_pieces;
+#[cfg(test)]
 mod command_tables;
 #[cfg(test)]
 mod counts;

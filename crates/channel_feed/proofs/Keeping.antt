@@ -39,7 +39,7 @@ use Rattle.channel_feed.specs.Rows.{channel_steps_of}
 use Rattle.channel_feed.proofs.Comes.{IsNew, HasMore, come-carry, come-by_age, come-in_span, come-more, asked-more, come-new, come-asked, come-length, other, come-differ}
 use Rattle.channel_feed.proofs.Replaying.{issued-none, ran-none, ran-more}
 use Rattle.channel_feed.proofs.Rows.{channel_steps_of-issued, length-channel_steps_of}
-use Rattle.channel_feed.specs.declared.fit.Turn.{Turn}
+use Rattle.channel_feed.specs.declared.fit.Age.{Age}
 
 -- a run adds commands to those before it
 issued-more : (s : Config) (channel : ℕ) (steps : List (Option Command)) (mail : List Message) (n : ℕ)
@@ -155,17 +155,17 @@ pub kept-fit : (channel : Channel) (s : Config) (number now : ℕ) (firsts : Lis
     → IsFit s number (channel_steps_of now commands) mail inbox now until
 kept-fit channel s number now firsts commands mail inbox until h test left =
     let steps = channel_steps_of now commands in
-    let turn : Turn = record { arrival = now; link = 0 } in
+    let next_age : Age = record { arrival = now; link = 0 } in
     let len : length steps ≡ now = length-channel_steps_of now commands in
     let past = h.stands.recalls.past in
-    let new = come-new s number until turn firsts inbox test in
+    let new = come-new s number until next_age firsts inbox test in
     record {
-      requests = come-carry s number until turn firsts inbox test;
-      by_age = come-by_age s number until turn firsts inbox test;
-      in_span = come-in_span s number until turn firsts inbox test;
+      requests = come-carry s number until next_age firsts inbox test;
+      by_age = come-by_age s number until next_age firsts inbox test;
+      in_span = come-in_span s number until next_age firsts inbox test;
       differ =
           subst Differ (sym (requests-append mail inbox))
-          (differ-append (requests_of mail) (requests_of inbox) past.differ (come-differ s number until turn firsts inbox test)
+          (differ-append (requests_of mail) (requests_of inbox) past.differ (come-differ s number until next_age firsts inbox test)
           (Each-weaker (IsAsked firsts) (λ (r : Request). Each (IsOther r) (requests_of inbox)) (λ r a. Each-weaker (IsNew firsts) (IsOther r) (λ q b. other firsts r q a b) (requests_of inbox) new) (requests_of mail) h.asked));
       unnamed =
           Each-weaker (IsNew firsts) (IsUnnamed (issued_commands number steps))
@@ -191,20 +191,20 @@ pub kept-asked : (channel : Channel) (s : Config) (number now : ℕ) (firsts : L
     → may_come_all s number until (record { arrival = now; link = 0 }) firsts inbox ≡ true
     → IsKept channel s number now (firsts_after_all firsts inbox) commands mail × Each (IsAsked (firsts_after_all firsts inbox)) (requests_of inbox)
 kept-asked channel s number now firsts commands mail inbox until h test =
-    let turn : Turn = record { arrival = now; link = 0 } in
+    let next_age : Age = record { arrival = now; link = 0 } in
     let later = firsts_after_all firsts inbox in
-    let more = come-more s number until turn firsts inbox test in (
+    let more = come-more s number until next_age firsts inbox test in (
       record {
         stands = h.stands;
         issued = h.issued;
         asked = asked-more firsts later more (requests_of mail) h.asked;
         named = Each-weaker (λ (i : IssuedCommand). IsNamed firsts i.command) (λ (i : IssuedCommand). IsNamed later i.command) (λ i k. named-more firsts later more i.command k) commands h.named;
-        cores = come-length s number until turn firsts inbox test ∙ h.cores;
+        cores = come-length s number until next_age firsts inbox test ∙ h.cores;
         in_time = h.in_time;
         ran = h.ran;
         came = h.came;
       },
-      come-asked s number until turn firsts inbox test,
+      come-asked s number until next_age firsts inbox test,
     )
 
 pub channel_steps_of-none : channel_steps_of 0 [] ≡ []

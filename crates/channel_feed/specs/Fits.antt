@@ -1,11 +1,11 @@
 -- Whether messages may come to a channel, one after the other. Of each core the first entry is kept from which on none was asked
 -- for yet.
 --     is_request_of s channel m r      a message carries this request, as a core of the machine sends it to the channel
---     is_in_turn turn m      a message arrives where the next one may
+--     is_no_sooner next_age m      a message arrives where the next one may
 --     is_unasked firsts core entry      an entry was not asked for yet
 --     firsts_with firsts core entry      it is asked for now
---     may_come s channel until turn firsts m      a message may come next
---     may_come_all s channel until turn firsts inbox      messages may come, one after the other
+--     may_come s channel until next_age firsts m      a message may come next
+--     may_come_all s channel until next_age firsts inbox      messages may come, one after the other
 --     firsts_after_all firsts inbox      what they ask for is asked for
 use Rattle.std.specs.Prelude.{ℕ, ◌+◌, ◌-◌, ◌^◌, ◌==◌, nat_lt, nat_le, Bool, true, false, ◌&&◌, ◌||◌, List, [], ◌∷◌, length, slice_index_or, slice_set, Option, Some, None}
 use Rattle.sim_base.specs.Config.{request_link}
@@ -14,7 +14,7 @@ use Rattle.sim_base.specs.Scheduling.{request_in}
 use Rattle.sim_base.specs.declared.config.Config.{Config}
 use Rattle.sim_base.specs.declared.message.Message.{Message}
 use Rattle.sim_base.specs.declared.message.Request.{Request}
-use Rattle.channel_feed.specs.declared.fit.Turn.{Turn}
+use Rattle.channel_feed.specs.declared.fit.Age.{Age}
 
 -- A message carries this request, as a core of the machine sends it to the channel: on that core's link, with its own arrival and
 -- link, and for the place where its address lies, which is in this channel.
@@ -24,8 +24,8 @@ is_request_of s channel m r =
     && is_line r.place (place_of s r.address) && ((place_of s r.address).channel == channel)
 
 -- a message arrives where the next one may: later than the least arrival, or then and on no lower link than the least one
-abbrev pub is_in_turn : Turn → Message → Bool
-is_in_turn turn m = nat_lt turn.arrival m.arrival || ((turn.arrival == m.arrival) && nat_le turn.link m.link)
+abbrev pub is_no_sooner : Age → Message → Bool
+is_no_sooner next_age m = nat_lt next_age.arrival m.arrival || ((next_age.arrival == m.arrival) && nat_le next_age.link m.link)
 
 -- an entry of a core was not asked for yet, and is not the last number there is
 abbrev pub is_unasked : List ℕ → ℕ → ℕ → Bool
@@ -52,18 +52,18 @@ abbrev pub firsts_after : List ℕ → Message → List ℕ
 firsts_after firsts m = firsts_asked firsts (request_in m.load)
 
 -- where the next message may arrive after this one
-abbrev pub turn_after : Message → Turn
-turn_after m = record { arrival = m.arrival; link = m.link + 1 }
+abbrev pub age_after : Message → Age
+age_after m = record { arrival = m.arrival; link = m.link + 1 }
 
 -- a message may come next, and arrives before the end of the span
-abbrev pub may_come : Config → ℕ → ℕ → Turn → List ℕ → Message → Bool
-may_come s channel until turn firsts m = nat_lt m.arrival until && is_in_turn turn m && may_ask s channel firsts m
+abbrev pub may_come : Config → ℕ → ℕ → Age → List ℕ → Message → Bool
+may_come s channel until next_age firsts m = nat_lt m.arrival until && is_no_sooner next_age m && may_ask s channel firsts m
 
 -- messages may come, one after the other
-abbrev pub may_come_all : Config → ℕ → ℕ → Turn → List ℕ → List Message → Bool
-may_come_all s channel until turn firsts [] = true
-may_come_all s channel until turn firsts (m ∷ ms) =
-    may_come s channel until turn firsts m && may_come_all s channel until (turn_after m) (firsts_after firsts m) ms
+abbrev pub may_come_all : Config → ℕ → ℕ → Age → List ℕ → List Message → Bool
+may_come_all s channel until next_age firsts [] = true
+may_come_all s channel until next_age firsts (m ∷ ms) =
+    may_come s channel until next_age firsts m && may_come_all s channel until (age_after m) (firsts_after firsts m) ms
 
 -- what they ask for is asked for
 abbrev pub firsts_after_all : List ℕ → List Message → List ℕ

@@ -2,7 +2,7 @@
 
 ghost use Rattle.std.specs.Prelude.{◌≡◌, ◌+◌, ◌<◌, ◌^◌, IsTrue};
 ghost use Rattle.sim_base.specs.Places.{is_line};
-ghost use Rattle.channel_feed.specs.Fits.{is_request_of, is_in_turn, is_unasked, may_ask, firsts_with, turn_after, may_come, may_come_all, firsts_after, firsts_after_all};
+ghost use Rattle.channel_feed.specs.Fits.{is_request_of, is_no_sooner, is_unasked, may_ask, firsts_with, may_come_all, firsts_after, firsts_after_all};
 
 use address_map::place_of;
 use sim_base::config::Config;
@@ -11,7 +11,7 @@ use sim_base::place::Place;
 
 /// The least arrival of a message that may come next, and the least link with it.
 #[derive(Clone, Copy)]
-pub(crate) struct Turn {
+pub(crate) struct Age {
     pub arrival: Cycle,
     pub link: LinkId,
 }
@@ -36,10 +36,11 @@ fn is_request_of(config: &Config, number: ChannelId, message: &Message, request:
         && place.channel == number
 }
 
-fn is_in_turn(turn: Turn, message: &Message) -> bool
-    ensures { result ≡ is_in_turn turn message.now }
+fn is_no_sooner(next_age: Age, message: &Message) -> bool
+    ensures { result ≡ is_no_sooner next_age message.now }
 {
-    turn.arrival < message.arrival || (turn.arrival == message.arrival && turn.link <= message.link)
+    next_age.arrival < message.arrival
+        || (next_age.arrival == message.arrival && next_age.link <= message.link)
 }
 
 /// Whether an entry was not asked for yet. If so, it is from now on.
@@ -83,18 +84,18 @@ pub(crate) fn may_come_all(
     ensures answer { result ≡ may_come_all config.now number until (record { arrival = from; link = 0 }) firsts.old inbox.now }
     ensures firsts { IsTrue result → firsts.new ≡ firsts_after_all firsts.old inbox.now }
 {
-    let mut turn = Turn {
+    let mut next_age = Age {
         arrival: from,
         link: 0,
     };
     for message in inbox {
         let comes = message.arrival < until
-            && is_in_turn(turn, message)
+            && is_no_sooner(next_age, message)
             && is_asking(config, number, firsts, message);
         if !comes {
             return false;
         }
-        turn = Turn {
+        next_age = Age {
             arrival: message.arrival,
             link: message.link + 1,
         };

@@ -11,7 +11,7 @@ use Rattle.sim_base.specs.declared.command.IssuedCommand.{IssuedCommand}
 use Rattle.sim_base.specs.declared.message.Message.{Message}
 use Rattle.channel_step.specs.Fit.{IsFit}
 use Rattle.channel_step.specs.Channels.{StandsFor}
-use Rattle.channel_step.specs.Runs.{HasRun, HasTurned, CanRun}
+use Rattle.channel_step.specs.Runs.{HasRun, HasAdvanced, CanRun}
 use Rattle.channel_step.specs.declared.channel.Channel.{Channel}
 use Rattle.channel_step.proofs.Spans.{length-channel_run, channel_run-more}
 
@@ -76,7 +76,7 @@ run-can_go_on c s channel steps mail inbox from now until arrived commands messa
 pub run-turned : (c d : Channel) (s : Config) (channel : ℕ) (steps : List (Option Command)) (mail inbox : List Message) (from now until arrived n last : ℕ)
     (commands more_commands : List IssuedCommand) (messages more_messages : List Message) → length steps ≡ from → from ≤ now → now ≤ last
     → HasRun c s channel steps mail inbox from now until arrived commands messages
-    → HasTurned d s channel (channel_run s channel steps (mail ++ inbox) (now - from)) (mail ++ take arrived inbox) (rest_of inbox arrived) now (last + 1) until n
+    → HasAdvanced d s channel (channel_run s channel steps (mail ++ inbox) (now - from)) (mail ++ take arrived inbox) (rest_of inbox arrived) now (last + 1) until n
     commands more_commands messages more_messages
     → HasRun d s channel steps mail inbox from (last + 1) until (arrived + n) more_commands more_messages
 run-turned c d s channel steps mail inbox from now until arrived n last commands more_commands messages more_messages at l m h turned =
@@ -115,7 +115,7 @@ run-turned c d s channel steps mail inbox from now until arrived n last commands
 
 -- no cycle is over yet, and nothing was added to the lists
 pub turned-none : (c : Channel) (s : Config) (channel : ℕ) (steps : List (Option Command)) (mail inbox : List Message) (from until : ℕ) (commands : List IssuedCommand) (messages : List Message)
-    → StandsFor c s channel steps mail → IsFit s channel steps mail inbox from until → HasTurned c s channel steps mail inbox from from until 0 commands commands messages messages
+    → StandsFor c s channel steps mail → IsFit s channel steps mail inbox from until → HasAdvanced c s channel steps mail inbox from from until 0 commands commands messages messages
 turned-none c s channel steps mail inbox from until commands messages h f =
     record {
       issued = [];
@@ -125,13 +125,13 @@ turned-none c s channel steps mail inbox from until commands messages h f =
       messages_are = sym (append-nil messages);
     }
 
--- one turn more
+-- one step of the loop more
 pub turned-more : (c d : Channel) (s : Config) (channel : ℕ) (steps : List (Option Command)) (mail inbox : List Message) (from now until arrived n last : ℕ)
     (commands more_commands most_commands : List IssuedCommand) (messages more_messages most_messages : List Message) → length steps ≡ from → from ≤ now → now ≤ last
-    → HasTurned c s channel steps mail inbox from now until arrived commands more_commands messages more_messages
-    → HasTurned d s channel (channel_run s channel steps (mail ++ inbox) (now - from)) (mail ++ take arrived inbox) (rest_of inbox arrived) now (last + 1) until n
+    → HasAdvanced c s channel steps mail inbox from now until arrived commands more_commands messages more_messages
+    → HasAdvanced d s channel (channel_run s channel steps (mail ++ inbox) (now - from)) (mail ++ take arrived inbox) (rest_of inbox arrived) now (last + 1) until n
     more_commands most_commands more_messages most_messages
-    → HasTurned d s channel steps mail inbox from (last + 1) until (arrived + n) commands most_commands messages most_messages
+    → HasAdvanced d s channel steps mail inbox from (last + 1) until (arrived + n) commands most_commands messages most_messages
 turned-more c d s channel steps mail inbox from now until arrived n last commands more_commands most_commands messages more_messages most_messages at l m h turned =
     record {
       issued = h.issued ++ turned.issued;

@@ -2,7 +2,7 @@
 --     issued_in channel now o      the command of a cycle as a list of steps
 --     first_arrival inbox until      when the first of these messages arrives
 --     HasRun c s channel steps mail inbox from now until arrived commands messages      what the cycles so far leave
---     HasTurned c s channel steps mail inbox now then until arrived commands commands_then messages messages_then      what one turn leaves
+--     HasAdvanced c s channel steps mail inbox now then until arrived commands commands_then messages messages_then      what one step of the loop leaves
 --     IsDone c s channel steps mail inbox from until commands commands_then messages messages_then      what all cycles of a span leave
 --     CanRun c inbox from until      a channel stands for a past after which messages are fit for a span
 --     CanStep c inbox now      they are fit for a span that begins with this cycle
@@ -40,7 +40,7 @@ pub record HasRun (c : Channel) (s : Config) (channel : ℕ) (steps : List (Opti
 
 -- After some more cycles, from one on and before another, the same holds, and what came more was added to these commands and
 -- messages.
-pub record HasTurned (c : Channel) (s : Config) (channel : ℕ) (steps : List (Option Command)) (mail inbox : List Message) (now then until arrived : ℕ) (commands commands_then : List IssuedCommand) (messages messages_then : List Message) : Type 0 where
+pub record HasAdvanced (c : Channel) (s : Config) (channel : ℕ) (steps : List (Option Command)) (mail inbox : List Message) (now then until arrived : ℕ) (commands commands_then : List IssuedCommand) (messages messages_then : List Message) : Type 0 where
   pub issued : List IssuedCommand
   pub sent : List Message
   pub has_run : HasRun c s channel steps mail inbox now then until arrived issued sent

@@ -21,7 +21,7 @@ ghost use Rattle.channel_step.specs.Counted.{cycle_with_hit};
 ghost use Rattle.channel_step.specs.declared.ahead.Ahead.TheVariants.{Unknown, Known};
 ghost use Rattle.channel_step.specs.Channels.{CandidatesStand, StandsFor, IsAhead, IsFound, HasRank, HasBank, IsInCycle, IsInSomeCycle, IsChosen, IsNextBefore, CountsDrains, seen_of, passed};
 ghost use Rattle.channel_step.specs.Fit.{queue_room, IsFit, IsIdle};
-ghost use Rattle.channel_step.specs.Runs.{CanStep, CanRun, CanSkip, HasTurned, IsDone, StandsAt, first_arrival};
+ghost use Rattle.channel_step.specs.Runs.{CanStep, CanRun, CanSkip, HasAdvanced, IsDone, StandsAt, first_arrival};
 
 use crate::ahead::Ahead;
 use crate::counting::{Seen, drained};
@@ -59,7 +59,7 @@ pub struct Channel {
 
 /// What a channel did from one cycle to another, the last that is over: how many messages arrived.
 #[derive(Clone, Copy)]
-struct Turn {
+struct Advance {
     arrived: usize,
     last: Cycle,
 }
@@ -421,23 +421,23 @@ impl Channel {
     /// one in which something arrives, if that comes first; and no further than `until`. What it issues and sends is added to the
     /// commands and messages. On an error some of it may be missing.
     #[inline(always)]
-    fn turn(
+    fn advance(
         &mut self,
         inbox: &[Message],
         now: Cycle,
         until: Cycle,
         commands: &mut CommandList,
         messages: &mut Vec<Message>,
-    ) -> Result<Turn, AllocError>
+    ) -> Result<Advance, AllocError>
         requires can_run { CanRun self.old inbox.now now until }
         requires span { now < until }
         requires until { until ≤ 2 ^ 62 }
-        ensures some { IfOk result (λ turn. turn.arrived ≤ length inbox.now) }
-        ensures from_now { IfOk result (λ turn. now ≤ turn.last) }
-        ensures within { IfOk result (λ turn. turn.last < until) }
+        ensures some { IfOk result (λ advance. advance.arrived ≤ length inbox.now) }
+        ensures from_now { IfOk result (λ advance. now ≤ advance.last) }
+        ensures within { IfOk result (λ advance. advance.last < until) }
         ensures done { (s : Config) (channel : ℕ) (steps : List (Option Command)) (mail : List Message)
             → StandsFor self.old s channel steps mail → length steps ≡ now → IsFit s channel steps mail inbox.now now until
-            → IfOk result (λ turn. HasTurned self.new s channel steps mail inbox.now now (turn.last + 1) until turn.arrived
+            → IfOk result (λ advance. HasAdvanced self.new s channel steps mail inbox.now now (advance.last + 1) until advance.arrived
             commands.old commands.new messages.old.items messages.new.items) }
     {
         let arrived = self.arrive(inbox, now)?;
@@ -455,14 +455,14 @@ impl Channel {
                     commands,
                     messages,
                 )?;
-                Ok(Turn {
+                Ok(Advance {
                     arrived,
                     last: cycle,
                 })
             }
             None => {
                 self.wait(end);
-                Ok(Turn {
+                Ok(Advance {
                     arrived,
                     last: end - 1,
                 })
@@ -493,9 +493,9 @@ impl Channel {
         let mut arrived = 0;
         let mut now = from;
         while now < until {
-            let turn = self.turn(&inbox[arrived..], now, until, commands, messages)?;
-            arrived += turn.arrived;
-            now = turn.last + 1;
+            let advance = self.advance(&inbox[arrived..], now, until, commands, messages)?;
+            arrived += advance.arrived;
+            now = advance.last + 1;
         }
         Ok(())
     }

@@ -1,12 +1,11 @@
 //! What a channel notes of a command that it issues.
 
-ghost use Rattle.std.specs.Prelude.{◌≡◌, ℕ, ◌<◌, ◌^◌, ◌++◌, List, [], ◌∷◌, All, length, Option, IfSome, option_and_then, slice_get};
+ghost use Rattle.std.specs.Prelude.{◌≡◌, ℕ, ◌<◌, ◌^◌, ◌++◌, List, [], ◌∷◌, length, Option, IfSome, option_and_then, slice_get};
 ghost use Rattle.std.specs.Option.{ForSome};
-ghost use Rattle.sim_base.specs.Rules.{rank_of, bank_of, row_after};
+ghost use Rattle.sim_base.specs.Rules.{bank_of, row_after};
 ghost use Rattle.sim_base.specs.declared.config.Config.{Config};
 ghost use Rattle.sim_base.specs.declared.command.IssuedCommand.{IssuedCommand};
 ghost use Rattle.sim_base.specs.declared.message.Request.{Request};
-ghost use Rattle.bank_ready.specs.Stands.{rank_count, StandsFor as BanksStandFor};
 ghost use Rattle.refresh.specs.Refreshes.{StandsFor as RefreshesStandFor};
 ghost use Rattle.queue_columns.specs.Columns.{bank_number};
 ghost use Rattle.bank_candidates.specs.Candidates.{bank_at};

@@ -1,5 +1,5 @@
 -- A table of several lists goes on with the row of the list that begins soonest.
-use Rattle.std.proofs.Common.{◌≡◌, ℕ, zero, suc, ◌<◌, ◌≤◌, Bool, true, false, cond, eqb, List, [], ◌∷◌, ◌++◌, length, get_or, set, drop, slice_get, Option, Some, None, IfSome, refl, sym, ap, subst, ◌∙◌, arith}
+use Rattle.std.proofs.Common.{◌≡◌, ℕ, zero, suc, ◌<◌, ◌≤◌, Bool, true, false, eqb, List, [], ◌∷◌, ◌++◌, length, get_or, set, drop, slice_get, Option, Some, None, IfSome, refl, sym, ap, subst, ◌∙◌, arith}
 use Rattle.std.specs.Prelude.{flat_map, All}
 use Rattle.std.specs.List.{AllByRecursion as Each}
 use Rattle.std.proofs.lemmas.Bool.{eqb-true, eqb-false}
@@ -9,7 +9,7 @@ use Rattle.sim_base.specs.declared.command.IssuedCommand.{IssuedCommand}
 use Rattle.sim_base.proofs.Each.{Each-append}
 use Rattle.command_table.specs.Tables.{IsRising, rows_in, HaveSameCycles, by_cycle, table_of}
 use Rattle.command_table.specs.Lefts.{first_cycle, IsNext}
-use Rattle.command_table.proofs.Rising.{Rising, rising-pairs, own-cycle, other-cycle, by_cycle-is, by_cycle-rising, by_cycle-same, each-by_cycle}
+use Rattle.command_table.proofs.Rising.{Rising, rising-pairs, own-cycle, other-cycle, cons-same, by_cycle-is, by_cycle-rising, by_cycle-same, each-by_cycle}
 
 -- the rows of all lists
 abbrev all : List (List IssuedCommand) → List IssuedCommand
@@ -114,13 +114,6 @@ left-same (rows ∷ lists) (suc place) row rest r b k =
         ∙ filter-append in_cycle rows left
         ∙ ap (λ z. rows_in k rows ++ z) (sym (other-cycle row left k other) ∙ h)
         ∙ sym (filter-append in_cycle rows (all lists))
-
-cons-same : (x : IssuedCommand) (xs ys : List IssuedCommand) → HaveSameCycles xs ys → HaveSameCycles (x ∷ xs) (x ∷ ys)
-cons-same x xs ys h k = by (eqb x.cycle k)
-  where
-    by : (b : Bool) → cond b (x ∷ rows_in k xs) (rows_in k xs) ≡ cond b (x ∷ rows_in k ys) (rows_in k ys)
-    by true = ap (λ z. x ∷ z) (h k)
-    by false = h k
 
 -- the table begins with this row, and goes on with what is left
 first-row : (lists : List (List IssuedCommand)) (place : ℕ) (row : IssuedCommand) (rest : List IssuedCommand) → RisingAll lists → Begins lists place row rest

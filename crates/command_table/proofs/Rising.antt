@@ -140,7 +140,7 @@ put-same r (x ∷ xs) k = by (ltb x.cycle r.cycle) refl (put-same r xs k)
             let q : r.cycle ≡ k → ⊥ = eqb-false _ _ g in
             other-cycle x (put r xs) k p ∙ same ∙ other-cycle r xs k q ∙ sym (other-cycle r (x ∷ xs) k q ∙ other-cycle x xs k p)
 
-cons-same : (x : IssuedCommand) (xs ys : List IssuedCommand) → HaveSameCycles xs ys → HaveSameCycles (x ∷ xs) (x ∷ ys)
+pub cons-same : (x : IssuedCommand) (xs ys : List IssuedCommand) → HaveSameCycles xs ys → HaveSameCycles (x ∷ xs) (x ∷ ys)
 cons-same x xs ys h k = by (eqb x.cycle k)
   where
     by : (b : Bool) → cond b (x ∷ rows_in k xs) (rows_in k xs) ≡ cond b (x ∷ rows_in k ys) (rows_in k ys)

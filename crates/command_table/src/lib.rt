@@ -1,7 +1,8 @@
-//! Commands in few bytes a row, and the commands of all channels read as one table.
+//! Commands in few bytes a row, and the commands of all channels read as one table, whole or in pieces.
 #![tactic(auto)]
 
 mod compact;
 mod left;
 pub mod list;
+pub mod piece;
 pub mod table;

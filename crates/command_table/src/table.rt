@@ -81,6 +81,14 @@ fn drop_first(lefts: &mut Vec<Left<'_>>, place: usize)
 }
 
 impl<'a> Rows<'a> {
+    /// What is left of lists, to be read.
+    pub(crate) fn of(lefts: Vec<Left<'a>>) -> Self
+        requires { All IsRising lefts.items }
+        ensures { result ≡ table_of lefts.entry.items }
+    {
+        Rows { lefts }
+    }
+
     /// Takes the next command, if one is left.
     #[inline(always)]
     pub fn next(&mut self) -> Option<IssuedCommand>
@@ -140,13 +148,19 @@ impl CommandTable {
         })
     }
 
+    /// What is left of the lists before anything is read. Only memory can be refused.
+    pub(crate) fn lefts(&self, alloc: Global) -> Result<Vec<Left<'_>>, AllocError>
+        ensures table { IfOk result (λ lefts. table_of lefts.items ≡ self.now) }
+        ensures rising { IfOk result (λ lefts. All IsRising lefts.items) }
+    {
+        lefts_of(alloc, &self.lists)
+    }
+
     /// The table, to be read from its first command on. Only memory can be refused.
     pub fn rows(&self, alloc: Global) -> Result<Rows<'_>, AllocError>
         ensures { IfOk result (λ rows. rows ≡ self.now) }
     {
-        Ok(Rows {
-            lefts: lefts_of(alloc, &self.lists)?,
-        })
+        Ok(Rows::of(self.lefts(alloc)?))
     }
 
     /// The commands in a list, as they are. Only memory can be refused.

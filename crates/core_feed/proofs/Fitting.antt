@@ -25,7 +25,7 @@ use Rattle.statistics.specs.Counts.{one_if}
 use Rattle.core_window.specs.Fit.{IsAwaited, IsOwed, IsDueLoad, IsByArrival, Fit}
 use Rattle.core_window.specs.Inside.{credits_now}
 use Rattle.core_window.specs.Stands.{StandsFor, credits_had, credits_spent, is_credit_from}
-use Rattle.core_window.specs.Turns.{credits_of_kind}
+use Rattle.core_window.specs.OneCycle.{credits_of_kind}
 use Rattle.core_window.specs.Views.{CoreView}
 use Rattle.core_window.specs.Outstanding.{is_read_at, is_answered, is_outstanding, outstanding_read, outstanding_reads}
 use Rattle.core_window.specs.declared.outstanding.OutstandingRead.{OutstandingRead}

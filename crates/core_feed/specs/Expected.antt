@@ -11,7 +11,7 @@ use Rattle.sim_base.specs.declared.message.Load.TheVariants as load
 use Rattle.sim_base.specs.declared.message.Message.{Message}
 use Rattle.statistics.specs.declared.final_state.Credits.{Credits}
 use Rattle.core_window.specs.Stands.{is_credit_from}
-use Rattle.core_window.specs.Turns.{credits_of_kind}
+use Rattle.core_window.specs.OneCycle.{credits_of_kind}
 use Rattle.core_window.specs.Views.{CoreView}
 use Rattle.core_window.specs.Outstanding.{is_outstanding}
 

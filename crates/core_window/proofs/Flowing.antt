@@ -15,12 +15,12 @@ use Rattle.core_window.specs.Causes.{first_undone, issue_count, cause_at}
 use Rattle.core_window.specs.Inside.{StandsAt}
 use Rattle.core_window.specs.Stands.{IsPast}
 use Rattle.core_window.specs.Steady.{steady_view, IsSteady, IsFlow}
-use Rattle.core_window.specs.Turns.{IsAhead, IsLast, IsTurn}
+use Rattle.core_window.specs.OneCycle.{IsAhead, IsLast, IsWork}
 use Rattle.core_window.specs.Views.{CoreView}
 use Rattle.core_window.specs.Outstanding.{outstanding_reads}
 use Rattle.core_window.specs.declared.outstanding.OutstandingRead.{OutstandingRead}
 use Rattle.core_window.proofs.Stopping.{is_last}
-use Rattle.core_window.proofs.Turning.{turn-from, issued_of, retired_of}
+use Rattle.core_window.proofs.Working.{cycle_work-from, issued_of, retired_of}
 
 more_times : (k n w : ℕ) → k < n → k * w + w ≤ n * w
 more_times k n w l =
@@ -67,11 +67,11 @@ cause-plain width window len number gone two l =
     let e2 : eqb width width ≡ true = eq-eqb _ _ refl in
     rw (e1, e2) refl
 
-plain-turn : (s : Config) (core : ℕ) (trace : List Entry) (steps : List CoreStep) (mail : List Message) (r one two : ℕ) → IsPast s core trace steps mail
+plain-cycle_work : (s : Config) (core : ℕ) (trace : List Entry) (steps : List CoreStep) (mail : List Message) (r one two : ℕ) → IsPast s core trace steps mail
     → IsPlain s trace (issued_before steps) (retired_before steps) (outstanding_reads trace steps mail) r one two
-    → IsTurn s core trace steps mail (record { retired = r; issued = s.width }) stop.Width None
-plain-turn s core trace steps mail r one two past h =
-    turn-from s core trace steps mail r one two lacks s.width stop.Width None past
+    → IsWork s core trace steps mail (record { retired = r; issued = s.width }) stop.Width None
+plain-cycle_work s core trace steps mail r one two past h =
+    cycle_work-from s core trace steps mail r one two lacks s.width stop.Width None past
     (record {
       retired = h.retires;
       ahead = h.ahead;
@@ -114,7 +114,7 @@ ahead-later trace number later one two h l m =
     }
 
 plain-at : (s : Config) (core : ℕ) (trace : List Entry) (steps : List CoreStep) (mail : List Message) (v : CoreView) (r one two : ℕ) → StandsAt s core trace steps mail v
-    → IsPlain v.config v.trace v.stats.issued v.stats.retired v.outstanding r one two → IsTurn s core trace steps mail (record { retired = r; issued = v.config.width }) stop.Width None
+    → IsPlain v.config v.trace v.stats.issued v.stats.retired v.outstanding r one two → IsWork s core trace steps mail (record { retired = r; issued = v.config.width }) stop.Width None
 plain-at s core trace steps mail v r one two h plain =
     let P : Config → List Entry → ℕ → ℕ → List OutstandingRead → Type 0 = λ x t n b w. IsPlain x t n b w r one two in
     let f1 : P s v.trace v.stats.issued v.stats.retired v.outstanding = subst (λ x. P x v.trace v.stats.issued v.stats.retired v.outstanding) h.config plain in
@@ -122,8 +122,8 @@ plain-at s core trace steps mail v r one two h plain =
     let f3 : P s trace (issued_before steps) v.stats.retired v.outstanding = subst (λ x. P s trace x v.stats.retired v.outstanding) (issued_of s core trace steps mail v h) f2 in
     let f4 : P s trace (issued_before steps) (retired_before steps) v.outstanding = subst (λ x. P s trace (issued_before steps) x v.outstanding) (retired_of s core trace steps mail v h) f3 in
     let f5 : P s trace (issued_before steps) (retired_before steps) (outstanding_reads trace steps mail) = subst (λ x. P s trace (issued_before steps) (retired_before steps) x) h.outstanding f4 in
-    subst (λ (x : Config). IsTurn s core trace steps mail (record { retired = r; issued = x.width }) stop.Width None) (sym h.config)
-    (plain-turn s core trace steps mail r one two h.past f5)
+    subst (λ (x : Config). IsWork s core trace steps mail (record { retired = r; issued = x.width }) stop.Width None) (sym h.config)
+    (plain-cycle_work s core trace steps mail r one two h.past f5)
 
 least-le : (a b r : ℕ) → r ≡ min a b → r ≤ a
 least-le a b r e = omega arith
@@ -143,7 +143,7 @@ pub flow-steady : (a : CoreView) (one two r n : ℕ) → IsAhead a.trace a.stats
     → IsSteady a n (record { retired = r; issued = a.config.width }) stop.Width
 flow-steady a one two r n ahead l plain more flow =
     record {
-      turns = λ k b s core trace steps mail h.
+      works = λ k b s core trace steps mail h.
           let up = more_times k n a.config.width b in
           plain-at s core trace steps mail (steady_view a (record { retired = r; issued = a.config.width }) stop.Width k) r one two h
           (record {
@@ -157,7 +157,7 @@ flow-steady a one two r n ahead l plain more flow =
     }
 
 pub flow-none : (a : CoreView) (core_step : CoreStep) (why : Stop) → IsSteady a 0 core_step why
-flow-none a core_step why = record { turns = λ k l. absurd (omega arith); unfinished = inl (omega arith) }
+flow-none a core_step why = record { works = λ k l. absurd (omega arith); unfinished = inl (omega arith) }
 
 -- up to the next memory entry, and up to the last entry of the trace
 pub flow-here : (a : CoreView) (one two r n plain : ℕ) (outstanding : List OutstandingRead) → IsAhead a.trace a.stats.issued one two → a.stats.retired ≤ a.stats.issued → 0 < a.config.width

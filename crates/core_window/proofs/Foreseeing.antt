@@ -7,7 +7,7 @@ use Rattle.sim_base.specs.declared.config.Config.{Config}
 use Rattle.sim_base.specs.declared.trace.Entry.{Entry}
 use Rattle.cpu_trace.specs.declared.entries.MemoryEntry.{MemoryEntry}
 use Rattle.core_window.specs.Ahead.{IsPlaced, IsKnown}
-use Rattle.core_window.specs.Turns.{IsNextOrEnd, IsSeen}
+use Rattle.core_window.specs.OneCycle.{IsNextOrEnd, IsSeen}
 use Rattle.core_window.specs.declared.issue.Ahead.{Ahead}
 
 -- the next two memory entries, by what is known of each

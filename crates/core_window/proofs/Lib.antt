@@ -4,7 +4,7 @@ pub mod Ranges
 pub mod Retiring
 pub mod Issuing
 pub mod Stepping
-pub mod Turning
+pub mod Working
 pub mod Foreseeing
 pub mod Taking
 pub mod Receiving

@@ -33,7 +33,7 @@ use Rattle.core_window.specs.Fit.{IsAwaited, IsOwed}
 use Rattle.core_window.specs.Inside.{credits_now, core_arrived, StandsAt}
 use Rattle.core_window.specs.Replies.{MayTakeReply, after_reply}
 use Rattle.core_window.specs.Stands.{IsPast, FollowsItsEntry, is_credit_from, credits_had, credits_spent}
-use Rattle.core_window.specs.Turns.{more_credit, credits_of_kind}
+use Rattle.core_window.specs.OneCycle.{more_credit, credits_of_kind}
 use Rattle.core_window.specs.Views.{CoreView}
 use Rattle.core_window.specs.Outstanding.{is_read_at, is_answered, outstanding_read, outstanding_reads, IsByNumber}
 use Rattle.core_window.specs.declared.outstanding.OutstandingRead.{OutstandingRead}

@@ -17,7 +17,7 @@ use Rattle.statistics.specs.declared.cores.CoreStats.{CoreStats}
 use Rattle.core_window.specs.Inside.{StandsAt, IsStanding, IsLike, Does}
 use Rattle.core_window.specs.Rests.{idle_step, Rests, IsFirstAct, IsAtRest, MayRest, MaySkip}
 use Rattle.core_window.proofs.Stretching.{steady-none, steady-more, none_issues, idle-like}
-use Rattle.core_window.proofs.Turning.{like-self, issued_of, retired_of}
+use Rattle.core_window.proofs.Working.{like-self, issued_of, retired_of}
 use Rattle.core_window.proofs.Retiring.{retires-by}
 use Rattle.core_window.specs.Causes.{first_undone}
 use Rattle.core_window.specs.Outstanding.{outstanding_reads}
@@ -25,7 +25,7 @@ use Rattle.core_window.specs.declared.outstanding.OutstandingRead.{OutstandingRe
 use Rattle.sim_base.proofs.Ordered.{Each-weaker}
 use Rattle.std.specs.List.{AllByRecursion as Each}
 use Rattle.core_window.specs.Stands.{StandsFor}
-use Rattle.core_window.specs.Turns.{IsTurn, cycle_counts}
+use Rattle.core_window.specs.OneCycle.{IsWork, cycle_counts}
 use Rattle.core_window.specs.Views.{CoreView}
 use Rattle.core_window.proofs.Stepping.{step-stands, past-fits}
 use Rattle.core_window.proofs.Running.{stands-at, stands-for, length-core_run}
@@ -45,11 +45,11 @@ replicate-more n x steps = append_assoc steps (replicate n x) (x ∷ []) ∙ ap 
     same zero = refl
     same (suc m) = ap (λ l. x ∷ l) (same m)
 
--- a core whose turn is idle, whatever else it counted
-abbrev pub TurnsIdle : CoreView → Stop → Option MemoryEntry → Type 0
-TurnsIdle a why memory =
+-- a core that does nothing in a cycle, whatever else it counted
+abbrev pub WorksIdle : CoreView → Stop → Option MemoryEntry → Type 0
+WorksIdle a why memory =
     (v : CoreView) (s : Config) (core : ℕ) (trace : List Entry) (steps : List CoreStep) (mail : List Message)
-    → IsLike a v → StandsAt s core trace steps mail v → IsTurn s core trace steps mail idle_step why memory
+    → IsLike a v → StandsAt s core trace steps mail v → IsWork s core trace steps mail idle_step why memory
 
 -- in no cycle
 idle-none : (s : Config) (core : ℕ) (trace : List Entry) (steps : List CoreStep) (mail : List Message) (a : CoreView) (why : Stop) → StandsAt s core trace steps mail a
@@ -58,19 +58,19 @@ idle-none s core trace steps mail a why h =
     subst (λ (v : CoreView). StandsAt s core trace (steps ++ []) mail v) (steady-none a idle_step why) (subst (λ r. StandsAt s core trace r mail a) (sym (append-nil steps)) h)
 
 idle-stands : (s : Config) (core : ℕ) (trace : List Entry) (steps : List CoreStep) (mail : List Message) (a : CoreView) (why : Stop) (memory : Option MemoryEntry)
-    → TurnsIdle a why memory → StandsAt s core trace steps mail a → (n : ℕ) → StandsAt s core trace (steps ++ replicate n idle_step) mail (idle_view a why n) × Rests s core trace steps mail n
+    → WorksIdle a why memory → StandsAt s core trace steps mail a → (n : ℕ) → StandsAt s core trace (steps ++ replicate n idle_step) mail (idle_view a why n) × Rests s core trace steps mail n
 unfolding core_run
-idle-stands s core trace steps mail a why memory turn h zero = (idle-none s core trace steps mail a why h, sym (append-nil steps))
-idle-stands s core trace steps mail a why memory turn h (suc n) = by (idle-stands s core trace steps mail a why memory turn h n)
+idle-stands s core trace steps mail a why memory cycle_work h zero = (idle-none s core trace steps mail a why h, sym (append-nil steps))
+idle-stands s core trace steps mail a why memory cycle_work h (suc n) = by (idle-stands s core trace steps mail a why memory cycle_work h n)
   where
     by : StandsAt s core trace (steps ++ replicate n idle_step) mail (idle_view a why n) × Rests s core trace steps mail n
         → StandsAt s core trace (steps ++ replicate (suc n) idle_step) mail (idle_view a why (suc n)) × Rests s core trace steps mail (suc n)
     by d =
         let before = steps ++ replicate n idle_step in
         let v = idle_view a why n in
-        let t : IsTurn s core trace before mail idle_step why memory = turn v s core trace before mail (idle-like a why n) d.0 in
+        let t : IsWork s core trace before mail idle_step why memory = cycle_work v s core trace before mail (idle-like a why n) d.0 in
         let none : memory ≡ None = none_issues trace (issued_before before) memory t.issues in
-        let t0 : IsTurn s core trace before mail idle_step why None = subst (IsTurn s core trace before mail idle_step why) none t in
+        let t0 : IsWork s core trace before mail idle_step why None = subst (IsWork s core trace before mail idle_step why) none t in
         let stands : StandsAt s core trace (before ++ idle_step ∷ []) mail (idle_view a why (suc n)) =
         step-stands s core trace before mail v (idle_view a why (suc n)) idle_step why None d.0 t0
         (record {
@@ -95,26 +95,26 @@ step_is_idle core_step e f = let both : ℕ → ℕ → CoreStep = λ r i. recor
 
 does_step : (s : Config) (core : ℕ) (trace : List Entry) (steps : List CoreStep) (mail : List Message) (a : CoreView) (core_step : CoreStep) (why : Stop) (memory : Option MemoryEntry)
     → Does a core_step why memory → StandsFor s core trace steps mail a → (step s core trace steps mail).0 ≡ core_step
-does_step s core trace steps mail a core_step why memory turn h =
-    ap (λ (x : CoreStep × Stop). x.0) (turn a s core trace steps mail (like-self a) (stands-at s core trace steps mail a h)).does
+does_step s core trace steps mail a core_step why memory cycle_work h =
+    ap (λ (x : CoreStep × Stop). x.0) (cycle_work a s core trace steps mail (like-self a) (stands-at s core trace steps mail a h)).does
 
 pub at_rest : (s : Config) (core : ℕ) (trace : List Entry) (steps : List CoreStep) (mail : List Message) (a : CoreView) (core_step : CoreStep) (why : Stop) (memory : Option MemoryEntry)
     → core_step ≡ idle_step → Does a core_step why memory → StandsFor s core trace steps mail a → IsAtRest s core trace steps mail
-at_rest s core trace steps mail a core_step why memory e turn h =
+at_rest s core trace steps mail a core_step why memory e cycle_work h =
     record {
-      now = does_step s core trace steps mail a core_step why memory turn h ∙ e;
-      rests = λ n. (idle-stands s core trace steps mail a why memory (subst (λ r. Does a r why memory) e turn) (stands-at s core trace steps mail a h) n).1;
+      now = does_step s core trace steps mail a core_step why memory cycle_work h ∙ e;
+      rests = λ n. (idle-stands s core trace steps mail a why memory (subst (λ r. Does a r why memory) e cycle_work) (stands-at s core trace steps mail a h) n).1;
     }
 
 pub first_act : (s : Config) (core : ℕ) (trace : List Entry) (steps : List CoreStep) (mail : List Message) (a : CoreView) (core_step : CoreStep) (why : Stop) (memory : Option MemoryEntry) (from : ℕ)
     → a.now ≡ from → (core_step ≡ idle_step → ⊥) → Does a core_step why memory → StandsFor s core trace steps mail a → IsFirstAct s core trace steps mail from
 unfolding core_run
-first_act s core trace steps mail a core_step why memory from at acts turn h =
+first_act s core trace steps mail a core_step why memory from at acts cycle_work h =
     let z : from - length steps ≡ 0 = omega (arith, h.now) in
     record {
       since = omega (arith, h.now);
       rests = λ n l. let none : n ≡ 0 = omega (arith, h.now) in subst (λ k. Rests s core trace steps mail k) (sym none) (sym (append-nil steps));
-      acts = λ e. acts (sym (does_step s core trace steps mail a core_step why memory turn h) ∙ ap (λ k. (step s core trace (core_run s core trace steps mail k) mail).0) (sym z) ∙ e);
+      acts = λ e. acts (sym (does_step s core trace steps mail a core_step why memory cycle_work h) ∙ ap (λ k. (step s core trace (core_run s core trace steps mail k) mail).0) (sym z) ∙ e);
     }
 
 -- a core whose next entry is done retires it
@@ -155,12 +155,12 @@ pub skipped : (a : CoreView) (until : ℕ) (core_step : CoreStep) (why : Stop) (
     → (s : Config) (core : ℕ) (trace : List Entry) (steps : List CoreStep) (mail : List Message) → StandsFor s core trace steps mail a
     → StandsFor s core trace (steps ++ replicate (until - a.now) idle_step) mail (idle_view a why (until - a.now)) × Rests s core trace steps mail (until - a.now)
 unfolding core_run
-skipped a until core_step why memory may turn s core trace steps mail h =
+skipped a until core_step why memory may cycle_work s core trace steps mail h =
     ⊎_elim
     (λ less. let m = may.may in
-    let e : core_step ≡ idle_step = sym (does_step m.s m.core m.trace m.steps m.mail a core_step why memory turn m.stands) ∙ may.rests less in
+    let e : core_step ≡ idle_step = sym (does_step m.s m.core m.trace m.steps m.mail a core_step why memory cycle_work m.stands) ∙ may.rests less in
     rested s core trace steps mail (idle_view a why (until - a.now)) (until - a.now) h.before
-    (idle-stands s core trace steps mail a why memory (subst (λ r. Does a r why memory) e turn) (stands-at s core trace steps mail a h) (until - a.now)))
+    (idle-stands s core trace steps mail a why memory (subst (λ r. Does a r why memory) e cycle_work) (stands-at s core trace steps mail a h) (until - a.now)))
     (λ most. let z : until - a.now ≡ 0 = omega arith in
     subst (λ n. StandsFor s core trace (steps ++ replicate n idle_step) mail (idle_view a why n) × Rests s core trace steps mail n) (sym z)
     (rested s core trace steps mail (idle_view a why 0) 0 h.before (idle-none s core trace steps mail a why (stands-at s core trace steps mail a h), sym (append-nil steps))))
@@ -169,7 +169,7 @@ skipped a until core_step why memory may turn s core trace steps mail h =
 -- its counts fit
 pub skip-fits : (a : CoreView) (until : ℕ) (core_step : CoreStep) (why : Stop) (memory : Option MemoryEntry) → MaySkip a until → Does a core_step why memory → until < 2 ^ 62
     → CoreFits (core_joined a.stats (core_times (until - a.now) (idle_counts why a.now)))
-skip-fits a until core_step why memory may turn early =
+skip-fits a until core_step why memory may cycle_work early =
     let m = may.may in
-    let d = (skipped a until core_step why memory may turn m.s m.core m.trace m.steps m.mail m.stands).0 in
+    let d = (skipped a until core_step why memory may cycle_work m.s m.core m.trace m.steps m.mail m.stands).0 in
     subst CoreFits (sym d.stats) (past-fits m.s m.core m.trace (m.steps ++ replicate (until - a.now) idle_step) m.mail d.past d.past.fits (omega (arith, d.now, may.since)))

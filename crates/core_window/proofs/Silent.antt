@@ -18,11 +18,11 @@ use Rattle.core_window.specs.Inside.{StandsAt}
 use Rattle.core_window.specs.Rests.{idle_step, IsAtRest}
 use Rattle.core_window.specs.Silence.{IsSilentUntil}
 use Rattle.core_window.specs.Stands.{StandsFor}
-use Rattle.core_window.specs.Turns.{IsSeen}
+use Rattle.core_window.specs.OneCycle.{IsSeen}
 use Rattle.core_window.specs.Views.{CoreView}
 use Rattle.core_window.proofs.Issuing.{messages-push}
 use Rattle.core_window.proofs.Running.{stands-at}
-use Rattle.core_window.proofs.Turning.{issued_of}
+use Rattle.core_window.proofs.Working.{issued_of}
 
 -- a core issues its width of entries at most in a cycle
 width-most : (s : Config) (core : ℕ) (trace : List Entry) (steps : List CoreStep) (mail : List Message) → (step s core trace steps mail).0.issued ≤ s.width

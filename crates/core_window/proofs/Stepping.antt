@@ -32,7 +32,7 @@ use Rattle.statistics.proofs.CoreStretches.{core_joined-assoc}
 use Rattle.statistics.proofs.Lists.{length-push_suc, take-push, option_or-none}
 use Rattle.core_window.specs.Inside.{credits_now, core_arrived, StandsAt, Sends, Advances}
 use Rattle.core_window.specs.Stands.{IsPast, FollowsItsEntry, is_credit_from, credits_had, credits_spent}
-use Rattle.core_window.specs.Turns.{IsIssued, IsTurn, reads_issued, requests_issued, credit_after, cycle_counts, is_read_among, is_write_among}
+use Rattle.core_window.specs.OneCycle.{IsIssued, IsWork, reads_issued, requests_issued, credit_after, cycle_counts, is_read_among, is_write_among}
 use Rattle.core_window.specs.Views.{CoreView}
 use Rattle.core_window.specs.declared.outstanding.OutstandingRead.{OutstandingRead}
 use Rattle.core_window.specs.Outstanding.{is_read_in, is_read_at, is_answered, outstanding_reads}
@@ -86,15 +86,15 @@ arrived_counts steps mail trace core_step why memory r w =
 
 -- the statistics with this cycle
 pub stats-push : (s : Config) (core : ℕ) (trace : List Entry) (steps : List CoreStep) (mail : List Message) (core_step : CoreStep) (why : Stop) (memory : Option MemoryEntry)
-    → IsPast s core trace steps mail → IsTurn s core trace steps mail core_step why memory
+    → IsPast s core trace steps mail → IsWork s core trace steps mail core_step why memory
     → core_joined (core_joined (core_stats s core trace steps mail) (core_arrived steps mail)) (cycle_counts core_step why memory (retired_before steps) (length trace) (length steps))
     ≡ core_stats s core trace (steps ++ core_step ∷ []) mail
 unfolding core_cycle
-stats-push s core trace steps mail core_step why memory past turn =
+stats-push s core trace steps mail core_step why memory past cycle_work =
     core_joined-assoc (core_stats s core trace steps mail) (core_arrived steps mail) (cycle_counts core_step why memory (retired_before steps) (length trace) (length steps))
     ∙ ap (core_joined (core_stats s core trace steps mail))
-    (arrived_counts steps mail trace core_step why memory (reads-issued trace (issued_before steps) core_step.issued memory turn.issues) (writes-issued trace (issued_before steps) core_step.issued memory turn.issues)
-    ∙ ap (λ w. core_cycle_with trace steps core_step w (replies_in (length steps) mail)) (sym (ap (λ t. t.1) turn.does)))
+    (arrived_counts steps mail trace core_step why memory (reads-issued trace (issued_before steps) core_step.issued memory cycle_work.issues) (writes-issued trace (issued_before steps) core_step.issued memory cycle_work.issues)
+    ∙ ap (λ w. core_cycle_with trace steps core_step w (replies_in (length steps) mail)) (sym (ap (λ t. t.1) cycle_work.does)))
     ∙ sym (core_stats-push s core trace steps core_step mail (follows-read steps core_step mail past.arrived past.follows))
 
 -- all of the mail counts
@@ -189,27 +189,27 @@ unfolding step
 retired-step s core trace steps mail core_step why h = ap (λ t. t.0.retired) h
 
 past-push : (s : Config) (core : ℕ) (trace : List Entry) (steps : List CoreStep) (mail : List Message) (core_step : CoreStep) (why : Stop) (memory : Option MemoryEntry)
-    → IsPast s core trace steps mail → IsTurn s core trace steps mail core_step why memory → IsPast s core trace (steps ++ core_step ∷ []) mail
-past-push s core trace steps mail core_step why memory past turn =
+    → IsPast s core trace steps mail → IsWork s core trace steps mail core_step why memory → IsPast s core trace (steps ++ core_step ∷ []) mail
+past-push s core trace steps mail core_step why memory past cycle_work =
     let i = issued_before-push steps core_step in
     let r = retired_before-push steps core_step in
-    let row_is : (step s core trace steps mail).0 ≡ core_step = ap (λ t. t.0) turn.does in
+    let row_is : (step s core trace steps mail).0 ≡ core_step = ap (λ t. t.0) cycle_work.does in
     let within : issued_before steps + core_step.issued ≤ length trace = subst (λ (x : CoreStep). issued_before steps + x.issued ≤ length trace) row_is (issues-le s core trace steps mail past.issued) in
     let most : core_step.retired ≤ issued_before steps - retired_before steps = subst (λ n. n ≤ issued_before steps - retired_before steps) retired_is (retires-le s trace steps mail) in
     record {
       fits = past.fits;
       issued = omega arith;
       retired = omega (arith, past.retired);
-      window = omega (arith, turn.window);
+      window = omega (arith, cycle_work.window);
       arrived = Each-weaker (λ (m : Message). m.arrival ≤ length steps) (λ m. m.arrival ≤ length (steps ++ core_step ∷ [])) (λ m h. omega (arith, length-push_suc steps core_step)) mail past.arrived;
       follows = follows-entry steps core_step mail past.arrived past.follows;
       done = λ entry b read. ⊎_elim (λ l. past.done entry l read) (λ g. retired_done s trace steps mail past.arrived entry g (omega (arith, retired_is)) read) (cases_lt entry (retired_before steps));
-      answered = omega (arith, past.answered, ap length (outstanding_reads-push trace steps core_step mail memory past.follows turn.issues), length-append (outstanding_reads trace steps mail) (reads_issued memory (length steps)), reads_few memory (length steps) trace (issued_before steps) core_step.issued turn.issues);
-      paid = λ channel write. subst (λ n. n ≤ credits_had s core mail channel write) (sym (spent-push s core trace steps core_step memory turn.issues channel write)) (paid memory turn.credit channel write);
+      answered = omega (arith, past.answered, ap length (outstanding_reads-push trace steps core_step mail memory past.follows cycle_work.issues), length-append (outstanding_reads trace steps mail) (reads_issued memory (length steps)), reads_few memory (length steps) trace (issued_before steps) core_step.issued cycle_work.issues);
+      paid = λ channel write. subst (λ n. n ≤ credits_had s core mail channel write) (sym (spent-push s core trace steps core_step memory cycle_work.issues channel write)) (paid memory cycle_work.credit channel write);
     }
   where
     retired_is : retires s trace steps mail ≡ core_step.retired
-    retired_is = retired-step s core trace steps mail core_step why turn.does
+    retired_is = retired-step s core trace steps mail core_step why cycle_work.does
 
     paid : (o : Option MemoryEntry) → IfSome o (λ e. lacks_credit s core mail (core_messages s core trace steps) (length steps) (Some e.entry) ≡ false) → (channel : ℕ) (write : Bool)
         → credits_spent s core trace steps channel write + one_if (is_spending s channel write o) ≤ credits_had s core mail channel write
@@ -250,23 +250,23 @@ unfolding core_stats
 retired_of s core trace steps mail a h = ap (λ (x : CoreStats). x.retired) h.stats ∙ add-zero (retired_before steps)
 
 pub step-stands : (s : Config) (core : ℕ) (trace : List Entry) (steps : List CoreStep) (mail : List Message) (a b : CoreView) (core_step : CoreStep) (why : Stop) (memory : Option MemoryEntry)
-    → StandsAt s core trace steps mail a → IsTurn s core trace steps mail core_step why memory → IsStep a b core_step why memory → StandsAt s core trace (steps ++ core_step ∷ []) mail b
-step-stands s core trace steps mail a b core_step why memory h turn i =
+    → StandsAt s core trace steps mail a → IsWork s core trace steps mail core_step why memory → IsStep a b core_step why memory → StandsAt s core trace (steps ++ core_step ∷ []) mail b
+step-stands s core trace steps mail a b core_step why memory h cycle_work i =
     record {
       config = i.config ∙ h.config;
       number = i.number ∙ h.number;
       entries = i.entries ∙ h.entries;
       now = omega (arith, i.now, h.now, length-push_suc steps core_step);
-      outstanding = i.outstanding ∙ ap₂ (λ x n. x ++ reads_issued memory n) h.outstanding h.now ∙ sym (outstanding_reads-push trace steps core_step mail memory h.past.follows turn.issues);
+      outstanding = i.outstanding ∙ ap₂ (λ x n. x ++ reads_issued memory n) h.outstanding h.now ∙ sym (outstanding_reads-push trace steps core_step mail memory h.past.follows cycle_work.issues);
       channels = i.channels ∙ h.channels;
       credits = λ channel l. i.credits channel _ (h.credits channel l)
           ∙ ap (λ (x : Config). Some (credit_after x channel memory (credits_now s core trace steps mail channel))) h.config
-          ∙ ap Some (sym (credits-push s core trace steps core_step mail memory turn.issues channel));
+          ∙ ap Some (sym (credits-push s core trace steps core_step mail memory cycle_work.issues channel));
       stats = i.stats ∙ ap (λ x. core_joined x (cycle_counts core_step why memory a.stats.retired (length a.trace) a.now)) h.stats
           ∙ counts
-          ∙ stats-push s core trace steps mail core_step why memory h.past turn
+          ∙ stats-push s core trace steps mail core_step why memory h.past cycle_work
           ∙ sym (with_none_arrived (core_stats s core trace (steps ++ core_step ∷ []) mail) (steps ++ core_step ∷ []) mail (none_arrived steps core_step mail h.past.arrived));
-      past = past-push s core trace steps mail core_step why memory h.past turn;
+      past = past-push s core trace steps mail core_step why memory h.past cycle_work;
     }
   where
     counts : core_joined (core_joined (core_stats s core trace steps mail) (core_arrived steps mail)) (cycle_counts core_step why memory a.stats.retired (length a.trace) a.now)
@@ -301,27 +301,27 @@ past-fits s core trace steps mail past l n =
     (omega (arith, past.issued, past.answered, replies-le (length steps) mail))
 
 pub step-fits : (s : Config) (core : ℕ) (trace : List Entry) (steps : List CoreStep) (mail : List Message) (a : CoreView) (core_step : CoreStep) (why : Stop) (memory : Option MemoryEntry)
-    → StandsAt s core trace steps mail a → IsTurn s core trace steps mail core_step why memory → length a.trace ≤ 2 ^ 62 → a.now < 2 ^ 62
+    → StandsAt s core trace steps mail a → IsWork s core trace steps mail core_step why memory → length a.trace ≤ 2 ^ 62 → a.now < 2 ^ 62
     → CoreFits (core_joined a.stats (cycle_counts core_step why memory a.stats.retired (length a.trace) a.now))
-step-fits s core trace steps mail a core_step why memory h turn l n =
+step-fits s core trace steps mail a core_step why memory h cycle_work l n =
     let count : ℕ → ℕ → ℕ → CoreStats = λ x y z. core_joined (core_joined (core_stats s core trace steps mail) (core_arrived steps mail)) (cycle_counts core_step why memory x y z) in
     let e : core_joined a.stats (cycle_counts core_step why memory a.stats.retired (length a.trace) a.now) ≡ core_stats s core trace (steps ++ core_step ∷ []) mail =
     ap (λ x. core_joined x (cycle_counts core_step why memory a.stats.retired (length a.trace) a.now)) h.stats
     ∙ ap (λ x. count x (length a.trace) a.now) (retired_of s core trace steps mail a h)
     ∙ ap (λ (t : List Entry). count (retired_before steps) (length t) a.now) h.entries
     ∙ ap (λ n. count (retired_before steps) (length trace) n) h.now
-    ∙ stats-push s core trace steps mail core_step why memory h.past turn in
+    ∙ stats-push s core trace steps mail core_step why memory h.past cycle_work in
     let same : length a.trace ≡ length trace = ap length h.entries in
     subst CoreFits (sym e)
-    (past-fits s core trace (steps ++ core_step ∷ []) mail (past-push s core trace steps mail core_step why memory h.past turn) (omega arith) (omega (arith, length-push_suc steps core_step, h.now)))
+    (past-fits s core trace (steps ++ core_step ∷ []) mail (past-push s core trace steps mail core_step why memory h.past cycle_work) (omega arith) (omega (arith, length-push_suc steps core_step, h.now)))
 
 -- a cycle of a core, and what it sends in it
 step-sends : (a b : CoreView) (core_step : CoreStep) (why : Stop) (memory : Option MemoryEntry)
-    → ((s : Config) (core : ℕ) (trace : List Entry) (steps : List CoreStep) (mail : List Message) → StandsAt s core trace steps mail a → IsTurn s core trace steps mail core_step why memory)
+    → ((s : Config) (core : ℕ) (trace : List Entry) (steps : List CoreStep) (mail : List Message) → StandsAt s core trace steps mail a → IsWork s core trace steps mail core_step why memory)
     → IsStep a b core_step why memory → Sends 1 a b (requests_issued a.config a.core a.now memory)
 unfolding core_run
-step-sends a b core_step why memory turn i s core trace steps mail h =
-    let t : IsTurn s core trace steps mail core_step why memory = turn s core trace steps mail h in
+step-sends a b core_step why memory cycle_work i s core trace steps mail h =
+    let t : IsWork s core trace steps mail core_step why memory = cycle_work s core trace steps mail h in
     let one : steps ++ (step s core trace steps mail).0 ∷ [] ≡ steps ++ core_step ∷ [] = ap (λ (x : CoreStep × Stop). steps ++ x.0 ∷ []) t.does in
     let request : Config → ℕ → ℕ → List Message = λ x c n. requests_issued x c n memory in (
       subst (λ r. StandsAt s core trace r mail b) (sym one) (step-stands s core trace steps mail a b core_step why memory h t i),
@@ -332,6 +332,6 @@ step-sends a b core_step why memory turn i s core trace steps mail h =
 
 -- the same, where these are put behind what a list held
 pub step-advances : (a b : CoreView) (core_step : CoreStep) (why : Stop) (memory : Option MemoryEntry) (before after : List Message)
-    → ((s : Config) (core : ℕ) (trace : List Entry) (steps : List CoreStep) (mail : List Message) → StandsAt s core trace steps mail a → IsTurn s core trace steps mail core_step why memory)
+    → ((s : Config) (core : ℕ) (trace : List Entry) (steps : List CoreStep) (mail : List Message) → StandsAt s core trace steps mail a → IsWork s core trace steps mail core_step why memory)
     → IsStep a b core_step why memory → after ≡ before ++ requests_issued a.config a.core a.now memory → Advances 1 a before b after
-step-advances a b core_step why memory before after turn i e = record { sent = requests_issued a.config a.core a.now memory; behind = e; sends = step-sends a b core_step why memory turn i }
+step-advances a b core_step why memory before after cycle_work i e = record { sent = requests_issued a.config a.core a.now memory; behind = e; sends = step-sends a b core_step why memory cycle_work i }

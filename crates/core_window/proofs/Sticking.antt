@@ -16,11 +16,11 @@ use Rattle.core_window.proofs.Resting.{at_rest}
 use Rattle.sim_base.specs.declared.config.Config.{Config}
 use Rattle.sim_base.specs.declared.history.CoreStep.{CoreStep}
 use Rattle.sim_base.specs.declared.message.Message.{Message}
-use Rattle.core_window.specs.Turns.{IsLast, IsNextOrEnd, IsSeen}
+use Rattle.core_window.specs.OneCycle.{IsLast, IsNextOrEnd, IsSeen}
 use Rattle.sim_base.specs.declared.trace.Entry.TheVariants.{Plain, Read, Write}
 use Rattle.core_window.specs.Views.{CoreView}
 use Rattle.core_window.proofs.Stopping.{is_last}
-use Rattle.core_window.proofs.Turning.{turn-is}
+use Rattle.core_window.proofs.Working.{cycle_work-is}
 
 no_issue : (width window number gone one two : ℕ) (lacks : Bool) → window ≤ number - gone → 0 ≡ issue_count width window number gone one two lacks
 no_issue width window number gone one two true l = omega arith
@@ -38,7 +38,7 @@ stuck-does a one two entry seen undone most v s core trace steps mail i h =
     let none : 0 ≡ issue_count a.config.width a.config.window a.stats.issued gone one two full = no_issue a.config.width a.config.window a.stats.issued gone one two full (omega arith) in
     let cause : cause_at a.config.width a.config.window (length a.trace) a.stats.issued gone two 0 ≡ stuck_cause a two =
     ap (λ g. cause_at a.config.width a.config.window (length a.trace) a.stats.issued g two 0) (add-zero a.stats.retired) in
-    turn-is s core trace steps mail a v 0 one two full 0 (stuck_cause a two) None i h
+    cycle_work-is s core trace steps mail a v 0 one two full 0 (stuck_cause a two) None i h
     (record {
       retired = omega arith;
       ahead = seen.ahead;

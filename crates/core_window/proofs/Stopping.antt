@@ -12,7 +12,7 @@ use Rattle.sim_base.specs.History.{below}
 use Rattle.sim_base.specs.Windows.{is_memory_in, has_memory, meets_memory, lacks_credit, stop_after, has_cause, first_stop}
 use Rattle.cpu_trace.specs.NextMemory.{IsPlainBetween}
 use Rattle.core_window.specs.Causes.{issue_count, cause_at}
-use Rattle.core_window.specs.Turns.{IsAhead, MayIssue, IsLast}
+use Rattle.core_window.specs.OneCycle.{IsAhead, MayIssue, IsLast}
 use Rattle.core_window.proofs.Segments.{has_memory-false, has_memory-true}
 
 find_from : (p : ℕ → Bool) (a n m : ℕ) → m < n → ((k : ℕ) → k < m → p (a + k) ≡ false) → p (a + m) ≡ true → find p (range_with_len a n) ≡ Some (a + m)

@@ -20,7 +20,7 @@ use Rattle.statistics.specs.declared.cores.CoreStats.{CoreStats}
 use Rattle.core_window.specs.Inside.{StandsAt, IsStanding, IsLike, Advances, GoesOn, GoesQuietly, Does}
 use Rattle.core_window.specs.Rests.{idle_step}
 use Rattle.core_window.specs.Steady.{steady_counts, steady_view, IsSteady}
-use Rattle.core_window.specs.Turns.{IsTurn, IsIssued, cycle_counts}
+use Rattle.core_window.specs.OneCycle.{IsWork, IsIssued, cycle_counts}
 use Rattle.core_window.specs.Views.{CoreView}
 use Rattle.core_window.proofs.Running.{IsUnderway, advances-none, advances-add}
 use Rattle.core_window.proofs.Stepping.{IsStep, step-advances, step-fits}
@@ -87,7 +87,7 @@ times_suc n x = grind arith
 steady-fewer : (a : CoreView) (n : ℕ) (core_step : CoreStep) (why : Stop) → IsSteady a (suc n) core_step why → IsSteady a n core_step why
 steady-fewer a n core_step why h =
     record {
-      turns = λ k l. h.turns k (omega arith);
+      works = λ k l. h.works k (omega arith);
       unfinished =
           let e = times_suc n core_step.retired in
           ⊎_elim (λ z. inl (omega arith)) (λ l. inr (omega arith)) h.unfinished;
@@ -118,7 +118,7 @@ steady-advances a zero core_step why sent h = subst (λ (v : CoreView). Advances
 steady-advances a (suc n) core_step why sent h =
     let v = steady_view a core_step why n in
     let one : Advances 1 v sent (steady_view a core_step why (suc n)) sent =
-    step-advances v (steady_view a core_step why (suc n)) core_step why None sent sent (h.turns n (omega arith)) (steady-step a n core_step why h) (sym (append-nil sent)) in
+    step-advances v (steady_view a core_step why (suc n)) core_step why None sent sent (h.works n (omega arith)) (steady-step a n core_step why h) (sym (append-nil sent)) in
     let sum : n + 1 ≡ suc n = omega arith in
     subst (λ k. Advances k a sent (steady_view a core_step why (suc n)) sent) sum
     (advances-add n 1 a v (steady_view a core_step why (suc n)) sent sent sent (steady-advances a n core_step why sent (steady-fewer a n core_step why h)) one)
@@ -132,7 +132,7 @@ steady-fits a (suc n) core_step why i h l len early =
     let steps = core_run i.s i.core i.trace i.steps i.mail n in
     let st : StandsAt i.s i.core i.trace steps i.mail v = ((steady-advances a n core_step why [] (steady-fewer a n core_step why h)).sends i.s i.core i.trace i.steps i.mail i.stands).0 in
     subst CoreFits (steady-more a.stats core_step why n (a.stats.retired + n * core_step.retired) (length a.trace) (a.now + n) (last-unfinished a n core_step why h))
-    (step-fits i.s i.core i.trace steps i.mail v core_step why None st (h.turns n (omega arith) i.s i.core i.trace steps i.mail st) len (omega arith))
+    (step-fits i.s i.core i.trace steps i.mail v core_step why None st (h.works n (omega arith) i.s i.core i.trace steps i.mail st) len (omega arith))
 
 -- the counts of the cycles alone fit
 pub times-fits : (a b : CoreStats) → CoreFits (core_joined a b) → CoreFits b
@@ -162,9 +162,9 @@ none_issues trace first (Some e) h = absurd (omega (arith, h.is_from, h.is_below
 idle-steady : (a : CoreView) (why : Stop) (memory : Option MemoryEntry) (n : ℕ) → Does a idle_step why memory → IsSteady a n idle_step why
 idle-steady a why memory n does =
     record {
-      turns = λ k l s core trace steps mail h.
-          let t : IsTurn s core trace steps mail idle_step why memory = does (steady_view a idle_step why k) s core trace steps mail (idle-like a why k) h in
-          subst (IsTurn s core trace steps mail idle_step why) (none_issues trace (issued_before steps) memory t.issues) t;
+      works = λ k l s core trace steps mail h.
+          let t : IsWork s core trace steps mail idle_step why memory = does (steady_view a idle_step why k) s core trace steps mail (idle-like a why k) h in
+          subst (IsWork s core trace steps mail idle_step why) (none_issues trace (issued_before steps) memory t.issues) t;
       unfinished = inl (omega arith);
     }
 

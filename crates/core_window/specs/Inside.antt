@@ -20,7 +20,7 @@ use Rattle.statistics.specs.declared.cores.CoreStats.{CoreStats}
 use Rattle.statistics.specs.declared.final_state.Credits.{Credits}
 use Rattle.core_window.specs.Fit.{IsDue}
 use Rattle.core_window.specs.Stands.{IsPast, credits_had, credits_spent}
-use Rattle.core_window.specs.Turns.{IsTurn}
+use Rattle.core_window.specs.OneCycle.{IsWork}
 use Rattle.core_window.specs.Views.{CoreView}
 use Rattle.core_window.specs.Outstanding.{outstanding_reads}
 
@@ -130,4 +130,4 @@ pub record IsLike (a v : CoreView) : Type 0 where
 abbrev pub Does : CoreView → CoreStep → Stop → Option MemoryEntry → Type 0
 Does a core_step why memory =
     (v : CoreView) (s : Config) (core : ℕ) (trace : List Entry) (steps : List CoreStep) (mail : List Message)
-    → IsLike a v → StandsAt s core trace steps mail v → IsTurn s core trace steps mail core_step why memory
+    → IsLike a v → StandsAt s core trace steps mail v → IsWork s core trace steps mail core_step why memory

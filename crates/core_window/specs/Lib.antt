@@ -3,7 +3,7 @@ pub mod Outstanding
 pub mod Stands
 pub mod Fit
 pub mod Inside
-pub mod Turns
+pub mod OneCycle
 pub mod Ahead
 pub mod Causes
 pub mod CoreViews

@@ -16,7 +16,7 @@ use Rattle.statistics.specs.Cores.{core_joined, core_times}
 use Rattle.statistics.specs.declared.cores.CoreStats.{CoreStats}
 use Rattle.core_window.specs.Causes.{first_undone}
 use Rattle.core_window.specs.Inside.{StandsAt}
-use Rattle.core_window.specs.Turns.{IsTurn, cycle_counts, is_read_among, is_write_among}
+use Rattle.core_window.specs.OneCycle.{IsWork, cycle_counts, is_read_among, is_write_among}
 use Rattle.core_window.specs.Views.{CoreView}
 use Rattle.core_window.specs.declared.outstanding.OutstandingRead.{OutstandingRead}
 
@@ -44,8 +44,8 @@ with_memory a memory = record a { reads = a.reads + one_if (is_read_among memory
 -- In each of n cycles a core does the same and stops for the same cause, while no message comes: no memory entry issues in
 -- them, and the last entry of the trace does not retire in them.
 pub record IsSteady (a : CoreView) (n : ℕ) (core_step : CoreStep) (why : Stop) : Type 0 where
-  pub turns : (k : ℕ) → k < n → (s : Config) (core : ℕ) (trace : List Entry) (steps : List CoreStep) (mail : List Message)
-      → StandsAt s core trace steps mail (steady_view a core_step why k) → IsTurn s core trace steps mail core_step why None
+  pub works : (k : ℕ) → k < n → (s : Config) (core : ℕ) (trace : List Entry) (steps : List CoreStep) (mail : List Message)
+      → StandsAt s core trace steps mail (steady_view a core_step why k) → IsWork s core trace steps mail core_step why None
   pub unfinished : (n * core_step.retired ≡ 0) ⊎ (a.stats.retired + n * core_step.retired < length a.trace)
 
 -- The window of a core that issues its width of Plain entries in each of n cycles lets it retire r of them in each: those that

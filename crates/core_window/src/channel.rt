@@ -1,6 +1,5 @@
 //! The place of an entry.
 
-ghost use Rattle.std.specs.Prelude.{ℕ};
 ghost use Rattle.sim_base.specs.declared.config.Config.{Config};
 ghost use Rattle.address_map.specs.Shifts.{IsDigits};
 ghost use Rattle.core_window.specs.Ahead.{IsPlaced};

@@ -1,6 +1,6 @@
 //! A core.
 
-ghost use Rattle.std.specs.Prelude.{[], IsTrue, ◌↔◌, ◌∷◌, ◌++◌, ◌/◌, ◌%◌, find, if◌then◌else◌, ◌≡◌, ◌==◌, ◌^◌, ◌+◌, ◌-◌, ◌*◌, ◌≤◌, ◌<◌, ℕ, Some, List, length, replicate, slice_get, min, OnOk, OnErr, IfOk};
+ghost use Rattle.std.specs.Prelude.{[], IsTrue, ◌↔◌, ◌∷◌, ◌++◌, ◌/◌, ◌%◌, find, if◌then◌else◌, ◌≡◌, ◌==◌, ◌^◌, ◌+◌, ◌-◌, ◌*◌, ◌≤◌, ◌<◌, ℕ, Some, List, length, replicate, slice_get, min, OnOk, IfOk};
 ghost use Rattle.sim_base.specs.declared.history.CoreStep.{CoreStep};
 ghost use Rattle.sim_base.specs.declared.message.Message.{Message};
 ghost use Rattle.sim_base.specs.declared.config.Config.{Config};
@@ -10,11 +10,10 @@ ghost use Rattle.statistics.specs.declared.final_state.Credits.{Credits};
 ghost use Rattle.core_window.specs.Causes.{first_undone};
 ghost use Rattle.std.specs.Option.{IfSome};
 ghost use Rattle.core_window.specs.Ahead.{IsPlaced, IsKnown};
-ghost use Rattle.core_window.specs.Turns.{lacks_by, IsNextOrEnd, IsSeen, credits_of_kind, more_credit};
+ghost use Rattle.core_window.specs.OneCycle.{lacks_by, IsSeen, credits_of_kind, more_credit};
 ghost use Rattle.core_window.specs.Fit.{IsDue, MayRun, RunsOnto};
 ghost use Rattle.core_window.specs.Stands.{StandsFor};
 ghost use Rattle.core_window.specs.Inside.{IsStanding, IsReceiving, StandsAt, Advances, GoesOn, GoesQuietly, Does};
-ghost use Rattle.core_window.specs.Views.{CoreView};
 ghost use Rattle.core_window.specs.Rests.{Rests, IsNextAct, MayRest, MaySkip, idle_step};
 ghost use Rattle.core_window.specs.Silence.{IsSilentUntil};
 ghost use Rattle.core_window.specs.Steady.{steady_view, IsSteady};
@@ -61,7 +60,7 @@ pub struct Core {
 
 /// What a core does in a cycle, and why it stops; with the memory entry that it issues, if it issues one.
 #[derive(Clone, Copy, PartialEq, Eq, Debug)]
-pub(crate) struct Turn {
+pub(crate) struct CycleWork {
     pub core_step: CoreStep,
     pub why: Stop,
     pub memory: Option<MemoryEntry>,
@@ -92,7 +91,7 @@ impl Core {
     ghost use Rattle.core_window.specs.CoreViews.{view_of};
 
     /// What the core does in the next cycle, where the first entry of its full window waits: nothing.
-    fn idle_turn(&self) -> Turn
+    fn idle_work(&self) -> CycleWork
         requires stands { IsStanding (view_of self.now) }
         requires undone { first_undone self.now.stats.issued self.now.outstanding.items ≤ self.now.stats.retired }
         requires full { self.now.config.window ≤ self.now.stats.issued - self.now.stats.retired }
@@ -100,7 +99,7 @@ impl Core {
         ensures idle { result.core_step ≡ idle_step }
     {
         let why = cause_where_full(self.trace.len(), self.stats.issued);
-        Turn {
+        CycleWork {
             core_step: CoreStep {
                 retired: 0,
                 issued: 0,
@@ -112,7 +111,7 @@ impl Core {
 
     /// What the core does in the next cycle.
     #[inline(always)]
-    fn turn(&self) -> Turn
+    fn cycle_work(&self) -> CycleWork
         requires { IsStanding (view_of self.now) }
         ensures does { Does (view_of self.now) result.core_step result.why result.memory }
         ensures entry { IfSome result.memory (λ e. e.entry ≡ self.now.found.entry) }
@@ -127,7 +126,7 @@ impl Core {
         let lacks = self.found.one < near && is_without_credit(&self.credits, &self.found);
         let issue = issue_of(&self.config, len, number, gone, &self.found, lacks);
         let memory = entry_issued(number, &self.found, issue.count);
-        Turn {
+        CycleWork {
             core_step: CoreStep {
                 retired,
                 issued: issue.count,
@@ -138,31 +137,31 @@ impl Core {
     }
 
     /// Goes on by a cycle, in which no further message comes, and does this.
-    fn step(&mut self, turn: Turn, sent: &mut Vec<Message>) -> Result<(), AllocError>
+    fn step(&mut self, cycle_work: CycleWork, sent: &mut Vec<Message>) -> Result<(), AllocError>
         requires stands { IsStanding (view_of self.old) }
-        requires turn { Does (view_of self.old) turn.core_step turn.why turn.memory }
-        requires entry { IfSome turn.memory (λ e. e.entry ≡ self.old.found.entry) }
-        requires within { self.old.stats.issued + turn.core_step.issued ≤ self.old.found.two }
+        requires cycle_work { Does (view_of self.old) cycle_work.core_step cycle_work.why cycle_work.memory }
+        requires entry { IfSome cycle_work.memory (λ e. e.entry ≡ self.old.found.entry) }
+        requires within { self.old.stats.issued + cycle_work.core_step.issued ≤ self.old.found.two }
         requires early { self.old.cycle < 2 ^ 62 }
         ensures cycle { OnOk result (self.new.cycle ≡ self.old.cycle + 1) }
         ensures advances { OnOk result (Advances 1 (view_of self.old) sent.old.items (view_of self.new) sent.new.items) }
     {
-        wait_for(&mut self.outstanding, turn.memory, self.cycle)?;
-        spend(&mut self.credits, &self.found.place, turn.memory);
+        wait_for(&mut self.outstanding, cycle_work.memory, self.cycle)?;
+        spend(&mut self.credits, &self.found.place, cycle_work.memory);
         send(
             sent,
             &self.config,
             self.id,
             self.cycle,
             &self.found.place,
-            turn.memory,
+            cycle_work.memory,
         )?;
         let len = self.trace.len();
         count_cycle(
             &mut self.stats,
-            turn.core_step,
-            turn.why,
-            turn.memory,
+            cycle_work.core_step,
+            cycle_work.why,
+            cycle_work.memory,
             len,
             self.cycle,
         );
@@ -264,12 +263,12 @@ impl Core {
         requires early { until < 2 ^ 62 }
         ensures { OnOk result (GoesOn until (view_of self.old) sent.old.items (view_of self.new) sent.new.items) }
     {
-        let turn = self.turn();
-        if turn.core_step.retired == 0 && turn.core_step.issued == 0 {
-            self.pass(turn.core_step, turn.why, until - self.cycle);
+        let cycle_work = self.cycle_work();
+        if cycle_work.core_step.retired == 0 && cycle_work.core_step.issued == 0 {
+            self.pass(cycle_work.core_step, cycle_work.why, until - self.cycle);
             Ok(())
         } else {
-            self.step(turn, sent)
+            self.step(cycle_work, sent)
         }
     }
 
@@ -304,8 +303,8 @@ impl Core {
         ensures goes { GoesQuietly until (view_of self.old) (view_of self.new) }
         ensures cycle { self.new.cycle ≡ until }
     {
-        let turn = self.idle_turn();
-        self.pass(turn.core_step, turn.why, until - self.cycle);
+        let cycle_work = self.idle_work();
+        self.pass(cycle_work.core_step, cycle_work.why, until - self.cycle);
     }
 
     /// Goes on by the cycles, at most up to a cycle, in which the core issues its width of Plain entries and does the same in
@@ -440,13 +439,13 @@ impl Core {
     }
 
     /// The cycle where the core stands, if it retires or issues an entry in it: else it never does.
-    fn next_turn(&self, from: Cycle) -> Option<Cycle>
+    fn next_work(&self, from: Cycle) -> Option<Cycle>
         requires at { self.now.cycle ≡ from }
         requires stands { MayRest (view_of self.now) }
         ensures { (s : Config) (core : ℕ) (trace : List Entry) (steps : List CoreStep) (mail : List Message)
             → StandsFor s core trace steps mail (view_of self.now) → IsNextAct s core trace steps mail result }
     {
-        let core_step = self.turn().core_step;
+        let core_step = self.cycle_work().core_step;
         if core_step.retired == 0 && core_step.issued == 0 {
             None
         } else {
@@ -468,7 +467,7 @@ impl Core {
         if self.is_full() {
             return None;
         }
-        self.next_turn(from)
+        self.next_work(from)
     }
 
     /// The cycles that go by at least before the core issues its next Read or Write: in each it issues its width of entries at most.
@@ -509,13 +508,13 @@ impl Core {
             → StandsFor s core trace (steps ++ replicate (until - self.old.cycle) idle_step) mail (view_of self.new)
             × Rests s core trace steps mail (until - self.old.cycle) }
     {
-        let turn = self.turn();
+        let cycle_work = self.cycle_work();
         let idle = cycle_counts(
             CoreStep {
                 retired: 0,
                 issued: 0,
             },
-            turn.why,
+            cycle_work.why,
             None,
             0,
             0,

@@ -5,7 +5,7 @@ ghost use Rattle.sim_base.specs.Counts.{is_stop};
 ghost use Rattle.statistics.specs.Counts.{one_if};
 ghost use Rattle.statistics.specs.Cores.{core_joined, core_times, CoreFits};
 ghost use Rattle.core_window.specs.Steady.{steady_counts, with_stop, with_memory};
-ghost use Rattle.core_window.specs.Turns.{cycle_counts, is_read_among, is_write_among};
+ghost use Rattle.core_window.specs.OneCycle.{cycle_counts, is_read_among, is_write_among};
 
 use cpu_trace::entries::MemoryEntry;
 use sim_base::history::CoreStep;

@@ -1,6 +1,6 @@
 //! Cycles in which a core issues its width of Plain entries, one after the other.
 
-ghost use Rattle.std.specs.Prelude.{◌≡◌, ◌+◌, ◌*◌, ◌<◌, ◌≤◌};
+ghost use Rattle.std.specs.Prelude.{◌+◌, ◌*◌, ◌<◌, ◌≤◌};
 ghost use Rattle.core_window.specs.Steady.{IsFlow};
 
 use crate::outstanding::OutstandingRead;

@@ -5,7 +5,7 @@ ghost use Rattle.std.specs.Option.{IfSome};
 ghost use Rattle.sim_base.specs.declared.config.Config.{Config};
 ghost use Rattle.sim_base.specs.declared.trace.Entry.{Entry};
 ghost use Rattle.address_map.specs.Shifts.{IsDigits};
-ghost use Rattle.core_window.specs.Turns.{IsNextOrEnd, IsSeen, IsIssued};
+ghost use Rattle.core_window.specs.OneCycle.{IsNextOrEnd, IsSeen, IsIssued};
 ghost use Rattle.core_window.specs.Ahead.{IsKnown};
 ghost use Rattle.core_window.specs.Causes.{issue_count, cause_at};
 
@@ -210,7 +210,7 @@ pub fn issue_of(
 }
 
 /// The first of the memory entries ahead, if it is one of those that issue.
-#[tactic(auto, using(crate::proofs::Turning::issued_seen, crate::proofs::Turning::none_seen))]
+#[tactic(auto, using(crate::proofs::Working::issued_seen, crate::proofs::Working::none_seen))]
 pub fn entry_issued(number: u64, ahead: &Ahead, count: u16) -> Option<MemoryEntry>
     requires { number ≤ 2 ^ 62 }
     ensures issued { (trace : List Entry) → IsSeen trace number ahead.now.one ahead.now.two ahead.now.entry → number + count ≤ ahead.now.two

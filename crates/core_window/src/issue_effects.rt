@@ -1,13 +1,13 @@
 //! What an entry that issues changes.
 
 ghost use Rattle.std.specs.Prelude.{◌≡◌, ℕ, ◌%◌, ◌^◌, ◌<◌, ◌++◌, ◌==◌, length, slice_get, Some, OnOk, if◌then◌else◌};
-ghost use Rattle.sim_base.specs.History.{request, request_of};
+ghost use Rattle.sim_base.specs.History.{request};
 ghost use Rattle.std.specs.Option.{IfSome};
 ghost use Rattle.sim_base.specs.Config.{latency};
 ghost use Rattle.sim_base.specs.Places.{place_of};
 ghost use Rattle.sim_base.specs.declared.config.Config.{Config};
 ghost use Rattle.core_window.specs.Ahead.{IsPlaced};
-ghost use Rattle.core_window.specs.Turns.{reads_issued, requests_issued, credit_after, credit_after_entry, less_credit};
+ghost use Rattle.core_window.specs.OneCycle.{reads_issued, requests_issued, credit_after, less_credit};
 ghost use Rattle.statistics.specs.declared.final_state.Credits.{Credits};
 
 use crate::outstanding::OutstandingRead;

@@ -1,7 +1,7 @@
 //! What a message changes.
 
 ghost use Rattle.std.specs.Prelude.{◌≡◌, ◌+◌, ◌-◌, ◌/◌, ◌%◌, ◌<◌, ◌^◌, ◌==◌, not, filter, find, position, length, slice_get, ℕ, Some, if◌then◌else◌};
-ghost use Rattle.core_window.specs.Turns.{more_credit, less_credit, credits_of_kind};
+ghost use Rattle.core_window.specs.OneCycle.{more_credit, less_credit, credits_of_kind};
 ghost use Rattle.core_window.specs.Outstanding.{is_outstanding, IsByNumber};
 ghost use Rattle.core_window.specs.declared.outstanding.OutstandingRead.{OutstandingRead};
 ghost use Rattle.statistics.specs.declared.final_state.Credits.{Credits};

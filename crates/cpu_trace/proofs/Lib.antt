@@ -10,5 +10,5 @@ pub mod Numbers
 pub mod Refusals
 pub mod Spelling
 pub mod Tokens
-pub mod Turns
+pub mod ByLine
 pub mod UsualLines

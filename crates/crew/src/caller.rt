@@ -1,6 +1,6 @@
 //! The caller's end of a board, with threads at the other.
 
-ghost use Rattle.std.specs.Prelude.{◌≡◌, ◌≤◌, [], ◌++◌, length, map, IfOk, OnOk, IsPermutation, vec_len, true};
+ghost use Rattle.std.specs.Prelude.{◌≡◌, ◌≤◌, [], length, map, IfOk, OnOk, IsPermutation, vec_len, true};
 ghost use Rattle.crew.specs.Rule.{put_view};
 
 use crate::hall::Hall;
@@ -178,6 +178,7 @@ fn phase<T: Drop, D: DoneOf<T> + Drop, W: Work<T, D>, B: Room, R: Wait>(
     ensures each { IfOk result (λ dones. IsPermutation tasks.items (map D.task dones.items)) }
 {
     let count = tasks.len();
+    hall.begin();
     put_all(rt, &hall.board, put, tasks);
     hall.work.ring();
     let mut dones = Vec::new(alloc);

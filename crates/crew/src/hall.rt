@@ -1,6 +1,6 @@
 //! Where tasks wait for threads, and what came of them for the caller; and what a thread does there.
 
-ghost use Rattle.std.specs.Prelude.{◌≡◌, ◌≤◌, ◌<◌, [], OnOk, IfOk};
+ghost use Rattle.std.specs.Prelude.{◌≡◌, ◌<◌, [], ◌∷◌, ◌++◌, MatchOption, OnOk, IfOk};
 
 use crate::bell::{Bell, Patience};
 use crate::load::Load;
@@ -10,8 +10,8 @@ use crate::work::{DoneOf, Work};
 use crossbeam_queue::ArrayQueue;
 use std::alloc::{AllocError, Global};
 use std::sync::Wait;
-use std::sync::atomic::{AtomicBool, Ordering};
-use std::thread;
+use std::sync::atomic::{AtomicBool, AtomicUsize, Ordering};
+use std::{hint, thread};
 
 /// What comes home from a thread: what it did, or that it met refused memory.
 pub(crate) type Parcel<T, D, B> = Result<Load<T, D, B>, AllocError>;
@@ -24,6 +24,8 @@ pub(crate) struct Hall<T: Drop, D: DoneOf<T> + Drop, B: Room> {
     pub(crate) work: Bell,
     pub(crate) home: Bell,
     pub(crate) over: AtomicBool,
+    /// How many workers have had their turn to take in this phase.
+    turns: AtomicUsize,
     pub(crate) patience: Patience,
 }
 
@@ -45,8 +47,44 @@ impl<T: Drop, D: DoneOf<T> + Drop, B: Room> Hall<T, D, B> {
             work: Bell::new(),
             home: Bell::new(),
             over: AtomicBool::new(false),
+            turns: AtomicUsize::new(0),
             patience,
         })
+    }
+
+    /// Begins a phase: the caller has the first turn.
+    pub(crate) fn begin(&self) {
+        self.turns.store(0, Ordering::SeqCst);
+    }
+
+    // Waits for the workers before this one to have had their turn, but not for long.
+    fn wait_for_turn(&self, worker: usize) {
+        for _ in 0..self.patience.turns {
+            if self.turns.load(Ordering::SeqCst) >= worker {
+                return;
+            }
+            hint::spin_loop();
+        }
+    }
+
+    // Takes the task in front; the first of a phase in turn.
+    fn next_task<R: Wait>(
+        &self,
+        rt: &R,
+        worker: usize,
+        seat: &mut TakeSeat<T, B>,
+        is_first: bool,
+    ) -> Option<T>
+        ensures { MatchOption result (seat.new ≡ seat.old) (λ t. seat.new ≡ seat.old ++ t ∷ []) }
+    {
+        if !is_first {
+            return self.board.take(rt, seat);
+        }
+        self.wait_for_turn(worker);
+        let task = self.board.take(rt, seat);
+        self.turns
+            .fetch_max(worker.saturating_add(1), Ordering::SeqCst);
+        task
     }
 
     /// Takes tasks and runs them until the board is empty at one moment. Only memory can be refused.
@@ -63,7 +101,8 @@ impl<T: Drop, D: DoneOf<T> + Drop, B: Room> Hall<T, D, B> {
     {
         let mut dones = Vec::new(alloc);
         for _ in rt.forever() {
-            let Some(task) = self.board.take(rt, seat) else {
+            let is_first = dones.is_empty();
+            let Some(task) = self.next_task(rt, worker, seat, is_first) else {
                 let theirs = self.board.cut(seat);
                 return Ok(Load {
                     seat: theirs,
@@ -111,11 +150,11 @@ impl<T: Drop, D: DoneOf<T> + Drop, B: Room> Hall<T, D, B> {
                 Ok(load) => {
                     if !load.dones.is_empty() {
                         self.send(rt, Ok(load));
-                    } else if self.is_over() {
-                        return;
-                    } else {
-                        self.work.wait_past(rt, self.patience, seen);
                     }
+                    if self.is_over() {
+                        return;
+                    }
+                    self.work.wait_past(rt, self.patience, seen);
                 }
                 Err(AllocError) => {
                     self.send(rt, Err(AllocError));

@@ -21,7 +21,7 @@ fn perform_words<T: Threads + Wait + Sync>(rt: &HostRuntime, threads: &T) -> io:
         .map(|word| word.as_str())
         .collect(rt.alloc())?;
     let mut files = HostFiles { rt };
-    let mut print = rt.stdout();
+    let mut output = rt.stdout();
     let mut errors = rt.stderr();
     let is_terminal = errors.is_terminal();
     let mut watch = ProgressLine::new(rt.alloc(), rt, rt.stderr(), is_terminal);
@@ -34,7 +34,7 @@ fn perform_words<T: Threads + Wait + Sync>(rt: &HostRuntime, threads: &T) -> io:
         rt.alloc(),
         &words,
         &mut files,
-        &mut print,
+        &mut output,
         &mut errors,
     ))
 }

@@ -10,7 +10,7 @@ use Rattle.epochs.specs.Ordered.{IsFurther}
 use Rattle.epochs.specs.Planning.{EndsAt, IsNext}
 use Rattle.epochs.specs.Units.{unit_count}
 use Rattle.epochs.proofs.Standing.{length-places, same-default}
-use Rattle.epochs.proofs.Seating.{among-place}
+use Rattle.epochs.proofs.Sorting.{among-place}
 use Rattle.sim_base.specs.declared.job.JobName.{JobName}
 use Rattle.epochs.specs.Views.{SimView, PhaseView, JobView, job_at, jobs_of}
 

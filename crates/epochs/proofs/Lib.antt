@@ -4,7 +4,7 @@ pub mod Filters
 pub mod Travelling
 pub mod Due
 pub mod Joining
-pub mod Seating
+pub mod Sorting
 pub mod Arranged
 pub mod Whole
 pub mod Stopped

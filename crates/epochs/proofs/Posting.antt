@@ -1,12 +1,11 @@
 -- Messages that are dealt out to shards, and taken up list by list.
-use Rattle.std.proofs.Common.{◌≡◌, ◌≢◌, ℕ, zero, suc, ◌+◌, ◌-◌, ◌*◌, ◌/◌, ◌<◌, ◌≤◌, Bool, true, false, cond, eqb, ltb, leb, ◌&&◌, List, [], ◌∷◌, ◌++◌, ◌⊎◌, inl, inr, length, get_or, set, take, refl, sym, ap, subst, ◌∙◌, append-nil, get_or-set_other, get_or-set_same, length-append, arith}
+use Rattle.std.proofs.Common.{◌≡◌, ◌≢◌, ℕ, zero, suc, ◌+◌, ◌-◌, ◌<◌, ◌≤◌, Bool, true, false, cond, eqb, ltb, leb, ◌&&◌, List, [], ◌∷◌, ◌++◌, ◌⊎◌, inl, inr, length, get_or, set, take, refl, sym, ap, subst, ◌∙◌, append-nil, get_or-set_other, get_or-set_same, length-append, arith}
 use Rattle.std.specs.Prelude.{All, fold}
 use Rattle.std.specs.declared.vec.Vec.{Vec}
 use Rattle.std.specs.declared.alloc.Global.{Global}
 use Rattle.std.proofs.lemmas.Bool.{cases_lt}
 use Rattle.std.proofs.lemmas.Bool.Decides.{nat_tests}
 use Rattle.std.proofs.Math.ListN.{get_or-append}
-use Rattle.std.proofs.lemmas.Nat.{div_below, le-div}
 use Rattle.std.proofs.lemmas.List.{take_more, get_or-append-add}
 use Rattle.std.proofs.lemmas.List.Concat.{flat_map-append}
 use Rattle.std.proofs.lemmas.List.Sums.{fold-append}
@@ -170,20 +169,3 @@ pub taken-more : (old : List Message) (lists : List (Vec Message Global)) (i : �
 taken-more old lists i d l =
     sym (fold-append insert_by_age old (lists_of (take i lists)) (get_or lists i d).items)
     ∙ ap (fold insert_by_age old) (sym (lists-more lists i d l))
-
-below-product : (pair cores channels : ℕ) → 0 < channels → (b : Bool) → ltb pair (cores * channels) ≡ b → ltb (pair / channels) cores ≡ b
-below-product pair cores channels some true e =
-    let l : pair < cores * channels = grind (arith, nat_tests) in
-    let d = div_below pair channels cores some l in
-    grind (arith, nat_tests)
-below-product pair cores channels some false e =
-    let l : cores * channels ≤ pair = grind (arith, nat_tests) in
-    let d = le-div cores pair channels some l in
-    grind (arith, nat_tests)
-
-core-there : (s : Config) (core : ℕ) → is_at_places s 0 (unit_count s) (Core core) ≡ ltb core s.cores
-core-there s core = grind (arith, nat_tests)
-
--- which pairs of a core and a channel have a core that the machine has
-pub core-within : (s : Config) (pair : ℕ) → 0 < s.channels → is_at_places s 0 (unit_count s) (Core (pair / s.channels)) ≡ ltb pair (s.cores * s.channels)
-core-within s pair some = core-there s (pair / s.channels) ∙ below-product pair s.cores s.channels some (ltb pair (s.cores * s.channels)) refl

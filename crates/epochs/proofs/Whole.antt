@@ -12,7 +12,7 @@ use Rattle.epochs.specs.Units.{unit_at, unit_count}
 use Rattle.epochs.specs.Views.{PhaseView, JobView, name_at, job_at, jobs_of}
 use Rattle.sim_base.specs.declared.job.JobName.{JobName}
 use Rattle.sim_base.specs.declared.fault.MergeFault.TheVariants.{Missing}
-use Rattle.epochs.proofs.Seating.{same_name-self, same_name-is, name-place, or-true, place-among, fault-none, first-none_yet, first-end}
+use Rattle.epochs.proofs.Sorting.{same_name-self, same_name-is, name-place, or-true, place-among, fault-none, first-none_yet, first-end}
 
 -- 1 for a name that is this one
 abbrev one : JobName → JobName → ℕ

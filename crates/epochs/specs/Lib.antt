@@ -4,7 +4,7 @@ pub mod Parts
 pub mod Planning
 pub mod Flight
 pub mod Merging
-pub mod Seats
+pub mod ByUnit
 pub mod Ordered
 pub mod Drained
 pub mod Quiet

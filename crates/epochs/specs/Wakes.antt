@@ -18,7 +18,6 @@ use Rattle.sim_base.specs.declared.config.Config.{Config}
 use Rattle.sim_base.specs.Counts.{in_flight}
 use Rattle.sim_base.specs.History.{below, is_unit, trace_of, core_messages, channel_messages}
 use Rattle.sim_base.specs.Machine.{run, core_run, channel_run}
-use Rattle.sim_base.specs.declared.job.JobName.{JobName}
 use Rattle.sim_base.specs.declared.message.Message.{Message}
 use Rattle.sim_base.specs.declared.message.Unit.{Unit as MachineUnit}
 use Rattle.sim_base.specs.declared.message.Unit.TheVariants.{Core, Channel}
@@ -29,7 +28,7 @@ use Rattle.span_laws.specs.Cores.{core_steps_of}
 use Rattle.span_laws.specs.Mail.{mail_before, mail_in}
 use Rattle.epochs.specs.Flight.{fresh, among}
 use Rattle.epochs.specs.Units.{unit_at, unit_count}
-use Rattle.epochs.specs.Parts.{IsPart, HasRun, HasRunOnto, sent_of, late}
+use Rattle.epochs.specs.Parts.{IsPart, HasRunOnto, sent_of, late}
 use Rattle.epochs.specs.declared.part.UnitState.{UnitState}
 use Rattle.epochs.specs.declared.slot.Slot.{Slot}
 

@@ -248,13 +248,6 @@ impl Sim {
 }
 
 impl Fleet {
-    /// How many cycles are over.
-    pub fn now(&self) -> Cycle
-        ensures { result ≡ self.entry.now.now }
-    {
-        self.now
-    }
-
     /// What comes next up to a limit, at most 10^12 cycles: the phase that begins where something happens next, or the simulator at the
     /// limit, where nothing happens before it. Only memory can be refused; the simulator is then gone.
     pub fn further(self, alloc: Global, limit: Cycle) -> Result<Leg, AllocError>

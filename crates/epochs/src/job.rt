@@ -1,10 +1,9 @@
 //! What a unit is to do in a span of cycles, and what comes back.
 
-ghost use Rattle.std.specs.Prelude.{◌≡◌, ◌<◌, ◌≤◌, ◌^◌, IfOk};
+ghost use Rattle.std.specs.Prelude.{◌≡◌, ◌<◌, IfOk};
 ghost use Rattle.std.specs.Arc.{arc_value};
-ghost use Rattle.sim_base.specs.Locality.{TravelsFor};
 ghost use Rattle.epochs.specs.Views.{JobView};
-ghost use Rattle.epochs.specs.Parts.{HasRun, IsPart, IsJob};
+ghost use Rattle.epochs.specs.Parts.{HasRun, IsJob};
 
 use crate::machine::Machine;
 use crate::part::UnitState;

@@ -1,6 +1,6 @@
 //! What is simulated.
 
-ghost use Rattle.std.specs.Prelude.{◌≡◌, ◌+◌, ◌<◌, length};
+ghost use Rattle.std.specs.Prelude.{◌≡◌, ◌<◌, length};
 ghost use Rattle.sim_base.specs.History.{trace_of};
 ghost use Rattle.epochs.specs.Units.{unit_at, unit_count};
 

@@ -1,6 +1,6 @@
 //! How the results of a phase are put together, in whatever order they come.
 
-ghost use Rattle.std.specs.Prelude.{◌≡◌, ◌==◌, ◌&&◌, ◌<◌, ◌≤◌, ◌^◌, ◌+◌, ◌-◌, ◌∷◌, ◌++◌, [], fold, flat_map, length, map, false, is_some, slice_index_or, List, Some, None, Err, All, ◌⊎◌, IfOk, IfErr, OnOk, IfSome, IfNone, IsPermutation};
+ghost use Rattle.std.specs.Prelude.{◌≡◌, ◌==◌, ◌&&◌, ◌<◌, ◌+◌, ◌-◌, ◌∷◌, ◌++◌, [], fold, flat_map, length, map, false, is_some, slice_index_or, List, Some, None, Err, All, ◌⊎◌, IfOk, IfErr, OnOk, IfSome, IfNone};
 ghost use Rattle.std.specs.Arc.{arc_value};
 ghost use Rattle.sim_base.specs.History.{below, insert_by_age};
 ghost use Rattle.epochs.specs.Units.{unit_at, unit_count, Exists};
@@ -8,7 +8,7 @@ ghost use Rattle.epochs.specs.Views.{name_at, job_at, jobs_of};
 ghost use Rattle.epochs.specs.Parts.{StandAt};
 ghost use Rattle.epochs.specs.Flight.{fresh};
 ghost use Rattle.epochs.specs.Merging.{names_of, is_among, fault_at, first_fault, missing, merge_fault, after, IsOf};
-ghost use Rattle.epochs.specs.Seats.{seats_of};
+ghost use Rattle.epochs.specs.ByUnit.{results_by_unit};
 ghost use Rattle.sim_base.specs.declared.job.JobName.{JobName};
 
 use crate::job::{Done, Sent};
@@ -105,7 +105,7 @@ fn is_of_phase(phase: &Outline, name: JobName) -> bool
 }
 
 /// The place of the unit that a name is of, if it is that of a job of the phase.
-fn seat_of(phase: &Outline, name: JobName) -> Option<usize>
+fn place_of_job(phase: &Outline, name: JobName) -> Option<usize>
     ensures some { IfSome result (λ place. (place < unit_count phase.now.machine) × (name_at phase.now place ≡ name)) }
     ensures none { IfNone result (is_among (names_of phase.now) name ≡ false) }
 {
@@ -118,47 +118,47 @@ fn seat_of(phase: &Outline, name: JobName) -> Option<usize>
 
 /// A place for each unit, with no result in it.
 pub(crate) fn no_results(alloc: Global, phase: &Outline) -> Result<Vec<Option<Done>>, AllocError>
-    ensures { IfOk result (λ seats. seats.items ≡ seats_of phase.now []) }
+    ensures { IfOk result (λ by_unit. by_unit.items ≡ results_by_unit phase.now []) }
 {
     let config = &phase.machine.config;
     let count = usize::from(config.cores) + usize::from(config.channels);
-    let mut seats = Vec::new(alloc);
+    let mut by_unit = Vec::new(alloc);
     for _ in 0..count {
-        seats.push(None)?;
+        by_unit.push(None)?;
     }
-    Ok(seats)
+    Ok(by_unit)
 }
 
 /// Whether there is a result in a place.
-fn is_taken(seats: &[Option<Done>], place: usize) -> bool
-    requires { place < length seats.now }
-    ensures { result ≡ is_some (slice_index_or seats.now place None) }
+fn is_taken(by_unit: &[Option<Done>], place: usize) -> bool
+    requires { place < length by_unit.now }
+    ensures { result ≡ is_some (slice_index_or by_unit.now place None) }
 {
-    seats[place].is_some()
+    by_unit[place].is_some()
 }
 
 /// Puts a result, which comes after so many others, in the place of its unit.
 fn put(
     phase: &Outline,
-    seats: &mut Vec<Option<Done>>,
+    by_unit: &mut Vec<Option<Done>>,
     result_of: Done,
     index: usize,
 ) -> Result<(), MergeFault>
-    requires count { length seats.old.items ≡ unit_count phase.now.machine }
+    requires count { length by_unit.old.items ≡ unit_count phase.now.machine }
     requires of { IsOf phase.now result_of }
-    ensures count { length seats.new.items ≡ unit_count phase.now.machine }
-    ensures ok { OnOk result ((names : List JobName) → seats.old.items ≡ seats_of phase.now names → length names ≡ index
-        → (fault_at phase.now names result_of.name ≡ None) × (seats.new.items ≡ seats_of phase.now (names ++ result_of.name ∷ []))) }
-    ensures err { IfErr result (λ fault. (names : List JobName) → seats.old.items ≡ seats_of phase.now names → length names ≡ index
+    ensures count { length by_unit.new.items ≡ unit_count phase.now.machine }
+    ensures ok { OnOk result ((names : List JobName) → by_unit.old.items ≡ results_by_unit phase.now names → length names ≡ index
+        → (fault_at phase.now names result_of.name ≡ None) × (by_unit.new.items ≡ results_by_unit phase.now (names ++ result_of.name ∷ []))) }
+    ensures err { IfErr result (λ fault. (names : List JobName) → by_unit.old.items ≡ results_by_unit phase.now names → length names ≡ index
         → fault_at phase.now names result_of.name ≡ Some fault) }
 {
-    match seat_of(phase, result_of.name()) {
+    match place_of_job(phase, result_of.name()) {
         None => Err(MergeFault::Stranger(index)),
         Some(place) => {
-            if is_taken(seats, place) {
+            if is_taken(by_unit, place) {
                 return Err(MergeFault::Double(index));
             }
-            seats[place] = Some(result_of);
+            by_unit[place] = Some(result_of);
             Ok(())
         }
     }
@@ -166,35 +166,35 @@ fn put(
 
 /// The results of a phase, each put in the place of its unit, of which all are empty. The first result that is of no job of the phase, or
 /// whose name stood earlier, is a fault.
-fn seated(
+fn sorted_by_unit(
     phase: &Outline,
     empty: Vec<Option<Done>>,
     results: Vec<Done>,
 ) -> Result<Vec<Option<Done>>, MergeFault>
-    requires empty { empty.items ≡ seats_of phase.now [] }
+    requires empty { empty.items ≡ results_by_unit phase.now [] }
     requires of { All (IsOf phase.now) results.items }
-    ensures ok { IfOk result (λ seats. (first_fault phase.now [] (map (λ d. d.name) results.items) ≡ None)
-        × (seats.items ≡ seats_of phase.now (map (λ d. d.name) results.items))) }
-    ensures count { IfOk result (λ seats. length seats.items ≡ unit_count phase.now.machine) }
+    ensures ok { IfOk result (λ by_unit. (first_fault phase.now [] (map (λ d. d.name) results.items) ≡ None)
+        × (by_unit.items ≡ results_by_unit phase.now (map (λ d. d.name) results.items))) }
+    ensures count { IfOk result (λ by_unit. length by_unit.items ≡ unit_count phase.now.machine) }
     ensures err { IfErr result (λ fault. first_fault phase.now [] (map (λ d. d.name) results.items) ≡ Some fault) }
 {
-    let mut seats = empty;
+    let mut by_unit = empty;
     let mut read = 0;
     for done in results {
-        put(phase, &mut seats, done, read)?;
+        put(phase, &mut by_unit, done, read)?;
         read += 1;
     }
-    Ok(seats)
+    Ok(by_unit)
 }
 
 /// Whether each unit has a result. The first that has none is a fault.
-fn are_all_there(phase: &Outline, seats: &[Option<Done>]) -> Result<(), MergeFault>
-    requires count { length seats.now ≡ unit_count phase.now.machine }
-    ensures ok { OnOk result ((names : List JobName) → seats.now ≡ seats_of phase.now names → missing phase.now names ≡ None) }
-    ensures err { IfErr result (λ fault. (names : List JobName) → seats.now ≡ seats_of phase.now names → missing phase.now names ≡ Some fault) }
+fn are_all_there(phase: &Outline, by_unit: &[Option<Done>]) -> Result<(), MergeFault>
+    requires count { length by_unit.now ≡ unit_count phase.now.machine }
+    ensures ok { OnOk result ((names : List JobName) → by_unit.now ≡ results_by_unit phase.now names → missing phase.now names ≡ None) }
+    ensures err { IfErr result (λ fault. (names : List JobName) → by_unit.now ≡ results_by_unit phase.now names → missing phase.now names ≡ Some fault) }
 {
-    for place in 0..seats.len() {
-        if !is_taken(seats, place) {
+    for place in 0..by_unit.len() {
+        if !is_taken(by_unit, place) {
             return Err(MergeFault::Missing(unit_at(&phase.machine.config, place)));
         }
     }
@@ -216,17 +216,17 @@ fn add(all: &mut Vec<Done>, done: Done) -> Result<(), MergeFault>
 fn all_there(
     alloc: Global,
     phase: &Outline,
-    seats: Vec<Option<Done>>,
+    by_unit: Vec<Option<Done>>,
 ) -> Result<Vec<Done>, MergeFault>
-    requires count { length seats.items ≡ unit_count phase.now.machine }
-    ensures ok { IfOk result (λ all. (names : List JobName) → seats.items ≡ seats_of phase.now names
+    requires count { length by_unit.items ≡ unit_count phase.now.machine }
+    ensures ok { IfOk result (λ all. (names : List JobName) → by_unit.items ≡ results_by_unit phase.now names
         → (missing phase.now names ≡ None) × (all.items ≡ jobs_of phase.now)) }
-    ensures err { IfErr result (λ fault. (names : List JobName) → seats.items ≡ seats_of phase.now names
+    ensures err { IfErr result (λ fault. (names : List JobName) → by_unit.items ≡ results_by_unit phase.now names
         → (fault ≡ MergeFault.Memory) ⊎ (missing phase.now names ≡ Some fault)) }
 {
     let mut all = Vec::new(alloc);
-    for seat in seats {
-        match seat {
+    for unit_result in by_unit {
+        match unit_result {
             None => {
                 let unit = unit_at(&phase.machine.config, all.len());
                 return Err(MergeFault::Missing(unit));
@@ -247,10 +247,10 @@ pub fn merge(phase: Phase, alloc: Global, results: Vec<Done>) -> Result<Sim, Mer
     ensures exact { IfSome (merge_fault phase (map (λ d. d.name) results.items)) (λ fault. result ≡ Err fault) }
     ensures err { IfErr result (λ fault. (fault ≡ MergeFault.Memory) ⊎ (merge_fault phase (map (λ d. d.name) results.items) ≡ Some fault)) }
 {
-    let Phase { outline, seats } = phase;
-    let seats = seated(&outline, seats, results)?;
-    are_all_there(&outline, &seats)?;
-    let all = all_there(alloc, &outline, seats)?;
+    let Phase { outline, by_unit } = phase;
+    let by_unit = sorted_by_unit(&outline, by_unit, results)?;
+    are_all_there(&outline, &by_unit)?;
+    let all = all_there(alloc, &outline, by_unit)?;
     match joined(outline, alloc, all) {
         Ok(sim) => Ok(sim),
         Err(_) => Err(MergeFault::Memory),

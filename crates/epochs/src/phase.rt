@@ -43,13 +43,13 @@ pub struct Phase {
     pub(crate) outline: Outline,
     /// A place for the result of each unit, all of them empty. They are made with the jobs, so that what is wrong with results is told
     /// without memory.
-    pub(crate) seats: Vec<Option<Done>>,
+    pub(crate) by_unit: Vec<Option<Done>>,
 }
 
 impl Model for Phase {
     ghost use Rattle.std.specs.Prelude.{◌≡◌, []};
     ghost use Rattle.epochs.specs.Views.{PhaseView};
-    ghost use Rattle.epochs.specs.Seats.{seats_of};
+    ghost use Rattle.epochs.specs.ByUnit.{results_by_unit};
 
     ghost Value = { PhaseView };
 
@@ -60,7 +60,7 @@ impl Model for Phase {
 
     ghost view = { λ p. p.outline };
 
-    ghost invariant = { λ p. p.seats.items ≡ seats_of p.outline [] };
+    ghost invariant = { λ p. p.by_unit.items ≡ results_by_unit p.outline [] };
 }
 
 impl Phase {

@@ -128,8 +128,8 @@ fn work(sim: Sim, alloc: Global, limit: Cycle) -> Result<(Phase, Vec<Job>), Allo
         until,
         links,
     };
-    let seats = no_results(alloc, &outline)?;
-    Ok((Phase { outline, seats }, jobs))
+    let by_unit = no_results(alloc, &outline)?;
+    Ok((Phase { outline, by_unit }, jobs))
 }
 
 /// What is to be done next by a simulator that stands before a limit, at most 10^12 cycles. Where nothing happens in the next

@@ -4,14 +4,12 @@ ghost use Rattle.std.specs.Prelude.{◌≡◌, ◌≢◌, ◌<◌, ◌≤◌, �
 ghost use Rattle.std.specs.declared.vec.Vec.{Vec};
 ghost use Rattle.std.specs.declared.alloc.Global.{Global};
 ghost use Rattle.sim_base.specs.declared.message.Message.{Message};
-ghost use Rattle.links.specs.InFlight.{receiver_of};
-ghost use Rattle.epochs.specs.Flight.{among, is_at_places};
+ghost use Rattle.epochs.specs.Flight.{among};
 ghost use Rattle.epochs.specs.Shards.{IsSplit, bound};
-ghost use Rattle.epochs.specs.Units.{unit_count};
 
 use crate::alone::receiver_place;
 use sim_base::config::Config;
-use sim_base::message::{LinkId, Message};
+use sim_base::message::Message;
 use std::alloc::{AllocError, Global};
 use std::mem;
 
@@ -52,27 +50,8 @@ fn deal_one(
     Ok(())
 }
 
-/// Whether a link leads to a unit of the machine. This needs no division by the number of channels.
-fn leads_to_a_unit(config: &Config, link: LinkId) -> bool
-    ensures { result ≡ is_at_places config.now 0 (unit_count config.now) (receiver_of config.now.channels link) }
-{
-    link % 3 == 0 || link / 3 < u64::from(config.cores) * u64::from(config.channels)
-}
-
-/// Puts messages behind those of the only shard. One that goes to no unit is left out.
-fn deal_to_one(config: &Config, sent: &[Message], list: &mut Vec<Message>) -> Result<(), AllocError>
-    ensures { OnOk result (list.new.items ≡ list.old.items ++ among config.now 0 (unit_count config.now) sent.now) }
-{
-    for message in sent {
-        if leads_to_a_unit(config, message.link) {
-            list.push(*message)?;
-        }
-    }
-    Ok(())
-}
-
-/// Deals messages out to lists, one for each of several shards.
-fn deal_to_each(
+/// Deals messages out to lists, one for each shard, by the unit that each goes to.
+pub(crate) fn deal(
     config: &Config,
     bounds: &[usize],
     sent: &[Message],
@@ -89,27 +68,6 @@ fn deal_to_each(
         deal_one(config, bounds, message, lists)?;
     }
     Ok(())
-}
-
-/// Deals messages out to lists, one for each shard, by the unit that each goes to.
-pub(crate) fn deal(
-    config: &Config,
-    bounds: &[usize],
-    sent: &[Message],
-    lists: &mut [Vec<Message>],
-) -> Result<(), AllocError>
-    requires split { IsSplit config.now bounds.now }
-    requires count { suc (length lists.old) ≡ length bounds.now }
-    requires empty { All (λ list. list.items ≡ []) lists.old }
-    ensures count { length lists.new ≡ length lists.old }
-    ensures each { OnOk result ((index : ℕ) (d : Vec Message Global) → index < length lists.new
-        → (slice_index_or lists.new index d).items ≡ among config.now (bound bounds.now index) (bound bounds.now (suc index)) sent.now) }
-{
-    if lists.len() == 1 {
-        deal_to_one(config, sent, &mut lists[0])
-    } else {
-        deal_to_each(config, bounds, sent, lists)
-    }
 }
 
 /// Takes a list out of a row, and leaves an empty one.

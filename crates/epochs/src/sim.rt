@@ -1,6 +1,6 @@
 //! All units of a machine between two spans.
 
-ghost use Rattle.std.specs.Prelude.{◌≡◌, ◌<◌, ◌≤◌, ◌^◌, ◌+◌, ℕ, true, false, List, [], length, IfOk, OnOk, IfSome, IfNone};
+ghost use Rattle.std.specs.Prelude.{◌≡◌, ◌<◌, ◌≤◌, ◌+◌, true, false, List, length, IfOk, OnOk, IfSome, IfNone};
 ghost use Rattle.sim_base.specs.declared.trace.Entry.{Entry};
 ghost use Rattle.sim_base.specs.Counts.{in_flight};
 ghost use Rattle.sim_base.specs.Machine.{run, is_over};

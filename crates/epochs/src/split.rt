@@ -25,27 +25,32 @@ use std::alloc::{AllocError, Global};
 use std::mem;
 use std::sync::Arc;
 
-/// The place before which so many of `count` equal parts of all work are done, to the nearest place. A core weighs as much as there are channels,
-/// and a channel twice as much as there are cores.
-fn place_near(config: &Config, parts: usize, count: usize) -> usize
-    requires { 0 < count }
+/// How many units the first so many of `count` parts of them have, each with as many as the next.
+fn share_of(units: usize, parts: usize, count: usize) -> usize
+    ensures { result ≤ units }
+{
+    (units.saturating_mul(parts) / count.max(1)).min(units)
+}
+
+/// The place before which the first so many of `count` shards lie: those of cores, and then those of channels. Half of them are of cores, or as many as
+/// there are, and more where there are few channels.
+fn place_before(config: &Config, parts: usize, count: usize) -> usize
+    requires { parts ≤ count }
     ensures { result ≤ unit_count config.now }
 {
     let cores = usize::from(config.cores);
     let channels = usize::from(config.channels);
-    let twice = count.saturating_mul(2);
-    let parts = parts.saturating_mul(3);
-    if parts <= count {
-        let nearest = parts.saturating_mul(2 * cores).saturating_add(count) / twice;
-        nearest.min(cores)
+    let of_channels = channels.min(count - cores.min(count / 2));
+    let of_cores = count - of_channels;
+    if parts <= of_cores {
+        share_of(cores, parts, of_cores)
     } else {
-        let nearest = channels.saturating_mul(parts - count).saturating_add(count) / twice;
-        cores + nearest.min(channels)
+        cores + share_of(channels, parts - of_cores, of_channels)
     }
 }
 
-/// Where each of so many shards begins, and the number of units: so that each has about as much to do, where all channels together have twice as much
-/// as all cores together.
+/// Where each of so many shards begins, and the number of units: a shard is of cores alone, or of channels alone, and has as many as the next of its
+/// kind, so that those of channels, which have most to do, have about the same to do.
 pub(crate) fn bounds_for(
     alloc: Global,
     config: &Config,
@@ -59,7 +64,7 @@ pub(crate) fn bounds_for(
     let mut last = 0;
     bounds.push(last)?;
     for parts in 1..count {
-        last = place_near(config, parts, count).max(last);
+        last = place_before(config, parts, count).max(last);
         bounds.push(last)?;
     }
     bounds.push(usize::from(config.cores) + usize::from(config.channels))?;

@@ -103,12 +103,3 @@ impl Task {
         })
     }
 }
-
-impl TaskDone {
-    /// The name of the part.
-    pub fn name(&self) -> TaskName
-        ensures { result ≡ self.now.name }
-    {
-        self.name
-    }
-}

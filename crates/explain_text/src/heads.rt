@@ -1,6 +1,6 @@
 //! What stands before a text.
 
-ghost use Rattle.std.specs.Prelude.{◌≡◌, ◌++◌, codes, IfOk, string_bytes};
+ghost use Rattle.std.specs.Prelude.{◌≡◌, ◌++◌, IfOk, string_bytes};
 ghost use Rattle.explain_text.specs.Heads.{Begins, file_head};
 
 use std::alloc::{AllocError, Global};

@@ -17,11 +17,11 @@ use Rattle.bank_ready.specs.Stands.{IsAllowedFrom}
 use Rattle.bank_ready.proofs.Allowed.{allowed-other}
 use Rattle.queue_columns.specs.Columns.{bank_number}
 use Rattle.bank_candidates.specs.declared.entry.CandidatesOfBank.{CandidatesOfBank}
-use Rattle.bank_candidates.specs.declared.entry.CandidatesOfKind.{CandidatesOfKind}
+use Rattle.bank_candidates.specs.declared.entry.AccessCandidates.{AccessCandidates}
 use Rattle.bank_candidates.specs.Candidates.{bank_at, hits, first_place, AreFirst, AreCandidates}
 use Rattle.bank_candidates.specs.Moves.{earlier}
 use Rattle.bank_candidates.proofs.Searches.{none_everywhere}
-use Rattle.fr_fcfs.specs.declared.kinds.Kinds.{Kinds}
+use Rattle.fr_fcfs.specs.declared.accesses.Accesses.{Accesses}
 use Rattle.fr_fcfs.specs.declared.offers.Offer.{Offer}
 use Rattle.fr_fcfs.specs.Requests.{IsInBanks, is_hit}
 use Rattle.fr_fcfs.specs.Offers.{is_of, only, column_kind, if_allowed, hit_candidate, oldest_candidate, hits_now, hits_in, rows_in, offer_from, row_kind, IsReadyFrom, IsBestOffer, IsBestSoFar}
@@ -39,14 +39,14 @@ pub nowhere : CandidatesOfBank
 nowhere = record { row = None; reads = record { oldest = None; hit = None }; writes = record { oldest = None; hit = None } }
 
 -- the candidates of a bank to write, or to read
-abbrev pub kind_candidates : Bool → CandidatesOfBank → CandidatesOfKind
-kind_candidates write h = cond write h.writes h.reads
+abbrev pub access_candidates : Bool → CandidatesOfBank → AccessCandidates
+access_candidates write h = cond write h.writes h.reads
 
-pub kind_first : (write : Bool) (requests : List Request) (bank : ℕ) (h : CandidatesOfBank) → AreCandidates requests bank h → AreFirst requests bank write h.row (kind_candidates write h)
-kind_first true requests bank h first = first.writes_are
-kind_first false requests bank h first = first.reads_are
+pub access_first : (write : Bool) (requests : List Request) (bank : ℕ) (h : CandidatesOfBank) → AreCandidates requests bank h → AreFirst requests bank write h.row (access_candidates write h)
+access_first true requests bank h first = first.writes_are
+access_first false requests bank h first = first.reads_are
 
-hit_only : (write : Bool) (h : CandidatesOfBank) → hit_candidate (only write) h ≡ (kind_candidates write h).hit
+hit_only : (write : Bool) (h : CandidatesOfBank) → hit_candidate (only write) h ≡ (access_candidates write h).hit
 hit_only true h = refl
 hit_only false h = first_alone h.reads.hit
 
@@ -67,27 +67,27 @@ hit_test true false false ready hit row_hit legal same when = one hit row_hit le
     one false rh l ready is then = sym (ap (λ t. ready && t) (sym is) ∙ and_false ready)
 
 -- the first row hit of a bank that is ready
-hits_of_kind : (s : Config) (history : List IssuedCommand) (ranks : ℕ) (requests : List Request) (write : Bool) (bank : ℕ) (h : CandidatesOfBank) (ready : ℕ) → All (IsInBanks ranks) requests
+hits_of_access : (s : Config) (history : List IssuedCommand) (ranks : ℕ) (requests : List Request) (write : Bool) (bank : ℕ) (h : CandidatesOfBank) (ready : ℕ) → All (IsInBanks ranks) requests
     → AreCandidates requests bank h → h.row ≡ open_row (bank_at bank) history → IsReadyFrom s history (bank_at bank) (column_kind write) ready → (cycle : ℕ)
-    → hits_in s history requests (only write) bank cycle ≡ cond (leb ready cycle) (kind_candidates write h).hit None
+    → hits_in s history requests (only write) bank cycle ≡ cond (leb ready cycle) (access_candidates write h).hit None
 unfolding ready_hit
-hits_of_kind s history ranks requests write bank h ready places first row_is from cycle =
+hits_of_access s history ranks requests write bank h ready places first row_is from cycle =
     same_among (λ r. eqb (bank_number r.place) bank && hits_now s history (only write) cycle r) (λ r. leb ready cycle && hits bank write h.row r) (IsInBanks ranks) requests places
     (λ r in_banks.
     hit_test (eqb (bank_number r.place) bank) r.write write (leb ready cycle) (is_hit history r) (is_row r.place.row h.row) (is_legal s history cycle (needed history r))
     (row_hit_is history ranks r bank h.row in_banks row_is)
     (λ here same hit. legal_then s history ranks r bank (column_kind write) ready in_banks from here (hit_kind history r hit ∙ ap column_kind same) cycle))
     ∙ place_if (leb ready cycle) (hits bank write h.row) requests
-    ∙ ap (λ o. cond (leb ready cycle) o None) (sym (kind_first write requests bank h first).hit_is)
+    ∙ ap (λ o. cond (leb ready cycle) o None) (sym (access_first write requests bank h first).hit_is)
 
 -- what a bank offers to those that ask for its open row
-pub kind_hit : (s : Config) (history : List IssuedCommand) (ranks : ℕ) (requests : List Request) (write : Bool) (bank : ℕ) (h : CandidatesOfBank) (ready now slot : ℕ) → All (IsInBanks ranks) requests
-    → AreCandidates requests bank h → h.row ≡ open_row (bank_at bank) history → IsReadyFrom s history (bank_at bank) (column_kind write) ready → (kind_candidates write h).hit ≡ Some slot
+pub access_hit : (s : Config) (history : List IssuedCommand) (ranks : ℕ) (requests : List Request) (write : Bool) (bank : ℕ) (h : CandidatesOfBank) (ready now slot : ℕ) → All (IsInBanks ranks) requests
+    → AreCandidates requests bank h → h.row ≡ open_row (bank_at bank) history → IsReadyFrom s history (bank_at bank) (column_kind write) ready → (access_candidates write h).hit ≡ Some slot
     → IsBestOffer now (hits_in s history requests (only write) bank) (rows_in s history requests (only write) bank) (offer_from now ready true slot)
-kind_hit s history ranks requests write bank h ready now slot places first row_is from hit =
+access_hit s history ranks requests write bank h ready now slot places first row_is from hit =
     best_same now (λ c. cond (leb ready c) (Some slot) None) (λ c. None) (hits_in s history requests (only write) bank) (rows_in s history requests (only write) bank)
     (Some (offer_from now ready true slot))
-    (λ c late. sym (hits_of_kind s history ranks requests write bank h ready places first row_is from c ∙ ap (λ o. cond (leb ready c) o None) hit))
+    (λ c late. sym (hits_of_access s history ranks requests write bank h ready places first row_is from c ∙ ap (λ o. cond (leb ready c) o None) hit))
     (λ c late. sym (rows_withheld s history ranks requests (only write) bank h places first row_is (ap is_some (hit_only write h ∙ hit)) c)) (hit_offer_is now ready (Some slot))
 
 either_within : (n : ℕ) (a b : Option ℕ) (ka kb : Bool) → IfSome a (λ k. k < n) → IfSome b (λ k. k < n) → IfSome (earlier (if_allowed a ka) (if_allowed b kb)) (λ k. k < n)
@@ -99,73 +99,73 @@ either_within n (Some k) None true true in_a in_b = in_a
 either_within n (Some k) (Some j) true true in_a in_b = omega arith
 
 -- the first request of a bank stands within the queue
-within_kinds : (requests : List Request) (kinds : Kinds) (bank : ℕ) (h : CandidatesOfBank) → AreCandidates requests bank h → IfSome (oldest_candidate kinds h) (λ k. k < length requests)
-within_kinds requests kinds bank h first =
-    either_within (length requests) h.reads.oldest h.writes.oldest kinds.reads kinds.writes (within _ requests h.reads.oldest first.reads_are.oldest_is)
+within_accesses : (requests : List Request) (accesses : Accesses) (bank : ℕ) (h : CandidatesOfBank) → AreCandidates requests bank h → IfSome (oldest_candidate accesses h) (λ k. k < length requests)
+within_accesses requests accesses bank h first =
+    either_within (length requests) h.reads.oldest h.writes.oldest accesses.reads accesses.writes (within _ requests h.reads.oldest first.reads_are.oldest_is)
     (within _ requests h.writes.oldest first.writes_are.oldest_is)
 
 -- what a bank offers where none asks for its open row
-kinds_row : (s : Config) (history : List IssuedCommand) (ranks : ℕ) (requests : List Request) (kinds : Kinds) (bank : ℕ) (h : CandidatesOfBank) (ready now slot : ℕ) → All (IsInBanks ranks) requests
-    → AreCandidates requests bank h → h.row ≡ open_row (bank_at bank) history → IsReadyFrom s history (bank_at bank) (row_kind h.row) ready → hit_candidate kinds h ≡ None
-    → oldest_candidate kinds h ≡ Some slot
-    → IsBestOffer now (hits_in s history requests kinds bank) (rows_in s history requests kinds bank) (offer_from now ready false slot)
-kinds_row s history ranks requests kinds bank h ready now slot places first row_is from none oldest =
-    best_same now (λ c. None) (λ c. cond (leb ready c) (Some slot) None) (hits_in s history requests kinds bank) (rows_in s history requests kinds bank)
-    (Some (offer_from now ready false slot)) (λ c late. sym (no_hits s history ranks requests kinds bank h places first row_is none c))
-    (λ c late. sym (rows_are s history ranks requests kinds bank h ready places first row_is from (ap is_some none) c ∙ ap (λ o. cond (leb ready c) o None) oldest))
+accesses_row : (s : Config) (history : List IssuedCommand) (ranks : ℕ) (requests : List Request) (accesses : Accesses) (bank : ℕ) (h : CandidatesOfBank) (ready now slot : ℕ) → All (IsInBanks ranks) requests
+    → AreCandidates requests bank h → h.row ≡ open_row (bank_at bank) history → IsReadyFrom s history (bank_at bank) (row_kind h.row) ready → hit_candidate accesses h ≡ None
+    → oldest_candidate accesses h ≡ Some slot
+    → IsBestOffer now (hits_in s history requests accesses bank) (rows_in s history requests accesses bank) (offer_from now ready false slot)
+accesses_row s history ranks requests accesses bank h ready now slot places first row_is from none oldest =
+    best_same now (λ c. None) (λ c. cond (leb ready c) (Some slot) None) (hits_in s history requests accesses bank) (rows_in s history requests accesses bank)
+    (Some (offer_from now ready false slot)) (λ c late. sym (no_hits s history ranks requests accesses bank h places first row_is none c))
+    (λ c late. sym (rows_are s history ranks requests accesses bank h ready places first row_is from (ap is_some none) c ∙ ap (λ o. cond (leb ready c) o None) oldest))
     (row_offer_is now ready (Some slot))
 
 -- the best offer so far with the candidate of a bank, where none asks for its open row
-pub row_more : (s : Config) (history : List IssuedCommand) (ranks : ℕ) (requests : List Request) (kinds : Kinds) (bank : ℕ) (h : CandidatesOfBank) (ready now : ℕ) (hits rows : ℕ → Option ℕ)
+pub row_more : (s : Config) (history : List IssuedCommand) (ranks : ℕ) (requests : List Request) (accesses : Accesses) (bank : ℕ) (h : CandidatesOfBank) (ready now : ℕ) (hits rows : ℕ → Option ℕ)
     (best after : Offer) → ready ≤ 18446744073709551615 → now ≤ 18446744073709551615 → All (IsInBanks ranks) requests → AreCandidates requests bank h
-    → h.row ≡ open_row (bank_at bank) history → IsReadyFrom s history (bank_at bank) (row_kind h.row) ready → is_some (hit_candidate kinds h) ≡ false
-    → (candidate : Option ℕ) → oldest_candidate kinds h ≡ candidate → IsTaken candidate now ready false best after → IsBestSoFar (length requests) now hits rows best
-    → IsBestSoFar (length requests) now hits (λ c. earlier (rows c) (rows_in s history requests kinds bank c)) after
-row_more s history ranks requests kinds bank h ready now hits rows best after ready_fits now_fits places first row_is from no_hit None oldest step so_far =
-    so_far_same (length requests) now hits rows hits (λ c. earlier (rows c) (rows_in s history requests kinds bank c)) after (λ c late. refl)
-    (λ c late. sym (ap (earlier (rows c)) (none_offered requests kinds bank h _ first oldest) ∙ first_alone (rows c)))
+    → h.row ≡ open_row (bank_at bank) history → IsReadyFrom s history (bank_at bank) (row_kind h.row) ready → is_some (hit_candidate accesses h) ≡ false
+    → (candidate : Option ℕ) → oldest_candidate accesses h ≡ candidate → IsTaken candidate now ready false best after → IsBestSoFar (length requests) now hits rows best
+    → IsBestSoFar (length requests) now hits (λ c. earlier (rows c) (rows_in s history requests accesses bank c)) after
+row_more s history ranks requests accesses bank h ready now hits rows best after ready_fits now_fits places first row_is from no_hit None oldest step so_far =
+    so_far_same (length requests) now hits rows hits (λ c. earlier (rows c) (rows_in s history requests accesses bank c)) after (λ c late. refl)
+    (λ c late. sym (ap (earlier (rows c)) (none_offered requests accesses bank h _ first oldest) ∙ first_alone (rows c)))
     (subst (IsBestSoFar (length requests) now hits rows) (sym (step.none refl)) so_far)
-row_more s history ranks requests kinds bank h ready now hits rows best after ready_fits now_fits places first row_is from no_hit (Some slot) oldest step so_far =
-    let none = none_is (hit_candidate kinds h) no_hit in
-    let inside : slot < length requests = subst (λ o. IfSome o (λ k. k < length requests)) oldest (within_kinds requests kinds bank h first) in
-    so_far_same (length requests) now (λ c. earlier (hits c) (hits_in s history requests kinds bank c)) (λ c. earlier (rows c) (rows_in s history requests kinds bank c)) hits
-    (λ c. earlier (rows c) (rows_in s history requests kinds bank c)) after
-    (λ c late. ap (earlier (hits c)) (no_hits s history ranks requests kinds bank h places first row_is none c) ∙ first_alone (hits c)) (λ c late. refl)
-    (subst (IsBestSoFar (length requests) now (λ c. earlier (hits c) (hits_in s history requests kinds bank c)) (λ c. earlier (rows c) (rows_in s history requests kinds bank c)))
+row_more s history ranks requests accesses bank h ready now hits rows best after ready_fits now_fits places first row_is from no_hit (Some slot) oldest step so_far =
+    let none = none_is (hit_candidate accesses h) no_hit in
+    let inside : slot < length requests = subst (λ o. IfSome o (λ k. k < length requests)) oldest (within_accesses requests accesses bank h first) in
+    so_far_same (length requests) now (λ c. earlier (hits c) (hits_in s history requests accesses bank c)) (λ c. earlier (rows c) (rows_in s history requests accesses bank c)) hits
+    (λ c. earlier (rows c) (rows_in s history requests accesses bank c)) after
+    (λ c late. ap (earlier (hits c)) (no_hits s history ranks requests accesses bank h places first row_is none c) ∙ first_alone (hits c)) (λ c late. refl)
+    (subst (IsBestSoFar (length requests) now (λ c. earlier (hits c) (hits_in s history requests accesses bank c)) (λ c. earlier (rows c) (rows_in s history requests accesses bank c)))
     (sym (step.some slot refl))
-    (one_more (length requests) now hits rows (hits_in s history requests kinds bank) (rows_in s history requests kinds bank) best (offer_from now ready false slot) inside (omega arith) so_far
-    (kinds_row s history ranks requests kinds bank h ready now slot places first row_is from none oldest)))
+    (one_more (length requests) now hits rows (hits_in s history requests accesses bank) (rows_in s history requests accesses bank) best (offer_from now ready false slot) inside (omega arith) so_far
+    (accesses_row s history ranks requests accesses bank h ready now slot places first row_is from none oldest)))
 
 -- the same with its row hit
 pub hit_more : (s : Config) (history : List IssuedCommand) (ranks : ℕ) (requests : List Request) (write : Bool) (bank : ℕ) (h : CandidatesOfBank) (ready now : ℕ) (hits rows : ℕ → Option ℕ)
     (best after : Offer) → ready ≤ 18446744073709551615 → now ≤ 18446744073709551615 → All (IsInBanks ranks) requests → AreCandidates requests bank h
     → h.row ≡ open_row (bank_at bank) history → IsReadyFrom s history (bank_at bank) (column_kind write) ready
-    → (candidate : Option ℕ) → (kind_candidates write h).hit ≡ candidate → IsTaken candidate now ready true best after → IsBestSoFar (length requests) now hits rows best
+    → (candidate : Option ℕ) → (access_candidates write h).hit ≡ candidate → IsTaken candidate now ready true best after → IsBestSoFar (length requests) now hits rows best
     → IsBestSoFar (length requests) now (λ c. earlier (hits c) (hits_in s history requests (only write) bank c)) rows after
 hit_more s history ranks requests write bank h ready now hits rows best after ready_fits now_fits places first row_is from None hit step so_far =
     so_far_same (length requests) now hits rows (λ c. earlier (hits c) (hits_in s history requests (only write) bank c)) rows after
     (λ c late. sym (ap (earlier (hits c)) (no_hits s history ranks requests (only write) bank h places first row_is (hit_only write h ∙ hit) c) ∙ first_alone (hits c))) (λ c late. refl)
     (subst (IsBestSoFar (length requests) now hits rows) (sym (step.none refl)) so_far)
 hit_more s history ranks requests write bank h ready now hits rows best after ready_fits now_fits places first row_is from (Some slot) hit step so_far =
-    let inside : slot < length requests = subst (λ o. IfSome o (λ k. k < length requests)) hit (within _ requests (kind_candidates write h).hit (kind_first write requests bank h first).hit_is) in
+    let inside : slot < length requests = subst (λ o. IfSome o (λ k. k < length requests)) hit (within _ requests (access_candidates write h).hit (access_first write requests bank h first).hit_is) in
     so_far_same (length requests) now (λ c. earlier (hits c) (hits_in s history requests (only write) bank c)) (λ c. earlier (rows c) (rows_in s history requests (only write) bank c))
     (λ c. earlier (hits c) (hits_in s history requests (only write) bank c)) rows after (λ c late. refl)
     (λ c late. ap (earlier (rows c)) (rows_withheld s history ranks requests (only write) bank h places first row_is (ap is_some (hit_only write h ∙ hit)) c) ∙ first_alone (rows c))
     (subst (IsBestSoFar (length requests) now (λ c. earlier (hits c) (hits_in s history requests (only write) bank c)) (λ c. earlier (rows c) (rows_in s history requests (only write) bank c)))
     (sym (step.some slot refl))
     (one_more (length requests) now hits rows (hits_in s history requests (only write) bank) (rows_in s history requests (only write) bank) best (offer_from now ready true slot) inside (omega arith) so_far
-    (kind_hit s history ranks requests write bank h ready now slot places first row_is from hit)))
+    (access_hit s history ranks requests write bank h ready now slot places first row_is from hit)))
 
 -- a bank that is not asked for, or has a row hit, offers nothing else
-pub row_none : (s : Config) (history : List IssuedCommand) (ranks : ℕ) (requests : List Request) (kinds : Kinds) (bank : ℕ) (h : CandidatesOfBank) → All (IsInBanks ranks) requests
-    → AreCandidates requests bank h → h.row ≡ open_row (bank_at bank) history → (is_some (oldest_candidate kinds h) && not (is_some (hit_candidate kinds h))) ≡ false → (cycle : ℕ)
-    → rows_in s history requests kinds bank cycle ≡ None
-row_none s history ranks requests kinds bank h places first row_is left cycle = elim (cases_Bool (is_some (hit_candidate kinds h))) [
-  | inl hit ↦ rows_withheld s history ranks requests kinds bank h places first row_is hit cycle
+pub row_none : (s : Config) (history : List IssuedCommand) (ranks : ℕ) (requests : List Request) (accesses : Accesses) (bank : ℕ) (h : CandidatesOfBank) → All (IsInBanks ranks) requests
+    → AreCandidates requests bank h → h.row ≡ open_row (bank_at bank) history → (is_some (oldest_candidate accesses h) && not (is_some (hit_candidate accesses h))) ≡ false → (cycle : ℕ)
+    → rows_in s history requests accesses bank cycle ≡ None
+row_none s history ranks requests accesses bank h places first row_is left cycle = elim (cases_Bool (is_some (hit_candidate accesses h))) [
+  | inl hit ↦ rows_withheld s history ranks requests accesses bank h places first row_is hit cycle
   | inr no_hit ↦
-      let none : is_some (oldest_candidate kinds h) ≡ false =
-      sym (and_true (is_some (oldest_candidate kinds h))) ∙ ap (λ b. is_some (oldest_candidate kinds h) && not b) (sym no_hit) ∙ left in
-      none_offered requests kinds bank h _ first (none_is (oldest_candidate kinds h) none)
+      let none : is_some (oldest_candidate accesses h) ≡ false =
+      sym (and_true (is_some (oldest_candidate accesses h))) ∙ ap (λ b. is_some (oldest_candidate accesses h) && not b) (sym no_hit) ∙ left in
+      none_offered requests accesses bank h _ first (none_is (oldest_candidate accesses h) none)
 ]
 
 -- some bank is asked for by a kind that goes
@@ -185,22 +185,22 @@ either_in false true a b there in_a in_b = in_b there
 either_in false false a b there in_a in_b = cc
 
 -- row hits to read and to write are all that there are
-kind_hits : (w kr kw h : Bool) → (cond w kw kr && h) ≡ ((kr && (cond w false (not false) && h)) || (kw && (cond w true (not true) && h)))
-kind_hits true true true h = refl
-kind_hits true false true h = refl
-kind_hits true true false h = refl
-kind_hits true false false h = refl
-kind_hits false true kw h = sym (ap (λ t. h || t) (and_false kw) ∙ or_false h)
-kind_hits false false true h = refl
-kind_hits false false false h = refl
+access_hits : (w kr kw h : Bool) → (cond w kw kr && h) ≡ ((kr && (cond w false (not false) && h)) || (kw && (cond w true (not true) && h)))
+access_hits true true true h = refl
+access_hits true false true h = refl
+access_hits true true false h = refl
+access_hits true false false h = refl
+access_hits false true kw h = sym (ap (λ t. h || t) (and_false kw) ∙ or_false h)
+access_hits false false true h = refl
+access_hits false false false h = refl
 
-pub both_hits : (s : Config) (history : List IssuedCommand) (requests : List Request) (kinds : Kinds) (cycle : ℕ)
-    → earlier (first_place (λ r. kinds.reads && hits_now s history (only false) cycle r) requests) (first_place (λ r. kinds.writes && hits_now s history (only true) cycle r) requests)
-    ≡ first_place (hits_now s history kinds cycle) requests
-both_hits s history requests kinds cycle =
+pub both_hits : (s : Config) (history : List IssuedCommand) (requests : List Request) (accesses : Accesses) (cycle : ℕ)
+    → earlier (first_place (λ r. accesses.reads && hits_now s history (only false) cycle r) requests) (first_place (λ r. accesses.writes && hits_now s history (only true) cycle r) requests)
+    ≡ first_place (hits_now s history accesses cycle) requests
+both_hits s history requests accesses cycle =
     sym
-    (either_among (hits_now s history kinds cycle) (λ r. kinds.reads && hits_now s history (only false) cycle r) (λ r. kinds.writes && hits_now s history (only true) cycle r) (λ r. Unit {0})
-    requests (λ k d exists. tt) (λ r in_all. kind_hits r.write kinds.reads kinds.writes (ready_hit s history cycle r)))
+    (either_among (hits_now s history accesses cycle) (λ r. accesses.reads && hits_now s history (only false) cycle r) (λ r. accesses.writes && hits_now s history (only true) cycle r) (λ r. Unit {0})
+    requests (λ k d exists. tt) (λ r in_all. access_hits r.write accesses.reads accesses.writes (ready_hit s history cycle r)))
 
 -- places of a kind that does not go
 pub none_goes : (rows : ℕ → Option ℕ) (goes : Bool) (test : ℕ → Request → Bool) (requests : List Request) → goes ≡ false → (cycle : ℕ)
@@ -215,21 +215,21 @@ all_go goes test requests on = place_if goes test requests ∙ ap (λ b. cond b 
 
 -- a bank with no row hit
 pub hit_none : (s : Config) (history : List IssuedCommand) (ranks : ℕ) (requests : List Request) (write : Bool) (bank : ℕ) (h : CandidatesOfBank) → All (IsInBanks ranks) requests
-    → AreCandidates requests bank h → h.row ≡ open_row (bank_at bank) history → is_some (kind_candidates write h).hit ≡ false → (cycle : ℕ)
+    → AreCandidates requests bank h → h.row ≡ open_row (bank_at bank) history → is_some (access_candidates write h).hit ≡ false → (cycle : ℕ)
     → hits_in s history requests (only write) bank cycle ≡ None
 hit_none s history ranks requests write bank h places first row_is none cycle =
-    no_hits s history ranks requests (only write) bank h places first row_is (hit_only write h ∙ none_is (kind_candidates write h).hit none) cycle
+    no_hits s history ranks requests (only write) bank h places first row_is (hit_only write h ∙ none_is (access_candidates write h).hit none) cycle
 
 -- no command of a kind to some bank of so many ranks is allowed before this cycle
 abbrev pub IsFloor : Config → List IssuedCommand → ℕ → Kind → ℕ → Type 0
 IsFloor s history ranks k floor =
     (command : Command) (cycle bank : ℕ) → kind_of command ≡ k → bank_of command ≡ Some (bank_at bank) → bank < 16 * ranks → IsAllowedFrom s history command cycle → floor ≤ cycle
 
-same_kind : (w k : Bool) → cond w k (not k) ≡ true → w ≡ k
-same_kind true true is = refl
-same_kind true false is = sym is
-same_kind false true is = is
-same_kind false false is = refl
+same_access : (w k : Bool) → cond w k (not k) ≡ true → w ≡ k
+same_access true true is = refl
+same_access true false is = sym is
+same_access false true is = is
+same_access false false is = refl
 
 column_other : (k : Bool) → is_kind (column_kind k) kind.Act ≡ false
 column_other true = refl
@@ -250,7 +250,7 @@ hit_after s history ranks r write floor cycle in_banks least now_is =
     let parts = and_parts (is_hit history r) (is_legal s history cycle (needed history r)) outer.1 in
     let bank = bank_number r.place in
     let command = needed history r in
-    let kind_is : kind_of command ≡ column_kind write = hit_kind history r parts.0 ∙ ap column_kind (same_kind r.write write outer.0) in
+    let kind_is : kind_of command ≡ column_kind write = hit_kind history r parts.0 ∙ ap column_kind (same_access r.write write outer.0) in
     let bank_is_at : bank_of command ≡ Some (bank_at bank) = needed_bank (open_row (bank_in r.place) history) r ∙ ap Some (bank_is ranks r bank in_banks (eq-eqb bank bank refl)) in
     let allowed = λ (now : ℕ). allowed-other s.timing history now command (column_kind write) (bank_at bank) kind_is bank_is_at (column_other write) in
     let late = (allowed cycle).1 (allowed_too s history cycle command parts.1) in

@@ -19,7 +19,7 @@ use Rattle.bank_candidates.specs.Moves.{earlier}
 use Rattle.bank_candidates.proofs.Stood.{bank_named}
 use Rattle.bank_candidates.proofs.Searches.{none_everywhere, none_narrower_all}
 use Rattle.fr_fcfs.specs.Requests.{IsInBanks, is_hit}
-use Rattle.fr_fcfs.specs.declared.kinds.Kinds.{Kinds}
+use Rattle.fr_fcfs.specs.declared.accesses.Accesses.{Accesses}
 use Rattle.fr_fcfs.specs.Offers.{is_of, if_allowed, hit_candidate, oldest_candidate, going, hits_now, rows_now, hits_in, rows_in, IsReadyFrom, row_kind}
 use Rattle.fr_fcfs.proofs.Booleans.{and_false, and_true, or_false, eqb_swap}
 use Rattle.fr_fcfs.proofs.Legal.{needed_bank, hit_is, column_needed, finds_needed, legal_at, withheld_is}
@@ -83,27 +83,27 @@ row_hit_test false w kr kw row_hit = and_false (cond w kw kr) ∙ sym (ap (λ t.
 row_hit_test true true kr kw row_hit = sym (ap (λ t. t || (kw && row_hit)) (and_false kr))
 row_hit_test true false kr kw row_hit = sym (ap (λ t. (kr && row_hit) || t) (and_false kw) ∙ or_false (kr && row_hit))
 
-abbrev wants_row : Kinds → ℕ → Option ℕ → Request → Bool
-wants_row kinds bank row r = (kinds.reads && hits bank false row r) || (kinds.writes && hits bank true row r)
+abbrev wants_row : Accesses → ℕ → Option ℕ → Request → Bool
+wants_row accesses bank row r = (accesses.reads && hits bank false row r) || (accesses.writes && hits bank true row r)
 
-hit_candidate_is : (ranks : ℕ) (requests : List Request) (kinds : Kinds) (bank : ℕ) (h : CandidatesOfBank) → All (IsInBanks ranks) requests → AreCandidates requests bank h
-    → first_place (wants_row kinds bank h.row) requests ≡ hit_candidate kinds h
-hit_candidate_is ranks requests kinds bank h places first =
-    either_among (wants_row kinds bank h.row) (λ r. kinds.reads && hits bank false h.row r) (λ r. kinds.writes && hits bank true h.row r) (IsInBanks ranks) requests places (λ r in_banks. refl)
-    ∙ (λ i. earlier (place_if kinds.reads (hits bank false h.row) requests i) (place_if kinds.writes (hits bank true h.row) requests i))
-    ∙ (λ i. earlier (cond kinds.reads ((sym first.reads_are.hit_is) i) None) (cond kinds.writes ((sym first.writes_are.hit_is) i) None))
+hit_candidate_is : (ranks : ℕ) (requests : List Request) (accesses : Accesses) (bank : ℕ) (h : CandidatesOfBank) → All (IsInBanks ranks) requests → AreCandidates requests bank h
+    → first_place (wants_row accesses bank h.row) requests ≡ hit_candidate accesses h
+hit_candidate_is ranks requests accesses bank h places first =
+    either_among (wants_row accesses bank h.row) (λ r. accesses.reads && hits bank false h.row r) (λ r. accesses.writes && hits bank true h.row r) (IsInBanks ranks) requests places (λ r in_banks. refl)
+    ∙ (λ i. earlier (place_if accesses.reads (hits bank false h.row) requests i) (place_if accesses.writes (hits bank true h.row) requests i))
+    ∙ (λ i. earlier (cond accesses.reads ((sym first.reads_are.hit_is) i) None) (cond accesses.writes ((sym first.writes_are.hit_is) i) None))
 
-has_hit_is : (history : List IssuedCommand) (ranks : ℕ) (requests : List Request) (kinds : Kinds) (bank : ℕ) (h : CandidatesOfBank) → All (IsInBanks ranks) requests
-    → AreCandidates requests bank h → h.row ≡ open_row (bank_at bank) history → has_hit history (going kinds requests) (bank_at bank) ≡ is_some (hit_candidate kinds h)
-has_hit_is history ranks requests kinds bank h places first row_is =
+has_hit_is : (history : List IssuedCommand) (ranks : ℕ) (requests : List Request) (accesses : Accesses) (bank : ℕ) (h : CandidatesOfBank) → All (IsInBanks ranks) requests
+    → AreCandidates requests bank h → h.row ≡ open_row (bank_at bank) history → has_hit history (going accesses requests) (bank_at bank) ≡ is_some (hit_candidate accesses h)
+has_hit_is history ranks requests accesses bank h places first row_is =
     let row = open_row (bank_at bank) history in
-    any_going (λ x. is_row_hit x (bank_at bank) row) kinds requests
+    any_going (λ x. is_row_hit x (bank_at bank) row) accesses requests
     ∙ ap is_some
-    (same_among (λ x. is_of kinds x && is_row_hit x (bank_at bank) row) (wants_row kinds bank h.row) (IsInBanks ranks) requests places
+    (same_among (λ x. is_of accesses x && is_row_hit x (bank_at bank) row) (wants_row accesses bank h.row) (IsInBanks ranks) requests places
     (λ x in_banks.
-    (λ i. is_of kinds x && (number_is ranks x bank in_banks i && is_row x.place.row (row_is' i)))
-    ∙ row_hit_test (eqb (bank_number x.place) bank) x.write kinds.reads kinds.writes (is_row x.place.row h.row))
-    ∙ hit_candidate_is ranks requests kinds bank h places first)
+    (λ i. is_of accesses x && (number_is ranks x bank in_banks i && is_row x.place.row (row_is' i)))
+    ∙ row_hit_test (eqb (bank_number x.place) bank) x.write accesses.reads accesses.writes (is_row x.place.row h.row))
+    ∙ hit_candidate_is ranks requests accesses bank h places first)
   where
     row_is' : open_row (bank_at bank) history ≡ h.row
     row_is' = sym row_is
@@ -137,30 +137,30 @@ both_allowed true a b ka kb = λ i. earlier (cond (and_true ka i) a None) (cond 
 both_allowed false a b ka kb = λ i. earlier (cond (and_false ka i) a None) (cond (and_false kb i) b None)
 
 -- the first request of a bank whose ACT or PRE is ready, where none asks for its open row
-pub rows_are : (s : Config) (history : List IssuedCommand) (ranks : ℕ) (requests : List Request) (kinds : Kinds) (bank : ℕ) (h : CandidatesOfBank) (ready : ℕ)
+pub rows_are : (s : Config) (history : List IssuedCommand) (ranks : ℕ) (requests : List Request) (accesses : Accesses) (bank : ℕ) (h : CandidatesOfBank) (ready : ℕ)
     → All (IsInBanks ranks) requests → AreCandidates requests bank h → h.row ≡ open_row (bank_at bank) history → IsReadyFrom s history (bank_at bank) (row_kind h.row) ready
-    → is_some (hit_candidate kinds h) ≡ false → (cycle : ℕ)
-    → rows_in s history requests kinds bank cycle ≡ cond (leb ready cycle) (oldest_candidate kinds h) None
+    → is_some (hit_candidate accesses h) ≡ false → (cycle : ℕ)
+    → rows_in s history requests accesses bank cycle ≡ cond (leb ready cycle) (oldest_candidate accesses h) None
 unfolding ready_row needed
-rows_are s history ranks requests kinds bank h ready places first row_is from none cycle =
-    let cands = going kinds requests in
-    same_unless (λ r. eqb (bank_number r.place) bank && rows_now s history requests kinds cycle r)
-    (λ r. ((kinds.reads && leb ready cycle) && asks bank false r) || ((kinds.writes && leb ready cycle) && asks bank true r)) (wants_row kinds bank h.row) (IsInBanks ranks) requests
-    (hit_candidate_is ranks requests kinds bank h places first ∙ is_none (hit_candidate kinds h) none) places
+rows_are s history ranks requests accesses bank h ready places first row_is from none cycle =
+    let cands = going accesses requests in
+    same_unless (λ r. eqb (bank_number r.place) bank && rows_now s history requests accesses cycle r)
+    (λ r. ((accesses.reads && leb ready cycle) && asks bank false r) || ((accesses.writes && leb ready cycle) && asks bank true r)) (wants_row accesses bank h.row) (IsInBanks ranks) requests
+    (hit_candidate_is ranks requests accesses bank h places first ∙ is_none (hit_candidate accesses h) none) places
     (λ r in_banks off.
-    row_test (eqb (bank_number r.place) bank) r.write kinds.reads kinds.writes (is_hit history r) (is_row r.place.row h.row) (is_legal s history cycle (needed history r)) (leb ready cycle)
+    row_test (eqb (bank_number r.place) bank) r.write accesses.reads accesses.writes (is_hit history r) (is_row r.place.row h.row) (is_legal s history cycle (needed history r)) (leb ready cycle)
     (is_withheld history cands (needed history r)) (row_hit_is history ranks r bank h.row in_banks row_is)
     (λ here other. legal_then s history ranks r bank (row_kind h.row) ready in_banks from here (kind_here r in_banks here other) cycle)
     (λ here.
     withheld_is history cands r
     ∙ ap (λ b. has_hit history cands b && not (is_hit history r)) (bank_is ranks r bank in_banks here)
-    ∙ ap (λ b. b && not (is_hit history r)) (has_hit_is history ranks requests kinds bank h places first row_is ∙ none))
+    ∙ ap (λ b. b && not (is_hit history r)) (has_hit_is history ranks requests accesses bank h places first row_is ∙ none))
     off)
-    ∙ either_among (λ r. ((kinds.reads && leb ready cycle) && asks bank false r) || ((kinds.writes && leb ready cycle) && asks bank true r)) (λ r. (kinds.reads && leb ready cycle) && asks bank false r)
-    (λ r. (kinds.writes && leb ready cycle) && asks bank true r) (IsInBanks ranks) requests places (λ r in_banks. refl)
-    ∙ (λ i. earlier (place_if (kinds.reads && leb ready cycle) (asks bank false) requests i) (place_if (kinds.writes && leb ready cycle) (asks bank true) requests i))
-    ∙ (λ i. earlier (cond (kinds.reads && leb ready cycle) ((sym first.reads_are.oldest_is) i) None) (cond (kinds.writes && leb ready cycle) ((sym first.writes_are.oldest_is) i) None))
-    ∙ both_allowed (leb ready cycle) h.reads.oldest h.writes.oldest kinds.reads kinds.writes
+    ∙ either_among (λ r. ((accesses.reads && leb ready cycle) && asks bank false r) || ((accesses.writes && leb ready cycle) && asks bank true r)) (λ r. (accesses.reads && leb ready cycle) && asks bank false r)
+    (λ r. (accesses.writes && leb ready cycle) && asks bank true r) (IsInBanks ranks) requests places (λ r in_banks. refl)
+    ∙ (λ i. earlier (place_if (accesses.reads && leb ready cycle) (asks bank false) requests i) (place_if (accesses.writes && leb ready cycle) (asks bank true) requests i))
+    ∙ (λ i. earlier (cond (accesses.reads && leb ready cycle) ((sym first.reads_are.oldest_is) i) None) (cond (accesses.writes && leb ready cycle) ((sym first.writes_are.oldest_is) i) None))
+    ∙ both_allowed (leb ready cycle) h.reads.oldest h.writes.oldest accesses.reads accesses.writes
   where
     is_none : (o : Option ℕ) → is_some o ≡ false → o ≡ None
     is_none None off = refl
@@ -176,18 +176,18 @@ withheld_test true k true legal withheld is = and_false k
 withheld_test true k false legal withheld is = ap (λ w. k && (legal && not w)) (is refl) ∙ ap (λ t. k && t) (and_false legal) ∙ and_false k
 
 -- a row hit that goes withholds all else of its bank
-pub rows_withheld : (s : Config) (history : List IssuedCommand) (ranks : ℕ) (requests : List Request) (kinds : Kinds) (bank : ℕ) (h : CandidatesOfBank) → All (IsInBanks ranks) requests
-    → AreCandidates requests bank h → h.row ≡ open_row (bank_at bank) history → is_some (hit_candidate kinds h) ≡ true → (cycle : ℕ) → rows_in s history requests kinds bank cycle ≡ None
+pub rows_withheld : (s : Config) (history : List IssuedCommand) (ranks : ℕ) (requests : List Request) (accesses : Accesses) (bank : ℕ) (h : CandidatesOfBank) → All (IsInBanks ranks) requests
+    → AreCandidates requests bank h → h.row ≡ open_row (bank_at bank) history → is_some (hit_candidate accesses h) ≡ true → (cycle : ℕ) → rows_in s history requests accesses bank cycle ≡ None
 unfolding ready_row
-rows_withheld s history ranks requests kinds bank h places first row_is some cycle =
-    let cands = going kinds requests in
-    same_among (λ r. eqb (bank_number r.place) bank && rows_now s history requests kinds cycle r) (λ r. false) (IsInBanks ranks) requests places
+rows_withheld s history ranks requests accesses bank h places first row_is some cycle =
+    let cands = going accesses requests in
+    same_among (λ r. eqb (bank_number r.place) bank && rows_now s history requests accesses cycle r) (λ r. false) (IsInBanks ranks) requests places
     (λ r in_banks.
-    withheld_test (eqb (bank_number r.place) bank) (is_of kinds r) (is_hit history r) (is_legal s history cycle (needed history r)) (is_withheld history cands (needed history r))
+    withheld_test (eqb (bank_number r.place) bank) (is_of accesses r) (is_hit history r) (is_legal s history cycle (needed history r)) (is_withheld history cands (needed history r))
     (λ here.
     withheld_is history cands r
     ∙ ap (λ b. has_hit history cands b && not (is_hit history r)) (bank_is ranks r bank in_banks here)
-    ∙ ap (λ b. b && not (is_hit history r)) (has_hit_is history ranks requests kinds bank h places first row_is ∙ some)))
+    ∙ ap (λ b. b && not (is_hit history r)) (has_hit_is history ranks requests accesses bank h places first row_is ∙ some)))
     ∙ sym (none_everywhere (λ r. false) requests (λ r. refl))
 
 none_test : (b w kr kw test : Bool) → ((kr && (b && cond false w (not w))) || (kw && (b && cond true w (not w)))) ≡ false → (b && (cond w kw kr && test)) ≡ false
@@ -199,17 +199,17 @@ none_test true false true kw test off = cc
 none_test true false false kw test off = refl
 
 -- no request of a bank goes that has no candidate
-pub none_offered : (requests : List Request) (kinds : Kinds) (bank : ℕ) (h : CandidatesOfBank) (test : Request → Bool) → AreCandidates requests bank h → oldest_candidate kinds h ≡ None
-    → first_place (λ r. eqb (bank_number r.place) bank && (is_of kinds r && test r)) requests ≡ None
-none_offered requests kinds bank h test first none =
-    let asked = λ (r : Request). (kinds.reads && asks bank false r) || (kinds.writes && asks bank true r) in
-    let candidate_is : first_place asked requests ≡ oldest_candidate kinds h =
-    either_among asked (λ r. kinds.reads && asks bank false r) (λ r. kinds.writes && asks bank true r) (λ r. Unit {0}) requests (λ k d exists. tt) (λ r in_all. refl)
-    ∙ (λ i. earlier (place_if kinds.reads (asks bank false) requests i) (place_if kinds.writes (asks bank true) requests i))
-    ∙ (λ i. earlier (cond kinds.reads ((sym first.reads_are.oldest_is) i) None) (cond kinds.writes ((sym first.writes_are.oldest_is) i) None)) in
+pub none_offered : (requests : List Request) (accesses : Accesses) (bank : ℕ) (h : CandidatesOfBank) (test : Request → Bool) → AreCandidates requests bank h → oldest_candidate accesses h ≡ None
+    → first_place (λ r. eqb (bank_number r.place) bank && (is_of accesses r && test r)) requests ≡ None
+none_offered requests accesses bank h test first none =
+    let asked = λ (r : Request). (accesses.reads && asks bank false r) || (accesses.writes && asks bank true r) in
+    let candidate_is : first_place asked requests ≡ oldest_candidate accesses h =
+    either_among asked (λ r. accesses.reads && asks bank false r) (λ r. accesses.writes && asks bank true r) (λ r. Unit {0}) requests (λ k d exists. tt) (λ r in_all. refl)
+    ∙ (λ i. earlier (place_if accesses.reads (asks bank false) requests i) (place_if accesses.writes (asks bank true) requests i))
+    ∙ (λ i. earlier (cond accesses.reads ((sym first.reads_are.oldest_is) i) None) (cond accesses.writes ((sym first.writes_are.oldest_is) i) None)) in
     sym
-    (none_narrower_all (λ r. eqb (bank_number r.place) bank && (is_of kinds r && test r)) asked requests
-    (λ r off. none_test (eqb (bank_number r.place) bank) r.write kinds.reads kinds.writes (test r) off) (sym (candidate_is ∙ none)))
+    (none_narrower_all (λ r. eqb (bank_number r.place) bank && (is_of accesses r && test r)) asked requests
+    (λ r off. none_test (eqb (bank_number r.place) bank) r.write accesses.reads accesses.writes (test r) off) (sym (candidate_is ∙ none)))
 
 no_hit_test : (b w kr kw hit row_hit legal : Bool) → (b ≡ true → hit ≡ row_hit)
     → ((kr && ((b && cond false w (not w)) && row_hit)) || (kw && ((b && cond true w (not w)) && row_hit))) ≡ false → (b && (cond w kw kr && (hit && legal))) ≡ false
@@ -221,13 +221,13 @@ no_hit_test true w kr kw hit row_hit legal same none = one (cond w kw kr) hit ro
     one true h rh l is none = ap (λ t. t && l) (is ∙ none)
 
 -- no row hit of a bank is ready where there is none
-pub no_hits : (s : Config) (history : List IssuedCommand) (ranks : ℕ) (requests : List Request) (kinds : Kinds) (bank : ℕ) (h : CandidatesOfBank) → All (IsInBanks ranks) requests
-    → AreCandidates requests bank h → h.row ≡ open_row (bank_at bank) history → hit_candidate kinds h ≡ None → (cycle : ℕ) → hits_in s history requests kinds bank cycle ≡ None
+pub no_hits : (s : Config) (history : List IssuedCommand) (ranks : ℕ) (requests : List Request) (accesses : Accesses) (bank : ℕ) (h : CandidatesOfBank) → All (IsInBanks ranks) requests
+    → AreCandidates requests bank h → h.row ≡ open_row (bank_at bank) history → hit_candidate accesses h ≡ None → (cycle : ℕ) → hits_in s history requests accesses bank cycle ≡ None
 unfolding ready_hit
-no_hits s history ranks requests kinds bank h places first row_is none cycle =
-    same_unless (λ r. eqb (bank_number r.place) bank && hits_now s history kinds cycle r) (λ r. false) (wants_row kinds bank h.row) (IsInBanks ranks) requests
-    (hit_candidate_is ranks requests kinds bank h places first ∙ none) places
+no_hits s history ranks requests accesses bank h places first row_is none cycle =
+    same_unless (λ r. eqb (bank_number r.place) bank && hits_now s history accesses cycle r) (λ r. false) (wants_row accesses bank h.row) (IsInBanks ranks) requests
+    (hit_candidate_is ranks requests accesses bank h places first ∙ none) places
     (λ r in_banks off.
-    no_hit_test (eqb (bank_number r.place) bank) r.write kinds.reads kinds.writes (is_hit history r) (is_row r.place.row h.row) (is_legal s history cycle (needed history r))
+    no_hit_test (eqb (bank_number r.place) bank) r.write accesses.reads accesses.writes (is_hit history r) (is_row r.place.row h.row) (is_legal s history cycle (needed history r))
     (row_hit_is history ranks r bank h.row in_banks row_is) off)
     ∙ sym (none_everywhere (λ r. false) requests (λ r. refl))

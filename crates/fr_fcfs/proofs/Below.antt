@@ -14,7 +14,7 @@ use Rattle.bank_candidates.specs.Moves.{earlier}
 use Rattle.bank_candidates.proofs.Searches.{none_everywhere}
 use Rattle.fr_fcfs.specs.declared.offers.Offer.{Offer}
 use Rattle.fr_fcfs.specs.Requests.{candidates_of}
-use Rattle.fr_fcfs.specs.declared.kinds.Kinds.{Kinds}
+use Rattle.fr_fcfs.specs.declared.accesses.Accesses.{Accesses}
 use Rattle.fr_fcfs.specs.Offers.{going, hits_now, rows_now, IsAt, IsBest, IsFirstReady}
 use Rattle.fr_fcfs.proofs.Firsts.{same_among, either_among, find_going}
 
@@ -69,15 +69,15 @@ none_is None off = refl
 none_is (Some k) off = cc
 
 -- the command of the first request that is ready, by the places
-pub ready_by_places : (s : Config) (history : List IssuedCommand) (requests : List Request) (kinds : Kinds) (cycle : ℕ)
-    → first_ready s history cycle (going kinds requests)
+pub ready_by_places : (s : Config) (history : List IssuedCommand) (requests : List Request) (accesses : Accesses) (cycle : ℕ)
+    → first_ready s history cycle (going accesses requests)
     ≡ option_map (needed history)
-    (or_else (option_and_then (slice_get requests) (first_place (hits_now s history kinds cycle) requests))
-    (option_and_then (slice_get requests) (first_place (rows_now s history requests kinds cycle) requests)))
+    (or_else (option_and_then (slice_get requests) (first_place (hits_now s history accesses cycle) requests))
+    (option_and_then (slice_get requests) (first_place (rows_now s history requests accesses cycle) requests)))
 unfolding first_ready
-ready_by_places s history requests kinds cycle =
+ready_by_places s history requests accesses cycle =
     λ i. option_map (needed history)
-    (or_else (find_going (ready_hit s history cycle) kinds requests i) (find_going (ready_row s history cycle (going kinds requests)) kinds requests i))
+    (or_else (find_going (ready_hit s history cycle) accesses requests i) (find_going (ready_row s history cycle (going accesses requests)) accesses requests i))
 
 none_ready : (s : Config) (history : List IssuedCommand) (requests : List Request) (a b : Option ℕ) → a ≡ None → b ≡ None
     → option_map (needed history) (or_else (option_and_then (slice_get requests) a) (option_and_then (slice_get requests) b)) ≡ None
@@ -100,26 +100,26 @@ ready_at history requests true a b slot within is =
 ready_at history requests false a b slot within is = λ i. option_map (needed history) (or_else (option_and_then (slice_get requests) (is.0 i)) (option_and_then (slice_get requests) (is.1 i)))
 
 -- the offer that goes first of all is what the first request needs that is ready
-pub first_ready_is : (s : Config) (history : List IssuedCommand) (queue : QueueView) (kinds : Kinds) (now : ℕ) (o : Option Offer) → candidates_of s queue ≡ going kinds queue.requests
+pub first_ready_is : (s : Config) (history : List IssuedCommand) (queue : QueueView) (accesses : Accesses) (now : ℕ) (o : Option Offer) → candidates_of s queue ≡ going accesses queue.requests
     → IfSome o (λ x. x.slot < length queue.requests)
-    → IsBest now (λ cycle. first_place (hits_now s history kinds cycle) queue.requests) (λ cycle. first_place (rows_now s history queue.requests kinds cycle) queue.requests) o
+    → IsBest now (λ cycle. first_place (hits_now s history accesses cycle) queue.requests) (λ cycle. first_place (rows_now s history queue.requests accesses cycle) queue.requests) o
     → IsFirstReady s history queue now o
-first_ready_is s history queue kinds now None cands within best = λ cycle late.
+first_ready_is s history queue accesses now None cands within best = λ cycle late.
     let none = best cycle late in
     ap (first_ready s history cycle) cands
-    ∙ ready_by_places s history queue.requests kinds cycle
-    ∙ none_ready s history queue.requests (first_place (hits_now s history kinds cycle) queue.requests) (first_place (rows_now s history queue.requests kinds cycle) queue.requests) none.0 none.1
-first_ready_is s history queue kinds now (Some o) cands within best = record {
+    ∙ ready_by_places s history queue.requests accesses cycle
+    ∙ none_ready s history queue.requests (first_place (hits_now s history accesses cycle) queue.requests) (first_place (rows_now s history queue.requests accesses cycle) queue.requests) none.0 none.1
+first_ready_is s history queue accesses now (Some o) cands within best = record {
   from_now = best.from_now;
   none_before = λ cycle late sooner.
       let none = best.none_before cycle late sooner in
       ap (first_ready s history cycle) cands
-      ∙ ready_by_places s history queue.requests kinds cycle
-      ∙ none_ready s history queue.requests (first_place (hits_now s history kinds cycle) queue.requests) (first_place (rows_now s history queue.requests kinds cycle) queue.requests) none.0
+      ∙ ready_by_places s history queue.requests accesses cycle
+      ∙ none_ready s history queue.requests (first_place (hits_now s history accesses cycle) queue.requests) (first_place (rows_now s history queue.requests accesses cycle) queue.requests) none.0
       none.1;
   then_is =
       ap (first_ready s history o.cycle) cands
-      ∙ ready_by_places s history queue.requests kinds o.cycle
-      ∙ ready_at history queue.requests o.hit (first_place (hits_now s history kinds o.cycle) queue.requests) (first_place (rows_now s history queue.requests kinds o.cycle) queue.requests)
+      ∙ ready_by_places s history queue.requests accesses o.cycle
+      ∙ ready_at history queue.requests o.hit (first_place (hits_now s history accesses o.cycle) queue.requests) (first_place (rows_now s history queue.requests accesses o.cycle) queue.requests)
       o.slot within best.then_is;
 }

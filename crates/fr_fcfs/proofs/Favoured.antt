@@ -10,7 +10,7 @@ use Rattle.queue.specs.View.{QueueView, is_draining}
 use Rattle.bank_candidates.specs.Candidates.{passes, entries, first_place}
 use Rattle.bank_candidates.proofs.Entries.{length-entries}
 use Rattle.fr_fcfs.specs.Requests.{candidates_of}
-use Rattle.fr_fcfs.specs.Offers.{is_of, only, all_kinds}
+use Rattle.fr_fcfs.specs.Offers.{is_of, only, all_accesses}
 use Rattle.fr_fcfs.proofs.Firsts.{some_filtered}
 
 -- Where the channel ever drains and some request is favoured, the favoured ones go first.
@@ -56,14 +56,14 @@ filter_all : {X : Type 0} (p : X → Bool) (xs : List X) → ((x : X) → p x �
 filter_all p [] all = refl
 filter_all p (x ∷ xs) all = cond-true (p x) (x ∷ filter p xs) (filter p xs) (all x) ∙ ap (λ ys. x ∷ ys) (filter_all p xs all)
 
-one_kind : (write w : Bool) → cond write w (not w) ≡ cond w write (not write)
-one_kind true true = refl
-one_kind true false = refl
-one_kind false true = refl
-one_kind false false = refl
+one_access : (write w : Bool) → cond write w (not w) ≡ cond w write (not write)
+one_access true true = refl
+one_access true false = refl
+one_access false true = refl
+one_access false false = refl
 
-pub of_one_kind : (write : Bool) (requests : List Request) → filter (is_favoured write) requests ≡ filter (is_of (only write)) requests
-of_one_kind write requests = filter_same (is_favoured write) (is_of (only write)) requests (λ r. one_kind write r.write)
+pub of_one_access : (write : Bool) (requests : List Request) → filter (is_favoured write) requests ≡ filter (is_of (only write)) requests
+of_one_access write requests = filter_same (is_favoured write) (is_of (only write)) requests (λ r. one_access write r.write)
 
 -- where a test keeps nothing, its opposite keeps all
 kept_next : {X : Type 0} (keep other : Bool) (x : X) (kept rest xs : List X) → other ≡ not keep → length (cond keep (x ∷ kept) kept) ≡ 0 → (length kept ≡ 0 → rest ≡ xs)
@@ -75,22 +75,22 @@ filter_others : {X : Type 0} (p q : X → Bool) (xs : List X) → ((x : X) → q
 filter_others p q [] opposite none = refl
 filter_others p q (x ∷ xs) opposite none = kept_next (p x) (q x) x (filter p xs) (filter q xs) xs (opposite x) none (filter_others p q xs opposite)
 
-other_kind : (write w : Bool) → cond w (not write) (not (not write)) ≡ not (cond write w (not w))
-other_kind true true = refl
-other_kind true false = refl
-other_kind false true = refl
-other_kind false false = refl
+other_access : (write w : Bool) → cond w (not write) (not (not write)) ≡ not (cond write w (not w))
+other_access true true = refl
+other_access true false = refl
+other_access false true = refl
+other_access false false = refl
 
 -- where no request is of a kind, all are of the other
-pub of_other_kind : (write : Bool) (requests : List Request) → length (filter (is_favoured write) requests) ≡ 0 → requests ≡ filter (is_of (only (not write))) requests
-of_other_kind write requests none = sym (filter_others (is_favoured write) (is_of (only (not write))) requests (λ r. other_kind write r.write) none)
+pub of_other_access : (write : Bool) (requests : List Request) → length (filter (is_favoured write) requests) ≡ 0 → requests ≡ filter (is_of (only (not write))) requests
+of_other_access write requests none = sym (filter_others (is_favoured write) (is_of (only (not write))) requests (λ r. other_access write r.write) none)
 
-pub of_all_kinds : (requests : List Request) → requests ≡ filter (is_of all_kinds) requests
-of_all_kinds requests = sym (filter_all (is_of all_kinds) requests (λ r. any_kind r.write))
+pub of_all_accesses : (requests : List Request) → requests ≡ filter (is_of all_accesses) requests
+of_all_accesses requests = sym (filter_all (is_of all_accesses) requests (λ r. any_access r.write))
   where
-    any_kind : (w : Bool) → cond w true true ≡ true
-    any_kind true = refl
-    any_kind false = refl
+    any_access : (w : Bool) → cond w true true ≡ true
+    any_access true = refl
+    any_access false = refl
 
 bound : {X : Type 0} (p : X → Bool) (xs : List X) (k : ℕ) → position p xs ≡ Some k → k < length xs
 bound p xs k is =

@@ -12,7 +12,7 @@ use Rattle.bank_candidates.specs.Candidates.{passes, entries, first_place}
 use Rattle.bank_candidates.specs.Moves.{earlier}
 use Rattle.bank_candidates.proofs.Positions.{position-cons, position-either}
 use Rattle.bank_candidates.proofs.Searches.{none_everywhere}
-use Rattle.fr_fcfs.specs.declared.kinds.Kinds.{Kinds}
+use Rattle.fr_fcfs.specs.declared.accesses.Accesses.{Accesses}
 use Rattle.fr_fcfs.specs.Offers.{going, is_of}
 
 zipped : (p q : Request → Bool) (P : Request → Type 0) (rs : List Request) (ms : List ℕ) → All P rs → ((r : Request) → P r → p r ≡ q r)
@@ -92,9 +92,9 @@ find_zipped p t (r ∷ rs) (m ∷ ms) =
     ∙ ap (option_and_then (slice_get (r ∷ rs))) (sym (position-cons (passes test) (r, m) (zip rs ms)))
 
 -- the first request among those that go that passes a test
-pub find_going : (p : Request → Bool) (kinds : Kinds) (rs : List Request)
-    → find p (going kinds rs) ≡ option_and_then (slice_get rs) (first_place (λ r. is_of kinds r && p r) rs)
-find_going p kinds rs = ap (λ xs. find p (filter (is_of kinds) xs)) (sym (marked_eligible rs)) ∙ find_zipped p (is_of kinds) rs (eligible_column rs)
+pub find_going : (p : Request → Bool) (accesses : Accesses) (rs : List Request)
+    → find p (going accesses rs) ≡ option_and_then (slice_get rs) (first_place (λ r. is_of accesses r && p r) rs)
+find_going p accesses rs = ap (λ xs. find p (filter (is_of accesses) xs)) (sym (marked_eligible rs)) ∙ find_zipped p (is_of accesses) rs (eligible_column rs)
 
 some_next : (b : Bool) (o : Option ℕ) → is_some (cond b (Some 0) (option_map suc o)) ≡ (b || is_some o)
 some_next true o = refl
@@ -119,8 +119,8 @@ any_zipped p t (r ∷ rs) (m ∷ ms) =
     ∙ ap is_some (sym (position-cons (passes test) (r, m) (zip rs ms)))
 
 -- whether some request among those that go passes a test
-pub any_going : (p : Request → Bool) (kinds : Kinds) (rs : List Request) → list_any p (going kinds rs) ≡ is_some (first_place (λ r. is_of kinds r && p r) rs)
-any_going p kinds rs = ap (λ xs. list_any p (filter (is_of kinds) xs)) (sym (marked_eligible rs)) ∙ any_zipped p (is_of kinds) rs (eligible_column rs)
+pub any_going : (p : Request → Bool) (accesses : Accesses) (rs : List Request) → list_any p (going accesses rs) ≡ is_some (first_place (λ r. is_of accesses r && p r) rs)
+any_going p accesses rs = ap (λ xs. list_any p (filter (is_of accesses) xs)) (sym (marked_eligible rs)) ∙ any_zipped p (is_of accesses) rs (eligible_column rs)
 
 -- whether some request of a kind may be served
 pub some_filtered : (t : Request → Bool) (rs : List Request) → is_some (first_place t rs) ≡ list_any (λ r. true) (filter t (first_of_lines rs))

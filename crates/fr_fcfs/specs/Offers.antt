@@ -1,8 +1,8 @@
 -- What banks offer for the candidates of their queues.
---     is_of kinds r      a request is of the kinds that go
+--     is_of accesses r      a request is of the accesses that go
 --     only write      requests to write go alone, or requests to read
---     hits_in s history requests kinds bank cycle      the place of the first ready row hit of a bank in a cycle
---     rows_in s history requests kinds bank cycle      the place of its first request for which an ACT or a PRE may be issued then
+--     hits_in s history requests accesses bank cycle      the place of the first ready row hit of a bank in a cycle
+--     rows_in s history requests accesses bank cycle      the place of its first request for which an ACT or a PRE may be issued then
 --     IsBest now hits rows offer      an offer is the first from now on
 --     IsBestSoFar room now hits rows offer      the same, where one with a place behind all others stands for none
 --     IsFirstReady s history queue now offer      an offer is what the first request of the queue needs that is ready
@@ -21,57 +21,57 @@ use Rattle.queue.specs.View.{QueueView}
 use Rattle.bank_candidates.specs.declared.entry.CandidatesOfBank.{CandidatesOfBank}
 use Rattle.bank_candidates.specs.Candidates.{first_place}
 use Rattle.bank_candidates.specs.Moves.{earlier}
-use Rattle.fr_fcfs.specs.declared.kinds.Kinds.{Kinds}
+use Rattle.fr_fcfs.specs.declared.accesses.Accesses.{Accesses}
 use Rattle.fr_fcfs.specs.declared.offers.Offer.{Offer}
 use Rattle.fr_fcfs.specs.Requests.{IsLegalFrom, candidates_of}
 
--- a request is of the kinds that go
-abbrev pub is_of : Kinds → Request → Bool
-is_of kinds r = if r.write then kinds.writes else kinds.reads
+-- a request is of the accesses that go
+abbrev pub is_of : Accesses → Request → Bool
+is_of accesses r = if r.write then accesses.writes else accesses.reads
 
 -- requests to write go alone, or requests to read
-abbrev pub only : Bool → Kinds
+abbrev pub only : Bool → Accesses
 only write = record { reads = not write; writes = write }
 
 -- all requests go
-abbrev pub all_kinds : Kinds
-all_kinds = record { reads = true; writes = true }
+abbrev pub all_accesses : Accesses
+all_accesses = record { reads = true; writes = true }
 
 -- the command that moves data
 abbrev pub column_kind : Bool → Kind
 column_kind write = if write then kind.Wr else kind.Rd
 
--- a candidate, if its kind goes
+-- a candidate, if its access goes
 abbrev pub if_allowed : Option ℕ → Bool → Option ℕ
 if_allowed candidate allowed = if allowed then candidate else None
 
--- the first row hit of a bank, of the kinds that go
-abbrev pub hit_candidate : Kinds → CandidatesOfBank → Option ℕ
-hit_candidate kinds bank_candidates = earlier (if_allowed bank_candidates.reads.hit kinds.reads) (if_allowed bank_candidates.writes.hit kinds.writes)
+-- the first row hit of a bank, of the accesses that go
+abbrev pub hit_candidate : Accesses → CandidatesOfBank → Option ℕ
+hit_candidate accesses bank_candidates = earlier (if_allowed bank_candidates.reads.hit accesses.reads) (if_allowed bank_candidates.writes.hit accesses.writes)
 
--- the first request of a bank, of the kinds that go
-abbrev pub oldest_candidate : Kinds → CandidatesOfBank → Option ℕ
-oldest_candidate kinds bank_candidates = earlier (if_allowed bank_candidates.reads.oldest kinds.reads) (if_allowed bank_candidates.writes.oldest kinds.writes)
+-- the first request of a bank, of the accesses that go
+abbrev pub oldest_candidate : Accesses → CandidatesOfBank → Option ℕ
+oldest_candidate accesses bank_candidates = earlier (if_allowed bank_candidates.reads.oldest accesses.reads) (if_allowed bank_candidates.writes.oldest accesses.writes)
 
--- the requests that may be served, of the kinds that go
-abbrev pub going : Kinds → List Request → List Request
-going kinds requests = filter (is_of kinds) (first_of_lines requests)
+-- the requests that may be served, of the accesses that go
+abbrev pub going : Accesses → List Request → List Request
+going accesses requests = filter (is_of accesses) (first_of_lines requests)
 
 -- a row hit of a bank that is ready in a cycle
-abbrev pub hits_now : Config → List IssuedCommand → Kinds → ℕ → Request → Bool
-hits_now s history kinds cycle r = is_of kinds r && ready_hit s history cycle r
+abbrev pub hits_now : Config → List IssuedCommand → Accesses → ℕ → Request → Bool
+hits_now s history accesses cycle r = is_of accesses r && ready_hit s history cycle r
 
 -- a request for which an ACT or a PRE may be issued in a cycle
-abbrev pub rows_now : Config → List IssuedCommand → List Request → Kinds → ℕ → Request → Bool
-rows_now s history requests kinds cycle r = is_of kinds r && ready_row s history cycle (going kinds requests) r
+abbrev pub rows_now : Config → List IssuedCommand → List Request → Accesses → ℕ → Request → Bool
+rows_now s history requests accesses cycle r = is_of accesses r && ready_row s history cycle (going accesses requests) r
 
 -- the place of the first row hit of a bank that is ready in a cycle
-abbrev pub hits_in : Config → List IssuedCommand → List Request → Kinds → ℕ → ℕ → Option ℕ
-hits_in s history requests kinds bank cycle = first_place (λ r. (bank_number r.place == bank) && hits_now s history kinds cycle r) requests
+abbrev pub hits_in : Config → List IssuedCommand → List Request → Accesses → ℕ → ℕ → Option ℕ
+hits_in s history requests accesses bank cycle = first_place (λ r. (bank_number r.place == bank) && hits_now s history accesses cycle r) requests
 
 -- the place of its first request for which an ACT or a PRE may be issued then
-abbrev pub rows_in : Config → List IssuedCommand → List Request → Kinds → ℕ → ℕ → Option ℕ
-rows_in s history requests kinds bank cycle = first_place (λ r. (bank_number r.place == bank) && rows_now s history requests kinds cycle r) requests
+abbrev pub rows_in : Config → List IssuedCommand → List Request → Accesses → ℕ → ℕ → Option ℕ
+rows_in s history requests accesses bank cycle = first_place (λ r. (bank_number r.place == bank) && rows_now s history requests accesses cycle r) requests
 
 -- a row hit is at this place, or there is none and the other is
 abbrev pub IsAt : Bool → Option ℕ → Option ℕ → ℕ → Type 0

@@ -1,7 +1,6 @@
 //! Whether the next command stays so when requests arrive.
 
-ghost use Rattle.std.specs.Prelude.{◌≡◌, ◌*◌, ◌<◌, ◌≤◌, ℕ, true, List, Option, All, IsTrue, take};
-ghost use Rattle.sim_base.specs.Places.{bank_in};
+ghost use Rattle.std.specs.Prelude.{◌≡◌, ◌*◌, ◌<◌, true, List, Option, All, IsTrue, take};
 ghost use Rattle.sim_base.specs.Rules.{kind_of, open_row};
 ghost use Rattle.sim_base.specs.Scheduling.{needed_at, is_column_command};
 ghost use Rattle.sim_base.specs.declared.config.Config.{Config};

@@ -1,6 +1,6 @@
 //! The command of the next cycle, and the first cycle with one.
 
-ghost use Rattle.std.specs.Prelude.{◌≡◌, ◌<◌, ◌≤◌, ◌*◌, ℕ, List, Option, Some, length, All, if◌then◌else◌, option_map, slice_get, is_some, IfSome};
+ghost use Rattle.std.specs.Prelude.{◌≡◌, ◌<◌, ◌≤◌, ◌*◌, ℕ, List, Option, Some, length, All, if◌then◌else◌, option_map, slice_get, IfSome};
 ghost use Rattle.sim_base.specs.Places.{bank_in};
 ghost use Rattle.sim_base.specs.Rules.{open_row};
 ghost use Rattle.sim_base.specs.Scheduling.{needed, first_ready, if_legal, refresh_command};

@@ -1,6 +1,6 @@
 //! The offer that goes first of all banks.
 
-ghost use Rattle.std.specs.Prelude.{◌≡◌, ◌<◌, ◌≤◌, ◌*◌, ℕ, true, false, ◌&&◌, List, Option, None, All, IsTrue, length, is_some, IfSome, if◌then◌else◌};
+ghost use Rattle.std.specs.Prelude.{◌≡◌, ◌<◌, ◌*◌, ℕ, true, false, ◌&&◌, List, Option, None, All, IsTrue, length, is_some, IfSome};
 ghost use Rattle.sim_base.specs.Rules.{open_row};
 ghost use Rattle.sim_base.specs.declared.config.Config.{Config};
 ghost use Rattle.sim_base.specs.declared.command.IssuedCommand.{IssuedCommand};
@@ -15,7 +15,7 @@ ghost use Rattle.bank_candidates.specs.Stands.{bank_count, candidates_of_bank, S
 ghost use Rattle.fr_fcfs.specs.Requests.{IsInBanks, candidates_of};
 ghost use Rattle.fr_fcfs.specs.Offers.{only, going, column_kind, if_allowed, hit_candidate, oldest_candidate, hits_now, rows_now, hits_in, rows_in, IsBestSoFar, IsFirstReady};
 
-use crate::kinds::Kinds;
+use crate::accesses::Accesses;
 use crate::offers::{Offer, improve, ready, row_kind};
 use bank_candidates::{BankCandidates, BankSet};
 use bank_ready::banks::Banks;
@@ -45,7 +45,7 @@ fn earlier(a: Option<usize>, b: Option<usize>) -> Option<usize>
     }
 }
 
-/// A candidate, if its kind goes.
+/// A candidate, if its access goes.
 #[inline(always)]
 fn if_allowed(candidate: Option<usize>, allowed: bool) -> Option<usize>
     ensures { result ≡ if_allowed candidate allowed }
@@ -53,7 +53,7 @@ fn if_allowed(candidate: Option<usize>, allowed: bool) -> Option<usize>
     if allowed { candidate } else { None }
 }
 
-/// Banks, if the kind that is asked of them goes.
+/// Banks, if the access that is asked of them goes.
 #[inline(always)]
 fn banks_if(banks: BankSet, allowed: bool) -> BankSet
     ensures { (k : ℕ) → is_in result k ≡ (allowed && is_in banks k) }
@@ -61,62 +61,68 @@ fn banks_if(banks: BankSet, allowed: bool) -> BankSet
     if allowed { banks } else { BankSet::none() }
 }
 
-/// The first request of a bank that may be served, of the kinds that go.
+/// The first request of a bank that may be served, of the accesses that go.
 #[inline(always)]
-fn oldest(bank_candidates: &BankCandidates, bank: usize, kinds: Kinds) -> Option<usize>
+fn oldest(bank_candidates: &BankCandidates, bank: usize, accesses: Accesses) -> Option<usize>
     requires { bank < bank_count bank_candidates.now }
-    ensures { (d : CandidatesOfBank) → result ≡ oldest_candidate kinds (candidates_of_bank bank_candidates.now bank d) }
+    ensures { (d : CandidatesOfBank) → result ≡ oldest_candidate accesses (candidates_of_bank bank_candidates.now bank d) }
 {
-    let read = if_allowed(bank_candidates.of_kind(bank, false).oldest, kinds.reads);
-    let write = if_allowed(bank_candidates.of_kind(bank, true).oldest, kinds.writes);
+    let read = if_allowed(
+        bank_candidates.of_access(bank, false).oldest,
+        accesses.reads,
+    );
+    let write = if_allowed(
+        bank_candidates.of_access(bank, true).oldest,
+        accesses.writes,
+    );
     earlier(read, write)
 }
 
-/// The banks for which a request of the kinds that go may be served.
+/// The banks for which a request of the accesses that go may be served.
 #[inline(always)]
-fn banks_with_candidate(bank_candidates: &BankCandidates, kinds: Kinds) -> BankSet
+fn banks_with_candidate(bank_candidates: &BankCandidates, accesses: Accesses) -> BankSet
     ensures within { (k : ℕ) → is_in result k ≡ true → k < bank_count bank_candidates.now }
-    ensures each { (k : ℕ) (d : CandidatesOfBank) → k < bank_count bank_candidates.now → is_in result k ≡ is_some (oldest_candidate kinds (candidates_of_bank bank_candidates.now k d)) }
+    ensures each { (k : ℕ) (d : CandidatesOfBank) → k < bank_count bank_candidates.now → is_in result k ≡ is_some (oldest_candidate accesses (candidates_of_bank bank_candidates.now k d)) }
 {
-    let reads = banks_if(bank_candidates.banks_with_candidate(false), kinds.reads);
-    let writes = banks_if(bank_candidates.banks_with_candidate(true), kinds.writes);
+    let reads = banks_if(bank_candidates.banks_with_candidate(false), accesses.reads);
+    let writes = banks_if(bank_candidates.banks_with_candidate(true), accesses.writes);
     reads.union(writes)
 }
 
-/// The banks whose open row a request of the kinds that go asks for.
+/// The banks whose open row a request of the accesses that go asks for.
 #[inline(always)]
-fn hit(bank_candidates: &BankCandidates, kinds: Kinds) -> BankSet
-    ensures { (k : ℕ) (d : CandidatesOfBank) → k < bank_count bank_candidates.now → is_in result k ≡ is_some (hit_candidate kinds (candidates_of_bank bank_candidates.now k d)) }
+fn hit(bank_candidates: &BankCandidates, accesses: Accesses) -> BankSet
+    ensures { (k : ℕ) (d : CandidatesOfBank) → k < bank_count bank_candidates.now → is_in result k ≡ is_some (hit_candidate accesses (candidates_of_bank bank_candidates.now k d)) }
 {
-    let reads = banks_if(bank_candidates.hit(false), kinds.reads);
-    let writes = banks_if(bank_candidates.hit(true), kinds.writes);
+    let reads = banks_if(bank_candidates.hit(false), accesses.reads);
+    let writes = banks_if(bank_candidates.hit(true), accesses.writes);
     reads.union(writes)
 }
 
-/// Takes what opens or closes the row of one bank more into the best offer so far. No request of the kinds that go asks for the open
+/// Takes what opens or closes the row of one bank more into the best offer so far. No request of the accesses that go asks for the open
 /// row. The request is looked for only where the command may be issued soon enough.
 #[inline(always)]
 fn with_row(
     best: &mut Offer,
     bank_candidates: &BankCandidates,
     bank: usize,
-    kinds: Kinds,
+    accesses: Accesses,
     banks: &Banks,
     now: Cycle,
 )
     requires bank_candidates { bank < bank_count bank_candidates.now }
     requires banks { bank < 16 * rank_count banks.now }
-    requires no_hit { (d : CandidatesOfBank) → is_some (hit_candidate kinds (candidates_of_bank bank_candidates.now bank d)) ≡ false }
+    requires no_hit { (d : CandidatesOfBank) → is_some (hit_candidate accesses (candidates_of_bank bank_candidates.now bank d)) ≡ false }
     ensures { (s : Config) (history : List IssuedCommand) (requests : List Request) (hits rows : ℕ → Option ℕ) → BanksStandFor banks.now s history
         → CandidatesStandFor bank_candidates.now requests (λ bank. open_row (bank_at bank) history) → All (IsInBanks (rank_count banks.now)) requests
         → IsBestSoFar (length requests) now hits rows best.old
-        → IsBestSoFar (length requests) now hits (λ cycle. earlier (rows cycle) (rows_in s history requests kinds bank cycle)) best.new }
+        → IsBestSoFar (length requests) now hits (λ cycle. earlier (rows cycle) (rows_in s history requests accesses bank cycle)) best.new }
 {
     let ready = ready(banks, bank, row_kind(bank_candidates.row_of(bank)));
     if best.cycle < ready {
         return;
     }
-    if let Some(slot) = oldest(bank_candidates, bank, kinds) {
+    if let Some(slot) = oldest(bank_candidates, bank, accesses) {
         improve(best, ready, false, slot, now);
     }
 }
@@ -142,7 +148,7 @@ fn with_hit(
     if best.cycle < ready {
         return;
     }
-    if let Some(slot) = bank_candidates.of_kind(bank, write).hit {
+    if let Some(slot) = bank_candidates.of_access(bank, write).hit {
         improve(best, ready, true, slot, now);
     }
 }
@@ -153,7 +159,7 @@ fn with_hit(
 fn with_rows(
     best: &mut Offer,
     bank_candidates: &BankCandidates,
-    kinds: Kinds,
+    accesses: Accesses,
     banks: &Banks,
     now: Cycle,
 )
@@ -161,11 +167,14 @@ fn with_rows(
     ensures { (s : Config) (history : List IssuedCommand) (requests : List Request) (hits : ℕ → Option ℕ) → BanksStandFor banks.now s history
         → CandidatesStandFor bank_candidates.now requests (λ bank. open_row (bank_at bank) history) → All (IsInBanks (rank_count banks.now)) requests
         → IsBestSoFar (length requests) now hits (λ cycle. None) best.old
-        → IsBestSoFar (length requests) now hits (λ cycle. first_place (rows_now s history requests kinds cycle) requests) best.new }
+        → IsBestSoFar (length requests) now hits (λ cycle. first_place (rows_now s history requests accesses cycle) requests) best.new }
 {
-    let mut rest = banks_with_candidate(bank_candidates, kinds).minus(hit(bank_candidates, kinds));
+    let mut rest = banks_with_candidate(bank_candidates, accesses).minus(hit(
+        bank_candidates,
+        accesses,
+    ));
     while let Some(bank) = rest.first() {
-        with_row(best, bank_candidates, bank, kinds, banks, now);
+        with_row(best, bank_candidates, bank, accesses, banks, now);
         rest = rest.without(bank);
     }
 }
@@ -223,7 +232,7 @@ fn with_hits(
 fn with_banks(
     best: &mut Offer,
     bank_candidates: &BankCandidates,
-    kinds: Kinds,
+    accesses: Accesses,
     banks: &Banks,
     now: Cycle,
 )
@@ -231,19 +240,19 @@ fn with_banks(
     ensures { (s : Config) (history : List IssuedCommand) (requests : List Request) → BanksStandFor banks.now s history
         → CandidatesStandFor bank_candidates.now requests (λ bank. open_row (bank_at bank) history) → All (IsInBanks (rank_count banks.now)) requests
         → IsBestSoFar (length requests) now (λ cycle. None) (λ cycle. None) best.old
-        → IsBestSoFar (length requests) now (λ cycle. first_place (hits_now s history kinds cycle) requests)
-        (λ cycle. first_place (rows_now s history requests kinds cycle) requests) best.new }
+        → IsBestSoFar (length requests) now (λ cycle. first_place (hits_now s history accesses cycle) requests)
+        (λ cycle. first_place (rows_now s history requests accesses cycle) requests) best.new }
 {
-    with_rows(best, bank_candidates, kinds, banks, now);
-    with_hits(best, bank_candidates, false, kinds.reads, banks, now);
-    with_hits(best, bank_candidates, true, kinds.writes, banks, now);
+    with_rows(best, bank_candidates, accesses, banks, now);
+    with_hits(best, bank_candidates, false, accesses.reads, banks, now);
+    with_hits(best, bank_candidates, true, accesses.writes, banks, now);
 }
 
-/// The offer that goes first of all banks, from now on, of the kinds that go.
+/// The offer that goes first of all banks, from now on, of the accesses that go.
 pub(crate) fn first_of(
     queue: &Queue,
     bank_candidates: &BankCandidates,
-    kinds: Kinds,
+    accesses: Accesses,
     banks: &Banks,
     now: Cycle,
 ) -> Option<Offer>
@@ -251,7 +260,7 @@ pub(crate) fn first_of(
     requires banks { bank_count bank_candidates.now ≡ 16 * rank_count banks.now }
     ensures within { IfSome result (λ o. o.slot < length queue.now.requests) }
     ensures first { (s : Config) (history : List IssuedCommand) → BanksStandFor banks.now s history
-        → CandidatesStandFor bank_candidates.now queue.now.requests (λ bank. open_row (bank_at bank) history) → candidates_of s queue.now ≡ going kinds queue.now.requests
+        → CandidatesStandFor bank_candidates.now queue.now.requests (λ bank. open_row (bank_at bank) history) → candidates_of s queue.now ≡ going accesses queue.now.requests
         → IsFirstReady s history queue.now now result }
 {
     let room = queue.len();
@@ -260,6 +269,6 @@ pub(crate) fn first_of(
         hit: false,
         slot: room,
     };
-    with_banks(&mut best, bank_candidates, kinds, banks, now);
+    with_banks(&mut best, bank_candidates, accesses, banks, now);
     if best.slot < room { Some(best) } else { None }
 }

@@ -2,11 +2,10 @@
 
 ghost use Rattle.std.specs.Prelude.{◌≡◌, ◌+◌, ◌*◌, ◌<◌, ◌≤◌, List, false, true};
 ghost use Rattle.sim_base.specs.Places.{bank_in};
-ghost use Rattle.sim_base.specs.Rules.{kind_of, bank_of, is_open, has_open_bank_in_group, has_open_bank};
+ghost use Rattle.sim_base.specs.Rules.{is_open, has_open_bank_in_group, has_open_bank};
 ghost use Rattle.sim_base.specs.Scheduling.{column_command, needed, is_column_command, refresh_command};
 ghost use Rattle.sim_base.specs.declared.config.Config.{Config};
 ghost use Rattle.sim_base.specs.declared.command.IssuedCommand.{IssuedCommand};
-ghost use Rattle.bank_ready.specs.Words.{names_bank, names_rank};
 ghost use Rattle.bank_ready.specs.Stands.{rank_count, StandsFor};
 ghost use Rattle.bank_candidates.specs.Stands.{bank_count, IsAmong};
 ghost use Rattle.fr_fcfs.specs.Requests.{KnowsRows, IsLegalFrom};

@@ -1,6 +1,6 @@
 //! What requests offer: from which cycle on what they need may be issued.
 
-ghost use Rattle.std.specs.Prelude.{◌≡◌, ◌<◌, ◌*◌, ℕ, List, Option, All, IsTrue, length, IfSome, if◌then◌else◌};
+ghost use Rattle.std.specs.Prelude.{◌≡◌, ◌<◌, ◌*◌, List, Option, All, IsTrue, length, IfSome, if◌then◌else◌};
 ghost use Rattle.sim_base.specs.Rules.{open_row};
 ghost use Rattle.sim_base.specs.declared.config.Config.{Config};
 ghost use Rattle.sim_base.specs.declared.command.IssuedCommand.{IssuedCommand};
@@ -11,8 +11,8 @@ ghost use Rattle.bank_candidates.specs.Stands.{bank_count, StandsFor as Candidat
 ghost use Rattle.fr_fcfs.specs.Requests.{IsInBanks};
 ghost use Rattle.fr_fcfs.specs.Offers.{goes_before, offer_from, IsReadyFrom, IsFirstReady, row_kind};
 
+use crate::accesses::accesses_that_go;
 use crate::first::first_of;
-use crate::kinds::kinds_that_go;
 use bank_candidates::BankCandidates;
 use bank_ready::banks::Banks;
 use queue::Queue;
@@ -100,7 +100,7 @@ pub(crate) fn first_offer(
     first_of(
         queue,
         bank_candidates,
-        kinds_that_go(queue, bank_candidates),
+        accesses_that_go(queue, bank_candidates),
         banks,
         now,
     )

@@ -33,7 +33,7 @@ record Late (s : Config) (traces : List (List Entry)) (k j m begin start old : �
   pub rank : j < s.ranks
   pub refreshed_at_all : 0 < s.timing.n_refi
   pub quotient : (t : ℕ) → begin ≤ t → t < start + s.timing.n_rp + 1 → t / s.timing.n_refi ≡ m
-  pub turn : (i t : ℕ) → i < j → start ≤ t → m ≤ refreshed s traces k i t
+  pub ranks_before : (i t : ℕ) → i < j → start ≤ t → m ≤ refreshed s traces k i t
   pub late : refreshed s traces k j (start + s.timing.n_rp + 1) < m
   pub before : m ≤ refreshed s traces k j old + 1
   pub spaced : old + s.timing.n_rfc ≤ begin
@@ -161,7 +161,7 @@ module _ (s : Config) (traces : List (List Entry)) (k j m begin start old : ℕ)
       go (inl c) =
           let d = due-more s (past t) i t (ltb-true _ _ (lowest-due s traces k t i e)) in
           let f = h.quotient t (let g = late-start in omega arith) b in
-          let g = h.turn i t c a in
+          let g = h.ranks_before i t c a in
           absurd (omega arith)
       go (inr c) = omega arith
 
@@ -214,7 +214,7 @@ module _ (s : Config) (traces : List (List Entry)) (k j m begin start old : ℕ)
       (subst (λ u. Each (λ (i : IssuedCommand). IsOldAs begin i.cycle i.command) (past u)) e (old-commands (t - begin) (omega arith)))
       (subst (λ u. Each (λ (i : IssuedCommand). IsRefreshedAs j old i.cycle i.command) (past u)) f (old-refreshes (t - old) (omega arith)))
 
-  -- when its turn comes, its banks can be closed
+  -- when it is due, its banks can be closed
   can-close : is_legal s (past start) start (Prea j) ≡ true
   can-close =
       let a = late-start in
@@ -305,84 +305,84 @@ module _ (s : Config) (traces : List (List Entry)) (k j m begin start old : ℕ)
       let a = late-start in
       no-refresh t (omega arith) (omega arith) (ap (test_in (refreshes j)) refreshes-now ∙ eq-eqb j j refl)
 
--- so a rank whose turn comes at a cycle is refreshed by nRP after it
-refreshed-turn : (s : Config) (traces : List (List Entry)) (k j m begin start old : ℕ) → k < s.channels → j < s.ranks → 0 < s.timing.n_refi
+-- so a rank that is due at a cycle is refreshed by nRP after it
+refreshed-from : (s : Config) (traces : List (List Entry)) (k j m begin start old : ℕ) → k < s.channels → j < s.ranks → 0 < s.timing.n_refi
     → ((t : ℕ) → begin ≤ t → t < start + s.timing.n_rp + 1 → t / s.timing.n_refi ≡ m) → ((i t : ℕ) → i < j → start ≤ t → m ≤ refreshed s traces k i t)
     → m ≤ refreshed s traces k j old + 1 → old + s.timing.n_rfc ≤ begin → begin + close_wait s.timing ≤ start + 1
     → m ≤ refreshed s traces k j (start + s.timing.n_rp + 1)
-refreshed-turn s traces k j m begin start old l b some quotient turn before spaced closing = go (cases_lt (refreshed s traces k j (start + s.timing.n_rp + 1)) m)
+refreshed-from s traces k j m begin start old l b some quotient ranks_before before spaced closing = go (cases_lt (refreshed s traces k j (start + s.timing.n_rp + 1)) m)
   where
     go : (refreshed s traces k j (start + s.timing.n_rp + 1) < m) ⊎ (m ≤ refreshed s traces k j (start + s.timing.n_rp + 1)) → m ≤ refreshed s traces k j (start + s.timing.n_rp + 1)
     go (inl late) =
         absurd (not_late s traces k j m begin start old
-        (record { channel = l; rank = b; refreshed_at_all = some; quotient = quotient; turn = turn; late = late; before = before; spaced = spaced; closing = closing }))
+        (record { channel = l; rank = b; refreshed_at_all = some; quotient = quotient; ranks_before = ranks_before; late = late; before = before; spaced = spaced; closing = closing }))
     go (inr h) = h
 
--- the cycle at which the turn of a rank comes
-turn_of : Config → ℕ → ℕ → ℕ
-turn_of s first j = first + j * (s.timing.n_rp + 1)
+-- the cycle at which a rank is due, where the ranks before it were refreshed one after the other
+refresh_of : Config → ℕ → ℕ → ℕ
+refresh_of s first j = first + j * (s.timing.n_rp + 1)
 
-next_turn : (s : Config) (first j : ℕ) → turn_of s first j + s.timing.n_rp + 1 ≡ turn_of s first (suc j)
-unfolding turn_of
-next_turn s first j = omega arith
+next_refresh : (s : Config) (first j : ℕ) → refresh_of s first j + s.timing.n_rp + 1 ≡ refresh_of s first (suc j)
+unfolding refresh_of
+next_refresh s first j = omega arith
 
--- the turns of all ranks are over by the slack
-last_turn : (s : Config) (m first : ℕ) → first + 1 ≡ m * s.timing.n_refi + close_wait s.timing → turn_of s first s.ranks ≤ m * s.timing.n_refi + refresh_slack s
-unfolding turn_of
-last_turn s m first e =
+-- the refreshes of all ranks are over by the slack
+last_refresh : (s : Config) (m first : ℕ) → first + 1 ≡ m * s.timing.n_refi + close_wait s.timing → refresh_of s first s.ranks ≤ m * s.timing.n_refi + refresh_slack s
+unfolding refresh_of
+last_refresh s m first e =
     let a = s.memory_in_range.ranks_in.0 in
     let r : s.ranks ≡ suc (s.ranks - 1) = omega arith in
     let b : s.ranks * (s.timing.n_rp + 1) ≡ suc (s.ranks - 1) * (s.timing.n_rp + 1) = ap (λ x. x * (s.timing.n_rp + 1)) r in
     omega arith
 
-turns-end : (s : Config) (m first j : ℕ) → j < s.ranks → first + 1 ≡ m * s.timing.n_refi + close_wait s.timing → turn_of s first j + s.timing.n_rp + 1 ≤ m * s.timing.n_refi + refresh_slack s
-unfolding turn_of
-turns-end s m first j l e =
+refreshes-end : (s : Config) (m first j : ℕ) → j < s.ranks → first + 1 ≡ m * s.timing.n_refi + close_wait s.timing → refresh_of s first j + s.timing.n_rp + 1 ≤ m * s.timing.n_refi + refresh_slack s
+unfolding refresh_of
+refreshes-end s m first j l e =
     let a : j * (s.timing.n_rp + 1) ≤ (s.ranks - 1) * (s.timing.n_rp + 1) = mul-le-mul_right (s.timing.n_rp + 1) (omega arith) in
     omega arith
 
--- the intervals that have passed by the turn of a rank
+-- the intervals that have passed by the refresh of a rank
 quotient_at : (s : Config) (m first j t : ℕ) → j < s.ranks → 0 < s.timing.n_refi → first + 1 ≡ m * s.timing.n_refi + close_wait s.timing
-    → m * s.timing.n_refi ≤ t → t < turn_of s first j + s.timing.n_rp + 1 → t / s.timing.n_refi ≡ m
+    → m * s.timing.n_refi ≤ t → t < refresh_of s first j + s.timing.n_rp + 1 → t / s.timing.n_refi ≡ m
 quotient_at s m first j t l some e a b =
-    let c = turns-end s m first j l e in
+    let c = refreshes-end s m first j l e in
     let d = s.refresh_fits some in
     div-eq_of_lt-le s.timing.n_refi a (omega arith)
 
 -- ranks are refreshed in their order
-one_turn : (s : Config) (traces : List (List Entry)) (k m first : ℕ) → k < s.channels → 0 < s.timing.n_refi → first + 1 ≡ suc m * s.timing.n_refi + close_wait s.timing
+one_rank : (s : Config) (traces : List (List Entry)) (k m first : ℕ) → k < s.channels → 0 < s.timing.n_refi → first + 1 ≡ suc m * s.timing.n_refi + close_wait s.timing
     → ((j : ℕ) → j < s.ranks → m ≤ refreshed s traces k j (m * s.timing.n_refi + refresh_slack s))
-    → (j : ℕ) → j < s.ranks → ((i : ℕ) → i < j → suc m ≤ refreshed s traces k i (turn_of s first j)) → suc m ≤ refreshed s traces k j (turn_of s first j + s.timing.n_rp + 1)
-unfolding turn_of
-one_turn s traces k m first l some e before j h rest =
-    refreshed-turn s traces k j (suc m) (suc m * s.timing.n_refi) (turn_of s first j) (m * s.timing.n_refi + refresh_slack s) l h some
+    → (j : ℕ) → j < s.ranks → ((i : ℕ) → i < j → suc m ≤ refreshed s traces k i (refresh_of s first j)) → suc m ≤ refreshed s traces k j (refresh_of s first j + s.timing.n_rp + 1)
+unfolding refresh_of
+one_rank s traces k m first l some e before j h rest =
+    refreshed-from s traces k j (suc m) (suc m * s.timing.n_refi) (refresh_of s first j) (m * s.timing.n_refi + refresh_slack s) l h some
     (λ t a b. quotient_at s (suc m) first j t h some e a b)
-    (λ i t a b. let c = refreshed-by s traces k i (turn_of s first j) t l b in let d = rest i a in omega arith)
+    (λ i t a b. let c = refreshed-by s traces k i (refresh_of s first j) t l b in let d = rest i a in omega arith)
     (let b = before j h in omega arith)
     (let d = s.refresh_fits some in omega arith)
     (omega arith)
 
-in_turn : (s : Config) (traces : List (List Entry)) (k m first : ℕ) → k < s.channels → 0 < s.timing.n_refi → first + 1 ≡ suc m * s.timing.n_refi + close_wait s.timing
+rank_by_rank : (s : Config) (traces : List (List Entry)) (k m first : ℕ) → k < s.channels → 0 < s.timing.n_refi → first + 1 ≡ suc m * s.timing.n_refi + close_wait s.timing
     → ((j : ℕ) → j < s.ranks → m ≤ refreshed s traces k j (m * s.timing.n_refi + refresh_slack s))
-    → (j : ℕ) → j ≤ s.ranks → (i : ℕ) → i < j → suc m ≤ refreshed s traces k i (turn_of s first j)
-in_turn s traces k m first l some e before zero h = λ i b. absurd (omega arith)
-in_turn s traces k m first l some e before (suc j) h = more (in_turn s traces k m first l some e before j (omega arith))
+    → (j : ℕ) → j ≤ s.ranks → (i : ℕ) → i < j → suc m ≤ refreshed s traces k i (refresh_of s first j)
+rank_by_rank s traces k m first l some e before zero h = λ i b. absurd (omega arith)
+rank_by_rank s traces k m first l some e before (suc j) h = more (rank_by_rank s traces k m first l some e before j (omega arith))
   where
-    later : turn_of s first j + s.timing.n_rp + 1 ≡ turn_of s first (suc j)
-    later = next_turn s first j
+    later : refresh_of s first j + s.timing.n_rp + 1 ≡ refresh_of s first (suc j)
+    later = next_refresh s first j
 
-    more : ((i : ℕ) → i < j → suc m ≤ refreshed s traces k i (turn_of s first j)) → (i : ℕ) → i < suc j → suc m ≤ refreshed s traces k i (turn_of s first (suc j))
+    more : ((i : ℕ) → i < j → suc m ≤ refreshed s traces k i (refresh_of s first j)) → (i : ℕ) → i < suc j → suc m ≤ refreshed s traces k i (refresh_of s first (suc j))
     more rest i b = go (cases_lt i j)
       where
-        go : (i < j) ⊎ (j ≤ i) → suc m ≤ refreshed s traces k i (turn_of s first (suc j))
+        go : (i < j) ⊎ (j ≤ i) → suc m ≤ refreshed s traces k i (refresh_of s first (suc j))
         go (inl c) =
-            let d = refreshed-by s traces k i (turn_of s first j) (turn_of s first (suc j)) l (omega (arith, later)) in
+            let d = refreshed-by s traces k i (refresh_of s first j) (refresh_of s first (suc j)) l (omega (arith, later)) in
             let f = rest i c in
             omega arith
         go (inr c) =
             let f : j ≡ i = omega arith in
-            subst (λ x. suc m ≤ refreshed s traces k x (turn_of s first (suc j))) f
-            (subst (λ t. suc m ≤ refreshed s traces k j t) later (one_turn s traces k m first l some e before j h rest))
+            subst (λ x. suc m ≤ refreshed s traces k x (refresh_of s first (suc j))) f
+            (subst (λ t. suc m ≤ refreshed s traces k j t) later (one_rank s traces k m first l some e before j h rest))
 
 -- each rank has had m refreshes by the slack after the end of interval m
 pub refreshed_in_time : (s : Config) (traces : List (List Entry)) (k : ℕ) → k < s.channels → 0 < s.timing.n_refi → (m j : ℕ) → j < s.ranks
@@ -393,9 +393,9 @@ refreshed_in_time s traces k l some (suc m) j h =
     let r = s.timing_in_range.n_ras.0 in
     let first = suc m * s.timing.n_refi + wait - 1 in
     let e : first + 1 ≡ suc m * s.timing.n_refi + wait = omega arith in
-    let a : suc m ≤ refreshed s traces k j (turn_of s first s.ranks) = in_turn s traces k m first l some e (refreshed_in_time s traces k l some m) s.ranks (omega arith) j h in
-    let c = last_turn s (suc m) first e in
-    let b = refreshed-by s traces k j (turn_of s first s.ranks) (suc m * s.timing.n_refi + refresh_slack s) l c in
+    let a : suc m ≤ refreshed s traces k j (refresh_of s first s.ranks) = rank_by_rank s traces k m first l some e (refreshed_in_time s traces k l some m) s.ranks (omega arith) j h in
+    let c = last_refresh s (suc m) first e in
+    let b = refreshed-by s traces k j (refresh_of s first s.ranks) (suc m * s.timing.n_refi + refresh_slack s) l c in
     omega arith
 
 refreshes_by-end : (s : Config) (traces : List (List Entry)) (n k j t : ℕ) → k < s.channels → t < n → refreshes_by s traces n k j t ≡ refreshed s traces k j (suc t)

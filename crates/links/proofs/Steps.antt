@@ -270,9 +270,9 @@ head_due from until first (m ∷ ms) s h l =
     due_at_head from until (m ∷ ms) sorted (all_late from m ms sorted (omega arith))
 
 -- ---- turning a ring over
-pub turned : (p : Message → Bool) (i : ℕ) (xs : List Message) → i < length xs
+pub passed_over : (p : Message → Bool) (i : ℕ) (xs : List Message) → i < length xs
     → drop 1 (drop i xs ++ filter p (take i xs)) ++ filter p (take 1 (drop i xs ++ filter p (take i xs))) ≡ drop (i + 1) xs ++ filter p (take (i + 1) xs)
-turned p i xs l = by_case i xs l (filter p (take i xs)) ∙ ap (λ z. drop (i + 1) xs ++ z) (rest i xs l)
+passed_over p i xs l = by_case i xs l (filter p (take i xs)) ∙ ap (λ z. drop (i + 1) xs ++ z) (rest i xs l)
   where
     by_case : (i : ℕ) (xs : List Message) → i < length xs → (done : List Message)
         → drop 1 (drop i xs ++ done) ++ filter p (take 1 (drop i xs ++ done)) ≡ drop (i + 1) xs ++ (done ++ filter p (take 1 (drop i xs)))

@@ -1,6 +1,6 @@
 //! The messages in flight.
 
-ghost use Rattle.std.specs.Prelude.{◌≡◌, ℕ, if◌then◌else◌, slice_index_or, ◌+◌, ◌<◌, ◌^◌, nat_lt, nat_le, ◌≤◌, [], length, filter, fold, List, not, ◌==◌, slice_get, true, false, All, Any, ◌↔◌, IsTrue, IsNone, IfSome, IfOk, OnOk, OnErr, IsOkAnd};
+ghost use Rattle.std.specs.Prelude.{◌≡◌, ℕ, if◌then◌else◌, slice_index_or, ◌+◌, ◌<◌, ◌^◌, ◌≤◌, [], length, filter, fold, List, not, ◌==◌, slice_get, true, false, All, Any, ◌↔◌, IsTrue, IsNone, IfSome, IfOk, OnOk, OnErr, IsOkAnd};
 ghost use Rattle.std.specs.List.{list_all};
 ghost use Rattle.std.specs.List.Sorted.{IsPermutation};
 ghost use Rattle.std.specs.Option.{option_map};

@@ -162,7 +162,7 @@ pub fn copy_due(
 }
 
 /// Moves the first message to the back, or takes it out, where it arrives within a span.
-fn turn(ring: &mut Ring, from: Cycle, until: Cycle)
+fn pass_over(ring: &mut Ring, from: Cycle, until: Cycle)
     requires { length ring.old.items ≤ ring.old.capacity }
     ensures items { ring.new.items ≡ drop 1 ring.old.items ++ filter (arrives_outside from until) (take 1 ring.old.items) }
     ensures within { length ring.new.items ≤ ring.new.capacity }
@@ -182,7 +182,7 @@ pub fn drop_within(ring: &mut Ring, from: Cycle, until: Cycle)
     ensures capacity { ring.new.capacity ≡ ring.old.capacity }
 {
     for _ in 0..ring.len() {
-        turn(ring, from, until);
+        pass_over(ring, from, until);
     }
 }
 

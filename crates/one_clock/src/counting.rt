@@ -2,7 +2,7 @@
 
 ghost use Rattle.std.specs.Prelude.{◌≡◌, ◌+◌, ◌<◌, ◌≤◌, ◌^◌, length, count_by, slice_get, is_some, Some, None, nat_lt, nat_le, ◌&&◌, if◌then◌else◌, IfOk};
 ghost use Rattle.std.specs.List.{list_any};
-ghost use Rattle.sim_base.specs.Counts.{replied_entry, issue_cycle, wait_of, is_stop, source_in, is_act_for, is_hit_of, is_hit};
+ghost use Rattle.sim_base.specs.Counts.{replied_entry, issue_cycle, wait_of, is_stop, is_act_for, is_hit_of, is_hit};
 ghost use Rattle.sim_base.specs.History.{below, retired_before, issued_before};
 ghost use Rattle.sim_base.specs.Scheduling.{lowest_due};
 ghost use Rattle.statistics.specs.Counts.{one_if};

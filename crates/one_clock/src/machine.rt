@@ -13,7 +13,7 @@ ghost use Rattle.laws.specs.Refreshes.{RefreshesAreInTime};
 ghost use Rattle.laws.specs.Tables.{IsOrdered, IsLegalTable, IsRefreshedTable};
 ghost use Rattle.one_clock.specs.Kept.{SharesDataBus, IsRefreshedInTime, QueuesFit};
 ghost use Rattle.one_clock.specs.Steps.{core_step_of};
-ghost use Rattle.one_clock.specs.Held.{HoldsRun};
+ghost use Rattle.one_clock.specs.Held.{HoldsRun, IsCycleOf};
 
 use crate::sending::{self, trace_of_core};
 use crate::state::{ChannelPast, CorePast, issued_command, push_command};
@@ -44,6 +44,15 @@ pub struct Machine {
     pub channel_counts: Vec<ChannelStats>,
     pub commands: Vec<IssuedCommand>,
     pub flight: Vec<Message>,
+}
+
+/// What all units do in one cycle: each core, with why it stops and without, and each channel; and the messages that they send.
+#[derive(Clone, Copy)]
+struct MachineCycle<'a> {
+    core_steps: &'a [(CoreStep, Stop)],
+    past_steps: &'a [CoreStep],
+    channel_steps: &'a [ChannelStep],
+    fresh: &'a [Message],
 }
 
 #[tactic(auto, unfolding(crate::specs::Steps::core_step_of, sim_base::specs::History::messages_of_core), using(crate::proofs::Next::length_steps))]
@@ -522,20 +531,20 @@ impl Machine {
         s: &Config,
         traces: &[Trace],
         cycle: u64,
-        core_steps: &[(CoreStep, Stop)],
-        past_steps: &[CoreStep],
-        steps: &[ChannelStep],
-        fresh: &[Message],
+        all: &MachineCycle<'_>,
     ) -> Result<(), AllocError>
         requires traces { length traces.now ≡ s.now.cores }
         requires early { cycle ≤ 10 ^ 12 }
-        requires core_steps { core_steps.now ≡ map (core_step_of s.now traces.now (run s.now traces.now cycle)) (below s.now.cores) }
-        requires past_steps { past_steps.now ≡ map (next_core_step s.now traces.now (run s.now traces.now cycle)) (below s.now.cores) }
-        requires steps { steps.now ≡ map (channel_step_of s.now traces.now (run s.now traces.now cycle)) (below s.now.channels) }
-        requires fresh { fresh.now ≡ sends s.now traces.now (run s.now traces.now cycle) (next_step s.now traces.now (run s.now traces.now cycle)) }
+        requires all { IsCycleOf s.now traces.now cycle all.now }
         requires machine { HoldsRun s.now traces.now cycle self.old }
         ensures { OnOk result (HoldsRun s.now traces.now (cycle + 1) self.new) }
     {
+        let MachineCycle {
+            core_steps,
+            past_steps,
+            channel_steps,
+            fresh,
+        } = *all;
         count_cores(
             alloc,
             s,
@@ -551,12 +560,20 @@ impl Machine {
             traces,
             cycle,
             &self.channels,
-            steps,
+            channel_steps,
             &mut self.channel_counts,
         )?;
         note_cores(alloc, s, traces, cycle, past_steps, fresh, &mut self.cores)?;
-        note_channels(alloc, s, traces, cycle, steps, fresh, &mut self.channels)?;
-        note_commands(s, traces, cycle, steps, &mut self.commands)?;
+        note_channels(
+            alloc,
+            s,
+            traces,
+            cycle,
+            channel_steps,
+            fresh,
+            &mut self.channels,
+        )?;
+        note_commands(s, traces, cycle, channel_steps, &mut self.commands)?;
         note_flight(alloc, s, traces, cycle, fresh, &mut self.flight)
     }
 
@@ -579,16 +596,13 @@ impl Machine {
         let past_steps = steps_of_cores(alloc, s, traces, cycle, &core_steps)?;
         let steps = next_steps_of_channels(alloc, s, gaps, traces, cycle, &self.channels)?;
         let fresh = sending::all_sends(alloc, s, traces, cycle, &self.cores, &past_steps, &steps)?;
-        self.note(
-            alloc,
-            s,
-            traces,
-            cycle,
-            &core_steps,
-            &past_steps,
-            &steps,
-            &fresh,
-        )
+        let all = MachineCycle {
+            core_steps: &core_steps,
+            past_steps: &past_steps,
+            channel_steps: &steps,
+            fresh: &fresh,
+        };
+        self.note(alloc, s, traces, cycle, &all)
     }
 
     /// What the run leaves, where it ends after so many cycles.

@@ -1,6 +1,6 @@
 //! The cycles that a timeline shows.
 
-ghost use Rattle.std.specs.Prelude.{◌≡◌, ◌<◌, ◌≤◌, ◌+◌, ◌^◌, ◌↔◌, min, IsTrue};
+ghost use Rattle.std.specs.Prelude.{◌≡◌, ◌+◌, min};
 
 /// So many cycles, from a cycle on.
 #[derive(Clone, Copy, PartialEq, Eq, Debug)]

@@ -340,93 +340,72 @@ fn meets_memory_entry(trace: &Trace, first: u64, m: u16) -> bool
     is_memory_number(trace, first + u64::from(m)) && has_memory_entry(trace, first, m)
 }
 
-/// Why the core issues no entry more after m in this cycle.
-#[tactic(auto, unfolding(sim_base::specs::Windows::stop_after))]
-fn stop_cause(
-    s: &Config,
+/// What a core issues from in a cycle: its trace, of which `first` entries were issued before the cycle and `gone` are retired by
+/// its end, the messages that were sent to it, and the requests that it sent.
+#[derive(Clone, Copy)]
+struct IssueStage<'a> {
+    config: &'a Config,
     core: CoreId,
-    trace: &Trace,
-    inbox: &[Message],
-    sent: &[Message],
-    now: usize,
+    trace: &'a Trace,
+    inbox: &'a [Message],
+    sent: &'a [Message],
+    cycle: usize,
     first: u64,
     gone: u64,
-    m: u16,
-) -> Option<Stop>
-    requires early { now < 2 ^ 41 }
-    requires first_fits { first < 2 ^ 63 }
-    ensures { result ≡ stop_after s.now core trace.now inbox.now sent.now now first gone m }
-{
-    let next = first + u64::from(m);
-    let entry = entry_of(trace, next);
-    if next == trace.len() {
-        Some(Stop::End)
-    } else if m == s.width {
-        Some(Stop::Width)
-    } else if next.saturating_sub(gone) == u64::from(s.window) {
-        Some(Stop::Window)
-    } else if meets_memory_entry(trace, first, m) {
-        Some(Stop::Memory)
-    } else if is_out_of_credit(s, core, inbox, sent, now, entry) {
-        Some(Stop::Credit)
-    } else {
-        None
+    ghost early: { cycle < 2 ^ 41 },
+    ghost first_fits: { first < 2 ^ 63 },
+}
+
+impl IssueStage<'_> {
+    /// Why the core issues no entry more after m in this cycle.
+    #[tactic(auto, unfolding(sim_base::specs::Windows::stop_after))]
+    fn stop_cause(&self, m: u16) -> Option<Stop>
+        ensures { let i = self.now in result ≡ stop_after i.config.now i.core i.trace.now i.inbox.now i.sent.now i.cycle i.first i.gone m }
+    {
+        let next = self.first + u64::from(m);
+        let entry = entry_of(self.trace, next);
+        if next == self.trace.len() {
+            Some(Stop::End)
+        } else if m == self.config.width {
+            Some(Stop::Width)
+        } else if next.saturating_sub(self.gone) == u64::from(self.config.window) {
+            Some(Stop::Window)
+        } else if meets_memory_entry(self.trace, self.first, m) {
+            Some(Stop::Memory)
+        } else if is_out_of_credit(
+            self.config,
+            self.core,
+            self.inbox,
+            self.sent,
+            self.cycle,
+            entry,
+        ) {
+            Some(Stop::Credit)
+        } else {
+            None
+        }
     }
-}
 
-#[tactic(auto, unfolding(sim_base::specs::Windows::has_cause))]
-fn has_stop_cause(
-    s: &Config,
-    core: CoreId,
-    trace: &Trace,
-    inbox: &[Message],
-    sent: &[Message],
-    now: usize,
-    first: u64,
-    gone: u64,
-    m: u16,
-) -> bool
-    requires early { now < 2 ^ 41 }
-    requires first_fits { first < 2 ^ 63 }
-    ensures { result ≡ has_cause s.now core trace.now inbox.now sent.now now first gone m }
-{
-    stop_cause(s, core, trace, inbox, sent, now, first, gone, m).is_some()
-}
+    #[tactic(auto, unfolding(sim_base::specs::Windows::has_cause))]
+    fn has_stop_cause(&self, m: u16) -> bool
+        ensures { let i = self.now in result ≡ has_cause i.config.now i.core i.trace.now i.inbox.now i.sent.now i.cycle i.first i.gone m }
+    {
+        self.stop_cause(m).is_some()
+    }
 
-fn first_cause(
-    s: &Config,
-    core: CoreId,
-    trace: &Trace,
-    inbox: &[Message],
-    sent: &[Message],
-    now: usize,
-    first: u64,
-    gone: u64,
-) -> Option<u16>
-    requires early { now < 2 ^ 41 }
-    requires first_fits { first < 2 ^ 63 }
-    ensures { result ≡ find (has_cause s.now core trace.now inbox.now sent.now now first gone) (below (s.now.width + 1)) }
-{
-    (0..s.width + 1).find(|m| has_stop_cause(s, core, trace, inbox, sent, now, first, gone, *m))
-}
+    fn first_cause(&self) -> Option<u16>
+        ensures { let i = self.now in result ≡ find (has_cause i.config.now i.core i.trace.now i.inbox.now i.sent.now i.cycle i.first i.gone) (below (i.config.now.width + 1)) }
+    {
+        (0..self.config.width + 1).find(|m| self.has_stop_cause(*m))
+    }
 
-/// The least count of entries at which there is a cause to stop.
-#[tactic(auto, unfolding(sim_base::specs::Windows::first_stop))]
-fn issue_count(
-    s: &Config,
-    core: CoreId,
-    trace: &Trace,
-    inbox: &[Message],
-    sent: &[Message],
-    now: usize,
-    first: u64,
-    gone: u64,
-) -> u16
-    requires early { now < 2 ^ 41 }
-    requires first_fits { first < 2 ^ 63 }
-    ensures { result ≡ first_stop s.now core trace.now inbox.now sent.now now first gone }
-{
-    first_cause(s, core, trace, inbox, sent, now, first, gone).unwrap_or(s.width)
+    /// The least count of entries at which there is a cause to stop.
+    #[tactic(auto, unfolding(sim_base::specs::Windows::first_stop))]
+    fn issue_count(&self) -> u16
+        ensures { let i = self.now in result ≡ first_stop i.config.now i.core i.trace.now i.inbox.now i.sent.now i.cycle i.first i.gone }
+    {
+        self.first_cause().unwrap_or(self.config.width)
+    }
 }
 
 fn step_from(retired: u16, m: u16, why: Option<Stop>) -> (CoreStep, Stop)
@@ -449,11 +428,17 @@ pub fn core_step(
     requires sent { sent.now ≡ core_messages s.now core trace.now past_steps.now }
     ensures { result ≡ step s.now core trace.now past_steps.now inbox.now }
 {
-    let now = past_steps.len();
     let retired = retire_count(s, trace, past_steps, inbox);
-    let first = issued_count(past_steps);
-    let gone = retired_count(past_steps) + u64::from(retired);
-    let m = issue_count(s, core, trace, inbox, sent, now, first, gone);
-    let why = stop_cause(s, core, trace, inbox, sent, now, first, gone, m);
-    step_from(retired, m, why)
+    let stage = IssueStage {
+        config: s,
+        core,
+        trace,
+        inbox,
+        sent,
+        cycle: past_steps.len(),
+        first: issued_count(past_steps),
+        gone: retired_count(past_steps) + u64::from(retired),
+    };
+    let m = stage.issue_count();
+    step_from(retired, m, stage.stop_cause(m))
 }

@@ -1,6 +1,6 @@
 //! What the program does, over files and streams that are handed in.
 
-ghost use Rattle.std.specs.Prelude.{◌≡◌, ◌≢◌, ◌<◌, ◌≤◌, ◌++◌, ◌∷◌, [], length, map, slice_index_or, Some, IfOk, IfErr, IfSome, OnOk, OnErr, string_bytes};
+ghost use Rattle.std.specs.Prelude.{◌≡◌, ◌≢◌, ◌<◌, ◌≤◌, ◌++◌, ◌∷◌, [], length, map, slice_index_or, Some, IfOk, IfErr, IfSome, OnOk, string_bytes};
 ghost use Rattle.std.specs.Io.KnownBytes.{Appends};
 ghost use Rattle.whole_files.specs.Files.{SameFiles, AreHeld, IsReadFault};
 ghost use Rattle.program.specs.Told.{IsTold};
@@ -16,7 +16,7 @@ use crate::shared::SharedText;
 use address_map::place_of;
 use command_line::words::{Ask, read_words};
 use page::window::Window;
-use refusal::lines::tell;
+use refusal::lines::write_lines;
 use refusal::reason::Reason;
 use refusal::refusal::Refusal;
 use refusal::status::{BROKEN, DONE, REFUSED};
@@ -37,19 +37,19 @@ use whole_files::tables::write_tables;
 use workers::watch::Watch;
 
 // Sends a text down a stream.
-fn send<P: Write>(print: &mut P, text: &str) -> io::Result<()>
-    ensures { OnOk result (Appends (P.contents print.old) (P.contents print.new) text.now) }
+fn send<P: Write>(output: &mut P, text: &str) -> io::Result<()>
+    ensures { OnOk result (Appends (P.contents output.old) (P.contents output.new) text.now) }
 {
-    print.write_all(text.as_bytes())?;
-    print.flush()
+    output.write_all(text.as_bytes())?;
+    output.flush()
 }
 
 // A text on a stream.
-fn print_text<P: Write>(alloc: Global, print: &mut P, text: &str) -> Result<(), Reason>
-    ensures printed { OnOk result (Appends (P.contents print.old) (P.contents print.new) text.now) }
+fn print_text<P: Write>(alloc: Global, output: &mut P, text: &str) -> Result<(), Reason>
+    ensures printed { OnOk result (Appends (P.contents output.old) (P.contents output.new) text.now) }
     ensures fault { IfErr result (λ e. e ≡ Fault.Write) }
 {
-    match send(print, text) {
+    match send(output, text) {
         Ok(()) => Ok(()),
         Err(error) => Err(Reason::of_host(alloc, Fault::Write, "standard output", &error)),
     }
@@ -164,7 +164,7 @@ fn perform_run<R: Threads + Wait + Sync, W: Watch, F: FileSet>(
     ensures fault { IfErr result (λ e. IsAnswerFault F.tells (F.held files.old) (config.now ∷ map (λ t. t.now) traces.now) (IsRunFault cycles workers) (IsRightRun cycles workers) (fault_of e)) }
 {
     let run = run_files(host, alloc, files, config, cycles, workers, traces)?;
-    write_tables(alloc, files, out, &run)
+    write_tables(host.threads, alloc, workers as usize, files, out, &run)
 }
 
 // The place of an address, and how many ranks there are.
@@ -211,18 +211,18 @@ fn place_line_of(alloc: Global, ranks: u32, place: Place) -> Result<String, Faul
 fn perform_map<F: FileSet, P: Write>(
     alloc: Global,
     files: &mut F,
-    print: &mut P,
+    output: &mut P,
     config: &str,
     address: u64,
 ) -> Result<(), Reason>
-    ensures mapped { OnOk result (F.tells → IsMapped config.now address (F.held files.old) (P.contents print.old) (P.contents print.new)) }
+    ensures mapped { OnOk result (F.tells → IsMapped config.now address (F.held files.old) (P.contents output.old) (P.contents output.new)) }
     ensures fault { IfErr result (IsAnswerFault F.tells (F.held files.old) (config.now ∷ []) IsMapFault IsRightMap) }
     ensures same { F.tells → SameFiles (F.held files.old) (F.held files.new) }
     ensures unopened { F.tells → F.opened files.new ≡ F.opened files.old }
 {
     let (ranks, place) = find_place(alloc, files, config, address)?;
     let line = place_line_of(alloc, ranks, place)?;
-    print_text(alloc, print, line.as_str())
+    print_text(alloc, output, line.as_str())
 }
 
 // What a table is found to be.
@@ -270,11 +270,11 @@ fn status_of(found: Verdict) -> u8
 fn perform_check<F: FileSet, P: Write>(
     alloc: Global,
     files: &mut F,
-    print: &mut P,
+    output: &mut P,
     config: &str,
     commands: &str,
 ) -> Result<u8, Reason>
-    ensures checked { IfOk result (λ status. F.tells → IsChecked config.now commands.now status (F.held files.old) (P.contents print.old) (P.contents print.new)) }
+    ensures checked { IfOk result (λ status. F.tells → IsChecked config.now commands.now status (F.held files.old) (P.contents output.old) (P.contents output.new)) }
     ensures status { IfOk result (λ status. status ≤ 1) }
     ensures fault { IfErr result (IsAnswerFault F.tells (F.held files.old) (config.now ∷ commands.now ∷ []) IsTableFault IsRightTable) }
     ensures same { F.tells → SameFiles (F.held files.old) (F.held files.new) }
@@ -282,7 +282,7 @@ fn perform_check<F: FileSet, P: Write>(
 {
     let found = judge(alloc, files, config, commands)?;
     let line = verdict_line_of(alloc, found)?;
-    print_text(alloc, print, line.as_str())?;
+    print_text(alloc, output, line.as_str())?;
     Ok(status_of(found))
 }
 
@@ -314,18 +314,18 @@ fn stats_in<F: FileSet>(alloc: Global, files: &mut F, dir: &str) -> Result<Stats
 fn perform_show<F: FileSet, P: Write>(
     alloc: Global,
     files: &mut F,
-    print: &mut P,
+    output: &mut P,
     dir: &str,
     all: bool,
 ) -> Result<(), Reason>
-    ensures shown { OnOk result (F.tells → IsShown dir.now (F.held files.old) (P.contents print.old) (P.contents print.new)) }
+    ensures shown { OnOk result (F.tells → IsShown dir.now (F.held files.old) (P.contents output.old) (P.contents output.new)) }
     ensures fault { IfErr result (IsAnswerFault F.tells (F.held files.old) (path_in dir.now stats_name ∷ []) IsShowFault IsRightShow) }
     ensures same { F.tells → SameFiles (F.held files.old) (F.held files.new) }
     ensures unopened { F.tells → F.opened files.new ≡ F.opened files.old }
 {
     let stats = stats_in(alloc, files, dir)?;
     let screen = show_text(alloc, &stats, all)?;
-    print_text(alloc, print, screen.as_str())
+    print_text(alloc, output, screen.as_str())
 }
 
 // Does what is asked, and gives the status.
@@ -334,11 +334,11 @@ fn answer<R: Threads + Wait + Sync, W: Watch, F: FileSet, P: Write>(
     alloc: Global,
     ask: &Ask<'_>,
     files: &mut F,
-    print: &mut P,
+    output: &mut P,
 ) -> Result<u8, Refusal>
-    ensures answered { IfOk result (λ status. F.tells → IsAnswer ask.now status (seen (F.held files.old) (F.opened files.old) (P.contents print.old)) (seen (F.held files.new) (F.opened files.new) (P.contents print.new))) }
+    ensures answered { IfOk result (λ status. F.tells → IsAnswer ask.now status (seen (F.held files.old) (F.opened files.old) (P.contents output.old)) (seen (F.held files.new) (F.opened files.new) (P.contents output.new))) }
     ensures status { IfOk result (λ status. status ≤ 1) }
-    ensures refused { IfErr result (λ e. F.tells → IsLeft e ask.now (seen (F.held files.old) (F.opened files.old) (P.contents print.old)) (seen (F.held files.new) (F.opened files.new) (P.contents print.new))) }
+    ensures refused { IfErr result (λ e. F.tells → IsLeft e ask.now (seen (F.held files.old) (F.opened files.old) (P.contents output.old)) (seen (F.held files.new) (F.opened files.new) (P.contents output.new))) }
     ensures fault { IfErr result (λ e. IsAskFault F.tells (F.held files.old) ask.now (fault_of e)) }
 {
     match ask {
@@ -353,14 +353,14 @@ fn answer<R: Threads + Wait + Sync, W: Watch, F: FileSet, P: Write>(
             Ok(DONE)
         }
         Ask::Check { config, commands } => {
-            Ok(perform_check(alloc, files, print, config, commands)?)
+            Ok(perform_check(alloc, files, output, config, commands)?)
         }
         Ask::Map { config, address } => {
-            perform_map(alloc, files, print, config, *address)?;
+            perform_map(alloc, files, output, config, *address)?;
             Ok(DONE)
         }
         Ask::Show { dir, all } => {
-            perform_show(alloc, files, print, dir, *all)?;
+            perform_show(alloc, files, output, dir, *all)?;
             Ok(DONE)
         }
         Ask::Page {
@@ -377,7 +377,7 @@ fn answer<R: Threads + Wait + Sync, W: Watch, F: FileSet, P: Write>(
             Ok(DONE)
         }
         Ask::Help(text) | Ask::Version(text) => {
-            print_text(alloc, print, text.as_str())?;
+            print_text(alloc, output, text.as_str())?;
             Ok(DONE)
         }
     }
@@ -389,15 +389,15 @@ fn answer_words<R: Threads + Wait + Sync, W: Watch, F: FileSet, P: Write>(
     alloc: Global,
     words: &[&str],
     files: &mut F,
-    print: &mut P,
+    output: &mut P,
 ) -> Result<u8, Refusal>
-    ensures answered { IfOk result (λ status. F.tells → IsAnswered (map (λ w. w.now) words.now) status (seen (F.held files.old) (F.opened files.old) (P.contents print.old)) (seen (F.held files.new) (F.opened files.new) (P.contents print.new))) }
+    ensures answered { IfOk result (λ status. F.tells → IsAnswered (map (λ w. w.now) words.now) status (seen (F.held files.old) (F.opened files.old) (P.contents output.old)) (seen (F.held files.new) (F.opened files.new) (P.contents output.new))) }
     ensures status { IfOk result (λ status. status ≤ 1) }
-    ensures refused { IfErr result (λ e. F.tells → IsRefusedBy e (map (λ w. w.now) words.now) (seen (F.held files.old) (F.opened files.old) (P.contents print.old)) (seen (F.held files.new) (F.opened files.new) (P.contents print.new))) }
+    ensures refused { IfErr result (λ e. F.tells → IsRefusedBy e (map (λ w. w.now) words.now) (seen (F.held files.old) (F.opened files.old) (P.contents output.old)) (seen (F.held files.new) (F.opened files.new) (P.contents output.new))) }
     ensures fault { IfErr result (λ e. IsFaultOf F.tells (F.held files.old) (map (λ w. w.now) words.now) (fault_of e)) }
 {
     let ask = read_words(alloc, words)?;
-    answer(host, alloc, &ask, files, print)
+    answer(host, alloc, &ask, files, output)
 }
 
 /// Does what the words ask for, of which the first is the program's name, and gives the status: 0 done, 1 a table that breaks
@@ -417,19 +417,19 @@ pub fn perform<R: Threads + Wait + Sync, W: Watch, F: FileSet, P: Write, E: Writ
     alloc: Global,
     words: &[&str],
     files: &mut F,
-    print: &mut P,
+    output: &mut P,
     errors: &mut E,
 ) -> u8
     ensures status { result ≤ 2 }
-    ensures answered { result ≢ 2 → F.tells → IsAnswered (map (λ w. w.now) words.now) result (seen (F.held files.old) (F.opened files.old) (P.contents print.old)) (seen (F.held files.new) (F.opened files.new) (P.contents print.new)) }
-    ensures refused { result ≡ 2 → F.tells → IsRefused (map (λ w. w.now) words.now) (seen (F.held files.old) (F.opened files.old) (P.contents print.old)) (seen (F.held files.new) (F.opened files.new) (P.contents print.new)) }
-    ensures told { result ≡ 2 → IsTold F.tells (map (λ w. w.now) words.now) (seen (F.held files.old) (F.opened files.old) (P.contents print.old)) (seen (F.held files.new) (F.opened files.new) (P.contents print.new)) (E.contents errors.old) (E.contents errors.new) }
+    ensures answered { result ≢ 2 → F.tells → IsAnswered (map (λ w. w.now) words.now) result (seen (F.held files.old) (F.opened files.old) (P.contents output.old)) (seen (F.held files.new) (F.opened files.new) (P.contents output.new)) }
+    ensures refused { result ≡ 2 → F.tells → IsRefused (map (λ w. w.now) words.now) (seen (F.held files.old) (F.opened files.old) (P.contents output.old)) (seen (F.held files.new) (F.opened files.new) (P.contents output.new)) }
+    ensures told { result ≡ 2 → IsTold F.tells (map (λ w. w.now) words.now) (seen (F.held files.old) (F.opened files.old) (P.contents output.old)) (seen (F.held files.new) (F.opened files.new) (P.contents output.new)) (E.contents errors.old) (E.contents errors.new) }
     ensures silent { result ≢ 2 → E.contents errors.new ≡ E.contents errors.old }
 {
-    match answer_words(host, alloc, words, files, print) {
+    match answer_words(host, alloc, words, files, output) {
         Ok(status) => status,
         Err(refusal) => {
-            let _ = tell(errors, &refusal);
+            let _ = write_lines(errors, &refusal);
             REFUSED
         }
     }

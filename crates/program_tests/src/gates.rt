@@ -1,7 +1,7 @@
 //! Runs whose workers pass a gate: that several of them are at work at once.
 //!
-//! No gate waits for ever. A phase has a part for each worker that is of use, and no worker takes a part while it holds another; so a part
-//! that is held is held by one worker, and the others take all other parts.
+//! No gate waits for ever. A phase has two parts for each worker, or as many as there are units, and no worker takes a part while it holds another; so a
+//! part that is held is held by one worker, and the others take all other parts.
 
 use crate::expect::{expect, expect_at};
 use crate::outcomes::{Run, Texts, is_plain, plain_tables, tables_by};
@@ -34,11 +34,13 @@ static SPANS: [(Cycle, Cycle); 8] = [
     (20, 22),
 ];
 
-/// Holds each part that enters until as many of its phase have entered as it has parts.
+/// Holds each part that enters until as many of its phase have entered as there are workers, or parts.
 #[derive(Drop)]
 struct Meeting {
     /// How many parts each phase has.
     parts: usize,
+    /// How many of them are run at the same time.
+    workers: u64,
     /// How many parts of each phase have entered.
     come: Vec<AtomicU64>,
     /// How often each part was entered, and left, phase by phase.
@@ -78,13 +80,14 @@ fn phase_of(part: TaskName) -> Option<usize> {
 }
 
 impl Meeting {
-    /// A gate for phases of so many parts each.
-    fn new(alloc: Global, parts: usize) -> Result<Self, AllocError> {
+    /// A gate for phases of so many parts each, of which so many workers run as many at the same time.
+    fn new(alloc: Global, workers: u64, parts: usize) -> Result<Self, AllocError> {
         let count = parts.saturating_mul(SPANS.len());
         let come = zeros(alloc, SPANS.len())?;
         let entered = zeros(alloc, count)?;
         Ok(Meeting {
             parts,
+            workers: workers.min(parts as u64),
             come,
             entered,
             left: zeros(alloc, count)?,
@@ -113,7 +116,7 @@ impl Meeting {
     /// Whether all parts of a phase come.
     fn is_met(&self, come: &AtomicU64) -> bool {
         for _ in 0..TURNS {
-            if come.load(Ordering::SeqCst) >= self.parts as u64 {
+            if come.load(Ordering::SeqCst) >= self.workers {
                 return true;
             }
             thread::yield_now();
@@ -167,7 +170,7 @@ fn met_by<R: Threads + Wait + Sync>(
     (workers, parts): (u64, usize),
     plain: &[u8],
 ) -> Result<(bool, u64, bool), Fault> {
-    let gate = Meeting::new(alloc, parts)?;
+    let gate = Meeting::new(alloc, workers, parts)?;
     let same = is_plain(rt, alloc, &gate, run, workers, plain)?;
     Ok((same, gate.faults(), gate.is_whole()))
 }
@@ -178,7 +181,7 @@ fn assert_meetings<R: Abort + Threads + Wait + Sync>(
     run: &Run<'_>,
 ) -> Result<(), Fail> {
     let plain = plain_tables(rt, alloc, run)?;
-    for case in [(1, 1), (2, 2), (3, 3), (7, 3)] {
+    for case in [(1, 1), (2, 3), (3, 3), (7, 3)] {
         let saw = met_by(rt, alloc, run, case, &plain)?;
         expect_at(rt, &("workers and parts", case), &saw, &(true, 0, true));
     }
@@ -254,10 +257,10 @@ fn held<R: Abort + Threads + Wait + Sync>(
     rt: &R,
     alloc: Global,
     run: &Run<'_>,
-    workers: u64,
+    (workers, parts): (u64, u64),
     plain: &[u8],
 ) -> Result<Held, Fault> {
-    let gate = Holding::new(workers.saturating_sub(1));
+    let gate = Holding::new(parts.saturating_sub(1));
     let same = is_plain(rt, alloc, &gate, run, workers, plain)?;
     expect_at(rt, &("workers", workers), &same, &true);
     Ok(gate.seen())
@@ -270,9 +273,9 @@ fn assert_held<R: Abort + Threads + Wait + Sync>(
     run: &Run<'_>,
 ) -> Result<(), Fail> {
     let plain = plain_tables(rt, alloc, run)?;
-    for workers in [1, 2, 3, 6] {
-        let saw = held(rt, alloc, run, workers, &plain)?;
-        expect_at(rt, &("workers", workers), &saw, &(workers, workers, 1));
+    for (workers, parts) in [(1, 1), (2, 4), (3, 6), (6, 6)] {
+        let saw = held(rt, alloc, run, (workers, parts), &plain)?;
+        expect_at(rt, &("workers", workers), &saw, &(parts, parts, 1));
     }
     Ok(())
 }

@@ -6,7 +6,7 @@ ghost use Rattle.epochs.specs.Views.{jobs_of};
 
 use crate::ends::{ends_of_messages, ends_of_rows};
 use crate::expect::{expect, expect_at};
-use crate::result_orders::{AsTheyCome, Brings, Leaves, Reversed, Turned, exchange};
+use crate::result_orders::{AsTheyCome, Brings, Leaves, Reversed, Rotated, exchange};
 use cpu_trace::trace::Trace;
 use epochs::job::{Done, Job};
 use epochs::merging::merge;
@@ -288,7 +288,7 @@ fn orders_do_not_matter(rt: HostRuntime) -> Result<(), Fail> {
     assert_worked(&rt, &whole);
     let reversed = did_by(rt.alloc(), &mut Reversed)?;
     expect(&rt, &reversed, &whole);
-    let turned = did_by(rt.alloc(), &mut Turned)?;
-    expect(&rt, &turned, &whole);
+    let rotated = did_by(rt.alloc(), &mut Rotated)?;
+    expect(&rt, &rotated, &whole);
     Ok(())
 }

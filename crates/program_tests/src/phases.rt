@@ -98,7 +98,7 @@ impl Course<Task, TaskDone, usize> for OnePhase {
         _alloc: Global,
         crew: &mut P,
     ) -> Result<usize, AllocError> {
-        let mut claims = Claims::new(crew);
+        let mut claims = Claims { crew };
         match claims.run_phase(self.tasks) {
             Ok(results) => Ok(results.len()),
             Err(_) => Err(AllocError),
@@ -283,6 +283,7 @@ fn most_workers_have_nothing_to_do(rt: HostRuntime) -> Result<(), Fail> {
 const PATIENCE: Patience = Patience {
     spins: 50,
     yields: 5,
+    turns: 5,
 };
 
 /// A number to be squared, or to be refused memory.

@@ -20,13 +20,13 @@ pub(crate) const HEADER: &str = "cycle,channel,command,group,bank,row,column,cor
 #[derive(Drop)]
 pub(crate) struct Said {
     status: u8,
-    print: Vec<u8>,
+    output: Vec<u8>,
     errors: Vec<u8>,
 }
 
 impl Said {
     fn all(&self) -> (u8, &str, &str) {
-        (self.status, text_of(&self.print), text_of(&self.errors))
+        (self.status, text_of(&self.output), text_of(&self.errors))
     }
 
     /// Asserts the status, what is printed and what is told of errors, in a case with a name.
@@ -52,16 +52,16 @@ pub(crate) fn said_to<R: Threads + Wait + Sync + AllocGlobal>(
 ) -> Result<Said, AllocError> {
     let alloc = rt.alloc();
     let words: Vec<&str> = line.split(' ').collect(alloc)?;
-    let mut print = Vec::new(alloc);
+    let mut output = Vec::new(alloc);
     let mut errors = Vec::new(alloc);
     let mut host = Host {
         threads: rt,
         watch: &mut Unwatched,
     };
-    let status = perform(&mut host, alloc, &words, files, &mut print, &mut errors);
+    let status = perform(&mut host, alloc, &words, files, &mut output, &mut errors);
     Ok(Said {
         status,
-        print,
+        output,
         errors,
     })
 }

@@ -70,9 +70,9 @@ impl Order for Reversed {
 
 /// The results in turn, from one further on in each phase.
 #[derive(Drop)]
-pub(crate) struct Turned;
+pub(crate) struct Rotated;
 
-impl Order for Turned {
+impl Order for Rotated {
     ghost use Rattle.std.specs.Prelude.{IsPermutation};
 
     ghost may_give = { λ _ results arranged. IsPermutation results arranged };

@@ -93,17 +93,17 @@ fn perform_told<R: Threads + Wait + Sync>(
     alloc: Global,
     words: &[&str],
     files: &mut ToldFiles,
-    print: &mut Vec<u8>,
+    output: &mut Vec<u8>,
     errors: &mut Vec<u8>,
 ) -> u8
-    ensures answered { result ≢ 2 → IsAnswered (map (λ w. w.now) words.now) result (seen (⟦<ToldFiles as FileSet>⟧.held files.old) (⟦<ToldFiles as FileSet>⟧.opened files.old) (Some print.old.items)) (seen (⟦<ToldFiles as FileSet>⟧.held files.new) (⟦<ToldFiles as FileSet>⟧.opened files.new) (Some print.new.items)) }
-    ensures refused { result ≡ 2 → IsRefused (map (λ w. w.now) words.now) (seen (⟦<ToldFiles as FileSet>⟧.held files.old) (⟦<ToldFiles as FileSet>⟧.opened files.old) (Some print.old.items)) (seen (⟦<ToldFiles as FileSet>⟧.held files.new) (⟦<ToldFiles as FileSet>⟧.opened files.new) (Some print.new.items)) }
+    ensures answered { result ≢ 2 → IsAnswered (map (λ w. w.now) words.now) result (seen (⟦<ToldFiles as FileSet>⟧.held files.old) (⟦<ToldFiles as FileSet>⟧.opened files.old) (Some output.old.items)) (seen (⟦<ToldFiles as FileSet>⟧.held files.new) (⟦<ToldFiles as FileSet>⟧.opened files.new) (Some output.new.items)) }
+    ensures refused { result ≡ 2 → IsRefused (map (λ w. w.now) words.now) (seen (⟦<ToldFiles as FileSet>⟧.held files.old) (⟦<ToldFiles as FileSet>⟧.opened files.old) (Some output.old.items)) (seen (⟦<ToldFiles as FileSet>⟧.held files.new) (⟦<ToldFiles as FileSet>⟧.opened files.new) (Some output.new.items)) }
 {
     let mut host = Host {
         threads: rt,
         watch: &mut Unwatched,
     };
-    perform(&mut host, alloc, words, files, print, errors)
+    perform(&mut host, alloc, words, files, output, errors)
 }
 
 fn files_of(alloc: Global, texts: &[(&str, &str)]) -> Result<ToldFiles, AllocError> {
@@ -136,12 +136,12 @@ static RUN: [&str; 10] = [
 fn tells_of_a_run(rt: HostRuntime) -> Result<(), Fail> {
     let alloc = rt.alloc();
     let mut files = files_of(alloc, &[("c.toml", SMALL), ("t0", "0 0\n")])?;
-    let mut print = Vec::new(alloc);
+    let mut output = Vec::new(alloc);
     let mut errors = Vec::new(alloc);
-    let status = perform_told(&rt, alloc, &RUN, &mut files, &mut print, &mut errors);
+    let status = perform_told(&rt, alloc, &RUN, &mut files, &mut output, &mut errors);
     assert_eq!(rt; status, 0);
     assert_eq!(rt; files.files.len(), 5);
     assert_eq!(rt; files.opened.len(), 3);
-    assert_eq!(rt; print.len(), 0);
+    assert_eq!(rt; output.len(), 0);
     Ok(())
 }

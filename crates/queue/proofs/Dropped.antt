@@ -77,10 +77,10 @@ moved_all xs items at none some items_are =
     ap (drop 1) items_are ∙ drop_at (take (at + 1) xs) (take (length xs - 1 - at) (drop at xs)) 1 single ∙ (λ i. take (whole i) (drop (none i) xs))
 
 -- the item at a place goes where those before it have moved up, and the first place is free then
-pub moved : {X : Type 0} (start at n : ℕ) (xs turn post : List X) → n ≡ at + 1 → start + at < length xs → length turn ≡ length (take n (drop start xs))
-    → drop 1 turn ≡ take (length (take n (drop start xs)) - 1) (take n (drop start xs)) → post ≡ drop n (drop start xs)
-    → drop (start + 1) (take start xs ++ (turn ++ post)) ≡ remove (drop start xs) at
-moved start at n xs turn post one exists turn_len turn_is post_is =
+pub moved : {X : Type 0} (start at n : ℕ) (xs rotated post : List X) → n ≡ at + 1 → start + at < length xs → length rotated ≡ length (take n (drop start xs))
+    → drop 1 rotated ≡ take (length (take n (drop start xs)) - 1) (take n (drop start xs)) → post ≡ drop n (drop start xs)
+    → drop (start + 1) (take start xs ++ (rotated ++ post)) ≡ remove (drop start xs) at
+moved start at n xs rotated post one exists rotated_len rotated_is post_is =
     let ys = drop start xs in
     let enough : n ≤ length ys = omega (arith, length-drop start xs) in
     let whole : length (take n ys) ≡ n = length-take-le n ys enough in
@@ -89,10 +89,10 @@ moved start at n xs turn post one exists turn_len turn_is post_is =
     let others : take (length (take n ys) - 1) (take n ys) ≡ take at ys = ap (λ k. take k (take n ys)) long ∙ take-take at n ys (omega arith) in
     let next : n ≡ suc at = omega arith in
     let behind : post ≡ drop (suc at) ys = post_is ∙ ap (λ k. drop k ys) next in
-    sym (drop-drop 1 start (take start xs ++ (turn ++ post)))
-    ∙ ap (drop 1) (drop_at (take start xs) (turn ++ post) start front)
-    ∙ drop-append-le 1 turn post (omega arith)
-    ∙ (λ i. (turn_is ∙ others) i ++ behind i)
+    sym (drop-drop 1 start (take start xs ++ (rotated ++ post)))
+    ∙ ap (drop 1) (drop_at (take start xs) (rotated ++ post) start front)
+    ∙ drop-append-le 1 rotated post (omega arith)
+    ∙ (λ i. (rotated_is ∙ others) i ++ behind i)
 
 -- an item more stands behind the free places, too
 pub dropped_push : {X : Type 0} (start : ℕ) (xs longer : List X) (x : X) → longer ≡ xs ++ x ∷ [] → start ≤ length xs
@@ -141,57 +141,57 @@ come_all xs items at last items_are =
     let n : length xs - 1 ≡ at = omega arith in
     (λ i. take (n i) (items_are i)) ∙ take_at (take at tail) (drop at xs) at long ∙ take_all at tail (omega (arith, tail_long))
 
--- the items of a list of which a part has turned
-abbrev pub turned_part : {X : Type 0} → ℕ → ℕ → List X → List X → List X
-turned_part start n xs turn = take start xs ++ (turn ++ drop n (drop start xs))
+-- the items of a list of which a part is rotated
+abbrev pub rotated_part : {X : Type 0} → ℕ → ℕ → List X → List X → List X
+rotated_part start n xs rotated = take start xs ++ (rotated ++ drop n (drop start xs))
 
-pub length-turned : {X : Type 0} (start n : ℕ) (xs turn : List X) → start + n ≤ length xs → length turn ≡ length (take n (drop start xs)) → length (turned_part start n xs turn) ≡ length xs
-length-turned start n xs turn within long =
+pub length-rotated : {X : Type 0} (start n : ℕ) (xs rotated : List X) → start + n ≤ length xs → length rotated ≡ length (take n (drop start xs)) → length (rotated_part start n xs rotated) ≡ length xs
+length-rotated start n xs rotated within long =
     let chunk : length (take n (drop start xs)) ≡ n = length-take-le n (drop start xs) (omega (arith, length-drop start xs)) in
     omega (
       arith,
       chunk,
       long,
       length-take-le start xs (omega arith),
-      length-append (take start xs) (turn ++ drop n (drop start xs)),
-      length-append turn (drop n (drop start xs)),
+      length-append (take start xs) (rotated ++ drop n (drop start xs)),
+      length-append rotated (drop n (drop start xs)),
       length-drop n (drop start xs),
       length-drop start xs,
     )
 
 -- an item less stands behind them, where the older ones have moved
-pub dropped_older : {X : Type 0} (start at n : ℕ) (xs now turn shorter : List X) → now ≡ xs → n ≡ at + 1 → start + at < length xs → IsMovedUp (take n (drop start now)) turn
-    → (length (turned_part start n now turn) ≡ length xs → shorter ≡ turned_part start n now turn)
+pub dropped_older : {X : Type 0} (start at n : ℕ) (xs now rotated shorter : List X) → now ≡ xs → n ≡ at + 1 → start + at < length xs → IsMovedUp (take n (drop start now)) rotated
+    → (length (rotated_part start n now rotated) ≡ length xs → shorter ≡ rotated_part start n now rotated)
     → (length shorter ≡ length xs) × (drop (start + 1) shorter ≡ remove (drop start xs) at)
-dropped_older start at n xs now turn shorter same one exists up written =
+dropped_older start at n xs now rotated shorter same one exists up written =
     let there : start + at < length now = omega (arith, ap length same) in
-    let long : length (turned_part start n now turn) ≡ length xs = length-turned start n now turn (omega arith) up.0 ∙ ap length same in
+    let long : length (rotated_part start n now rotated) ≡ length xs = length-rotated start n now rotated (omega arith) up.0 ∙ ap length same in
     let is = written long in (
       ap length is ∙ long,
-      ap (drop (start + 1)) is ∙ moved start at n now turn (drop n (drop start now)) one there up.0 up.1 refl ∙ ap (λ ys. remove (drop start ys) at) same,
+      ap (drop (start + 1)) is ∙ moved start at n now rotated (drop n (drop start now)) one there up.0 up.1 refl ∙ ap (λ ys. remove (drop start ys) at) same,
     )
 
 -- an item less stands behind the free places, where the younger ones have moved
-pub dropped_down : {X : Type 0} (place n : ℕ) (xs now turn written shorter : List X) → now ≡ xs → place < length xs → n ≡ length xs - place
-    → IsMovedDown (take n (drop place now)) turn → (length (turned_part place n now turn) ≡ length xs → written ≡ turned_part place n now turn)
+pub dropped_down : {X : Type 0} (place n : ℕ) (xs now rotated written shorter : List X) → now ≡ xs → place < length xs → n ≡ length xs - place
+    → IsMovedDown (take n (drop place now)) rotated → (length (rotated_part place n now rotated) ≡ length xs → written ≡ rotated_part place n now rotated)
     → shorter ≡ take (length xs - 1) written → shorter ≡ remove xs place
-dropped_down place n xs now turn written shorter same exists some down written_is shorter_is =
+dropped_down place n xs now rotated written shorter same exists some down written_is shorter_is =
     let left = drop place now in
     let same_long : length now ≡ length xs = ap length same in
     let left_long : length left ≡ n = omega (arith, length-drop place now, same_long, some) in
     let whole : take n left ≡ left = take_all n left (omega (arith, left_long)) in
-    let turn_long : length turn ≡ n = omega (arith, down.0, ap length whole, left_long) in
+    let rotated_long : length rotated ≡ n = omega (arith, down.0, ap length whole, left_long) in
     let front_long : length (take place now) ≡ place = length-take-le place now (omega (arith, same_long)) in
-    let long : length (turned_part place n now turn) ≡ length xs = length-turned place n now turn (omega (arith, same_long)) down.0 ∙ same_long in
+    let long : length (rotated_part place n now rotated) ≡ length xs = length-rotated place n now rotated (omega (arith, same_long)) down.0 ∙ same_long in
     let fewer : length (take n left) - 1 ≡ n - 1 = omega (arith, ap length whole, left_long) in
     let cut : length xs - 1 ≡ length (take place now) + (n - 1) = omega (arith, some, front_long) in
     let next : place + 1 ≡ suc place = omega arith in
-    let turn_is : take (n - 1) turn ≡ drop (suc place) now =
-    ap (λ k. take k turn) (sym fewer) ∙ down.1 ∙ ap (drop 1) whole ∙ drop-drop 1 place now ∙ ap (λ k. drop k now) next in
+    let rotated_is : take (n - 1) rotated ≡ drop (suc place) now =
+    ap (λ k. take k rotated) (sym fewer) ∙ down.1 ∙ ap (drop 1) whole ∙ drop-drop 1 place now ∙ ap (λ k. drop k now) next in
     shorter_is
     ∙ (λ i. take (cut i) (written_is long i))
-    ∙ take-append-add (take place now) (turn ++ drop n left) (n - 1)
-    ∙ ap (λ ys. take place now ++ ys) (take-append-le (n - 1) turn (drop n left) (omega (arith, turn_long)) ∙ turn_is)
+    ∙ take-append-add (take place now) (rotated ++ drop n left) (n - 1)
+    ∙ ap (λ ys. take place now ++ ys) (take-append-le (n - 1) rotated (drop n left) (omega (arith, rotated_long)) ∙ rotated_is)
     ∙ ap (λ ys. take place ys ++ drop (suc place) ys) same
 
 -- all items but the last are copied up by a place

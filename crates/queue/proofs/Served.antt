@@ -24,8 +24,8 @@ pub record IsServed (q s : Inside) (n : ℕ) (r : Request) (word done : ℕ) : T
   pub drain_decided : s.drain_decided ≡ q.drain_decided
   pub drains : s.drains ≡ q.drains
   pub requests : s.aged.requests ≡ remove q.aged.requests n
-  pub turn : eqb word 1 ≡ true → s.aged.marks ≡ set (remove q.aged.marks n) (n + position_or_len (λ x. is_line x.place r.place) (drop n (remove q.aged.requests n))) 1
-  pub no_turn : eqb word 1 ≡ false → s.aged.marks ≡ remove q.aged.marks n
+  pub rotated : eqb word 1 ≡ true → s.aged.marks ≡ set (remove q.aged.marks n) (n + position_or_len (λ x. is_line x.place r.place) (drop n (remove q.aged.requests n))) 1
+  pub still_blocked : eqb word 1 ≡ false → s.aged.marks ≡ remove q.aged.marks n
   pub mask : s.mask ≡ q.mask
   pub long : length s.lines.items ≡ length q.lines.items
   pub counted : AreCounted q.mask s.lines.items (remove q.aged.requests n)
@@ -35,9 +35,9 @@ eligible_left : (q s : Inside) (n : ℕ) (r : Request) (word done : ℕ) → Are
 eligible_left q s n r word done kept left =
     served q.aged.requests n r word s.aged.marks left.exists left.request (left.word_is ∙ ap (λ xs. get_or xs n word) kept.eligible_are)
     (λ yes.
-    left.turn yes
+    left.rotated yes
     ∙ ap (λ xs. set (remove xs n) (n + position_or_len (λ (x : Request). is_line x.place r.place) (drop n (remove q.aged.requests n))) 1) kept.eligible_are)
-    (λ no. left.no_turn no ∙ ap (λ xs. remove xs n) kept.eligible_are)
+    (λ no. left.still_blocked no ∙ ap (λ xs. remove xs n) kept.eligible_are)
     ∙ ap eligible_column (sym left.requests)
 
 pub served_kept : (q s : Inside) (n : ℕ) (r : Request) (word done writes : ℕ) (drains : Bool) → AreKept q → IsServed q s n r word done → writes + cond r.write 1 0 ≡ s.writes

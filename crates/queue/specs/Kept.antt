@@ -5,7 +5,7 @@ use Rattle.queue.specs.declared.Queue.TheInside.{Inside}
 use Rattle.queue.specs.View.{drains_by}
 use Rattle.queue_columns.specs.Columns.{eligible_column, blocked_count, write_count, AreCounted}
 
--- the marks are those of the requests, each counter counts its lines, the writes and those that wait for their turn are counted, what it keeps of a drain is so with these writes, there is room for as many as the queue takes, and these are few
+-- the marks are those of the requests, each counter counts its lines, the writes and those that are blocked are counted, what it keeps of a drain is so with these writes, there is room for as many as the queue takes, and these are few
 pub record AreKept (q : Inside) : Type 0 where
   pub eligible_are : q.aged.marks ≡ eligible_column q.aged.requests
   pub blocked_are : q.blocked ≡ blocked_count q.aged.marks

@@ -1,6 +1,6 @@
 //! Requests by age with their columns, of which any one can leave.
 
-ghost use Rattle.std.specs.Prelude.{◌≡◌, ◌+◌, ◌-◌, ◌<◌, ◌≤◌, ◌++◌, [], ◌∷◌, IfOk, drop, take, length, remove, slice_index_or, slice_set, vec_len, vec_capacity};
+ghost use Rattle.std.specs.Prelude.{◌≡◌, ◌+◌, ◌-◌, ◌<◌, ◌≤◌, ◌++◌, [], ◌∷◌, IfOk, drop, take, length, remove, slice_set, vec_len, vec_capacity};
 ghost use Rattle.queue_columns.specs.Marks.{mark};
 ghost use Rattle.queue.specs.Aged.{AgedRequests, IsMovedUp, IsMovedDown};
 ghost use Rattle.queue_columns.specs.Columns.{tags_of};

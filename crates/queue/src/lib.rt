@@ -4,11 +4,9 @@
 mod aged;
 mod lines;
 
-ghost use Rattle.std.specs.Prelude.{◌≡◌, ◌+◌, ◌-◌, ◌^◌, ◌<◌, ◌≤◌, ◌++◌, ℕ, List, [], ◌∷◌, Bool, false, IfOk, length, nat_le, remove, slice_index_or};
-ghost use Rattle.sim_base.specs.Scheduling.{drains_with, first_of_lines};
-ghost use Rattle.sim_base.specs.declared.config.Config.{Config};
+ghost use Rattle.std.specs.Prelude.{◌≡◌, ◌+◌, ◌-◌, ◌^◌, ◌<◌, ◌++◌, [], ◌∷◌, false, IfOk, length, remove, slice_index_or};
 ghost use Rattle.sim_base.specs.declared.message.Request.{Request};
-ghost use Rattle.queue_columns.specs.Columns.{eligible_column, tag_column, marked_items, write_count};
+ghost use Rattle.queue_columns.specs.Columns.{eligible_column, tag_column};
 ghost use Rattle.queue.specs.View.{QueueView, drains_by, is_draining};
 
 use crate::aged::Aged;
@@ -112,7 +110,7 @@ impl Queue {
         }
     }
 
-    /// Gives out the request at a place. The others keep their order, and the next one for its line has its turn.
+    /// Gives out the request at a place. The others keep their order, and the next one for its line is no longer blocked.
     pub fn serve(&mut self, slot: usize) -> Request
         requires { slot < length self.old.requests }
         ensures request { (d : Request) → result ≡ slice_index_or self.old.requests slot d }

@@ -81,30 +81,30 @@ eligible_push rs r =
 pub length-eligible : (rs : List Request) → length (eligible_column rs) ≡ length rs
 length-eligible rs = ap length (eligible_is rs) ∙ length-marks (λ p. false) rs
 
--- where the line of a request that goes was asked for before, no other has its turn
+-- where the line of a request that goes was asked for before, no other becomes eligible
 kept_asked : (asked : Place → Bool) (p q : Place) → asked p ≡ true → (asked q || is_line p q) ≡ asked q
 kept_asked asked p q before = elim (cases_Bool (is_line p q)) [
   | inl same ↦ let there : asked q ≡ true = subst (λ x. asked x ≡ true) (line_same p q same) before in ap (λ b. b || is_line p q) there ∙ sym there
   | inr apart ↦ ap (λ b. asked q || b) apart ∙ or_false (asked q)
 ]
 
-turn_here : (asked : Place → Bool) (p : Place) (b : Request) (rs : List Request) → asked p ≡ false → is_line b.place p ≡ true
+unblocked_here : (asked : Place → Bool) (p : Place) (b : Request) (rs : List Request) → asked p ≡ false → is_line b.place p ≡ true
     → set (marks_after (λ q. asked q || is_line p q) (b ∷ rs)) 0 1 ≡ marks_after asked (b ∷ rs)
-turn_here asked p b rs before same =
+unblocked_here asked p b rs before same =
     let place = line_same b.place p same in
     let head : 1 ≡ mark (not (asked b.place)) = sym (ap (λ t. mark (not t)) (ap asked place ∙ before)) in
     let rest : (q : Place) → ((asked q || is_line p q) || is_line b.place q) ≡ (asked q || is_line b.place q) =
     λ q. ap (λ x. (asked q || is_line x q) || is_line b.place q) (sym place) ∙ or_twice (asked q) (is_line b.place q) in
     λ i. head i ∷ marks_after (λ q. rest q i) rs
 
--- where it was not, the next one for the line has its turn
-turn : (asked : Place → Bool) (p : Place) (rs : List Request) → asked p ≡ false
+-- where it was not, the next one for the line becomes eligible
+unblocked : (asked : Place → Bool) (p : Place) (rs : List Request) → asked p ≡ false
     → set (marks_after (λ q. asked q || is_line p q) rs) (position_or_len (λ q. is_line q.place p) rs) 1 ≡ marks_after asked rs
-turn asked p [] before = refl
-turn asked p (b ∷ rs) before = elim (cases_Bool (is_line b.place p)) [
+unblocked asked p [] before = refl
+unblocked asked p (b ∷ rs) before = elim (cases_Bool (is_line b.place p)) [
   | inl same ↦
       ap (λ t. set (marks_after (λ q. asked q || is_line p q) (b ∷ rs)) (cond (not t) (1 + position_or_len (λ (q : Request). is_line q.place p) rs) 0) 1) same
-      ∙ turn_here asked p b rs before same
+      ∙ unblocked_here asked p b rs before same
   | inr apart ↦
       let place = position_or_len (λ (q : Request). is_line q.place p) rs in
       let next : 1 + place ≡ suc place = omega arith in
@@ -116,7 +116,7 @@ turn asked p (b ∷ rs) before = elim (cases_Bool (is_line b.place p)) [
       ap (λ t. set (marks_after (λ q. asked q || is_line p q) (b ∷ rs)) (cond (not t) (1 + place) 0) 1) apart
       ∙ ap (λ k. set (marks_after (λ q. asked q || is_line p q) (b ∷ rs)) k 1) next
       ∙ (λ i. head i ∷ set (marks_after (λ q. swapped q i) rs) place 1)
-      ∙ ap (λ ms. mark (not (asked b.place)) ∷ ms) (turn (λ q. asked q || is_line b.place q) p rs later)
+      ∙ ap (λ ms. mark (not (asked b.place)) ∷ ms) (unblocked (λ q. asked q || is_line b.place q) p rs later)
 ]
 
 -- what stands round a place of a list
@@ -134,7 +134,7 @@ remove_at xs ys x n long =
     let here : n - n ≡ 0 = omega arith in
     remove-append_right xs (x ∷ ys) n n long (omega arith) ∙ ap (λ k. xs ++ remove (x ∷ ys) k) here
 
--- The marks of a queue that one request has left: the next one for its line has its turn, if the request was first of it.
+-- The marks of a queue that one request has left: the next one for its line becomes eligible, if the request was first of it.
 served_split : (older rs : List Request) (r : Request) (slot word : ℕ) (marks : List ℕ) → length older ≡ slot
     → word ≡ get_or (eligible_column (older ++ r ∷ rs)) slot word
     → (eqb word 1 ≡ true → marks ≡ set (remove (eligible_column (older ++ r ∷ rs)) slot) (slot + position_or_len (λ q. is_line q.place r.place) rs) 1)
@@ -165,7 +165,7 @@ served_split older rs r slot word marks long read first other =
           ∙ ap (λ ms. set ms (slot + place) 1) left
           ∙ set-append_right front rest slot (slot + place) 1 before (omega arith)
           ∙ ap (λ k. front ++ set rest k 1) past
-          ∙ ap (λ ms. front ++ ms) (turn (λ p. asks_for_line p older) r.place rs never)
+          ∙ ap (λ ms. front ++ ms) (unblocked (λ p. asks_for_line p older) r.place rs never)
           ∙ sym whole
     ]
 

@@ -1,7 +1,7 @@
 //! The refreshes that are due to the ranks of a channel.
 #![tactic(auto)]
 
-ghost use Rattle.std.specs.Prelude.{◌≡◌, ◌↔◌, ◌+◌, ◌*◌, ◌<◌, ◌≤◌, ◌^◌, ◌++◌, ℕ, List, [], ◌∷◌, IsTrue, IsNone, IfSome, IfNone, length, slice_index, slice_set, replicate, find, nat_lt, is_some};
+ghost use Rattle.std.specs.Prelude.{◌≡◌, ◌↔◌, ◌+◌, ◌*◌, ◌<◌, ◌≤◌, ◌^◌, ◌++◌, ℕ, List, [], ◌∷◌, IsTrue, IsNone, IfSome, length, slice_index, slice_set, replicate, find, nat_lt, is_some};
 ghost use Rattle.std.specs.Int.{is_power_of_two};
 ghost use Rattle.sim_base.specs.Ranges.{Within};
 ghost use Rattle.sim_base.specs.Scheduling.{due, lowest_due};

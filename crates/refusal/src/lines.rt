@@ -99,7 +99,7 @@ fn put<E: io::Write>(errors: &mut E, text: &[u8]) -> io::Result<()>
 }
 
 // Tells a refusal in its lines, as far as the stream takes them.
-fn tell_lines<E: io::Write>(errors: &mut E, refusal: &Refusal) -> io::Result<()>
+fn put_lines<E: io::Write>(errors: &mut E, refusal: &Refusal) -> io::Result<()>
     ensures whole { OnOk result (Appends (E.contents errors.old) (E.contents errors.new) (refusal_lines refusal.now)) }
     ensures part { AppendsBeginning (E.contents errors.old) (E.contents errors.new) (refusal_lines refusal.now) }
 {
@@ -108,9 +108,9 @@ fn tell_lines<E: io::Write>(errors: &mut E, refusal: &Refusal) -> io::Result<()>
 }
 
 /// Tells a refusal, as far as the stream takes it: its lines, which need no memory, and then those that explain it.
-pub fn tell<E: io::Write>(errors: &mut E, refusal: &Refusal) -> io::Result<()>
+pub fn write_lines<E: io::Write>(errors: &mut E, refusal: &Refusal) -> io::Result<()>
     ensures { IsExplained (E.contents errors.old) (E.contents errors.new) (refusal_lines refusal.now) }
 {
-    tell_lines(errors, refusal)?;
+    put_lines(errors, refusal)?;
     put(errors, refusal.reason().more().as_bytes())
 }

@@ -1,4 +1,5 @@
 pub mod BlockLemmas
 pub mod LineLemmas
+pub mod PieceLemmas
 pub mod RowLemmas
 pub mod TableLemmas

@@ -6,7 +6,7 @@ use Rattle.std.proofs.lemmas.List.{append-nil, map-append, map_more, take_more}
 use Rattle.std.specs.Io.KnownBytes.{Appends}
 use Rattle.std.specs.List.{enumerate_from, flat_map}
 use Rattle.reports.specs.Rows.{row_text, rows_text, table_text, numbered}
-use Rattle.reports.specs.Commands.{header, command_fields, commands_text}
+use Rattle.reports.specs.Commands.{header, command_fields, lines_text, commands_text}
 use Rattle.reports.specs.Final as final
 use Rattle.reports.specs.Final.{final_header, final_rows, final_text, progress_rows, credits_of_core, flight_fields}
 use Rattle.reports.specs.Stats.{stats_header, value_fields, core_rows, usual_values, draining_values, channel_rows, stats_rows, stats_text}
@@ -103,20 +103,24 @@ pub written_last : {T E : Type 0} (r : Result T E) (old mid new : Option (List �
 written_last (Ok x) old mid new first more before after = Appends-trans old mid new first more before after
 written_last (Err e) old mid new first more before after = tt
 
--- a table of no command is its header
-pub commands_text-none : (ranks : ℕ) → commands_text ranks [] ≡ row_text (header ranks)
-unfolding commands_text table_text
-commands_text-none ranks = rows_text-one (header ranks)
+-- the rows of no command
+pub lines_text-none : (ranks : ℕ) → lines_text ranks [] ≡ []
+lines_text-none ranks = mapped_none (command_fields ranks)
+
+-- rows after rows
+pub lines_text-append : (ranks : ℕ) (rows more : List IssuedCommand) → lines_text ranks (rows ++ more) ≡ lines_text ranks rows ++ lines_text ranks more
+lines_text-append ranks rows more =
+    let fields = command_fields ranks in
+    ap rows_text (map-append fields rows more) ∙ rows_text-append (map fields rows) (map fields more)
 
 -- one row more
-pub commands_text-more : (ranks : ℕ) (rows : List IssuedCommand) (row : IssuedCommand) → commands_text ranks (rows ++ row ∷ []) ≡ commands_text ranks rows ++ row_text (command_fields ranks row)
-unfolding commands_text table_text
-commands_text-more ranks rows row =
-    let fields = command_fields ranks in
-    let names = header ranks in
-    ap (λ t. rows_text (names ∷ t)) (map-append fields rows (row ∷ []))
-    ∙ rows_text-append (names ∷ map fields rows) (fields row ∷ [])
-    ∙ ap (λ t. rows_text (names ∷ map fields rows) ++ t) (rows_text-one (fields row))
+pub lines_text-more : (ranks : ℕ) (rows : List IssuedCommand) (row : IssuedCommand) → lines_text ranks (rows ++ row ∷ []) ≡ lines_text ranks rows ++ row_text (command_fields ranks row)
+lines_text-more ranks rows row = lines_text-append ranks rows (row ∷ []) ∙ ap (λ t. lines_text ranks rows ++ t) (rows_text-one (command_fields ranks row))
+
+-- a table of commands is its header and its rows
+pub commands_text-parts : (ranks : ℕ) (rows : List IssuedCommand) → commands_text ranks rows ≡ row_text (header ranks) ++ lines_text ranks rows
+unfolding commands_text
+commands_text-parts ranks rows = table_text-parts (header ranks) (map (command_fields ranks) rows)
 
 -- the parts of the table of statistics
 pub stats_text-parts : (stats : RunStats) → stats_text stats

@@ -5,11 +5,11 @@ ghost use Rattle.std.specs.Io.KnownBytes.{Appends};
 ghost use Rattle.std.specs.List.{join_with_byte};
 ghost use Rattle.reports.specs.Rows.{comma, row_text, optional, IsReportFault};
 ghost use Rattle.reports.specs.Tables.{held};
-ghost use Rattle.reports.specs.Commands.{header, kind_word, operand_fields, command_fields, commands_text};
+ghost use Rattle.reports.specs.Commands.{header, kind_word, operand_fields, command_fields, lines_text, commands_text};
 
 use crate::line::{Line, put, put_last, put_last_word, put_rank, put_word};
 use crate::table::Table;
-use command_table::table::CommandTable;
+use command_table::table::{CommandTable, Rows};
 use sim_base::command::{Command, IssuedCommand, Kind, Source};
 use sim_base::fault::Fault;
 use sim_base::place::BankId;
@@ -93,7 +93,12 @@ fn columns(ranks: u32) -> &'static [u8]
     }
 }
 
-fn write_header<W: Write>(table: &mut Table, ranks: u32, writer: &mut W) -> Result<(), Fault>
+/// The header.
+pub(crate) fn write_header<W: Write>(
+    table: &mut Table,
+    ranks: u32,
+    writer: &mut W,
+) -> Result<(), Fault>
     ensures written { OnOk result (Appends (held W.contents writer.old table.old) (held W.contents writer.new table.new) (row_text (header ranks))) }
     ensures refused { IfErr result (λ e. IsReportFault e) }
 {
@@ -127,6 +132,22 @@ fn write_command<W: Write>(
     table.write_row(start, writer)
 }
 
+/// Each command that is left.
+pub(crate) fn write_each<W: Write>(
+    table: &mut Table,
+    ranks: u32,
+    mut rows: Rows<'_>,
+    writer: &mut W,
+) -> Result<(), Fault>
+    ensures written { OnOk result (Appends (held W.contents writer.old table.old) (held W.contents writer.new table.new) (lines_text ranks rows.entry)) }
+    ensures refused { IfErr result (λ e. IsReportFault e) }
+{
+    while let Some(row) = rows.next() {
+        write_command(table, ranks, &row, writer)?;
+    }
+    Ok(())
+}
+
 // The header, and then each command.
 fn write_rows<W: Write>(
     alloc: Global,
@@ -139,11 +160,7 @@ fn write_rows<W: Write>(
     ensures refused { IfErr result (λ e. IsReportFault e) }
 {
     write_header(table, ranks, writer)?;
-    let mut rows = commands.rows(alloc)?;
-    while let Some(row) = rows.next() {
-        write_command(table, ranks, &row, writer)?;
-    }
-    Ok(())
+    write_each(table, ranks, commands.rows(alloc)?, writer)
 }
 
 /// Writes the table of commands: a header, and then a row for each command, in their order.

@@ -1,7 +1,7 @@
 //! The text of one row. It is put together from its last field to its first, since digits are found from the last to the first,
 //! so that each byte is written once, where it stays. What puts something before a place gives the place where that begins.
 
-ghost use Rattle.std.specs.Prelude.{◌≡◌, ◌≤◌, ◌<◌, ◌+◌, ◌++◌, ◌∷◌, [], if◌then◌else◌, nat_lt, length, drop, decimal};
+ghost use Rattle.std.specs.Prelude.{◌≡◌, ◌≤◌, ◌<◌, ◌+◌, ◌++◌, ◌∷◌, if◌then◌else◌, nat_lt, length, drop, decimal};
 ghost use Rattle.reports.specs.Rows.{comma, optional};
 
 use itoa::{Buffer, write_digits};

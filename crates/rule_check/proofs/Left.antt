@@ -17,7 +17,7 @@ same_next : (f g : State → List ℕ → List (List (List ℕ))) (s : State) (x
 same_next f g s xs h None e = refl
 same_next f g s xs h (Some p) e = ap (λ (rs : List (List (List ℕ))). p.0 ∷ rs) (h p e)
 
--- more turns than bytes read no more records
+-- more reads than bytes read no more records
 fuel : (n m : ℕ) (s : State) (xs : List ℕ) → IsBetween s → length xs < n → length xs < m → records_from default_config n s xs ≡ records_from default_config m s xs
 unfolding records_from
 fuel zero m s xs b l k = absurd (omega arith)

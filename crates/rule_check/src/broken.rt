@@ -1,10 +1,10 @@
 //! Which rules a row breaks, by what is kept of the rows of its channel.
 
-ghost use Rattle.std.specs.Prelude.{◌≡◌, ◌+◌, ◌<◌, ◌&&◌, ◌==◌, nat_lt, not, is_some, slice_get, option_map, option_and_then, unwrap_or};
+ghost use Rattle.std.specs.Prelude.{◌≡◌, ◌<◌, ◌&&◌, ◌==◌, is_some};
 ghost use Rattle.std.specs.List.{list_any};
 ghost use Rattle.sim_base.specs.History.{below};
-ghost use Rattle.sim_base.specs.Rules.{is_kind, kind_of, rank_of, bank_of, is_row};
-ghost use Rattle.rule_check.specs.Kept.{kept_breaks_distance, kept_window, kept_breaks_window, kept_overdue, kept_breaks_refresh};
+ghost use Rattle.sim_base.specs.Rules.{is_kind, is_row};
+ghost use Rattle.rule_check.specs.Kept.{kept_breaks_distance, kept_breaks_window, kept_overdue, kept_breaks_refresh};
 ghost use Rattle.rule_check.specs.Kept.{kept_row, has_kept_open_in_group, has_kept_open, kept_finds_banks, kept_breaks, comes_too_soon, keeps_each};
 
 use crate::around::{around_command, bank_at, is_ahead_by, rank_at};

@@ -1,14 +1,12 @@
 //! How one row more changes what is kept of a channel.
 
-ghost use Rattle.std.specs.Prelude.{ℕ, ◌≡◌, ◌+◌, ◌*◌, ◌/◌, ◌%◌, ◌<◌, ◌≤◌, ◌^◌, ◌&&◌, ◌==◌, ◌++◌, ◌∷◌, [], List, Some, nat_lt, not, is_some, IfSome, IfOk, length, slice_index_or, replicate};
+ghost use Rattle.std.specs.Prelude.{ℕ, ◌≡◌, ◌+◌, ◌*◌, ◌/◌, ◌%◌, ◌<◌, ◌≤◌, ◌&&◌, ◌==◌, ◌++◌, ◌∷◌, [], List, Some, IfSome, IfOk, length, slice_index_or};
 ghost use Rattle.sim_base.specs.declared.config.Config.{Config};
 ghost use Rattle.sim_base.specs.declared.command.IssuedCommand.{IssuedCommand};
-ghost use Rattle.sim_base.specs.Config.{refresh_slack};
-ghost use Rattle.sim_base.specs.Relations.{refresh_slack_of};
-ghost use Rattle.sim_base.specs.Rules.{kind_of, bank_of, rank_of};
+ghost use Rattle.sim_base.specs.Rules.{bank_of};
 ghost use Rattle.sim_base.specs.Scheduling.{refreshes};
 ghost use Rattle.rule_check.specs.Numbers.{number_limit};
-ghost use Rattle.rule_check.specs.Fields.{CommandFits, RowFits};
+ghost use Rattle.rule_check.specs.Fields.{RowFits};
 ghost use Rattle.rule_check.specs.Kept.{activates, deadline_after, first_deadline, bank_after, group_after, rank_after, number_of, bank_numbered, group_number, IsKept};
 
 use crate::latest;

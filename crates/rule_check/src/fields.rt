@@ -1,9 +1,9 @@
 //! What the records of a table mean.
 
-ghost use Rattle.std.specs.Prelude.{◌≡◌, ◌+◌, ◌^◌, ◌<◌, ◌==◌, IfSome, if◌then◌else◌};
+ghost use Rattle.std.specs.Prelude.{◌≡◌, ◌+◌, ◌<◌, ◌==◌, IfSome, if◌then◌else◌};
 ghost use Rattle.std.specs.Str.{bytes_eq};
 ghost use Rattle.csv.specs.Records.{fields_of};
-ghost use Rattle.rule_check.specs.Fields.{names_ranks, column_count, text_at, operand, is_header, rank_is_named, is_empty, rank_in, bank_in, source_in, act_in, rd_in, wr_in, pre_in, has_no_operands, prea_in, ref_in, command_in, row_in};
+ghost use Rattle.rule_check.specs.Fields.{column_count, text_at, operand, is_header, rank_is_named, is_empty, rank_in, bank_in, source_in, act_in, rd_in, wr_in, pre_in, has_no_operands, prea_in, ref_in, command_in, row_in};
 ghost use Rattle.rule_check.specs.Fields.{BankFits, CommandFits, RowFits};
 
 use crate::numbers::{NUMBER_LIMIT, number_below, small_number};

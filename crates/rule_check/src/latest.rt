@@ -1,6 +1,6 @@
 //! The latest command of each kind.
 
-ghost use Rattle.std.specs.Prelude.{◌≡◌, ◌+◌, nat_lt};
+ghost use Rattle.std.specs.Prelude.{◌≡◌};
 ghost use Rattle.rule_check.specs.Kept.{later_cycle, latest_of, noted, is_ahead};
 
 use sim_base::command::Kind;

@@ -1,12 +1,12 @@
 //! The rows of a table that were found to keep every rule.
 
-ghost use Rattle.std.specs.Prelude.{ℕ, ◌≡◌, ◌+◌, ◌*◌, ◌<◌, ◌≤◌, ◌++◌, ◌∷◌, [], List, find, not, All, IfOk, length};
+ghost use Rattle.std.specs.Prelude.{◌≡◌, ◌+◌, ◌*◌, ◌<◌, ◌++◌, ◌∷◌, [], List, find, All, IfOk, length};
 ghost use Rattle.std.specs.List.{range_with_len};
 ghost use Rattle.sim_base.specs.declared.command.IssuedCommand.{IssuedCommand};
 ghost use Rattle.sim_base.specs.Rules.{rules};
 ghost use Rattle.rule_check.specs.Fields.{RowFits};
 ghost use Rattle.rule_check.specs.Broken.{stands_before, stands_wrongly, lowest_broken};
-ghost use Rattle.rule_check.specs.Kept.{IsKept, kept_breaks};
+ghost use Rattle.rule_check.specs.Kept.{IsKept};
 ghost use Rattle.rule_check.specs.Past.{IsPast, past_breaks};
 
 use crate::state::{Channel, Past};

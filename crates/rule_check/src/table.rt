@@ -46,23 +46,23 @@ fn judge(
     None
 }
 
-// The verdict on the rows after the header. Each turn reads one, and there are enough.
+// The verdict on the rows after the header. Each round reads one, and there are enough rounds.
 fn check_rows(
     alloc: Global,
     config: &Config,
-    turns: u64,
+    most_reads: u64,
     reader: &mut Reader<&[u8]>,
     fields: &mut ByteRecord,
 ) -> Result<Verdict, Fault>
     requires reading { IsReading reader.old }
-    requires few { length (left_of reader.old) + 2 ≤ turns }
+    requires few { length (left_of reader.old) + 2 ≤ most_reads }
     ensures ok { IfOk result (λ v. verdict_after config.now [] 1 (left_of reader.old) ≡ Ok v) }
     ensures refused { IfErr result (λ e. e ≢ Fault.Memory → verdict_after config.now [] 1 (left_of reader.old) ≡ Err e) }
     ensures fault { IfErr result IsCheckFault }
 {
     let table = rules(&config.timing);
     let mut past = start(alloc, config)?;
-    for number in 1..turns {
+    for number in 1..most_reads {
         let Ok(found) = read_next(reader, fields) else {
             return Err(Fault::Memory);
         };
@@ -80,12 +80,12 @@ fn check_rows(
 fn check_left(
     alloc: Global,
     config: &Config,
-    turns: u64,
+    most_reads: u64,
     reader: &mut Reader<&[u8]>,
     fields: &mut ByteRecord,
 ) -> Result<Verdict, Fault>
     requires reading { IsReading reader.old }
-    requires few { length (left_of reader.old) + 1 ≤ turns }
+    requires few { length (left_of reader.old) + 1 ≤ most_reads }
     ensures ok { IfOk result (λ v. verdict config.now (left_of reader.old) ≡ Ok v) }
     ensures refused { IfErr result (λ e. e ≢ Fault.Memory → verdict config.now (left_of reader.old) ≡ Err e) }
     ensures fault { IfErr result IsCheckFault }
@@ -99,7 +99,7 @@ fn check_left(
     if !is_header(config.ranks, fields) {
         return Err(Fault::CheckRow(0));
     }
-    check_rows(alloc, config, turns, reader, fields)
+    check_rows(alloc, config, most_reads, reader, fields)
 }
 
 // The verdict on a table, whose records are read one after the other.
@@ -110,8 +110,8 @@ fn check_records(alloc: Global, config: &Config, table: &[u8]) -> Result<Verdict
 {
     let mut reader = open(alloc, table);
     let mut fields = ByteRecord::new(alloc);
-    let turns = table.len() as u64 + 2;
-    check_left(alloc, config, turns, &mut reader, &mut fields)
+    let most_reads = table.len() as u64 + 2;
+    check_left(alloc, config, most_reads, &mut reader, &mut fields)
 }
 
 /// Tests a table of commands under a configuration: its text is read as comma-separated values, whose first record must be the

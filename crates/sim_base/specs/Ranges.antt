@@ -57,7 +57,7 @@ OverridesInRange overrides = All (λ o. LatencyInRange o.latency) overrides
 abbrev pub DistanceInRange : ℕ → Type 0
 DistanceInRange cycles = Within 1 100000 cycles
 
--- each distance between commands is a cycle at least; only the turn between ranks and the interval of refreshes may be 0
+-- each distance between commands is a cycle at least; only the switch between ranks and the interval of refreshes may be 0
 pub record TimingInRange (t : Timing) : Type 0 where
   pub n_rcd : DistanceInRange t.n_rcd
   pub n_rp : DistanceInRange t.n_rp

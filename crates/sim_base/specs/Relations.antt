@@ -27,7 +27,7 @@ pub record DistancesFit (t : Timing) : Type 0 where
   pub bursts : 4 ≤ t.n_ccd_s
   pub columns_in_group : t.n_ccd_s ≤ t.n_ccd_l
   pub rows_in_group : t.n_rrd_s ≤ t.n_rrd_l
-  pub turns_in_group : t.n_wtr_s ≤ t.n_wtr_l
+  pub turnaround_in_group : t.n_wtr_s ≤ t.n_wtr_l
 
 -- where there are refreshes, one is over before the next one is due
 abbrev pub RefreshFits : Timing → ℕ → Type 0

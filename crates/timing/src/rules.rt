@@ -1,6 +1,6 @@
 //! The rules between two commands, as a table.
 
-ghost use Rattle.std.specs.Prelude.{◌≡◌, ◌+◌, ◌==◌, ◌&&◌, ◌≤◌};
+ghost use Rattle.std.specs.Prelude.{◌≡◌, ◌+◌, ◌==◌, ◌&&◌};
 ghost use Rattle.sim_base.specs.Rules.{rules, covers, binds, is_bound, gap};
 ghost use Rattle.sim_base.specs.Rules.{relation_in_rank, relation_of};
 ghost use Rattle.timing.specs.Relation.{relation_to};

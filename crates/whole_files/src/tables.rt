@@ -1,21 +1,24 @@
 //! The tables of a run in a folder: each is written under a name of its own, and gets its place once all three are whole.
 
-ghost use Rattle.std.specs.Prelude.{◌≡◌, ◌++◌, ◌∷◌, [], Some, None, IfOk, IfErr, OnOk, OnErr, string_bytes};
+ghost use Rattle.std.specs.Prelude.{◌≡◌, ◌++◌, ◌∷◌, [], Some, IfOk, IfErr, OnOk};
 ghost use Rattle.refusal.specs.Refusals.{fault_of, IsKept, IsTornRefusal};
 ghost use Rattle.whole_files.specs.Files.{SameFiles, SameBut, IsWriteFault};
-ghost use Rattle.whole_files.specs.Tables.{path_in, part_names, parts, SameApart, AreMovesIn, InFolder, commands_of, stats_of, final_of, HoldsParts, HasNoParts, IsWritten, IsPlaced, IsPartlyPlaced, IsLeftBy};
+ghost use Rattle.whole_files.specs.Tables.{part_names, parts, SameApart, AreMovesIn, InFolder, commands_of, stats_of, final_of, HoldsParts, HasNoParts, IsWritten, IsPlaced, IsPartlyPlaced, IsLeftBy};
 
 use crate::files::FileSet;
 use crate::moves::{Move, discard_one, move_in, place_one};
 use refusal::reason::Reason;
 use refusal::refusal::Refusal;
-use reports::{write_commands, write_final, write_stats};
+use reports::{write_commands_by, write_final, write_stats};
 use sim_base::fault::Fault;
 use statistics::outcome::Outcome;
 use std::alloc::Global;
+use std::thread::Threads;
 
-fn stage_commands<F: FileSet>(
+fn stage_commands<R: Threads + Sync, F: FileSet>(
+    rt: &R,
     alloc: Global,
+    threads: usize,
     files: &mut F,
     path: &str,
     run: &Outcome,
@@ -26,7 +29,14 @@ fn stage_commands<F: FileSet>(
     ensures others { F.tells → SameBut path.now (F.held files.old) (F.held files.new) }
 {
     let mut table = files.create(alloc, path)?;
-    if let Err(fault) = write_commands(alloc, run.ranks, &run.commands, &mut table) {
+    if let Err(fault) = write_commands_by(
+        rt,
+        alloc,
+        threads,
+        run.ranks,
+        &run.commands,
+        &mut table,
+    ) {
         return Err(files.cause(alloc, path, &table, fault));
     }
     files.close(alloc, path, table)
@@ -88,8 +98,10 @@ fn moves_of(alloc: Global, folder: &str) -> Result<Moves, Fault>
 }
 
 // Writes the tables, one after the other, under the names that end in `.part`.
-fn stage<F: FileSet>(
+fn stage<R: Threads + Sync, F: FileSet>(
+    rt: &R,
     alloc: Global,
+    threads: usize,
     files: &mut F,
     moves: &Moves,
     run: &Outcome,
@@ -99,7 +111,7 @@ fn stage<F: FileSet>(
     ensures fault { IfErr result (λ e. IsWriteFault e) }
     ensures others { InFolder moves.now (λ folder. F.tells → SameApart folder part_names (F.held files.old) (F.held files.new)) }
 {
-    stage_commands(alloc, files, moves.commands.from.as_str(), run)?;
+    stage_commands(rt, alloc, threads, files, moves.commands.from.as_str(), run)?;
     stage_stats(alloc, files, moves.stats.from.as_str(), run)?;
     stage_final(alloc, files, moves.last.from.as_str(), run)
 }
@@ -147,9 +159,12 @@ fn discard<F: FileSet>(files: &mut F, moves: &Moves)
 
 /// Writes the tables of a run into a folder. Each is written under its name and `.part`, and when all three are whole, they get their
 /// places, one right after the other. Where that fails before the first has its place, what was written is removed, and
-/// what stood in the places stands there; where it fails later, the refusal is `Torn`, and nothing is removed.
-pub fn write_tables<F: FileSet>(
+/// what stood in the places stands there; where it fails later, the refusal is `Torn`, and nothing is removed. The table of commands is
+/// put together by so many threads at most.
+pub fn write_tables<R: Threads + Sync, F: FileSet>(
+    rt: &R,
     alloc: Global,
+    threads: usize,
     files: &mut F,
     folder: &str,
     run: &Outcome,
@@ -160,7 +175,7 @@ pub fn write_tables<F: FileSet>(
     ensures fault { IfErr result (λ e. IsWriteFault (fault_of e)) }
 {
     let moves = moves_of(alloc, folder)?;
-    if let Err(fault) = stage(alloc, files, &moves, run) {
+    if let Err(fault) = stage(rt, alloc, threads, files, &moves, run) {
         discard(files, &moves);
         return Err(Refusal::Kept(fault));
     }

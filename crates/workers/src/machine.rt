@@ -29,6 +29,7 @@ use std::thread::Threads;
 const PATIENCE: Patience = Patience {
     spins: 2_000,
     yields: 10_000,
+    turns: 200,
 };
 
 /// A machine of no more units is run by the caller as a whole: it costs less than to wake other threads.
@@ -39,6 +40,12 @@ const BUSY: usize = 32;
 
 /// After how many cycles it is looked for the first time how much is in flight. Each time is twice as far as the time before.
 const FIRST_LAP: Cycle = 4_096;
+
+/// How many shards there are for each worker: one of channels, and one of cores, which have less to do and fill up what is left of a phase.
+const SHARDS: usize = 2;
+
+/// How many shards there are at most: what is sent goes by a list for each pair of them.
+const MOST_SHARDS: usize = 64;
 
 /// In how many shards the units are shared out, and how many messages in flight make it worth while.
 #[derive(Clone, Copy)]
@@ -189,7 +196,7 @@ impl<'a, W: Watch> Course<Task, TaskDone, Outcome> for Voyage<'a, W> {
             cycles,
             way,
         } = self;
-        let mut claims = Claims::new(crew);
+        let mut claims = Claims { crew };
         match run_by(alloc, watch, config, traces, cycles, way, &mut claims) {
             Ok(outcome) => Ok(outcome),
             Err(_) => Err(AllocError),
@@ -197,13 +204,13 @@ impl<'a, W: Watch> Course<Task, TaskDone, Outcome> for Voyage<'a, W> {
     }
 }
 
-/// So many workers, and no more than the machine has units: each has a shard.
-fn useful(workers: usize, config: &Config) -> usize
+/// How many shards the units of a machine are shared out in for so many workers: some for each, and no more than there are units, or than `MOST_SHARDS`.
+fn shards_for(workers: usize, config: &Config) -> usize
     requires { 2 ≤ workers }
-    ensures { (2 ≤ result) × (result ≤ workers) }
+    ensures { 2 ≤ result }
 {
     let units = usize::from(config.cores) + usize::from(config.channels);
-    workers.min(units)
+    workers.saturating_mul(SHARDS).min(MOST_SHARDS).min(units)
 }
 
 /// Runs a machine by several workers.
@@ -224,7 +231,7 @@ fn run_together<R: Threads + Wait + Sync, G: Gate + Sync, W: Watch>(
     ensures outcome { IfOk result (λ o. o ≡ outcome_of config.now traces.items (cycles_run config.now traces.items cycles)) }
     ensures refused { IfErr result (IsRefusedTo workers) }
 {
-    let shards = useful(workers, config);
+    let shards = shards_for(workers, config);
     let busy = if gate.watches() { 0 } else { BUSY };
     let voyage = Voyage {
         watch,
@@ -234,7 +241,15 @@ fn run_together<R: Threads + Wait + Sync, G: Gate + Sync, W: Watch>(
         way: Way::Shared(Sharing { shards, busy }),
     };
     let work = AtGate { gate };
-    match with_crew(rt, alloc, &work, shards, shards, PATIENCE, voyage) {
+    match with_crew(
+        rt,
+        alloc,
+        &work,
+        shards,
+        workers.min(shards),
+        PATIENCE,
+        voyage,
+    ) {
         Ok(outcome) => Ok(outcome),
         Err(Refused::Memory) => Err(Fault::Memory),
         Err(Refused::Start) => Err(Fault::WorkerStart),

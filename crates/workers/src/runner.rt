@@ -42,21 +42,16 @@ impl<'a, G: Gate> Runner for Serial<'a, G> {
     }
 }
 
-/// Has a crew run the parts, which its threads claim.
+/// Has a crew run the parts, which its threads claim from the last on: those of channels, which have most to do, come last in a machine.
 #[derive(Drop)]
 pub struct Claims<'a, P: Phases<Task, TaskDone>> {
-    crew: &'a mut P,
-}
-
-impl<'a, P: Phases<Task, TaskDone>> Claims<'a, P> {
-    /// A runner by this crew.
-    pub fn new(crew: &'a mut P) -> Claims<'a, P> {
-        Claims { crew }
-    }
+    pub crew: &'a mut P,
 }
 
 impl<'a, P: Phases<Task, TaskDone>> Runner for Claims<'a, P> {
     fn run_phase(&mut self, tasks: Vec<Task>) -> Result<Vec<TaskDone>, Fault> {
+        let mut tasks = tasks;
+        tasks.reverse();
         let results = self.crew.run_tasks(tasks)?;
         Ok(results)
     }

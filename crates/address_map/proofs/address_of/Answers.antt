@@ -1,4 +1,4 @@
--- Each turn adds the value of one field, and at the end none is left.
+-- Each round adds the value of one field, and at the end none is left.
 use Rattle.std.proofs.Common.{◌≡◌, ◌+◌, ◌*◌, ◌<◌, ◌∙◌, length, get_or, drop, arith, sym}
 use Rattle.sim_base.specs.declared.place.Field.TheVariants.{Channel}
 use Rattle.sim_base.specs.Places.{field_size}
@@ -12,21 +12,21 @@ loop-field-init c = record { sum = omega arith; below = omega arith; fits = omeg
 pub overflow_mul-address : goal.overflow_mul-address
 overflow_mul-address c =
     let within : c.loop-field.field-index < length c.args.config.now.fields = rw (← c.as_slice-field-items.ensures) c.loop-field-test.true in
-    let turn = one_more c.args.config.now c.args.place.now c.args.config.now.fields c.loop-field.field-index Channel c.loop-field.address c.loop-field.scale c.requires within c.loop-field.invariant.below c.loop-field.invariant.fits in
+    let added = one_more c.args.config.now c.args.place.now c.args.config.now.fields c.loop-field.field-index Channel c.loop-field.address c.loop-field.scale c.requires within c.loop-field.invariant.below c.loop-field.invariant.fits in
     let value : c.from.result ≡ value_of c.args.place.now (get_or c.args.config.now.fields c.loop-field.field-index Channel) = cc in
     rw value (omega arith)
 
 pub overflow_add-address : goal.overflow_add-address
 overflow_add-address c =
     let within : c.loop-field.field-index < length c.args.config.now.fields = rw (← c.as_slice-field-items.ensures) c.loop-field-test.true in
-    let turn = one_more c.args.config.now c.args.place.now c.args.config.now.fields c.loop-field.field-index Channel c.loop-field.address c.loop-field.scale c.requires within c.loop-field.invariant.below c.loop-field.invariant.fits in
+    let added = one_more c.args.config.now c.args.place.now c.args.config.now.fields c.loop-field.field-index Channel c.loop-field.address c.loop-field.scale c.requires within c.loop-field.invariant.below c.loop-field.invariant.fits in
     let value : c.from.result ≡ value_of c.args.place.now (get_or c.args.config.now.fields c.loop-field.field-index Channel) = cc in
     rw value (omega arith)
 
 pub overflow_mul-scale : goal.overflow_mul-scale
 overflow_mul-scale c =
     let within : c.loop-field.field-index < length c.args.config.now.fields = rw (← c.as_slice-field-items.ensures) c.loop-field-test.true in
-    let turn = one_more c.args.config.now c.args.place.now c.args.config.now.fields c.loop-field.field-index Channel c.loop-field.address c.loop-field.scale c.requires within c.loop-field.invariant.below c.loop-field.invariant.fits in
+    let added = one_more c.args.config.now c.args.place.now c.args.config.now.fields c.loop-field.field-index Channel c.loop-field.address c.loop-field.scale c.requires within c.loop-field.invariant.below c.loop-field.invariant.fits in
     let size : c.from-scale.result ≡ field_size c.args.config.now (get_or c.args.config.now.fields c.loop-field.field-index Channel) = cc in
     rw size (omega arith)
 
@@ -36,7 +36,7 @@ loop-field-preserved c =
     let p = c.args.place.now in
     let f = get_or s.fields c.loop-field.field-index Channel in
     let within : c.loop-field.field-index < length s.fields = rw (← c.as_slice-field-items.ensures) c.loop-field-test.true in
-    let turn = one_more s p s.fields c.loop-field.field-index Channel c.loop-field.address c.loop-field.scale c.requires within c.loop-field.invariant.below c.loop-field.invariant.fits in
+    let added = one_more s p s.fields c.loop-field.field-index Channel c.loop-field.address c.loop-field.scale c.requires within c.loop-field.invariant.below c.loop-field.invariant.fits in
     let value : c.from.result ≡ value_of p f = cc in
     let size : c.from-scale.result ≡ field_size s f = cc in
     rw (value, size)
@@ -44,8 +44,8 @@ loop-field-preserved c =
       sum =
           sym (sum-step c.loop-field.address c.loop-field.scale (number_of s p (drop (c.loop-field.field-index + 1) s.fields)) (field_size s f) (value_of p f))
           ∙ (rw (← number_of-step s p s.fields c.loop-field.field-index Channel within) c.loop-field.invariant.sum);
-      below = turn.below;
-      fits = turn.fits;
+      below = added.below;
+      fits = added.fits;
     })
 
 address_is : (c : goal.After-loop-field) → c.loop-field.address ≡ 64 * number_of c.args.config.now c.args.place.now c.args.config.now.fields

@@ -1,4 +1,4 @@
--- Each turn peels one field off, and at the end none is left.
+-- Each round peels one field off, and at the end none is left.
 use Rattle.std.proofs.Common.{◌<◌, length, subst, sym}
 use Rattle.sim_base.specs.declared.place.Field.TheVariants.{Channel}
 use Rattle.sim_base.specs.PlaceRange.{PlaceInRange}

@@ -59,7 +59,7 @@ distances_at ms k1 k2 k3 k4 = do
   fourth ← number_of ms k4 1 100000
   Ok (first, second, third, fourth)
 
--- the distances between commands; no turn between ranks where its key is left out
+-- the distances between commands; no switch between ranks where its key is left out
 unfoldable pub timing_of : Members → Result Timing Fault
 timing_of ms = do
   rows ← distances_at ms key.NRcd key.NRp key.NRas key.NRc

@@ -1,11 +1,11 @@
 -- A candidate that only moves is the first still, one before the place that became free stays the first, and otherwise none stands before it.
 use Rattle.std.proofs.Common.{◌≡◌, Some, None, sym, ap, subst, ◌∙◌, arith}
-use Rattle.bank_candidates.specs.Candidates.{wants, first_place, kind_number}
+use Rattle.bank_candidates.specs.Candidates.{wants, first_place, access_number}
 use Rattle.bank_candidates.specs.Moves.{before, NoneBefore}
 use Rattle.bank_candidates.proofs.Positions.{before_some, before_here, past_front, past_late, past_none}
 use Rattle.bank_candidates.proofs.Entries.{left_front, none_before}
 use Rattle.bank_candidates.proofs.Searches.{none_max}
-use Rattle.bank_candidates.proofs.Blocked.{unblocked_place, wants_kind}
+use Rattle.bank_candidates.proofs.Blocked.{unblocked_place, wants_access}
 use Rattle.bank_candidates.proofs.Stood.{item_at}
 use Rattle.bank_candidates.proofs.search.next_place.Goals as goal
 use Rattle.bank_candidates.proofs.search.next_place.Goals.{in_default-via-in-Some+else-place-departure, in_default-via-in_default}
@@ -42,5 +42,5 @@ returns-then-stays-clause-first c earlier was within left moved only none is =
     let item = item_at earlier slot within in
     let moves = only c.if-stays.true in
     moved
-    ∙ unblocked_place (kind_number c.args.departure.bank c.args.write) test earlier slot item.0 was within item.1 (wants_kind c.args.departure.bank c.args.write c.args.row) moves.0 is moves.1
+    ∙ unblocked_place (access_number c.args.departure.bank c.args.write) test earlier slot item.0 was within item.1 (wants_access c.args.departure.bank c.args.write c.args.row) moves.0 is moves.1
     ∙ ap (first_place test) (sym left)

@@ -1,7 +1,7 @@
 use Rattle.std.proofs.Common.{◌^◌, ◌≤◌, ◌++◌, length, length-append, Some, sym, ap, ◌∙◌, arith}
 use Rattle.cpu_trace.specs.Lines.{entries_of}
 use Rattle.cpu_trace.proofs.Kept.{kept-short}
-use Rattle.cpu_trace.proofs.Turns.{IsReadUpTo-line}
+use Rattle.cpu_trace.proofs.ByLine.{IsReadUpTo-line}
 use Rattle.cpu_trace.proofs.piece.add_usual_lines.Goals as goal
 
 pub loop-line-preserved : goal.loop-line-preserved

@@ -1,5 +1,5 @@
 use Rattle.cpu_trace.specs.Lines.{entries_in}
-use Rattle.cpu_trace.proofs.Turns.{first_line, IsReadUpTo-lines, IsReadUpTo-line, kept_of-bad, IsReadingOf-end}
+use Rattle.cpu_trace.proofs.ByLine.{first_line, IsReadUpTo-lines, IsReadUpTo-line, kept_of-bad, IsReadingOf-end}
 use Rattle.cpu_trace.proofs.piece.read_piece.Goals as goal
 
 pub loop-kept-preserved : goal.loop-kept-preserved

@@ -1,7 +1,7 @@
 use Rattle.std.proofs.Common.{◌≡◌, ◌<◌, length, drop, refl, sym, ◌∙◌, arith}
 use Rattle.std.proofs.lemmas.Bool.{eqb-true, eqb-false}
 use Rattle.std.proofs.lemmas.List.{take_rest}
-use Rattle.cpu_trace.proofs.Turns.{line_len, lines_of-last, lines_of-first}
+use Rattle.cpu_trace.proofs.ByLine.{line_len, lines_of-last, lines_of-first}
 use Rattle.cpu_trace.proofs.piece.split_line.Goals as goal
 
 pub returns-then-is_empty-clause-lines : goal.returns-then-is_empty-clause-lines

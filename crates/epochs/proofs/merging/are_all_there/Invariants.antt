@@ -4,4 +4,4 @@ use Rattle.std.specs.Prelude.{is_some}
 use Rattle.epochs.proofs.merging.are_all_there.Given as goal
 
 abbrev pub invariant-loop-place : goal.invariant-loop-place
-invariant-loop-place l = (k : ℕ) → k < l.place → is_some (get_or l.seats k None) ≡ true
+invariant-loop-place l = (k : ℕ) → k < l.place → is_some (get_or l.by_unit k None) ≡ true

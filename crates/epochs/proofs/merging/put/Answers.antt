@@ -2,9 +2,9 @@ use Rattle.std.proofs.Common.{◌≡◌, Some, None, [], ◌∷◌, ◌++◌, tr
 use Rattle.std.specs.Prelude.{is_some}
 use Rattle.std.proofs.Math.ListN.{set}
 use Rattle.epochs.specs.Merging.{is_among, names_of}
-use Rattle.epochs.specs.Seats.{seats_of}
+use Rattle.epochs.specs.ByUnit.{results_by_unit}
 use Rattle.sim_base.specs.declared.fault.MergeFault.TheVariants.{Stranger, Double}
-use Rattle.epochs.proofs.Seating.{fault-stranger, fault-double, fault-none, seat-taken, seat-is, seats-put, place-among, job-is}
+use Rattle.epochs.proofs.Sorting.{fault-stranger, fault-double, fault-none, unit_result-taken, unit_result-is, by_unit-put, place-among, job-is}
 use Rattle.epochs.proofs.merging.put.Goals as goal
 
 pub returns-in-None-clause-err : goal.returns-in-None-clause-err
@@ -19,7 +19,7 @@ returns-then-is_taken-clause-err c names e len =
     let at = c.in-Some.ensures.some in
     let name = at.1 ∙ c.name.ensures in
     let known = subst (λ n. is_among (names_of p) n ≡ true) name (place-among p place at.0) in
-    let taken = sym (ap (is_among names) name) ∙ sym (seat-taken p names place) ∙ sym (ap is_some (seat-is p names _ place None e at.0)) ∙ ap (λ z. is_some (get_or z place None)) (sym c.deref.ensures.value) ∙ sym c.is_taken.ensures ∙ c.if-is_taken.true in
+    let taken = sym (ap (is_among names) name) ∙ sym (unit_result-taken p names place) ∙ sym (ap is_some (unit_result-is p names _ place None e at.0)) ∙ ap (λ z. is_some (get_or z place None)) (sym c.deref.ensures.value) ∙ sym c.is_taken.ensures ∙ c.if-is_taken.true in
     fault-double p names c.args.result_of.name known taken ∙ ap (λ n. Some (Double n)) len
 
 pub returns-else-is_taken-clause-ok : goal.returns-else-is_taken-clause-ok
@@ -29,11 +29,11 @@ returns-else-is_taken-clause-ok c names e len =
     let at = c.in-Some.ensures.some in
     let name = at.1 ∙ c.name.ensures in
     let known = subst (λ n. is_among (names_of p) n ≡ true) name (place-among p place at.0) in
-    let taken = sym (ap (is_among names) name) ∙ sym (seat-taken p names place) ∙ sym (ap is_some (seat-is p names _ place None e at.0)) ∙ ap (λ z. is_some (get_or z place None)) (sym c.deref.ensures.value) ∙ sym c.is_taken.ensures ∙ c.if-is_taken.false in
+    let taken = sym (ap (is_among names) name) ∙ sym (unit_result-taken p names place) ∙ sym (ap is_some (unit_result-is p names _ place None e at.0)) ∙ ap (λ z. is_some (get_or z place None)) (sym c.deref.ensures.value) ∙ sym c.is_taken.ensures ∙ c.if-is_taken.false in
     let of = c.requires.of known in (
       fault-none p names c.args.result_of.name known taken,
       ap (λ z. set z place (Some c.args.result_of)) e
-          ∙ ap (λ d. set (seats_of p names) place (Some d)) (job-is p place c.args.result_of of.0 of.1 name)
-          ∙ seats-put p names place at.0
-          ∙ ap (λ n. seats_of p (names ++ n ∷ [])) name,
+          ∙ ap (λ d. set (results_by_unit p names) place (Some d)) (job-is p place c.args.result_of of.0 of.1 name)
+          ∙ by_unit-put p names place at.0
+          ∙ ap (λ n. results_by_unit p (names ++ n ∷ [])) name,
     )

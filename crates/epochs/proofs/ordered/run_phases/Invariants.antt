@@ -1,4 +1,4 @@
--- The run is the same, no earlier than where it began, and not past the stop; in each turn it comes nearer to it.
+-- The run is the same, no earlier than where it began, and not past the stop; in each round it comes nearer to it.
 use Rattle.std.proofs.Common.{◌≡◌, ◌≤◌, ◌-◌}
 use Rattle.epochs.proofs.ordered.run_phases.Given as goal
 

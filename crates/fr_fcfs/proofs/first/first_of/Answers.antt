@@ -9,25 +9,25 @@ use Rattle.fr_fcfs.proofs.first.first_of.Goals as goal
 pub returns-then-best-room-clause-first : goal.returns-then-best-room-clause-first
 returns-then-best-room-clause-first c s history banks bank_candidates going_are =
     let requests = c.args.queue.now.requests in
-    let kinds = c.args.kinds in
+    let accesses = c.args.accesses in
     let best = c.with_banks.new.best in
     let inside : best.slot < length requests = omega (arith, c.len-room.ensures.value) in
     let start =
     subst (λ room. IsBestSoFar (length requests) c.args.now (λ cycle. None) (λ cycle. None) (no_offer room)) (sym c.len-room.ensures.value)
     (none_so_far (length requests) c.args.now (λ cycle. None) (λ cycle. None) (λ cycle late. refl) (λ cycle late. refl)) in
-    first_ready_is s history c.args.queue.now kinds c.args.now (Some best) going_are inside
-    (found (length requests) c.args.now (λ cycle. first_place (hits_now s history kinds cycle) requests) (λ cycle. first_place (rows_now s history requests kinds cycle) requests) best inside
+    first_ready_is s history c.args.queue.now accesses c.args.now (Some best) going_are inside
+    (found (length requests) c.args.now (λ cycle. first_place (hits_now s history accesses cycle) requests) (λ cycle. first_place (rows_now s history requests accesses cycle) requests) best inside
     (c.with_banks.ensures s history requests banks bank_candidates c.requires.places start))
 
 pub returns-else-best-room-clause-first : goal.returns-else-best-room-clause-first
 returns-else-best-room-clause-first c s history banks bank_candidates going_are =
     let requests = c.args.queue.now.requests in
-    let kinds = c.args.kinds in
+    let accesses = c.args.accesses in
     let best = c.with_banks.new.best in
     let outside : length requests ≤ best.slot = omega (arith, c.len-room.ensures.value) in
     let start =
     subst (λ room. IsBestSoFar (length requests) c.args.now (λ cycle. None) (λ cycle. None) (no_offer room)) (sym c.len-room.ensures.value)
     (none_so_far (length requests) c.args.now (λ cycle. None) (λ cycle. None) (λ cycle late. refl) (λ cycle late. refl)) in
-    first_ready_is s history c.args.queue.now kinds c.args.now None going_are tt
-    (none_found (length requests) c.args.now (λ cycle. first_place (hits_now s history kinds cycle) requests) (λ cycle. first_place (rows_now s history requests kinds cycle) requests) best outside
+    first_ready_is s history c.args.queue.now accesses c.args.now None going_are tt
+    (none_found (length requests) c.args.now (λ cycle. first_place (hits_now s history accesses cycle) requests) (λ cycle. first_place (rows_now s history requests accesses cycle) requests) best outside
     (c.with_banks.ensures s history requests banks bank_candidates c.requires.places start))

@@ -18,7 +18,7 @@ not_true false is = refl
 pub loop-bank-init : goal.loop-bank-init
 loop-bank-init c =
     let now = c.args.now in
-    let kinds = c.args.kinds in
+    let accesses = c.args.accesses in
     let asked = c.banks_with_candidate.result in
     let hit = c.hit.result in
     let rest = c.minus-rest.result in
@@ -28,13 +28,13 @@ loop-bank-init c =
           let parts = and_parts (is_in asked k) (not (is_in hit k)) (sym (c.minus-rest.ensures k) ∙ left) in
           sym (c.hit.ensures k d (c.banks_with_candidate.ensures.within k parts.0)) ∙ not_true (is_in hit k) parts.1;
       so_far = λ s history requests hits stands bank_candidates places before.
-          so_far_same (length requests) now hits (λ cycle. None) hits (λ cycle. place_beside (λ k. is_in rest k) (rows_now s history requests kinds cycle) requests) c.args.best.now
+          so_far_same (length requests) now hits (λ cycle. None) hits (λ cycle. place_beside (λ k. is_in rest k) (rows_now s history requests accesses cycle) requests) c.args.best.now
           (λ cycle late. refl)
           (λ cycle late.
           sym
-          (beside_nothing (λ k. is_in rest k) (bank_count c.args.bank_candidates.now) (rows_now s history requests kinds cycle) requests bank_candidates.within
+          (beside_nothing (λ k. is_in rest k) (bank_count c.args.bank_candidates.now) (rows_now s history requests accesses cycle) requests bank_candidates.within
           (λ k exists off.
-          row_none s history _ requests kinds k (candidates_of_bank c.args.bank_candidates.now k nowhere) places (bank_candidates.candidates_are k nowhere exists) (bank_candidates.rows_are k nowhere exists)
+          row_none s history _ requests accesses k (candidates_of_bank c.args.bank_candidates.now k nowhere) places (bank_candidates.candidates_are k nowhere exists) (bank_candidates.rows_are k nowhere exists)
           ((λ i. (sym (c.banks_with_candidate.ensures.each k nowhere exists)) i && not ((sym (c.hit.ensures k nowhere exists)) i)) ∙ sym (c.minus-rest.ensures k) ∙ off) cycle)))
           before;
     }
@@ -47,7 +47,7 @@ loop-bank-smaller c =
 pub loop-bank-preserved : goal.loop-bank-preserved
 loop-bank-preserved c =
     let now = c.args.now in
-    let kinds = c.args.kinds in
+    let accesses = c.args.accesses in
     let bank = c.in-Some.bank in
     let rest = c.loop-bank.rest in
     let after = c.without-rest.result in
@@ -56,12 +56,12 @@ loop-bank-preserved c =
       within = λ k still. c.loop-bank.invariant.within k (left k still);
       no_hit = λ k d still. c.loop-bank.invariant.no_hit k d (left k still);
       so_far = λ s history requests hits stands bank_candidates places before.
-          let rows = λ (cycle : ℕ). place_beside (λ k. is_in rest k) (rows_now s history requests kinds cycle) requests in
-          so_far_same (length requests) now hits (λ cycle. earlier (rows cycle) (rows_in s history requests kinds bank cycle)) hits
-          (λ cycle. place_beside (λ k. is_in after k) (rows_now s history requests kinds cycle) requests) c.with_row.new.best (λ cycle late. refl)
+          let rows = λ (cycle : ℕ). place_beside (λ k. is_in rest k) (rows_now s history requests accesses cycle) requests in
+          so_far_same (length requests) now hits (λ cycle. earlier (rows cycle) (rows_in s history requests accesses bank cycle)) hits
+          (λ cycle. place_beside (λ k. is_in after k) (rows_now s history requests accesses cycle) requests) c.with_row.new.best (λ cycle late. refl)
           (λ cycle late.
           sym
-          (beside_more (λ k. is_in rest k) (λ k. is_in after k) bank (rows_now s history requests kinds cycle) requests c.in-Some.ensures.first c.without-rest.ensures.same
+          (beside_more (λ k. is_in rest k) (λ k. is_in after k) bank (rows_now s history requests accesses cycle) requests c.in-Some.ensures.first c.without-rest.ensures.same
           c.without-rest.ensures.others))
           (c.with_row.ensures s history requests hits rows stands bank_candidates places (c.loop-bank.invariant.so_far s history requests hits stands bank_candidates places before));
     }
@@ -69,7 +69,7 @@ loop-bank-preserved c =
 pub returns : goal.returns
 returns c s history requests hits stands bank_candidates places before =
     let rest = c.loop-bank.rest in
-    so_far_same (length requests) c.args.now hits (λ cycle. place_beside (λ k. is_in rest k) (rows_now s history requests c.args.kinds cycle) requests) hits
-    (λ cycle. first_place (rows_now s history requests c.args.kinds cycle) requests) c.loop-bank.best (λ cycle late. refl)
-    (λ cycle late. beside_all (λ k. is_in rest k) (rows_now s history requests c.args.kinds cycle) requests c.in_default.ensures.none)
+    so_far_same (length requests) c.args.now hits (λ cycle. place_beside (λ k. is_in rest k) (rows_now s history requests c.args.accesses cycle) requests) hits
+    (λ cycle. first_place (rows_now s history requests c.args.accesses cycle) requests) c.loop-bank.best (λ cycle late. refl)
+    (λ cycle late. beside_all (λ k. is_in rest k) (rows_now s history requests c.args.accesses cycle) requests c.in_default.ensures.none)
     (c.loop-bank.invariant.so_far s history requests hits stands bank_candidates places before)

@@ -19,11 +19,11 @@ use Rattle.fr_fcfs.proofs.first.with_rows.Given as goal
 abbrev pub invariant-loop-bank : goal.invariant-loop-bank
 invariant-loop-bank l = record {
   within : (k : ℕ) → is_in l.rest k ≡ true → k < bank_count l.bank_candidates;
-  no_hit : (k : ℕ) (d : CandidatesOfBank) → is_in l.rest k ≡ true → is_some (hit_candidate l.kinds (candidates_of_bank l.bank_candidates k d)) ≡ false;
+  no_hit : (k : ℕ) (d : CandidatesOfBank) → is_in l.rest k ≡ true → is_some (hit_candidate l.accesses (candidates_of_bank l.bank_candidates k d)) ≡ false;
   so_far : (s : Config) (history : List IssuedCommand) (requests : List Request) (hits : ℕ → Option ℕ) → BanksStandFor l.banks s history
       → CandidatesStandFor l.bank_candidates requests (λ bank. open_row (bank_at bank) history) → All (IsInBanks (rank_count l.banks)) requests
       → IsBestSoFar (length requests) l.now hits (λ cycle. None) l.fn.best
-      → IsBestSoFar (length requests) l.now hits (λ cycle. place_beside (λ k. is_in l.rest k) (rows_now s history requests l.kinds cycle) requests) l.best;
+      → IsBestSoFar (length requests) l.now hits (λ cycle. place_beside (λ k. is_in l.rest k) (rows_now s history requests l.accesses cycle) requests) l.best;
 }
 
 abbrev pub decreases-loop-bank : goal.decreases-loop-bank

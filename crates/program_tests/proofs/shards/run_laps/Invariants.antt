@@ -1,4 +1,4 @@
--- The run is not past the limit; in each turn it comes nearer to it.
+-- The run is not past the limit; in each round it comes nearer to it.
 use Rattle.std.proofs.Common.{◌≤◌, ◌-◌}
 use Rattle.program_tests.proofs.shards.run_laps.Given as goal
 

@@ -145,7 +145,7 @@ left_over c =
     elim c.if-was_first.branch [
       | then-was_first w ↦
           let h = w.self-inside-is in
-          let turned = w.unblock_next-waited.ensures in
+          let rotated = w.unblock_next-waited.ensures in
           let done : c.from.result ≡ cond {A = ℕ} w.unblock_next-waited.result 1 0 = c.from.ensures ∙ ap bool_byte w.waited-is ∙ byte_is w.unblock_next-waited.result in
           let none : cond {A = ℕ} (not (eqb word 1)) 1 0 ≡ 0 = ap (λ b. cond {A = ℕ} (not b) 1 0) (eq-eqb word 1 w.if-was_first.true) in
           let counts = ap (λ s. blocked_count s.aged.marks) h in
@@ -154,22 +154,22 @@ left_over c =
             request = request;
             word_is = word_is;
             room = ap (λ s. s.room) h;
-            places = ap (λ s. s.aged.room) h ∙ turned.room ∙ c.remove.ensures.room;
+            places = ap (λ s. s.aged.room) h ∙ rotated.room ∙ c.remove.ensures.room;
             writes = ap (λ s. s.writes) h;
             high = ap (λ s. s.high) h;
             low = ap (λ s. s.low) h;
             drain_decided = ap (λ s. s.drain_decided) h;
             drains = ap (λ s. s.drains) h;
-            requests = ap (λ s. s.aged.requests) h ∙ turned.requests ∙ fewer;
-            turn = λ _.
+            requests = ap (λ s. s.aged.requests) h ∙ rotated.requests ∙ fewer;
+            rotated = λ _.
                 ap (λ s. s.aged.marks) h
-                ∙ turned.marks
+                ∙ rotated.marks
                 ∙ (λ i. set (c.remove.ensures.marks i) (n + position_or_len (λ (x : Request). is_line x.place r.place) (drop n (fewer i))) 1);
-            no_turn = λ no. absurd (eqb-false word 1 no w.if-was_first.true);
+            still_blocked = λ no. absurd (eqb-false word 1 no w.if-was_first.true);
             mask = ap (λ s. s.mask) h;
             long = ap (λ s. length s.lines.items) h ∙ length-set q.lines.items slot (c.index.result.now - 1);
             counted = λ k within. ap (λ s. get_or s.lines.items k 0) h ∙ one_less k (omega (arith, within, ap (λ s. length s.lines.items) h));
-            waited = omega (arith, done, none, counts, turned.waited, counted, kept.blocked_are, ap (λ s. s.blocked) h);
+            waited = omega (arith, done, none, counts, rotated.waited, counted, kept.blocked_are, ap (λ s. s.blocked) h);
           }
       | else-was_first w ↦
           let h = w.self-inside-is in
@@ -188,8 +188,8 @@ left_over c =
             drain_decided = ap (λ s. s.drain_decided) h;
             drains = ap (λ s. s.drains) h;
             requests = ap (λ s. s.aged.requests) h ∙ fewer;
-            turn = λ yes. absurd (w.if-was_first.false (eqb-true word 1 yes));
-            no_turn = λ _. ap (λ s. s.aged.marks) h ∙ c.remove.ensures.marks;
+            rotated = λ yes. absurd (w.if-was_first.false (eqb-true word 1 yes));
+            still_blocked = λ _. ap (λ s. s.aged.marks) h ∙ c.remove.ensures.marks;
             mask = ap (λ s. s.mask) h;
             long = ap (λ s. length s.lines.items) h ∙ length-set q.lines.items slot (c.index.result.now - 1);
             counted = λ k within. ap (λ s. get_or s.lines.items k 0) h ∙ one_less k (omega (arith, within, ap (λ s. length s.lines.items) h));

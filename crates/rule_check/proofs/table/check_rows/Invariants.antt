@@ -10,5 +10,5 @@ abbrev pub invariant-loop-number : goal.invariant-loop-number
 invariant-loop-number l =
     IsReading l.reader
     × (rows : List IssuedCommand) × IsPast l.past l.config rows
-    × (l.number + length (left_of l.reader) + 1 ≤ l.fn.turns)
+    × (l.number + length (left_of l.reader) + 1 ≤ l.fn.most_reads)
     × (verdict_after l.config [] 1 (left_of l.fn.reader) ≡ verdict_after l.config rows l.number (left_of l.reader))

@@ -1,4 +1,4 @@
--- The run is the same, not past the limit, and did not end; in each turn it comes nearer to the limit.
+-- The run is the same, not past the limit, and did not end; in each round it comes nearer to the limit.
 use Rattle.std.proofs.Common.{◌≡◌, ◌≤◌, ◌-◌}
 use Rattle.epochs.specs.Drained.{NotEnded}
 use Rattle.workers.proofs.machine.run_by.Given as goal

@@ -1,4 +1,4 @@
--- The run is the same, and not past the limit; in each turn it comes nearer to it.
+-- The run is the same, and not past the limit; in each round it comes nearer to it.
 use Rattle.std.proofs.Common.{◌≡◌, ◌≤◌, ◌-◌}
 use Rattle.workers.proofs.machine.run_laps.Given as goal
 

@@ -1,4 +1,4 @@
--- Each turn goes behind one field, up to the one that is looked for.
+-- Each round goes behind one field, up to the one that is looked for.
 use Rattle.std.proofs.Common.{◌≡◌, ◌-◌, ◌*◌, ◌/◌, ◌%◌, ◌^◌, ◌<◌, ◌∙◌, length, get_or, arith, ap}
 use Rattle.std.specs.Prelude.{bit_and}
 use Rattle.std.proofs.lemmas.Nat.{one_shl}

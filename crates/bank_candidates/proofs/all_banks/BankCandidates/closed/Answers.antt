@@ -1,7 +1,7 @@
 -- No request is for the open row where none is open.
 use Rattle.std.proofs.Common.{Bool, None, ap, ◌∙◌}
-use Rattle.bank_candidates.specs.Candidates.{hits, AreFirst, kind_number}
-use Rattle.bank_candidates.specs.Places.{kind_in}
+use Rattle.bank_candidates.specs.Candidates.{hits, AreFirst, access_number}
+use Rattle.bank_candidates.specs.Places.{access_in}
 use Rattle.bank_candidates.proofs.OneBank.{never_hits}
 use Rattle.bank_candidates.proofs.Searches.{none_everywhere}
 use Rattle.bank_candidates.proofs.Stood.{to_parts, from_parts, row_stand}
@@ -13,7 +13,7 @@ returns-clause-stands c rs open_rows stands =
     let number = c.args.number in
     let words = c.close.new.self.words.items in
     let parts = to_parts old rs open_rows stands in
-    let own : (write : Bool) → AreFirst rs number write None (kind_in words (kind_number number write)) = λ write. record {
+    let own : (write : Bool) → AreFirst rs number write None (access_in words (access_number number write)) = λ write. record {
       oldest_is = ap (λ h. h.oldest) (c.close.ensures.own write) ∙ (parts.first number write c.requires).oldest_is;
       hit_is = ap (λ h. h.hit) (c.close.ensures.own write) ∙ none_everywhere (hits number write None) rs (never_hits number write);
     } in

@@ -1,10 +1,10 @@
 -- The first request for the row is found, to read and to write.
 use Rattle.std.proofs.Common.{◌≡◌, ℕ, ◌<◌, Bool, true, false, Some, length, set, sym, subst, ◌∙◌}
 use Rattle.std.proofs.lemmas.Bool.{true≢false, false≢true}
-use Rattle.bank_candidates.specs.Candidates.{AreFirst, kind_number}
-use Rattle.bank_candidates.specs.Places.{kind_in}
+use Rattle.bank_candidates.specs.Candidates.{AreFirst, access_number}
+use Rattle.bank_candidates.specs.Places.{access_in}
 use Rattle.bank_candidates.specs.Stands.{with_row}
-use Rattle.bank_candidates.proofs.Blocked.{kind_bank, kind_write}
+use Rattle.bank_candidates.proofs.Blocked.{access_bank, access_write}
 use Rattle.bank_candidates.proofs.Stood.{AreStanding, to_parts, from_parts, row_stand}
 use Rattle.bank_candidates.proofs.all_banks.BankCandidates.opened.Goals as goal
 
@@ -17,18 +17,18 @@ returns-clause-stands c open_rows stands =
     let exists : number < length old.rows.items = subst (λ n. n < length old.rows.items) (sym c.number_of-number.ensures) c.requires in
     let words = c.open-2.new.self.words.items in
     let parts = to_parts old rs open_rows stands in
-    let reads : AreFirst rs number false row (kind_in words (kind_number number false)) =
-    subst (AreFirst rs number false row) (sym (c.open-2.ensures.others (kind_number number false) (λ e. false≢true (kind_write number number false true e))))
+    let reads : AreFirst rs number false row (access_in words (access_number number false)) =
+    subst (AreFirst rs number false row) (sym (c.open-2.ensures.others (access_number number false) (λ e. false≢true (access_write number number false true e))))
     (c.open.ensures.own (open_rows number) (parts.first number false exists)) in
-    let writes : AreFirst rs number true row (kind_in words (kind_number number true)) =
+    let writes : AreFirst rs number true row (access_in words (access_number number true)) =
     c.open-2.ensures.own (open_rows number)
-    (subst (AreFirst rs number true (open_rows number)) (sym (c.open.ensures.others (kind_number number true) (λ e. true≢false (kind_write number number true false e)))) (parts.first number true exists)) in
-    let own : (write : Bool) → AreFirst rs number write row (kind_in words (kind_number number write)) =
-    λ write. elim write as (λ w. AreFirst rs number w row (kind_in words (kind_number number w))) [ true ↦ writes | false ↦ reads ] in
-    let others : (other : ℕ) (write : Bool) → (other ≡ number → ⊥) → kind_in words (kind_number other write) ≡ kind_in old.places.words.items (kind_number other write) =
+    (subst (AreFirst rs number true (open_rows number)) (sym (c.open.ensures.others (access_number number true) (λ e. true≢false (access_write number number true false e)))) (parts.first number true exists)) in
+    let own : (write : Bool) → AreFirst rs number write row (access_in words (access_number number write)) =
+    λ write. elim write as (λ w. AreFirst rs number w row (access_in words (access_number number w))) [ true ↦ writes | false ↦ reads ] in
+    let others : (other : ℕ) (write : Bool) → (other ≡ number → ⊥) → access_in words (access_number other write) ≡ access_in old.places.words.items (access_number other write) =
     λ other write apart.
-    c.open-2.ensures.others (kind_number other write) (λ e. apart (kind_bank other number write true e))
-    ∙ c.open.ensures.others (kind_number other write) (λ e. apart (kind_bank other number write false e)) in
+    c.open-2.ensures.others (access_number other write) (λ e. apart (access_bank other number write true e))
+    ∙ c.open.ensures.others (access_number other write) (λ e. apart (access_bank other number write false e)) in
     from_parts _ rs _
     (subst (λ n. AreStanding (set old.rows.items number row) words old.blocked.items rs (with_row n row open_rows)) c.number_of-number.ensures
     (row_stand old.rows.items old.places.words.items words old.blocked.items rs open_rows number row exists own others parts))

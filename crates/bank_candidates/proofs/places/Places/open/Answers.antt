@@ -1,4 +1,4 @@
--- Where none of the kind may be served, none for the row may.
+-- Where none of the access may be served, none for the row may.
 use Rattle.std.proofs.Common.{◌≡◌, None, Some, sym, ◌∙◌}
 use Rattle.bank_candidates.specs.Candidates.{asks, hits, first_place}
 use Rattle.bank_candidates.proofs.Searches.{none_narrower_all}

@@ -3,8 +3,8 @@ use Rattle.std.proofs.Common.{◌≡◌, ℕ, ◌≢◌, ◌*◌, ◌+◌, not, 
 use Rattle.std.proofs.lemmas.List.{length-set, get_or_default}
 use Rattle.std.specs.Option.{is_some}
 use Rattle.bank_candidates.specs.Sets.{is_in}
-use Rattle.bank_candidates.specs.Places.{candidate_in, kind_in}
-use Rattle.bank_candidates.specs.Candidates.{kind_number}
+use Rattle.bank_candidates.specs.Places.{candidate_in, access_in}
+use Rattle.bank_candidates.specs.Candidates.{access_number}
 use Rattle.bank_candidates.proofs.Words.{Agree, set_agrees, read_same, read_beside, read_other}
 use Rattle.bank_candidates.proofs.places.Places.set.Goals as goal
 use Rattle.bank_candidates.proofs.places.Places.set.Goals.{then-is_some, else-is_some}
@@ -35,18 +35,18 @@ pub returns-clause-same : goal.returns-clause-same
 returns-clause-same c =
     let words = c.args.self.now.words.items in
     let bank = c.args.bank in
-    (λ i. candidate_in (set words (4 * bank + c.column-column.ensures.value i) (c.word_of.ensures i)) (kind_number bank c.args.write) c.args.hit)
+    (λ i. candidate_in (set words (4 * bank + c.column-column.ensures.value i) (c.word_of.ensures i)) (access_number bank c.args.write) c.args.hit)
     ∙ read_same words bank c.args.write c.args.hit c.args.candidate c.requires.bank
 
 pub returns-clause-beside : goal.returns-clause-beside
 returns-clause-beside c =
     let words = c.args.self.now.words.items in
-    let kind = kind_number c.args.bank c.args.write in
-    (λ i. candidate_in (set words (4 * c.args.bank + c.column-column.ensures.value i) c.word_of.result) kind (not c.args.hit))
+    let access = access_number c.args.bank c.args.write in
+    (λ i. candidate_in (set words (4 * c.args.bank + c.column-column.ensures.value i) c.word_of.result) access (not c.args.hit))
     ∙ read_beside words c.args.bank c.args.write c.args.hit c.word_of.result
 
 pub returns-clause-others : goal.returns-clause-others
-returns-clause-others c kind apart =
+returns-clause-others c access apart =
     let words = c.args.self.now.words.items in
-    (λ i. kind_in (set words (4 * c.args.bank + c.column-column.ensures.value i) c.word_of.result) kind)
-    ∙ read_other words c.args.bank c.args.write c.args.hit c.word_of.result kind apart
+    (λ i. access_in (set words (4 * c.args.bank + c.column-column.ensures.value i) c.word_of.result) access)
+    ∙ read_other words c.args.bank c.args.write c.args.hit c.word_of.result access apart

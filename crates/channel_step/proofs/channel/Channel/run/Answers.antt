@@ -1,7 +1,7 @@
 use Rattle.std.proofs.Common.{◌≡◌, ◌-◌, ◌++◌, length, take, ap, subst, arith}
 use Rattle.std.proofs.lemmas.List.{length-drop, take_rest}
 use Rattle.sim_base.specs.Machine.{channel_run}
-use Rattle.channel_step.specs.Runs.{HasTurned}
+use Rattle.channel_step.specs.Runs.{HasAdvanced}
 use Rattle.channel_step.proofs.Running.{run-length, run-fit, run-ends, run-can_go_on, turned-none, turned-more}
 use Rattle.channel_step.proofs.channel.Channel.run.Goals as goal
 
@@ -14,8 +14,8 @@ loop-now-init c = (
       turned-none c.args.self.now s channel steps mail c.args.inbox.now c.args.from c.args.until c.args.commands.now c.args.messages.now.items h f,
 )
 
-pub turn-requires-clause-can_run : goal.turn-requires-clause-can_run
-turn-requires-clause-can_run c =
+pub advance-requires-clause-can_run : goal.advance-requires-clause-can_run
+advance-requires-clause-can_run c =
     let p = c.requires.can_run in
     let l = c.loop-now in
     let h = l.invariant.3 p.s p.channel p.steps p.mail p.stands p.at p.fit in
@@ -24,8 +24,8 @@ turn-requires-clause-can_run c =
 pub loop-now-preserved : goal.loop-now-preserved
 loop-now-preserved c =
     let l = c.loop-now in
-    let turn = c.in_ok-turn.turn in
-    let done = c.in_ok-turn.ensures {u = tt} in (
+    let advance = c.in_ok-advance.advance in
+    let done = c.in_ok-advance.ensures {u = tt} in (
       omega (arith, l.invariant.0, done.some, ap length (take_rest c.args.inbox.now l.arrived), length-drop l.arrived c.args.inbox.now),
       omega (arith, l.invariant.1, done.from_now),
       omega (arith, done.within),
@@ -34,7 +34,7 @@ loop-now-preserved c =
           let h = l.invariant.3 s channel steps mail stands at f in
           let before = channel_run s channel steps (mail ++ inbox) (l.now - c.args.from) in
           let there = mail ++ take l.arrived inbox in
-          turned-more l.self c.turn.new.self s channel steps mail inbox c.args.from l.now c.args.until l.arrived turn.arrived turn.last _ _ _ _ _ _ at l.invariant.1 done.from_now h
+          turned-more l.self c.advance.new.self s channel steps mail inbox c.args.from l.now c.args.until l.arrived advance.arrived advance.last _ _ _ _ _ _ at l.invariant.1 done.from_now h
           (done.done s channel before there h.has_run.stands (run-length s channel steps (mail ++ inbox) c.args.from l.now at l.invariant.1)
           (run-fit l.self s channel steps mail inbox c.args.from l.now c.args.until l.arrived h.issued h.sent h.has_run)),
     )
@@ -43,7 +43,7 @@ pub returns : goal.returns
 returns c s channel steps mail stands at f =
     let l = c.loop-now in
     let end : l.now ≡ c.args.until = omega (arith, l.invariant.2) in
-    let h = subst (λ t. HasTurned l.self s channel steps mail c.args.inbox.now c.args.from t c.args.until l.arrived c.args.commands.now l.commands c.args.messages.now.items l.messages.items) end
+    let h = subst (λ t. HasAdvanced l.self s channel steps mail c.args.inbox.now c.args.from t c.args.until l.arrived c.args.commands.now l.commands c.args.messages.now.items l.messages.items) end
     (l.invariant.3 s channel steps mail stands at f) in
     record {
       issued = h.issued;

@@ -4,7 +4,7 @@ use Rattle.sim_base.specs.declared.command.Command.{Command}
 use Rattle.sim_base.specs.declared.message.Message.{Message}
 use Rattle.channel_step.specs.Fit.{IsFit}
 use Rattle.channel_step.specs.Channels.{StandsFor}
-use Rattle.channel_step.specs.Runs.{HasTurned}
+use Rattle.channel_step.specs.Runs.{HasAdvanced}
 use Rattle.channel_step.proofs.channel.Channel.run.Given as goal
 
 abbrev pub invariant-loop-now : goal.invariant-loop-now
@@ -12,7 +12,7 @@ invariant-loop-now l =
     (l.arrived ≤ length l.inbox) × (l.fn.from ≤ l.now) × (l.now ≤ l.fn.until)
     × ((s : Config) (channel : ℕ) (steps : List (Option Command)) (mail : List Message)
     → StandsFor l.fn.self s channel steps mail → length steps ≡ l.fn.from → IsFit s channel steps mail l.inbox l.fn.from l.fn.until
-    → HasTurned l.self s channel steps mail l.inbox l.fn.from l.now l.fn.until l.arrived l.fn.commands l.commands l.fn.messages.items l.messages.items)
+    → HasAdvanced l.self s channel steps mail l.inbox l.fn.from l.now l.fn.until l.arrived l.fn.commands l.commands l.fn.messages.items l.messages.items)
 
 abbrev pub decreases-loop-now : goal.decreases-loop-now
 decreases-loop-now l = l.fn.until - l.now

@@ -1,9 +1,13 @@
-use Rattle.std.proofs.Common.{sym, ◌∙◌}
-use Rattle.command_table.proofs.Taking.{none-left, first-left}
+use Rattle.std.proofs.Common.{◌≡◌, IfSome, take, drop, sym, subst, ap, ◌∙◌, arith}
+use Rattle.std.proofs.lemmas.List.{take_all}
 use Rattle.command_table.proofs.left.Left.of.Goals as goal
 
-pub returns-in_err-cycle-clause-none : goal.returns-in_err-cycle-clause-none
-returns-in_err-cycle-clause-none c _ = none-left c.args.list.now c.args.place (sym c.get.ensures ∙ c.in_err-cycle.was)
+pub returns-clause-some : goal.returns-clause-some
+returns-clause-some c =
+    let whole : take c.len.result c.args.list.now ≡ c.args.list.now = take_all c.len.result c.args.list.now (omega (arith, c.len.ensures)) in
+    subst (λ rows. IfSome c.between.result (λ left. left ≡ drop c.args.place rows)) whole c.between.ensures.some
 
-pub invariant_of-result : goal.invariant_of-result
-invariant_of-result c = first-left c.args.list.now c.args.place c.in_ok-cycle.field-0 (sym c.get.ensures ∙ c.in_ok-cycle.was)
+pub returns-clause-none : goal.returns-clause-none
+returns-clause-none c h =
+    let whole : take c.len.result c.args.list.now ≡ c.args.list.now = take_all c.len.result c.args.list.now (omega (arith, c.len.ensures)) in
+    ap (drop c.args.place) (sym whole) ∙ c.between.ensures.none h

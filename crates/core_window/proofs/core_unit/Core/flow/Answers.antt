@@ -2,7 +2,7 @@
 use Rattle.std.proofs.Common.{arith}
 use Rattle.core_window.specs.CoreViews.{view_of}
 use Rattle.core_window.proofs.Flowing.{flow-here, flow-none}
-use Rattle.core_window.proofs.Turning.{sound}
+use Rattle.core_window.proofs.Working.{sound}
 use Rattle.core_window.proofs.core_unit.Core.flow.Goals as goal
 
 pub flow_of-requires-clause-order : goal.flow_of-requires-clause-order

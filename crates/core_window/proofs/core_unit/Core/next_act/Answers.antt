@@ -6,7 +6,7 @@ use Rattle.core_window.specs.CoreViews.{view_of}
 use Rattle.core_window.specs.declared.outstanding.OutstandingRead.{OutstandingRead}
 use Rattle.core_window.proofs.Resting.{rest-standing, retires-first}
 use Rattle.core_window.proofs.Sticking.{stuck-rests}
-use Rattle.core_window.proofs.Turning.{sound}
+use Rattle.core_window.proofs.Working.{sound}
 use Rattle.core_window.proofs.core_unit.Core.next_act.Goals as goal
 
 pub returns-then-is_next_done : goal.returns-then-is_next_done

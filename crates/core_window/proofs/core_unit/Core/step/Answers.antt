@@ -1,4 +1,4 @@
--- The parts change a core as its turn says.
+-- The parts change a core as what it does in the cycle says.
 use Rattle.std.proofs.Common.{◌≡◌, ◌∙◌, ◌+◌, List, length, sym, ap, refl, subst, arith}
 use Rattle.std.specs.Prelude.{slice_get}
 use Rattle.std.specs.Vec.{with_items}
@@ -7,26 +7,26 @@ use Rattle.statistics.specs.Cores.{core_joined, CoreFits}
 use Rattle.statistics.specs.declared.cores.CoreStats.{CoreStats}
 use Rattle.statistics.specs.declared.final_state.Credits.{Credits}
 use Rattle.core_window.specs.CoreViews.{view_of}
-use Rattle.core_window.specs.Turns.{cycle_counts}
+use Rattle.core_window.specs.OneCycle.{cycle_counts}
 use Rattle.core_window.proofs.Foreseeing.{issued-placed}
 use Rattle.core_window.proofs.Stepping.{step-fits, step-advances}
-use Rattle.core_window.proofs.Turning.{like-self, two_least}
+use Rattle.core_window.proofs.Working.{like-self, two_least}
 use Rattle.core_window.proofs.core_unit.Core.step.Goals as goal
 
 pub count_cycle-requires : goal.count_cycle-requires
 count_cycle-requires c =
     let h = c.requires.stands in
     let a = view_of c.args.self.now in
-    subst (λ n. CoreFits (core_joined a.stats (cycle_counts c.args.turn.core_step c.args.turn.why c.args.turn.memory a.stats.retired n a.now))) (sym c.len-len.ensures.value)
-    (step-fits h.s h.core h.trace h.steps h.mail a c.args.turn.core_step c.args.turn.why c.args.turn.memory h.stands
-    (c.requires.turn a h.s h.core h.trace h.steps h.mail (like-self a) h.stands) (omega (arith, c.len-len.ensures.value, c.len-len.ensures.limit)) c.requires.early)
+    subst (λ n. CoreFits (core_joined a.stats (cycle_counts c.args.cycle_work.core_step c.args.cycle_work.why c.args.cycle_work.memory a.stats.retired n a.now))) (sym c.len-len.ensures.value)
+    (step-fits h.s h.core h.trace h.steps h.mail a c.args.cycle_work.core_step c.args.cycle_work.why c.args.cycle_work.memory h.stands
+    (c.requires.cycle_work a h.s h.core h.trace h.steps h.mail (like-self a) h.stands) (omega (arith, c.len-len.ensures.value, c.len-len.ensures.limit)) c.requires.early)
 
 pub returns-clause-advances : goal.returns-clause-advances
 returns-clause-advances c =
     let kept : (with_items c.args.self.now.credits c.spend.new.credits).items ≡ c.spend.new.credits =
     with_items_is c.args.self.now.credits c.spend.new.credits (c.spend.auto.credits ∙ c.deref_mut.ensures.len) in
-    step-advances (view_of c.args.self.now) _ c.args.turn.core_step c.args.turn.why c.args.turn.memory c.args.sent.now.items c.send.new.sent.items
-    (λ s core trace steps mail h. c.requires.turn (view_of c.args.self.now) s core trace steps mail (like-self (view_of c.args.self.now)) h)
+    step-advances (view_of c.args.self.now) _ c.args.cycle_work.core_step c.args.cycle_work.why c.args.cycle_work.memory c.args.sent.now.items c.send.new.sent.items
+    (λ s core trace steps mail h. c.requires.cycle_work (view_of c.args.self.now) s core trace steps mail (like-self (view_of c.args.self.now)) h)
     (record {
       config = refl;
       number = refl;
@@ -35,23 +35,23 @@ returns-clause-advances c =
       outstanding = c.in_ok-wait_for.ensures {u = tt};
       channels = ap length kept ∙ c.spend.auto.credits ∙ ap length c.deref_mut.ensures.value;
       credits = λ channel x e. ap (λ (cs : List Credits). slice_get cs channel) kept
-          ∙ c.spend.ensures c.args.self.now.config (issued-placed c.args.self.now.config c.args.self.now.trace c.args.self.now.found c.args.turn.memory c.args.self.now.known c.requires.entry) channel x (ap (λ (cs : List Credits). slice_get cs channel) c.deref_mut.ensures.value ∙ e);
+          ∙ c.spend.ensures c.args.self.now.config (issued-placed c.args.self.now.config c.args.self.now.trace c.args.self.now.found c.args.cycle_work.memory c.args.self.now.known c.requires.entry) channel x (ap (λ (cs : List Credits). slice_get cs channel) c.deref_mut.ensures.value ∙ e);
       stats = c.count_cycle.ensures
-          ∙ ap (λ n. core_joined c.args.self.now.stats (cycle_counts c.args.turn.core_step c.args.turn.why c.args.turn.memory c.args.self.now.stats.retired n c.args.self.now.cycle)) c.len-len.ensures.value;
+          ∙ ap (λ n. core_joined c.args.self.now.stats (cycle_counts c.args.cycle_work.core_step c.args.cycle_work.why c.args.cycle_work.memory c.args.self.now.stats.retired n c.args.self.now.cycle)) c.len-len.ensures.value;
     })
     (c.in_ok-send.ensures {u = tt})
 
 pub send-requires-clause-placed : goal.send-requires-clause-placed
-send-requires-clause-placed c = issued-placed c.args.self.now.config c.args.self.now.trace c.args.self.now.found c.args.turn.memory c.args.self.now.known c.requires.entry
+send-requires-clause-placed c = issued-placed c.args.self.now.config c.args.self.now.trace c.args.self.now.found c.args.cycle_work.memory c.args.self.now.known c.requires.entry
 
 pub look_ahead-requires-clause-seen : goal.look_ahead-requires-clause-seen
 look_ahead-requires-clause-seen c =
-    let grown : c.count_cycle.new.stats.issued ≡ c.args.self.now.stats.issued + c.args.turn.core_step.issued = ap (λ (x : CoreStats). x.issued) c.count_cycle.ensures in
+    let grown : c.count_cycle.new.stats.issued ≡ c.args.self.now.stats.issued + c.args.cycle_work.core_step.issued = ap (λ (x : CoreStats). x.issued) c.count_cycle.ensures in
     (c.args.self.now.stats.issued, omega (arith, grown), c.args.self.now.seen)
 
 pub look_ahead-requires-clause-within : goal.look_ahead-requires-clause-within
 look_ahead-requires-clause-within c =
-    let grown : c.count_cycle.new.stats.issued ≡ c.args.self.now.stats.issued + c.args.turn.core_step.issued = ap (λ (x : CoreStats). x.issued) c.count_cycle.ensures in
+    let grown : c.count_cycle.new.stats.issued ≡ c.args.self.now.stats.issued + c.args.cycle_work.core_step.issued = ap (λ (x : CoreStats). x.issued) c.count_cycle.ensures in
     omega (arith, grown, c.requires.within)
 
 pub look_ahead-requires-clause-room : goal.look_ahead-requires-clause-room

@@ -2,7 +2,7 @@
 use Rattle.std.proofs.Common.{◌+◌, ◌-◌, ◌<◌, drop, length, ap, ◌∙◌, arith}
 use Rattle.std.proofs.lemmas.List.{length-drop, with_items_is}
 use Rattle.std.specs.List.{remove}
-use Rattle.queue.proofs.Dropped.{dropped_older, turned_part}
+use Rattle.queue.proofs.Dropped.{dropped_older, rotated_part}
 use Rattle.queue.proofs.Kept.{tags_removed}
 use Rattle.queue.proofs.aged.Aged.remove_older.Goals as goal
 
@@ -16,13 +16,13 @@ invariant_of-self c =
     let exists : start + at < length a.requests.items = omega (arith, c.requires, ap (λ v. length v.requests) c.self.view_is, length-drop start a.requests.items, kept.begun) in
     let requests =
     dropped_older start at n a.requests.items c.deref_mut.result.now c.move_each_up.new.requests _ c.deref_mut.ensures.value (omega arith) exists c.move_each_up.ensures.requests
-    (λ long. with_items_is a.requests (turned_part start n c.deref_mut.result.now c.move_each_up.new.requests) (omega (arith, long, a.requests.ok.0))) in
+    (λ long. with_items_is a.requests (rotated_part start n c.deref_mut.result.now c.move_each_up.new.requests) (omega (arith, long, a.requests.ok.0))) in
     let eligible =
     dropped_older start at n a.eligible.items c.deref_mut-2.result.now c.move_each_up.new.eligible _ c.deref_mut-2.ensures.value (omega arith) (omega (arith, exists, kept.eligible_long)) c.move_each_up.ensures.eligible
-    (λ long. with_items_is a.eligible (turned_part start n c.deref_mut-2.result.now c.move_each_up.new.eligible) (omega (arith, long, a.eligible.ok.0))) in
+    (λ long. with_items_is a.eligible (rotated_part start n c.deref_mut-2.result.now c.move_each_up.new.eligible) (omega (arith, long, a.eligible.ok.0))) in
     let tags =
     dropped_older start at n a.tags.items c.deref_mut-3.result.now c.move_each_up.new.tags _ c.deref_mut-3.ensures.value (omega arith) (omega (arith, exists, kept.tags_long)) c.move_each_up.ensures.tags
-    (λ long. with_items_is a.tags (turned_part start n c.deref_mut-3.result.now c.move_each_up.new.tags) (omega (arith, long, a.tags.ok.0))) in
+    (λ long. with_items_is a.tags (rotated_part start n c.deref_mut-3.result.now c.move_each_up.new.tags) (omega (arith, long, a.tags.ok.0))) in
     record {
       begun = omega (arith, exists, requests.0);
       tags_are = tags_removed (drop start a.tags.items) _ (drop start a.requests.items) _ (drop start a.eligible.items) _ at kept.tags_are tags.1 requests.1 eligible.1;
@@ -45,7 +45,7 @@ returns-clause-requests c =
     let exists : start + at < length a.requests.items = omega (arith, c.requires, ap (λ v. length v.requests) c.self.view_is, length-drop start a.requests.items, kept.begun) in
     let requests =
     dropped_older start at n a.requests.items c.deref_mut.result.now c.move_each_up.new.requests _ c.deref_mut.ensures.value (omega arith) exists c.move_each_up.ensures.requests
-    (λ long. with_items_is a.requests (turned_part start n c.deref_mut.result.now c.move_each_up.new.requests) (omega (arith, long, a.requests.ok.0))) in
+    (λ long. with_items_is a.requests (rotated_part start n c.deref_mut.result.now c.move_each_up.new.requests) (omega (arith, long, a.requests.ok.0))) in
     requests.1 ∙ ap (λ v. remove v.requests at) c.self.view_is
 
 pub returns-clause-marks : goal.returns-clause-marks
@@ -58,5 +58,5 @@ returns-clause-marks c =
     let exists : start + at < length a.requests.items = omega (arith, c.requires, ap (λ v. length v.requests) c.self.view_is, length-drop start a.requests.items, kept.begun) in
     let eligible =
     dropped_older start at n a.eligible.items c.deref_mut-2.result.now c.move_each_up.new.eligible _ c.deref_mut-2.ensures.value (omega arith) (omega (arith, exists, kept.eligible_long)) c.move_each_up.ensures.eligible
-    (λ long. with_items_is a.eligible (turned_part start n c.deref_mut-2.result.now c.move_each_up.new.eligible) (omega (arith, long, a.eligible.ok.0))) in
+    (λ long. with_items_is a.eligible (rotated_part start n c.deref_mut-2.result.now c.move_each_up.new.eligible) (omega (arith, long, a.eligible.ok.0))) in
     eligible.1 ∙ ap (λ v. remove v.marks at) c.self.view_is

@@ -3,7 +3,7 @@ use Rattle.std.proofs.Common.{◌≡◌, ◌+◌, ◌-◌, ◌<◌, drop, take, 
 use Rattle.std.proofs.lemmas.List.{length-drop, with_items_is}
 use Rattle.std.specs.List.{remove}
 use Rattle.std.specs.Vec.{with_items}
-use Rattle.queue.proofs.Dropped.{dropped_down, dropped_younger, turned_part}
+use Rattle.queue.proofs.Dropped.{dropped_down, dropped_younger, rotated_part}
 use Rattle.queue.proofs.Kept.{tags_removed}
 use Rattle.queue.proofs.aged.Aged.remove_younger.Goals as goal
 
@@ -22,8 +22,8 @@ invariant_of-self c =
     dropped_younger start at a.requests.items c.drop_last.new.items.items
     (dropped_down (start + at) n a.requests.items c.deref_mut.result.now c.move_each_down.new.requests _ c.drop_last.new.items.items c.deref_mut.ensures.value requests_there (omega (arith, full))
     c.move_each_down.ensures.requests
-    (λ long. with_items_is a.requests (turned_part (start + at) n c.deref_mut.result.now c.move_each_down.new.requests) (omega (arith, long, requests_long)))
-    (c.drop_last.ensures.items ∙ ap (λ len. take (len - 1) (with_items a.requests (turned_part (start + at) n c.deref_mut.result.now c.move_each_down.new.requests)).items) requests_long))
+    (λ long. with_items_is a.requests (rotated_part (start + at) n c.deref_mut.result.now c.move_each_down.new.requests) (omega (arith, long, requests_long)))
+    (c.drop_last.ensures.items ∙ ap (λ len. take (len - 1) (with_items a.requests (rotated_part (start + at) n c.deref_mut.result.now c.move_each_down.new.requests)).items) requests_long))
     requests_there in
     let eligible_there : start + at < length a.eligible.items = (omega (arith, exists, kept.eligible_long)) in
     let eligible_long : a.eligible.len ≡ length a.eligible.items = a.eligible.ok.0 in
@@ -31,8 +31,8 @@ invariant_of-self c =
     dropped_younger start at a.eligible.items c.drop_last-2.new.items.items
     (dropped_down (start + at) n a.eligible.items c.deref_mut-2.result.now c.move_each_down.new.eligible _ c.drop_last-2.new.items.items c.deref_mut-2.ensures.value eligible_there (omega (arith, full, kept.eligible_long))
     c.move_each_down.ensures.eligible
-    (λ long. with_items_is a.eligible (turned_part (start + at) n c.deref_mut-2.result.now c.move_each_down.new.eligible) (omega (arith, long, eligible_long)))
-    (c.drop_last-2.ensures.items ∙ ap (λ len. take (len - 1) (with_items a.eligible (turned_part (start + at) n c.deref_mut-2.result.now c.move_each_down.new.eligible)).items) eligible_long))
+    (λ long. with_items_is a.eligible (rotated_part (start + at) n c.deref_mut-2.result.now c.move_each_down.new.eligible) (omega (arith, long, eligible_long)))
+    (c.drop_last-2.ensures.items ∙ ap (λ len. take (len - 1) (with_items a.eligible (rotated_part (start + at) n c.deref_mut-2.result.now c.move_each_down.new.eligible)).items) eligible_long))
     eligible_there in
     let tags_there : start + at < length a.tags.items = (omega (arith, exists, kept.tags_long)) in
     let tags_long : a.tags.len ≡ length a.tags.items = a.tags.ok.0 in
@@ -40,8 +40,8 @@ invariant_of-self c =
     dropped_younger start at a.tags.items c.drop_last-3.new.items.items
     (dropped_down (start + at) n a.tags.items c.deref_mut-3.result.now c.move_each_down.new.tags _ c.drop_last-3.new.items.items c.deref_mut-3.ensures.value tags_there (omega (arith, full, kept.tags_long))
     c.move_each_down.ensures.tags
-    (λ long. with_items_is a.tags (turned_part (start + at) n c.deref_mut-3.result.now c.move_each_down.new.tags) (omega (arith, long, tags_long)))
-    (c.drop_last-3.ensures.items ∙ ap (λ len. take (len - 1) (with_items a.tags (turned_part (start + at) n c.deref_mut-3.result.now c.move_each_down.new.tags)).items) tags_long))
+    (λ long. with_items_is a.tags (rotated_part (start + at) n c.deref_mut-3.result.now c.move_each_down.new.tags) (omega (arith, long, tags_long)))
+    (c.drop_last-3.ensures.items ∙ ap (λ len. take (len - 1) (with_items a.tags (rotated_part (start + at) n c.deref_mut-3.result.now c.move_each_down.new.tags)).items) tags_long))
     tags_there in
     record {
       begun = omega (arith, exists, requests.0);
@@ -70,8 +70,8 @@ returns-clause-requests c =
     dropped_younger start at a.requests.items c.drop_last.new.items.items
     (dropped_down (start + at) n a.requests.items c.deref_mut.result.now c.move_each_down.new.requests _ c.drop_last.new.items.items c.deref_mut.ensures.value requests_there (omega (arith, full))
     c.move_each_down.ensures.requests
-    (λ long. with_items_is a.requests (turned_part (start + at) n c.deref_mut.result.now c.move_each_down.new.requests) (omega (arith, long, requests_long)))
-    (c.drop_last.ensures.items ∙ ap (λ len. take (len - 1) (with_items a.requests (turned_part (start + at) n c.deref_mut.result.now c.move_each_down.new.requests)).items) requests_long))
+    (λ long. with_items_is a.requests (rotated_part (start + at) n c.deref_mut.result.now c.move_each_down.new.requests) (omega (arith, long, requests_long)))
+    (c.drop_last.ensures.items ∙ ap (λ len. take (len - 1) (with_items a.requests (rotated_part (start + at) n c.deref_mut.result.now c.move_each_down.new.requests)).items) requests_long))
     requests_there in
     requests.1 ∙ ap (λ v. remove v.requests at) c.self.view_is
 
@@ -90,7 +90,7 @@ returns-clause-marks c =
     dropped_younger start at a.eligible.items c.drop_last-2.new.items.items
     (dropped_down (start + at) n a.eligible.items c.deref_mut-2.result.now c.move_each_down.new.eligible _ c.drop_last-2.new.items.items c.deref_mut-2.ensures.value eligible_there (omega (arith, full, kept.eligible_long))
     c.move_each_down.ensures.eligible
-    (λ long. with_items_is a.eligible (turned_part (start + at) n c.deref_mut-2.result.now c.move_each_down.new.eligible) (omega (arith, long, eligible_long)))
-    (c.drop_last-2.ensures.items ∙ ap (λ len. take (len - 1) (with_items a.eligible (turned_part (start + at) n c.deref_mut-2.result.now c.move_each_down.new.eligible)).items) eligible_long))
+    (λ long. with_items_is a.eligible (rotated_part (start + at) n c.deref_mut-2.result.now c.move_each_down.new.eligible) (omega (arith, long, eligible_long)))
+    (c.drop_last-2.ensures.items ∙ ap (λ len. take (len - 1) (with_items a.eligible (rotated_part (start + at) n c.deref_mut-2.result.now c.move_each_down.new.eligible)).items) eligible_long))
     eligible_there in
     eligible.1 ∙ ap (λ v. remove v.marks at) c.self.view_is

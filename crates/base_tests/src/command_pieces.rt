@@ -1,0 +1,101 @@
+//! The table of commands put together by several threads.
+
+ghost use Rattle.std.specs.Prelude.{◌≡◌, IfOk};
+ghost use Rattle.command_table.specs.Tables.{IsRising};
+
+use crate::expect::expect_at;
+use crate::slow::Slow;
+use command_table::list::CommandList;
+use command_table::table::CommandTable;
+use reports::write_commands_by;
+use sim_base::command::{Command, IssuedCommand};
+use sim_base::fault::Fault;
+use std::alloc::{AllocError, Global};
+use std::process::Abort;
+use std::test::Fail;
+use std::thread::Threads;
+
+/// The caller alone puts few commands together; of many, each thread puts a piece together.
+static COUNTS: [u64; 3] = [0, 3, 10_000];
+
+fn row_of(cycle: u64) -> IssuedCommand
+    ensures { result.cycle ≡ cycle }
+{
+    IssuedCommand {
+        cycle,
+        channel: 0,
+        command: Command::Prea { rank: 0 },
+    }
+}
+
+/// Commands of so many cycles, one of each.
+fn list_of(alloc: Global, count: u64) -> Result<CommandList, AllocError>
+    ensures { IfOk result IsRising }
+{
+    let mut list = CommandList::new(alloc);
+    for cycle in 0..count {
+        list.push(row_of(cycle))?;
+    }
+    Ok(list)
+}
+
+fn table_of(alloc: Global, count: u64) -> Result<CommandTable, AllocError> {
+    let list = list_of(alloc, count)?;
+    Ok(CommandTable::of(vec![in alloc; list]?))
+}
+
+/// The text of that table.
+fn text_of(alloc: Global, count: u64) -> Result<String, AllocError> {
+    let mut text = String::from_str(
+        alloc,
+        "cycle,channel,command,group,bank,row,column,core,entry\n",
+    )?;
+    for cycle in 0..count {
+        text.push_str(format!(in alloc; "{cycle},0,PREA,,,,,,\n")?.as_str())?;
+    }
+    Ok(text)
+}
+
+fn assert_written<R: Threads + Sync + Abort>(
+    rt: &R,
+    alloc: Global,
+    count: u64,
+    threads: usize,
+) -> Result<(), Fail> {
+    let table = table_of(alloc, count)?;
+    let want = text_of(alloc, count)?;
+    let mut text = Vec::new(alloc);
+    write_commands_by(rt, alloc, threads, 1, &table, &mut text)?;
+    expect_at(
+        rt,
+        &(count, threads),
+        &str::from_utf8(text.as_slice()),
+        &Ok(want.as_str()),
+    );
+    Ok(())
+}
+
+/// A writer that takes but one byte is told.
+fn assert_refused<R: Threads + Sync + Abort>(
+    rt: &R,
+    alloc: Global,
+    count: u64,
+    threads: usize,
+) -> Result<(), Fail> {
+    let table = table_of(alloc, count)?;
+    let mut slow = Slow::new(alloc, 1, 1, true)?;
+    let ended = write_commands_by(rt, alloc, threads, 1, &table, &mut slow);
+    expect_at(rt, &(count, threads), &ended, &Err(Fault::Write));
+    Ok(())
+}
+
+#[test]
+fn threads_write_commands(rt: HostRuntime) -> Result<(), Fail> {
+    for count in COUNTS {
+        for threads in 0..5 {
+            assert_written(&rt, rt.alloc(), count, threads)?;
+            assert_refused(&rt, rt.alloc(), count, threads)?;
+        }
+    }
+    Ok(())
+}

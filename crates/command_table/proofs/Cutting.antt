@@ -1,0 +1,98 @@
+-- A list of rows by cycle, cut at a cycle: those up to it, and those after it.
+use Rattle.std.proofs.Common.{◌≡◌, ℕ, zero, suc, ◌+◌, ◌<◌, ◌≤◌, leb, ltb, List, [], ◌∷◌, ◌++◌, take, drop, Option, Some, None, slice_get, IfSome, refl, sym, ap, ap₂, subst, ◌∙◌, add-one, arith}
+use Rattle.std.specs.Prelude.{unwrap_or}
+use Rattle.std.specs.List.{AllByRecursion as Each}
+use Rattle.std.proofs.lemmas.Bool.{cond-true, cond-false, le-leb, lt-leb, lt-ltb, le-ltb}
+use Rattle.std.proofs.lemmas.List.{append-nil, take-append-drop, take-take, drop-take}
+use Rattle.std.proofs.lemmas.List.Elements.{filter-append}
+use Rattle.sim_base.specs.declared.command.IssuedCommand.{IssuedCommand}
+use Rattle.command_table.specs.Tables.{IsRising, rows_up_to, rows_after}
+use Rattle.command_table.specs.Lefts.{AllUpTo, AllAfter}
+use Rattle.command_table.proofs.Rising.{Rising, rising-pairs}
+
+-- a row before an end is the same without those behind the end
+pub get-front : (rows : List IssuedCommand) (end place : ℕ) → place < end → slice_get (take end rows) place ≡ slice_get rows place
+get-front [] zero place l = absurd (omega (arith, l))
+get-front [] (suc end) place l = refl
+get-front (row ∷ rows) zero place l = absurd (omega (arith, l))
+get-front (row ∷ rows) (suc end) zero l = refl
+get-front (row ∷ rows) (suc end) (suc place) l = get-front rows end place (omega (arith, l))
+
+-- a row behind a place is the same without those before the place
+pub get-behind : (rows : List IssuedCommand) (place count : ℕ) → slice_get (drop place rows) count ≡ slice_get rows (place + count)
+get-behind rows zero count = let e : count ≡ 0 + count = omega arith in ap (slice_get rows) e
+get-behind [] (suc place) count = refl
+get-behind (row ∷ rows) (suc place) count =
+    let e : suc (place + count) ≡ suc place + count = omega arith in
+    get-behind rows place count ∙ ap (slice_get (row ∷ rows)) e
+
+-- of a part of a list, the first so many
+pub front-of-part : (rows : List IssuedCommand) (place end count : ℕ) → place + count ≤ end → drop place (take (place + count) rows) ≡ take count (drop place (take end rows))
+front-of-part rows place end count l = ap (drop place) (sym (take-take (place + count) end rows l)) ∙ drop-take place count (take end rows)
+
+each-get : (P : IssuedCommand → Type 0) (rows : List IssuedCommand) (place : ℕ) (row : IssuedCommand) → Each P rows → slice_get rows place ≡ Some row → P row
+each-get P [] place row h e = absurd (cc)
+each-get P (first ∷ rows) zero row h e = let same : first ≡ row = cc in subst P same h.0
+each-get P (first ∷ rows) (suc place) row h e = each-get P rows place row h.1 e
+
+-- where a row is up to a cycle, so are those before it
+pub up-to-here : (rows : List IssuedCommand) (count cycle : ℕ) (row : IssuedCommand) → IsRising rows → slice_get rows count ≡ Some row → row.cycle ≤ cycle → AllUpTo cycle (take (count + 1) rows)
+up-to-here rows count cycle row r e l = subst (λ n. AllUpTo cycle (take n rows)) (sym (add-one count)) (by rows count (rising-pairs rows r) e)
+  where
+    by : (rows : List IssuedCommand) (count : ℕ) → Rising rows → slice_get rows count ≡ Some row → AllUpTo cycle (take (suc count) rows)
+    by [] count r e = absurd (cc)
+    by (first ∷ rows) zero r e = let same : first ≡ row = cc in (subst (λ (z : IssuedCommand). z.cycle ≤ cycle) (sym same) l, tt)
+    by (first ∷ rows) (suc count) r e =
+        let first-first : first.cycle ≤ row.cycle = each-get (λ (z : IssuedCommand). first.cycle ≤ z.cycle) rows count row r.0 e in
+        (omega (arith, first-first, l), by rows count r.1 e)
+
+-- where a row is after a cycle, so are those behind it
+pub after-here : (rows : List IssuedCommand) (count cycle : ℕ) (row : IssuedCommand) → IsRising rows → slice_get rows count ≡ Some row → cycle < row.cycle → AllAfter cycle (drop count rows)
+after-here rows count cycle row r e l = by rows count (rising-pairs rows r) e
+  where
+    later : (first : IssuedCommand) (rows : List IssuedCommand) → cycle < first.cycle → Each (λ (z : IssuedCommand). first.cycle ≤ z.cycle) rows → AllAfter cycle rows
+    later first [] l h = tt
+    later first (row ∷ rows) l h = (omega (arith, l, h.0), later first rows l h.1)
+
+    by : (rows : List IssuedCommand) (count : ℕ) → Rising rows → slice_get rows count ≡ Some row → AllAfter cycle (drop count rows)
+    by [] count r e = absurd (cc)
+    by (first ∷ rows) zero r e =
+        let same : row ≡ first = cc in
+        let first-later : cycle < first.cycle = subst (λ (z : IssuedCommand). cycle < z.cycle) same l in
+        (first-later, later first rows first-later r.0)
+    by (first ∷ rows) (suc count) r e = by rows count r.1 e
+
+up-to-all : (cycle : ℕ) (rows : List IssuedCommand) → AllUpTo cycle rows → rows_up_to cycle rows ≡ rows
+up-to-all cycle [] h = refl
+up-to-all cycle (row ∷ rows) h = cond-true _ _ _ (le-leb row.cycle cycle h.0) ∙ ap (λ z. row ∷ z) (up-to-all cycle rows h.1)
+
+up-to-none : (cycle : ℕ) (rows : List IssuedCommand) → AllAfter cycle rows → rows_up_to cycle rows ≡ []
+up-to-none cycle [] h = refl
+up-to-none cycle (row ∷ rows) h = cond-false _ _ _ (lt-leb row.cycle cycle h.0) ∙ up-to-none cycle rows h.1
+
+after-all : (cycle : ℕ) (rows : List IssuedCommand) → AllAfter cycle rows → rows_after cycle rows ≡ rows
+after-all cycle [] h = refl
+after-all cycle (row ∷ rows) h = cond-true _ _ _ (lt-ltb cycle row.cycle h.0) ∙ ap (λ z. row ∷ z) (after-all cycle rows h.1)
+
+after-none : (cycle : ℕ) (rows : List IssuedCommand) → AllUpTo cycle rows → rows_after cycle rows ≡ []
+after-none cycle [] h = refl
+after-none cycle (row ∷ rows) h = cond-false _ _ _ (le-ltb cycle row.cycle h.0) ∙ after-none cycle rows h.1
+
+-- where those before a place are up to a cycle and those from it on after it, the place cuts the list at the cycle
+pub front-up-to : (rows : List IssuedCommand) (count cycle : ℕ) → AllUpTo cycle (take count rows) → AllAfter cycle (drop count rows) → take count rows ≡ rows_up_to cycle rows
+front-up-to rows count cycle up after =
+    sym (ap (rows_up_to cycle) (sym (take-append-drop count rows))
+    ∙ filter-append (λ (row : IssuedCommand). leb row.cycle cycle) (take count rows) (drop count rows)
+    ∙ ap₂ (λ xs ys. xs ++ ys) (up-to-all cycle (take count rows) up) (up-to-none cycle (drop count rows) after)
+    ∙ append-nil (take count rows))
+
+pub rest-after : (rows : List IssuedCommand) (count cycle : ℕ) → AllUpTo cycle (take count rows) → AllAfter cycle (drop count rows) → drop count rows ≡ rows_after cycle rows
+rest-after rows count cycle up after =
+    sym (ap (rows_after cycle) (sym (take-append-drop count rows))
+    ∙ filter-append (λ (row : IssuedCommand). ltb cycle row.cycle) (take count rows) (drop count rows)
+    ∙ ap₂ (λ xs ys. xs ++ ys) (after-none cycle (take count rows) up) (after-all cycle (drop count rows) after))
+
+-- rows that may not be there
+pub rows-there : (found : Option (List IssuedCommand)) (rows : List IssuedCommand) → IfSome found (λ left. left ≡ rows) → (found ≡ None → rows ≡ []) → unwrap_or found [] ≡ rows
+rows-there None rows some none = sym (none refl)
+rows-there (Some left) rows some none = some

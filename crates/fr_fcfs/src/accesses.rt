@@ -1,0 +1,50 @@
+//! Which requests may be served next.
+
+ghost use Rattle.std.specs.Prelude.{◌≡◌, ◌<◌, ℕ, Option};
+ghost use Rattle.sim_base.specs.declared.config.Config.{Config};
+ghost use Rattle.bank_candidates.specs.Stands.{StandsFor as CandidatesStandFor};
+ghost use Rattle.fr_fcfs.specs.Requests.{candidates_of};
+ghost use Rattle.fr_fcfs.specs.Offers.{only, going};
+
+use bank_candidates::BankCandidates;
+use queue::Queue;
+
+/// Whether requests to read go, and requests to write.
+#[derive(Clone, Copy)]
+pub(crate) struct Accesses {
+    pub(crate) reads: bool,
+    pub(crate) writes: bool,
+}
+
+/// The access that goes, where the channel ever drains: true for requests to write, false for requests to read. It is the favoured
+/// one, where there is a request of it.
+fn access_that_goes(queue: &Queue, bank_candidates: &BankCandidates) -> bool
+    requires { 0 < queue.now.high }
+    ensures { (s : Config) (open_rows : ℕ → Option ℕ) → s.write_high ≡ queue.now.high → CandidatesStandFor bank_candidates.now queue.now.requests open_rows
+        → candidates_of s queue.now ≡ going (only result) queue.now.requests }
+{
+    let writes = queue.draining();
+    if bank_candidates.has_access(writes) {
+        writes
+    } else {
+        !writes
+    }
+}
+
+/// The accesses that go: both, where the channel never drains.
+pub(crate) fn accesses_that_go(queue: &Queue, bank_candidates: &BankCandidates) -> Accesses
+    ensures { (s : Config) (open_rows : ℕ → Option ℕ) → s.write_high ≡ queue.now.high → CandidatesStandFor bank_candidates.now queue.now.requests open_rows
+        → candidates_of s queue.now ≡ going result queue.now.requests }
+{
+    if queue.high() == 0 {
+        return Accesses {
+            reads: true,
+            writes: true,
+        };
+    }
+    let writes = access_that_goes(queue, bank_candidates);
+    Accesses {
+        reads: !writes,
+        writes,
+    }
+}
