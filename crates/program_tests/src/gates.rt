@@ -18,7 +18,7 @@ use std::thread::Threads;
 use workers::gate::Gate;
 
 /// How often a part that is held looks whether it may go on, where something is wrong.
-const TURNS: u64 = 1_000_000;
+const TURNS: u64 = 20_000_000;
 
 /// The phases of two cores that read a line each, of the same row. The requests are sent in cycle 0 and come in 2, where the row is opened.
 /// The lines are read in the cycles 5 and 10, as they lie in one group. The credits come in 7 and 12, and the replies in 15 and 20. In
