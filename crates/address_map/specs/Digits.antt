@@ -1,7 +1,7 @@
 -- A place as the digits of a line's number.
 --     value_of place field      the value of a field
 --     with_value place field value      the place with another value of one field
---     number_of s place fields      the number of which the place's values are the digits, in these fields from the low end
+--     number_of s place fields      the number whose digits, in these fields from the low end, are the place's values
 use Rattle.std.specs.Prelude.{ℕ, ◌+◌, ◌*◌, List, [], ◌∷◌}
 use Rattle.sim_base.specs.declared.config.Config.{Config}
 use Rattle.sim_base.specs.declared.place.Field.{Field}
@@ -27,7 +27,7 @@ with_value place Group value = record place { group = value }
 with_value place Bank value = record place { bank = value }
 with_value place Row value = record place { row = value }
 
--- the number of which a place's values are the digits, in these fields from the low end
+-- the number whose digits, in these fields from the low end, are a place's values
 unfoldable pub number_of : Config → Place → List Field → ℕ
 number_of s place [] = 0
 number_of s place (f ∷ fs) = number_of s place fs * field_size s f + value_of place f

@@ -1,5 +1,5 @@
 -- Where the fields of an address stand in the number of its line, each of which has a power of two of values.
---     digit_by d line      what stands in a line's number behind some bits and under a mask
+--     digit_by d line      what stands in a line's number above some bits and under a mask
 --     IsDigit s field d      the value of a field stands there, in each line's number
 --     IsDigits s digits      so does that of each field
 use Rattle.std.specs.Prelude.{◌≡◌, ℕ, ◌/◌, ◌^◌, bit_and}
@@ -10,7 +10,7 @@ use Rattle.sim_base.specs.Places.{digit_of}
 use Rattle.address_map.specs.declared.digits.Digit.{Digit}
 use Rattle.address_map.specs.declared.digits.Digits.{Digits}
 
--- what stands in a line's number behind some bits and under a mask
+-- what stands in a line's number above some bits and under a mask
 abbrev pub digit_by : Digit → ℕ → ℕ
 digit_by d line = bit_and (line / 2 ^ d.shift) d.mask
 

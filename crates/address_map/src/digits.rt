@@ -8,7 +8,7 @@ use crate::size_of_field;
 use sim_base::config::Config;
 use sim_base::place::{Field, Place};
 
-/// Where a field stands in the number of a line: behind so many bits, and under a mask. Under a mask of 0 stands nothing.
+/// Where a field stands in the number of a line: above `shift` bits, and under a mask. A mask of 0 selects nothing.
 #[derive(Clone, Copy)]
 pub struct Digit {
     pub shift: u32,
@@ -52,7 +52,7 @@ fn width_of_field(config: &Config, field: Field) -> u32
 impl Digit {
     ghost use Rattle.address_map.specs.Shifts.{digit_by, IsDigit};
 
-    /// Where a field stands: behind the fields before it.
+    /// Where a field stands: above the fields before it.
     fn of_field(config: &Config, field: Field) -> Digit
         ensures { IsDigit config.now field result }
     {
@@ -97,7 +97,7 @@ impl Digits {
         }
     }
 
-    /// Where an address lies, as `place_of` says for the configuration whose fields stand so.
+    /// Where an address lies, as `place_of` gives it for the configuration whose fields stand like this.
     pub fn place_of(&self, address: u64) -> Place
         ensures value { (s : Config) → IsDigits s self.now → result ≡ place_of s address }
         ensures channel { (s : Config) → IsDigits s self.now → result.channel < s.channels }

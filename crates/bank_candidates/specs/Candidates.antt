@@ -7,7 +7,7 @@
 --     first_place test requests      the place of the first request that may be served and passes a test
 --     access_number bank write, access_of r      the number of a bank and an access, and of those that a request asks for
 --     access_count access requests      how many ask for a bank and an access
---     NoneBlocked access requests      none that asks for a bank and an access blocked for an older one of its line
+--     NoneBlocked access requests      no request that asks for a bank and an access is blocked by an older one of its line
 --     AreCandidates requests bank candidates      each candidate of a bank is the place of the first such request
 use Rattle.std.specs.Prelude.{◌≡◌, ℕ, ◌+◌, ◌*◌, ◌/◌, ◌%◌, ◌^◌, ◌<◌, ◌==◌, Bool, true, false, not, ◌&&◌, List, All, count_by, position, Option, Some, None, if◌then◌else◌}
 use Rattle.std.specs.List.{list_any, zip}
@@ -56,7 +56,7 @@ entries requests = zip requests (eligible_column requests)
 abbrev pub first_place : (Request → Bool) → List Request → Option ℕ
 first_place test requests = position (passes test) (entries requests)
 
--- the number of a bank and an access: twice that of the bank, and one more to write
+-- the number of a bank and an access: twice that of the bank, plus one for a write
 abbrev pub access_number : ℕ → Bool → ℕ
 access_number bank write = bank * 2 + (if write then 1 else 0)
 

@@ -22,7 +22,7 @@ candidates_of_bank candidates bank d =
     let own : CandidatesOfBank = record { row = slice_index_or candidates.rows.items bank None; reads = access_in words (access_number bank false); writes = access_in words (access_number bank true) } in
     if nat_lt bank (bank_count candidates) then own else d
 
--- Every request asks for one of the banks, and for a row of 32 bits; of each bank the row is the one that is open, each candidate is
+-- Every request asks for one of the banks, and for a row of 32 bits; the row of each bank is the one that is open, each candidate is
 -- the place of the first such request, some request may be blocked by an older one of its line only where that was noted, and each
 -- counter says how many requests ask for its bank and access.
 pub record StandsFor (candidates : BankCandidates) (requests : List Request) (open_rows : ℕ → Option ℕ) : Type 0 where

@@ -44,7 +44,7 @@ impl BankCandidates {
     ghost use Rattle.bank_candidates.specs.Sets.{is_in};
     ghost use Rattle.bank_candidates.specs.Stands.{bank_count, candidates_of_bank, StandsFor, with_row, closed_in, IsAmong};
 
-    /// The candidates of an empty queue, of so many banks, which are all closed. Nothing else takes memory.
+    /// The candidates of an empty queue, for `banks` banks, which are all closed. Only this call allocates memory.
     pub fn with_room(alloc: Global, banks: usize) -> Result<Self, AllocError>
         requires { banks ≤ 64 }
         ensures banks { IfOk result (λ candidates. bank_count candidates ≡ banks) }
@@ -114,7 +114,7 @@ impl BankCandidates {
         self.places.banks(write, false)
     }
 
-    /// The banks whose open row a request to write, or to read, asks for that may be served.
+    /// The banks whose open row an eligible request to write, or to read, asks for.
     #[inline(always)]
     pub fn hit(&self, write: bool) -> BankSet
         ensures within { (k : ℕ) → is_in result k ≡ true → k < bank_count self.now }
@@ -140,7 +140,7 @@ impl BankCandidates {
         !self.blocked[access_number(bank, write)]
     }
 
-    /// Notes that no request of a bank and an access is blocked, where it is known that there is none.
+    /// Notes that no request of a bank and an access is blocked, if it is known (`none`) that there is no such request.
     #[inline(always)]
     fn note_none(&mut self, bank: usize, write: bool, none: bool)
         requires { bank < bank_count self.old }
@@ -153,7 +153,7 @@ impl BankCandidates {
         }
     }
 
-    /// Takes note of a request at a place behind all others, which may be served or not.
+    /// Takes note of a request at a place after all others, which may be served or not.
     #[inline(always)]
     fn join(&mut self, request: Request, slot: usize, first_of_line: bool)
         requires bank { bank_number request.place < bank_count self.old }

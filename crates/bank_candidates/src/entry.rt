@@ -28,7 +28,7 @@ pub struct CandidatesOfBank {
     pub writes: AccessCandidates,
 }
 
-/// The number of a bank and an access: twice that of the bank, and one more to write.
+/// The number of a bank and an access: twice that of the bank, plus one for a write.
 #[inline(always)]
 pub(crate) fn access_number(bank: usize, write: bool) -> usize
     requires { bank < 64 }
@@ -65,7 +65,7 @@ pub(crate) fn is_open(open_row: Option<u32>, row: u32) -> bool
 }
 
 impl AccessCandidates {
-    /// Once a request of the same bank has left its place in the queue, and they have moved past it.
+    /// The candidates after a request of the same bank has left its place in the queue, and they have moved past it.
     #[inline(always)]
     pub(crate) fn after(
         self,

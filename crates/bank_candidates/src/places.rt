@@ -15,10 +15,10 @@ use std::alloc::{AllocError, Global};
 /// asks for the open row.
 #[derive(Drop)]
 pub(crate) struct Places {
-    /// Four words a bank: of its reads the oldest and the first hit, and of its writes. Each is one more than a place, and 0 where
+    /// Four words per bank: the oldest and the first hit of its reads, and of its writes. Each is one more than a place, and 0 where
     /// there is none.
     words: Vec<u16>,
-    /// For each of the four the banks whose word is not 0.
+    /// For each of the four, the banks whose word is not 0.
     sets: [BankSet; 4],
     ghost few: { length words.items ≤ 256 },
     ghost four: { length sets ≡ 4 },
@@ -157,7 +157,7 @@ impl Places {
         };
     }
 
-    /// Takes note of a request behind all others, which may be served and asks for the open row or not.
+    /// Takes note of a request after all others, which may be served and asks for the open row or not.
     #[inline(always)]
     pub(crate) fn join(&mut self, bank: usize, write: bool, slot: usize, hit: bool)
         requires bank { 4 * bank + 3 < length self.old.words.items }

@@ -55,8 +55,8 @@ fn asks_for_row(request: Request, row: u32) -> bool
     request.place.row == row
 }
 
-/// The first request from a place on that may be served, is of a bank and an access, and asks for a row if one is given. The tag of
-/// each such request is the one searched for, and the tags of others mostly are not.
+/// The first request from a place on that may be served, is of a bank and an access, and asks for a row if one is given. Each
+/// such request has the tag that is searched for, and most others do not.
 pub(crate) fn first_from(
     queue: &Columns<'_>,
     from: usize,
@@ -84,7 +84,7 @@ pub(crate) fn first_from(
     None
 }
 
-/// The first such request that asks for a row, where the first of them all is known: that one, or one behind it.
+/// The first such request that asks for a row, where the first of them all is known: that one, or a later one.
 pub(crate) fn first_hit(
     queue: &Columns<'_>,
     oldest: usize,
@@ -104,8 +104,8 @@ pub(crate) fn first_hit(
     first_from(queue, oldest + 1, bank, write, Some(row))
 }
 
-/// The first such request, once one of its bank has left the queue, and the candidate has moved past its place: the candidate, where it only
-/// moves or stands before that place, and else none before that place nor before `least`.
+/// The first such request, once one of its bank has left the queue and the candidate has moved past its place: the candidate, if it only
+/// moves or stands before that place, and otherwise one that is neither before that place nor before `least`.
 pub(crate) fn next_place(
     candidate: Option<usize>,
     stays: bool,
@@ -131,7 +131,7 @@ pub(crate) fn next_place(
     }
 }
 
-/// The first such request that asks for a row, likewise, where the first of them all is known: that one, or one behind it.
+/// The first such request that asks for a row, likewise, where the first of them all is known: that one, or a later one.
 #[inline(always)]
 pub(crate) fn next_hit(
     candidate: Option<usize>,

@@ -30,7 +30,7 @@ impl BankSet {
         }
     }
 
-    /// These banks but one.
+    /// These banks except one.
     #[inline(always)]
     pub fn without(self, bank: usize) -> Self
         requires { bank < 64 }
@@ -52,7 +52,7 @@ impl BankSet {
         }
     }
 
-    /// These banks but those.
+    /// These banks except those.
     #[inline(always)]
     pub fn minus(self, others: BankSet) -> Self
         ensures { (k : ℕ) → is_in result k ≡ (is_in self k && not (is_in others k)) }

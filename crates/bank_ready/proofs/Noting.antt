@@ -16,7 +16,7 @@ use Rattle.sim_base.specs.declared.command.Relation.TheVariants.{SameBank, Other
 use Rattle.sim_base.specs.declared.command.Command.{Command}
 use Rattle.sim_base.specs.declared.command.Command.TheVariants.{Act, Rd, Wr, Pre, Prea, Ref}
 use Rattle.sim_base.specs.declared.command.Source.{Source}
-use Rattle.sim_base.specs.Rules.{is_kind, kind_of, rank_of, bank_of, row_after}
+use Rattle.sim_base.specs.Rules.{is_kind, kind_of, rank_of, bank_of}
 use Rattle.bank_ready.specs.Ready.{held_until}
 use Rattle.bank_ready.specs.Words.{bank_at, is_own, relation_from, group_relation_from, moves_data, no_acts, pushed, word_until, rank_raised, rank_state_after, act_pushed}
 use Rattle.bank_ready.specs.Noted.{IsRaised, window_word, IsNoted}

@@ -1,8 +1,8 @@
--- What one command more makes of all that a `Banks` keeps.
+-- How one more command changes all that a `Banks` keeps.
 --     IsRaised count before after until      each word of the banks below a number is raised to a cycle by the bank's number
---     window_word banks command k      from which cycle on a command leaves room for one ACT more of the bank with a number
+--     window_word banks command k      from which cycle on a command leaves room for one more ACT of the bank with a number
 --     IsFloorRaised t cycle command later before after      a cycle before which no command of a kind is allowed is not raised too far
---     IsNoted banks after t cycle command      one command more is noted, by these distances
+--     IsNoted banks after t cycle command      one more command is noted, by these distances
 use Rattle.std.specs.Prelude.{◌≡◌, ℕ, ◌*◌, ◌/◌, ◌<◌, ◌≤◌, max, length, slice_index_or, Option, if◌then◌else◌}
 use Rattle.sim_base.specs.declared.timing.Timing.{Timing}
 use Rattle.sim_base.specs.declared.place.BankId.{BankId}
@@ -20,8 +20,8 @@ use Rattle.bank_ready.specs.declared.banks.Banks.{Banks}
 pub record IsRaised (count : ℕ) (before after until : ℕ → ℕ) : Type 0 where
   pub each : (k : ℕ) → k < count → after k ≡ max (before k) (until k)
 
--- from which cycle on an ACT more of the bank with this number is not the fifth one within the four-activate window, after this one:
--- from the end of that one on which is then the oldest of the last four
+-- from which cycle on another ACT of the bank with this number is not the fifth one within the four-activate window, after this command:
+-- from where the ACT that is then the oldest of the last four no longer counts
 abbrev pub window_word : Banks → Command → ℕ → ℕ
 window_word banks command k =
     if acts_in command (k / 16) then (slice_index_or banks.ranks.items (k / 16) (record { prea = 0; refresh = 0; window = no_acts })).window.second else 0
@@ -31,7 +31,7 @@ abbrev pub IsFloorRaised : Timing → ℕ → Command → Kind → ℕ → ℕ �
 IsFloorRaised t cycle command later before after =
     (rank : ℕ) (bank : Option BankId) → after ≤ max before (held_until t cycle (kind_of command) later (relation_to command rank bank))
 
--- one command more is noted in the words of each bank and each rank, by these distances
+-- one more command is noted in the words of each bank and each rank, by these distances
 pub record IsNoted (banks after : Banks) (t : Timing) (cycle : ℕ) (command : Command) : Type 0 where
   pub delays : after.delays ≡ banks.delays
   pub act : IsRaised (16 * length banks.ranks.items) (act_word banks) (act_word after) (λ k. max (word_until t cycle command Act k) (window_word banks command k))

@@ -13,8 +13,8 @@ use Rattle.sim_base.specs.Rules.{is_kind, kind_of, rank_of}
 use Rattle.timing.specs.Relation.{relation_to}
 use Rattle.timing.specs.Holds.{hold}
 
--- From which cycle on a command no longer holds back a later one whose banks lie so to its own: by the gap after its own cycle,
--- and from 0 on where no rule binds the two.
+-- From which cycle on a command no longer holds back a later one whose banks relate to its own like this: from the gap after its own
+-- cycle on, and from 0 on where no rule binds the two.
 unfoldable pub held_until : Timing → ℕ → Kind → Kind → Relation → ℕ
 held_until t cycle earlier later relation = unwrap_or (option_map (λ gap. cycle + gap) (hold t earlier later relation)) 0
 
@@ -22,7 +22,7 @@ held_until t cycle earlier later relation = unwrap_or (option_map (λ gap. cycle
 abbrev pub held_by : Timing → Kind → ℕ → Option BankId → IssuedCommand → ℕ
 held_by t later rank bank i = held_until t i.cycle (kind_of i.command) later (relation_to i.command rank bank)
 
--- from which cycle on no command of a history holds back such a one
+-- from which cycle on no command of a history holds back such a later command
 unfoldable pub ready_from : Timing → List IssuedCommand → Kind → ℕ → Option BankId → ℕ
 ready_from t history later rank bank = fold max 0 (map (held_by t later rank bank) history)
 

@@ -16,7 +16,7 @@ use Rattle.sim_base.specs.declared.command.IssuedCommand.{IssuedCommand}
 use Rattle.sim_base.specs.History.{below}
 use Rattle.sim_base.specs.Rules.{is_allowed}
 use Rattle.bank_ready.specs.Ready.{ready_from}
-use Rattle.bank_ready.specs.Words.{act_word, rd_word, wr_word, pre_word, act_word_from, word_from, rank_state_from, bank_at}
+use Rattle.bank_ready.specs.Words.{act_word, rd_word, wr_word, pre_word, act_word_from, word_from, rank_state_from}
 use Rattle.bank_ready.specs.declared.banks.Banks.{Banks}
 
 -- how many ranks it was made for
@@ -36,9 +36,9 @@ Ascends (i ∷ history) = Each (λ (j : IssuedCommand). i.cycle < j.cycle) histo
 abbrev pub IsFloor : Timing → List IssuedCommand → Kind → ℕ → Type 0
 IsFloor t history later floor = (rank : ℕ) (bank : Option BankId) → floor ≤ ready_from t history later rank bank
 
--- Commands whose cycles ascend made each word the least cycle from which on none of them holds back such a command, an ACT's also
--- by the four-activate window, each floor a cycle before which they allow no such command in any bank,
--- and each window the last four ACTs of its rank.
+-- The cycles of the commands ascend. Each word is the least cycle from which on none of them holds back such a command (an ACT, also
+-- by the four-activate window), each floor is a cycle before which they allow no such command in any bank,
+-- and each window has the last four ACTs of its rank.
 pub record StandsFor (banks : Banks) (s : Config) (history : List IssuedCommand) : Type 0 where
   pub timing : banks.delays.value ≡ s.timing
   pub ranks : rank_count banks ≡ s.ranks

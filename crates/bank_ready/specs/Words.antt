@@ -1,15 +1,15 @@
 -- What a bank and a rank keep of a history.
 --     bank_at k, number_of bank      the bank with a number, and the number of a bank
 --     is_own own k      a number is that of a bank, if there is such a bank
---     relation_from bank k, group_relation_from bank k      how a bank lies to the one with a number, and to the group with a number
+--     relation_from bank k, group_relation_from bank k      how a bank relates to the one with a number, and to the group with a number
 --     act_word banks k, rd_word banks k, wr_word banks k, pre_word banks k      what is kept of the bank with a number
 --     names_bank kind, names_rank kind, moves_data kind      a command of this kind names a bank, or a rank alone, or moves data
 --     pushed window end      the last four ACTs of a rank after one more
 --     window_from t rank history      the last four ACTs of a rank
 --     word_from t history later k, act_word_from t history k      from which cycle on no command of a history holds back one of a bank
---     rank_state_from t history rank      what the commands of a history make of a rank
+--     rank_state_from t history rank      what a rank keeps of the commands of a history
 --     word_until t cycle command later k      from which cycle on one command no longer holds back another of a bank
---     rank_raised t cycle earlier state, rank_state_after t cycle command rank state      what one command more makes of a rank
+--     rank_raised t cycle earlier state, rank_state_after t cycle command rank state      what a rank keeps after one more command
 use Rattle.std.specs.Prelude.{ℕ, ◌+◌, ◌*◌, ◌/◌, ◌%◌, ◌==◌, ◌&&◌, max, Bool, true, false, List, slice_index_or, fold, Option, Some, None, if◌then◌else◌}
 use Rattle.sim_base.specs.declared.timing.Timing.{Timing}
 use Rattle.sim_base.specs.declared.place.BankId.{BankId}
@@ -39,16 +39,16 @@ abbrev pub is_own : Option ℕ → ℕ → Bool
 is_own (Some own) k = k == own
 is_own None k = false
 
--- how a bank lies to the one with this number
+-- how a bank relates to the one with this number
 abbrev pub relation_from : BankId → ℕ → Relation
 relation_from bank k = if bank.rank == k / 16 then relation_in_rank (Some bank) (Some (bank_at k)) else OtherRank
 
--- how a bank lies to the group with this number, each rank having places for four groups: to a bank of its own group as to another
+-- how a bank relates to the group with this number, each rank having places for four groups: to its own group, as to another bank of it
 abbrev pub group_relation_from : BankId → ℕ → Relation
 group_relation_from bank k = if bank.rank == k / 4 then (if bank.group == k % 4 then SameGroup else OtherGroup) else OtherRank
 
--- From which cycle on each command of the bank with this number is held back no more, as it is kept: for an ACT, a RD and a WR by the
--- later one of the bank's own word and of its group's.
+-- From which cycle on each command of the bank with this number is no longer held back, as it is kept: for an ACT, a RD and a WR it is
+-- the later of the bank's own word and its group's.
 abbrev pub act_word : Banks → ℕ → ℕ
 act_word banks k = max (slice_index_or banks.act.items k 0) (slice_index_or banks.act_groups.items (k / 4) 0)
 
@@ -103,12 +103,12 @@ window_from t rank history = fold pushed no_acts (window_ends t rank history)
 abbrev pub word_from : Timing → List IssuedCommand → Kind → ℕ → ℕ
 word_from t history later k = ready_from t history later (k / 16) (Some (bank_at k))
 
--- From which cycle on neither does so to an ACT, nor makes it the fifth one within the four-activate window: that ends with the oldest
--- of the last four.
+-- From which cycle on no command of a history holds back an ACT of the bank, and the ACT is not the fifth one within the four-activate
+-- window: that ends with the oldest of the last four.
 abbrev pub act_word_from : Timing → List IssuedCommand → ℕ → ℕ
 act_word_from t history k = max (word_from t history Act k) (window_from t (k / 16) history).oldest
 
--- what the commands of a history make of a rank
+-- what a rank keeps of the commands of a history
 abbrev pub rank_state_from : Timing → List IssuedCommand → ℕ → RankState
 rank_state_from t history rank =
     record {
@@ -129,7 +129,7 @@ rank_raised t cycle earlier state =
       refresh = max state.refresh (held_until t cycle earlier Ref SameBank);
     }
 
--- a rank with one ACT more
+-- a rank with one more ACT
 abbrev pub act_pushed : RankState → ℕ → RankState
 act_pushed state end = record state { window = pushed state.window end }
 
@@ -137,7 +137,7 @@ act_pushed state end = record state { window = pushed state.window end }
 abbrev pub acts_in : Command → ℕ → Bool
 acts_in command rank = is_kind (kind_of command) Act && (rank_of command == rank)
 
--- what one command more makes of a rank
+-- what a rank keeps after one more command
 abbrev pub rank_state_after : Timing → ℕ → Command → ℕ → RankState → RankState
 rank_state_after t cycle command rank state =
     record {

@@ -17,8 +17,8 @@ use timing::gap_table::GapTable;
 #[derive(Drop)]
 pub struct Banks {
     delays: Box<GapTable>,
-    /// The least cycle from which on each command of a bank is held back no more, by the bank's number: for an ACT, a RD and a WR
-    /// the later one of the bank's own and of that of its group, by the group's number among those of all ranks.
+    /// The least cycle from which on each command of a bank is no longer held back, by the bank's number: for an ACT, a RD and a WR
+    /// it is the later of the bank's own word and its group's, by the group's number among those of all ranks.
     act: Vec<Cycle>,
     act_groups: Vec<Cycle>,
     rd: Vec<Cycle>,
@@ -40,7 +40,7 @@ pub struct Banks {
     ghost all_pres: { length pre.items ≡ 16 * length ranks.items },
 }
 
-/// A rank that had no command.
+/// A rank that has had no command.
 fn unused_rank() -> RankState
     ensures { result ≡ record { prea = 0; refresh = 0; window = record { oldest = 0; second = 0; third = 0; last = 0 } } }
 {
@@ -88,7 +88,7 @@ impl Banks {
         })
     }
 
-    /// The least cycle from which on a command of this kind, which names the bank with this number, is held back no more: by the
+    /// The least cycle from which on a command of this kind, which names the bank with this number, is no longer held back: by the
     /// distances to the commands before it and, for an ACT, by the four-activate window.
     #[inline(always)]
     pub fn earliest_in(&self, kind: Kind, bank: usize) -> Cycle
@@ -121,7 +121,7 @@ impl Banks {
         }
     }
 
-    /// The least cycle from which on a PREA or a REF of a rank is held back no more.
+    /// The least cycle from which on a PREA or a REF of a rank is no longer held back.
     #[inline(always)]
     pub fn earliest_all(&self, kind: Kind, rank: u32) -> Cycle
         requires kind { IsTrue (names_rank kind) }
@@ -162,7 +162,7 @@ impl Banks {
         note_act_in_rank(delays, &mut self.ranks, bank.rank, cycle, last);
     }
 
-    /// Notes a RD or a WR, in its bank, in the words of RDs and WRs of the groups of each rank, in what holds for all banks, and in
+    /// Notes a RD or a WR, in its bank, in the words of RDs and WRs of the groups of each rank, in the floors of all banks, and in
     /// the words of the whole rank.
     #[inline(always)]
     #[tactic(auto, using(crate::proofs::Bounds::data_pre_bound))]
@@ -228,7 +228,7 @@ impl Banks {
         raise_rank_words(delays, &mut self.ranks, rank, cycle, Kind::Ref);
     }
 
-    /// Notes a command that is issued in a cycle, which is later than all that were noted before.
+    /// Notes a command that is issued in a cycle later than those of all commands noted before.
     #[inline(always)]
     pub fn note(&mut self, command: Command, cycle: Cycle)
         requires rank { rank_of command < rank_count self.old }

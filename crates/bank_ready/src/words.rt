@@ -14,8 +14,8 @@ use sim_base::message::Cycle;
 use sim_base::place::BankId;
 use timing::gap_table::GapTable;
 
-/// The last four ACTs of a rank, by the cycle from which on each no longer counts for the four-activate window; 0 in the place
-/// of each that there was not.
+/// The last four ACTs of a rank, by the cycle from which on each no longer counts for the four-activate window; 0 for each
+/// that there has not been.
 #[derive(Clone, Copy)]
 pub(crate) struct Window {
     pub(crate) oldest: Cycle,
@@ -24,7 +24,7 @@ pub(crate) struct Window {
     pub(crate) last: Cycle,
 }
 
-/// A rank: the least cycle from which on each command of the whole rank is held back no more, and its last four ACTs.
+/// A rank: the least cycle from which on each command of the whole rank is no longer held back, and its last four ACTs.
 #[derive(Clone, Copy)]
 pub(crate) struct RankState {
     pub(crate) prea: Cycle,
@@ -32,7 +32,7 @@ pub(crate) struct RankState {
     pub(crate) window: Window,
 }
 
-/// From which cycle on a command holds back a later one no more, which a rule binds to it.
+/// From which cycle on a command no longer holds back a later one that a rule binds to it.
 #[inline(always)]
 #[tactic(auto, using(crate::proofs::Bounds::held_if_bound))]
 pub(crate) fn bound_until(
@@ -243,7 +243,7 @@ pub(crate) fn raise_acts(
     );
 }
 
-/// From which cycle on a command in a rank holds back a PREA of it no more; 0 where no rule binds them.
+/// From which cycle on a command in a rank no longer holds back a PREA of it; 0 where no rule binds them.
 #[inline(always)]
 #[tactic(auto, using(crate::proofs::Bounds::prea_bound, crate::proofs::Bounds::pre_to_prea, crate::proofs::Bounds::prea_to_prea))]
 fn prea_until(delays: &GapTable, cycle: Cycle, earlier: Kind) -> Cycle
@@ -257,7 +257,7 @@ fn prea_until(delays: &GapTable, cycle: Cycle, earlier: Kind) -> Cycle
     }
 }
 
-/// From which cycle on a command in a rank holds back a REF of it no more; 0 where no rule binds them.
+/// From which cycle on a command in a rank no longer holds back a REF of it; 0 where no rule binds them.
 #[inline(always)]
 #[tactic(auto, using(crate::proofs::Bounds::refresh_bound, crate::proofs::Bounds::act_to_refresh, crate::proofs::Bounds::rd_to_refresh, crate::proofs::Bounds::wr_to_refresh))]
 fn refresh_until(delays: &GapTable, cycle: Cycle, earlier: Kind) -> Cycle
@@ -291,7 +291,7 @@ pub(crate) fn raise_rank_words(
     state.refresh = state.refresh.max(refresh_until(delays, cycle, earlier));
 }
 
-/// Notes an ACT in the words and the window of its rank, for which it counts no longer from a cycle on.
+/// Notes an ACT in the words and the window of its rank; from `end` on it no longer counts for the window.
 #[inline(always)]
 pub(crate) fn note_act_in_rank(
     delays: &GapTable,

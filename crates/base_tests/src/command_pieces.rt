@@ -15,7 +15,7 @@ use std::process::Abort;
 use std::test::Fail;
 use std::thread::Threads;
 
-/// The caller alone puts few commands together; of many, each thread puts a piece together.
+/// The caller alone puts a few commands together; of many, each thread puts a piece together.
 static COUNTS: [u64; 3] = [0, 3, 10_000];
 
 fn row_of(cycle: u64) -> IssuedCommand
@@ -28,7 +28,7 @@ fn row_of(cycle: u64) -> IssuedCommand
     }
 }
 
-/// Commands of so many cycles, one of each.
+/// Commands of `count` cycles, one in each.
 fn list_of(alloc: Global, count: u64) -> Result<CommandList, AllocError>
     ensures { IfOk result IsRising }
 {
@@ -75,7 +75,7 @@ fn assert_written<R: Threads + Sync + Abort>(
     Ok(())
 }
 
-/// A writer that takes but one byte is told.
+/// A writer that takes only one byte is reported.
 fn assert_refused<R: Threads + Sync + Abort>(
     rt: &R,
     alloc: Global,

@@ -1,12 +1,12 @@
 //! Tables of a few commands: to writers that take all, little or nothing, and in pieces.
 
-ghost use Rattle.std.specs.Prelude.{◌≤◌, IfOk};
 ghost use Rattle.command_table.specs.Tables.{IsRising};
 
 use crate::expect::{expect, expect_at};
 use crate::written::{Report, assert_report};
 use command_table::list::CommandList;
 use command_table::table::{CommandTable, Rows};
+use fixtures::lists::list_of_two;
 use sim_base::command::{Command, IssuedCommand, Source};
 use sim_base::place::BankId;
 use std::alloc::{AllocError, Global};
@@ -213,20 +213,6 @@ static BY_TWO: [Three; 3] = [
     NO_COMMAND,
 ];
 
-fn list_of(
-    alloc: Global,
-    first: IssuedCommand,
-    second: IssuedCommand,
-) -> Result<CommandList, AllocError>
-    requires { first.cycle ≤ second.cycle }
-    ensures { IfOk result IsRising }
-{
-    let mut list = CommandList::new(alloc);
-    list.push(first)?;
-    list.push(second)?;
-    Ok(list)
-}
-
 fn table_of(
     alloc: Global,
     first: CommandList,
@@ -241,9 +227,9 @@ fn table_of(
 }
 
 fn table_of_channels(alloc: Global) -> Result<CommandTable, AllocError> {
-    let first = list_of(alloc, ACT, RD)?;
-    let second = list_of(alloc, PREA, REF)?;
-    let third = list_of(alloc, LATER_PREA, LATER_REF)?;
+    let first = list_of_two(alloc, ACT, RD)?;
+    let second = list_of_two(alloc, PREA, REF)?;
+    let third = list_of_two(alloc, LATER_PREA, LATER_REF)?;
     table_of(alloc, first, second, third)
 }
 
@@ -256,7 +242,7 @@ fn next_three(rows: &mut Rows<'_>) -> Three {
 fn read_pieces(alloc: Global, table: &CommandTable, most: usize) -> Result<Vec<Three>, AllocError> {
     let mut read = Vec::new(alloc);
     for piece in &table.pieces(alloc, most)? {
-        read.push(next_three(&mut piece.rows(alloc)?))?;
+        read.push(next_three(&mut piece.copied(alloc)?))?;
     }
     Ok(read)
 }

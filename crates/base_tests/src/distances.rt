@@ -11,7 +11,7 @@ use std::test::Fail;
 use timing::gap_table::GapTable;
 use timing::rules::relation;
 
-// An earlier command, a later one and how they lie to one another; the distance that a rule asks for, or none where no rule binds
+// An earlier command, a later one and how their banks relate; the distance that a rule asks for, or none where no rule binds
 // them.
 type Case = (Kind, Kind, Relation, Option<u64>);
 
@@ -42,7 +42,7 @@ fn assert_distances(
     Ok(())
 }
 
-// No rule binds an ACT to a REF; a RD in another bank does not bind a PRE.
+// No rule binds an ACT to a REF; an RD in another bank does not bind a PRE.
 static IN_A_RANK: [Case; 11] = [
     (Kind::Act, Kind::Rd, Relation::SameBank, Some(3)),
     (Kind::Wr, Kind::Rd, Relation::SameGroup, Some(9)),

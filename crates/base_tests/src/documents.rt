@@ -118,7 +118,7 @@ const ORDER_WITH_RANKS: &[Field] = &[
 
 const OWN_LINK: Edit = ("nREFI = 0\n", "nREFI = 0\n[[link]]\nid = 2\nlatency = 1\n");
 
-/// Edits of the small machine; and of the machine that is meant its ranks, its timing, the order of its fields, whether it ends
+/// Edits of the small machine; and what the resulting machine has: its ranks, its timing, the order of its fields, whether it ends
 /// drained, the links with latencies of their own, and the latency of link 2.
 struct Case<'x> {
     edits: &'x [Edit],
@@ -364,7 +364,7 @@ fn is_refused(alloc: Global, document: &[u8]) -> bool {
     )
 }
 
-/// The length of the first beginning of a document that is not refused.
+/// The length of the shortest prefix of a document that is not refused.
 fn first_accepted(alloc: Global, document: &[u8]) -> Option<usize> {
     for len in 0..document.len() {
         if !is_refused(alloc, &document[..len]) {

@@ -70,7 +70,7 @@ fn cores(alloc: Global, rows: &[CoreStep<'_>]) -> Result<Vec<CoreState>, AllocEr
     Ok(cores)
 }
 
-// The refreshes that are due of a channel, its open rows and its queue.
+// The refreshes of a channel that are due, its open rows and its queue.
 type ChannelRow<'x> = (&'x [u64], &'x [OpenRow], &'x [Request]);
 
 fn channel(alloc: Global, row: &ChannelRow<'_>) -> Result<ChannelState, AllocError> {
@@ -107,7 +107,7 @@ fn state_of(alloc: Global, case: &Case<'_>) -> Result<FinalState, AllocError> {
     })
 }
 
-// All credits of one core and one channel, and all but a read's.
+// All credits of one core and one channel, and all except one for a read.
 const ALL: Credits = Credits { read: 4, write: 4 };
 
 const FEWER: Credits = Credits { read: 3, write: 4 };

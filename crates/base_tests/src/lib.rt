@@ -20,8 +20,6 @@ mod faults;
 #[cfg(test)]
 mod final_tables;
 #[cfg(test)]
-mod none;
-#[cfg(test)]
 mod plain_machine;
 #[cfg(test)]
 mod slow;

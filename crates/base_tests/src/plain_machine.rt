@@ -1,4 +1,4 @@
-//! A run of one core, with each number as counted by hand.
+//! A run of one core, with each number counted by hand.
 
 use crate::expect::expect;
 use cpu_trace::trace::Trace;

@@ -4,7 +4,7 @@ use std::alloc::{AllocError, Global};
 use std::io;
 use std::io::{ErrorKind, Write};
 
-/// Takes a byte a call. After so many calls it takes none, or fails.
+/// Takes one byte per call. After `calls` calls it takes none, or fails.
 #[derive(Drop)]
 pub(crate) struct Slow {
     pub(crate) taken: Vec<u8>,
@@ -13,7 +13,7 @@ pub(crate) struct Slow {
 }
 
 impl Slow {
-    /// With memory for so many bytes.
+    /// With memory for `size` bytes.
     pub(crate) fn new(
         alloc: Global,
         size: usize,

@@ -1,40 +1,14 @@
 //! The statistics of small runs whose counts were found by hand.
 
-use crate::none::{NO_CHANNEL, NO_CORE};
 use crate::written::{Report, assert_report};
+use fixtures::none::{NO_CHANNEL, NO_CORE};
+use fixtures::one_read::STATS;
 use statistics::channels::ChannelStats;
 use statistics::cores::CoreStats;
 use statistics::stats::Stats;
 use std::alloc::Global;
 use std::process::Abort;
 use std::test::Fail;
-
-const ONE_READ: &str = "scope,id,name,value
-run,0,cycles,16
-core,0,issued,1
-core,0,retired,1
-core,0,reads,1
-core,0,writes,0
-core,0,replies,1
-core,0,read_latency,15
-core,0,stop_end,16
-core,0,stop_width,0
-core,0,stop_window,0
-core,0,stop_memory,0
-core,0,stop_credit,0
-core,0,finish,15
-channel,0,act,1
-channel,0,rd,1
-channel,0,wr,0
-channel,0,pre,0
-channel,0,prea,0
-channel,0,ref,0
-channel,0,hits,0
-channel,0,queued,4
-channel,0,queued_max,1
-channel,0,idle,12
-channel,0,refreshing,0
-";
 
 // The reply is still on its way, so the finish is empty.
 const UNFINISHED: &str = "scope,id,name,value
@@ -144,7 +118,7 @@ static CASES: [Case<'static>; 4] = [
             idle: 12,
             ..NO_CHANNEL
         }],
-        ONE_READ,
+        STATS,
     ),
     (
         15,

@@ -26,7 +26,7 @@ fn memory_of(alloc: Global, trace: &Trace) -> Result<Vec<MemoryEntry>, AllocErro
     Ok(entries)
 }
 
-// How many entries a trace has, with all but the Plain ones, or the fault by which it is refused.
+// How many entries a trace has, with all except the Plain ones, or the fault by which it is refused.
 type Contents = Result<(u64, Vec<MemoryEntry>), Fault>;
 
 fn contents(alloc: Global, answer: &Result<Trace, Fault>) -> Result<Contents, AllocError> {
@@ -36,7 +36,7 @@ fn contents(alloc: Global, answer: &Result<Trace, Fault>) -> Result<Contents, Al
     }
 }
 
-// What core 0's trace has that is read in pieces of a size.
+// What core 0's trace has when it is read in pieces of a given size.
 fn contents_in_pieces(
     rt: &(impl Threads + Sync),
     alloc: Global,
@@ -78,7 +78,7 @@ fn at_line(line: u64, cause: LineCause) -> Fault {
     }
 }
 
-// The entry of a number, if there are so many.
+// The entry with a number, if there is one.
 fn entry(trace: &Trace, number: u64) -> Option<Entry> {
     if number < trace.len() {
         Some(trace.entry_at(number))
@@ -87,7 +87,7 @@ fn entry(trace: &Trace, number: u64) -> Option<Entry> {
     }
 }
 
-// The number of the first of these entries that a trace has not in its place, with what stands there.
+// The number of the first of these entries that a trace does not have in its place, with what stands there.
 fn first_other(trace: &Trace, wanted: &[Entry]) -> Option<(u64, Option<Entry>)> {
     let mut number = 0u64;
     for want in wanted {
@@ -176,7 +176,7 @@ fn assert_copy(rt: &impl Abort, trace: &Trace) -> Result<(), AllocError> {
     Ok(())
 }
 
-// Traces that are not read but made have the same entries.
+// Traces that are built rather than read have the same entries.
 #[test]
 fn entries_of_copies(rt: HostRuntime) -> Result<(), Fail> {
     let trace = read(&rt, rt.alloc(), THREE_LINES)?;
@@ -186,7 +186,7 @@ fn entries_of_copies(rt: HostRuntime) -> Result<(), Fail> {
     Ok(())
 }
 
-// The beginnings of the three lines, by their lengths.
+// The prefixes of the three lines, by their lengths.
 static BEGINNINGS: [Read<'static>; 17] = [
     Ok(&[]),
     Err("fault 5: trace 0 line 1 too-few"),
@@ -242,7 +242,7 @@ fn long_line(
     Ok(line)
 }
 
-// Core 0's trace of a text of 1 MiB.
+// Core 0's trace, from a text of 1 MiB.
 fn read_long(
     rt: &(impl Threads + Sync),
     alloc: Global,

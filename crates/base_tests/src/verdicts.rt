@@ -12,7 +12,7 @@ const HEADER: &str = "cycle,channel,command,group,bank,row,column,core,entry\n";
 
 const HEADER_OF_RANKS: &str = "cycle,channel,command,rank,group,bank,row,column,core,entry\n";
 
-// What stands at the head of a table, and the machine that it is of.
+// What stands at the head of a table, and the machine that it belongs to.
 #[derive(Clone, Copy)]
 struct Layout {
     header: &'static str,
@@ -73,7 +73,7 @@ fn assert_verdicts(
     Ok(())
 }
 
-// A row that comes a cycle too soon, and in time.
+// A row that comes a cycle too early, and one that comes in time.
 #[derive(Clone, Copy)]
 struct Case {
     rule: u8,
@@ -83,7 +83,7 @@ struct Case {
     exact: &'static str,
 }
 
-// Asserts that the early row breaks just the rule, and that the exact one is legal.
+// Asserts that the early row breaks only the rule, and that the exact one is legal.
 fn assert_kept_exactly(
     rt: &impl Abort,
     alloc: Global,
@@ -292,12 +292,12 @@ fn each_rule_is_kept_exactly(rt: HostRuntime) -> Result<(), Fail> {
     Ok(assert_rules(&rt, rt.alloc(), &RULES)?)
 }
 
-/// Not the last command alone counts: the write before the last is of the read's group.
+/// Not only the last command matters: the write before the last is in the read's group.
 const EARLIER_COMMANDS: &[&str] = &[
     "2,0,ACT,0,0,0,,0,0\n4,0,ACT,1,0,0,,0,0\n5,0,WR,0,0,0,0,0,0\n9,0,WR,1,0,0,0,0,0\n13,0,RD,0,0,0,0,0,0\n",
 ];
 
-/// The window of four ACTs is one of a rank.
+/// The window of four ACTs is per rank.
 const FIVE_ACTS: &[&str] = &[
     "2,0,ACT,0,0,0,0,,0,0\n4,0,ACT,0,1,0,0,,0,0\n6,0,ACT,0,0,1,0,,0,0\n7,0,ACT,1,0,0,0,,0,0\n8,0,ACT,0,1,1,0,,0,0\n",
 ];

@@ -42,7 +42,7 @@ fn assert_text(rt: &impl Abort, alloc: Global, report: Report<'_>, want: &str) -
     Ok(())
 }
 
-/// What is written of a report by a writer that takes a byte a call, in so many calls, and how that ends.
+/// What is written of a report by a writer that takes one byte per call, in `calls` calls, and how that ends.
 fn slowly(
     alloc: Global,
     report: Report<'_>,
@@ -54,7 +54,7 @@ fn slowly(
     Ok((slow.taken, ended))
 }
 
-/// A writer that takes too little, or fails, is told.
+/// A writer that takes too little, or fails, is reported.
 fn assert_refused(
     rt: &impl Abort,
     alloc: Global,

@@ -1,4 +1,4 @@
-//! Runs a channel whose queue is kept full, with room for 32 requests and for 1,024, span by span and then anew over all these cycles
+//! Runs a channel whose queue is kept full, with room for 32 requests and for 1,024, span by span and then again over all these cycles
 //! in one span, and one to which nothing comes, and prints what they did, and how long that took.
 
 pub mod machine;
@@ -19,7 +19,7 @@ const FEW: u64 = 2_000;
 /// Commands of a long run.
 const MANY: u64 = 20_000;
 
-/// Prints what a channel did whose queue was kept full.
+/// Prints what a channel whose queue was kept full did.
 fn show_did(rt: &impl Print, room: usize, commands: u64, fed: &FedChannel) -> Result<()> {
     let stats = fed.stats();
     println!(rt;
@@ -33,7 +33,7 @@ fn show_did(rt: &impl Print, room: usize, commands: u64, fed: &FedChannel) -> Re
     Ok(())
 }
 
-/// Prints how long the commands of a run took, each, where that was timed.
+/// Prints how long each command of a run took, where that was timed.
 fn show_time(rt: &impl Print, watch: Stopwatch, commands: u64, effort: Effort) -> Result<()> {
     if effort.is_timed() {
         show_share(rt, watch, commands, "ns a command")?;

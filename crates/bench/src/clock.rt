@@ -20,7 +20,7 @@ impl Effort {
     }
 }
 
-/// Adds up how long calls take. Where the clock fails, that is told as it is read, so that nothing large is held then.
+/// Adds up how long calls take. If the clock fails, that is reported when the sum is read, so that nothing large is held then.
 #[derive(Clone, Copy)]
 pub struct Stopwatch {
     nanoseconds: Option<u64>,
@@ -62,7 +62,7 @@ pub fn show_count(rt: &impl Print, count: u64, what: &str) -> Result<()> {
     Ok(())
 }
 
-/// Prints the share of each of so many calls, in nanoseconds, rounded down.
+/// Prints the share of each of `calls` calls, in nanoseconds, rounded down.
 pub fn show_share(rt: &impl Print, watch: Stopwatch, calls: u64, what: &str) -> Result<()> {
     show_count(rt, watch.read()? / calls.max(1), what)
 }

@@ -1,5 +1,5 @@
 //! Runs a core over a trace of lines `1000 ADDRESS` in spans of 2,000 cycles, where each Read is answered after the span in which it
-//! was sent, and then anew over all these cycles in one span, with all the messages that came. Prints how many entries it retired in
+//! was sent, and then again over all these cycles in one span, with all the messages that came. Prints how many entries it retired in
 //! how many cycles, and how long that took.
 
 mod spans;
@@ -21,7 +21,7 @@ pub const MANY: u64 = 100_000;
 /// Lines of the longest trace.
 pub const MOST: u64 = 1_000_000;
 
-/// Prints what a core did over so many lines; of more than a few, also how long that took.
+/// Prints what a core did over `lines` lines; for more than a few, also how long that took.
 fn show_did(rt: &impl Print, did: Did, how: &str, lines: u64) -> Result<()> {
     println!(rt; "{} entries in {} cycles, {how}", did.retired, did.cycles)?;
     if lines > FEW {
@@ -30,7 +30,7 @@ fn show_did(rt: &impl Print, did: Did, how: &str, lines: u64) -> Result<()> {
     Ok(())
 }
 
-/// Runs a core over so many lines, span by span and then in one span.
+/// Runs a core over `lines` lines, span by span and then in one span.
 fn show_runs(
     rt: &(impl Clock + Print),
     alloc: Global,
@@ -42,7 +42,7 @@ fn show_runs(
     show_did(rt, running.run_at_once(rt, alloc)?, "in one span", lines)
 }
 
-/// Runs a core that has not run over so many lines.
+/// Runs a core that has not run yet over `lines` lines.
 pub fn show<R: Clock + Print + Threads + Sync>(rt: &R, alloc: Global, lines: u64) -> Result<()> {
     let mut running = Running::start(rt, alloc, lines)?;
     show_runs(rt, alloc, &mut running, lines)

@@ -1,4 +1,4 @@
-//! Times each lane kernel beside a plain loop over the same columns, and sees that both give the same.
+//! Times each lane kernel against a plain loop over the same columns, and checks that both give the same.
 
 mod kernels;
 
@@ -20,7 +20,7 @@ struct Runs {
     count: u32,
 }
 
-/// Runs that see that a kernel works.
+/// Runs that check that a kernel works.
 const FEW: Runs = Runs {
     scanned: 1 << 13,
     count: 1,

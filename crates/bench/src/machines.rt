@@ -33,7 +33,7 @@ nRTW = 10
 nRFC = 420
 ";
 
-/// The machine of DDR4-2400 that has these keys beside.
+/// The machine of DDR4-2400 that has these keys as well.
 pub fn ddr4_2400(alloc: Global, own: &str, more: &str) -> Result<Config> {
     let document = format!(in alloc; "{own}{more}{DDR4_2400}")?;
     Ok(read_config(alloc, document.as_bytes())?)

@@ -1,5 +1,5 @@
 //! Measures parts of the simulator, a word for each. With `time`, or another word that asks for much, it also prints how long that
-//! took; else it does little, and what it prints does not depend on the machine.
+//! took; otherwise it does little, and what it prints does not depend on the machine.
 #![tactic(auto)]
 
 mod channel_times;
@@ -37,7 +37,7 @@ enum Measurement {
     /// Of a file.
     Trace(Effort),
     Links(Effort),
-    /// Over so many lines.
+    /// Over this number of lines.
     Core(u64),
     Channel(Effort),
     ChannelShort,

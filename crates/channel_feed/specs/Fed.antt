@@ -40,18 +40,18 @@ mail_fed fed = fed.mail.items
 abbrev pub waits : FedChannel → List Request
 waits fed = queued_requests (issued_commands fed.number (steps_fed fed)) (mail_fed fed) fed.cycle
 
--- there is room for these messages beside those that wait
+-- there is room for these messages besides those that wait
 abbrev pub has_room : FedChannel → List Message → Bool
 has_room fed inbox = nat_le (length (waits fed) + length inbox) (queue_room fed.config)
 
--- Messages and a span fit it: the span ends no sooner than now and by 2^62, there is room for the messages, and they may come in
+-- Messages and a span fit it: the span ends no earlier than now and no later than 2^62, there is room for the messages, and they may come in
 -- it, one after the other.
 abbrev pub fits : FedChannel → List Message → ℕ → Bool
 fits fed inbox until =
     nat_le fed.cycle until && nat_le until (2 ^ 62) && has_room fed inbox
     && may_come_all fed.config fed.number until (record { arrival = fed.cycle; link = 0 }) fed.firsts.items inbox
 
--- it is the same but for what was asked for: that is now also what these messages ask for
+-- it is the same except for what was asked for: that now includes what these messages ask for
 pub record IsAskedMore (old new : FedChannel) (inbox : List Message) : Type 0 where
   pub channel_is : new.channel ≡ old.channel
   pub config_is : new.config ≡ old.config
@@ -68,7 +68,7 @@ pub record MayRun (fed : FedChannel) (inbox : List Message) (until : ℕ) : Type
   pub from_now : fed.cycle ≤ until
   pub in_time : until ≤ 2 ^ 62
 
--- It may move on to a cycle without a look at those before it: it stands there or before it, and issues nothing until then, if
+-- It may move on to a cycle without looking at those before it: it stands there or before it, and issues nothing until then, if
 -- nothing arrives.
 pub record MaySkipTo (fed : FedChannel) (until : ℕ) : Type 0 where
   pub from_now : fed.cycle ≤ until

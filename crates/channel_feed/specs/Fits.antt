@@ -1,5 +1,5 @@
--- Whether messages may come to a channel, one after the other. Of each core the first entry is kept from which on none was asked
--- for yet.
+-- Whether messages may come to a channel, one after the other. For each core the first entry from which on none was asked for yet
+-- is kept.
 --     is_request_of s channel m r      a message carries this request, as a core of the machine sends it to the channel
 --     is_no_sooner next_age m      a message arrives where the next one may
 --     is_unasked firsts core entry      an entry was not asked for yet

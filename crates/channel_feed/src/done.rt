@@ -23,7 +23,7 @@ pub struct ChannelDone {
     pub messages: Vec<Message>,
 }
 
-/// Runs a channel over the cycles from `from` on and before `until`, in which these messages arrive. Only memory can be refused.
+/// Runs a channel over the cycles from `from` on and before `until`, in which these messages arrive. The only error is out of memory.
 pub(crate) fn run_alone(
     alloc: Global,
     channel: Channel,

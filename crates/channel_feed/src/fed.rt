@@ -50,7 +50,7 @@ impl FedChannel {
     ghost use Rattle.channel_feed.specs.Fed.{steps_fed, mail_fed, has_room, fits, IsAskedMore, MayRun, MaySkipTo, IsOfPast, IsFedDone, IsReplayed};
 
     /// The channel with a number, of a machine with this configuration, before the first cycle. Where the machine has no such
-    /// channel, no message fits it. Only memory can be refused.
+    /// channel, no message fits it. The only error is out of memory.
     pub fn start(
         alloc: Global,
         config: &Config,
@@ -99,8 +99,8 @@ impl FedChannel {
         self.channel.next_act(self.cycle)
     }
 
-    /// Moves the channel on to the cycle `until`, without a look at the cycles before it. It is `Unfit`, and the channel is gone,
-    /// where the channel stands after that cycle already or issues a command before it, or the cycle is above 2^62.
+    /// Moves the channel on to the cycle `until`, without looking at the cycles before it. It is `Unfit`, and the channel is gone,
+    /// where the channel already stands after that cycle or issues a command before it, or the cycle is above 2^62.
     pub fn skip(self, until: Cycle) -> Result<FedChannel, FeedFault>
         ensures done { IfOk result (λ fed. IsOfPast fed self.config self.number (steps_fed self ++ replicate (until - self.cycle) None) (mail_fed self)) }
         ensures fits { IsOk result ↔ MaySkipTo self until }
@@ -131,7 +131,7 @@ impl FedChannel {
         })
     }
 
-    /// Whether there is room for these messages beside the requests that wait.
+    /// Whether there is room for these messages besides the requests that wait.
     fn has_room(&self, inbox: &[Message]) -> bool
         ensures { result ≡ has_room self.now inbox.now }
     {
@@ -229,8 +229,8 @@ impl FedChannel {
         Ok(done)
     }
 
-    /// Runs a channel anew over all cycles before the one where this channel stands, in one span, with all messages that came. It
-    /// stands for the same past then, and what comes back has all commands and messages of that past. Only memory can be refused.
+    /// Runs a new channel over all cycles before the one where this channel stands, in one span, with all messages that came. It
+    /// stands for the same past then, and what comes back has all commands and messages of that past. The only error is out of memory.
     pub fn replay(&self, alloc: Global) -> Result<ChannelDone, AllocError>
         ensures { IfOk result (λ done. IsReplayed self.now done) }
     {
@@ -239,7 +239,7 @@ impl FedChannel {
     }
 }
 
-/// The places of a channel's queue.
+/// How many places a channel's queue has.
 fn queue_room(config: &Config) -> usize
     ensures { result ≡ queue_room config.now }
 {

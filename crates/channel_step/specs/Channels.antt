@@ -40,7 +40,7 @@ use Rattle.channel_step.specs.declared.ahead.Ahead.TheVariants.{Unknown, Known}
 use Rattle.channel_step.specs.declared.channel.Channel.{Channel}
 use Rattle.channel_step.specs.declared.counting.Seen.{Seen}
 
--- candidates are those of these requests, where the rows are open that these commands opened
+-- candidates are those of these requests, where the open rows are those that these commands left open
 abbrev pub CandidatesStand : BankCandidates → List Request → List IssuedCommand → Type 0
 CandidatesStand bank_candidates requests history = CandidatesStandFor bank_candidates requests (λ bank. open_row (bank_at bank) history)
 
@@ -56,7 +56,7 @@ pub record IsMadeFor (c : Channel) (s : Config) (channel : ℕ) : Type 0 where
   pub within : length c.marked_queue.queue.requests ≤ queue_room s
   pub longest : c.stats.queued_max ≤ queue_room s
 
--- a command is issued in a cycle, which serves the request at its place, and none in the cycles before it from one on
+-- a command that serves the request at its place is issued in a cycle, and none in the cycles from a given one on and before that
 pub record IsAheadAt (commands : ℕ → Option Command) (requests : List Request) (from cycle : ℕ) (choice : Choice) : Type 0 where
   pub then_is : commands cycle ≡ Some choice.command
   pub none_before : (t : ℕ) → from ≤ t → t < cycle → commands t ≡ None
@@ -160,7 +160,7 @@ abbrev pub IsNextBefore : Config → ℕ → List (Option Command) → List Mess
 IsNextBefore s channel steps mail end (Some next) = IsNextIn s channel steps mail end next.0 next.1.command
 IsNextBefore s channel steps mail end None = IsIdle s channel steps mail (end - length steps)
 
--- cycles of draining are counted just where the channel ever drains its writes
+-- cycles of draining are counted if and only if the channel ever drains its writes
 abbrev pub CountsDrains : Channel → Type 0
 CountsDrains c = is_some c.stats.draining ≡ nat_lt 0 c.config.write_high
 
@@ -172,6 +172,6 @@ seen_of c now = record { queued = length c.marked_queue.queue.requests; refreshi
 abbrev pub idle_cycle : Channel → ℕ → ChannelStats
 idle_cycle c now = cycle_with_hit c.config (seen_of c now).queued (seen_of c now).refreshing (seen_of c now).draining None false
 
--- the statistics of a channel after the cycles before another one, of which each is as the next one, and it issues nothing in them
+-- the statistics of a channel after the cycles before another one, each of which is like the next one, and in which it issues nothing
 abbrev pub passed : Channel → ℕ → ChannelStats
 passed c until = channel_joined c.stats (channel_times (until - c.cycle) (idle_cycle c c.cycle))

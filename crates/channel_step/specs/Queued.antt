@@ -1,7 +1,7 @@
 -- The requests that wait at a channel, each with a mark: whether an ACT was issued for it.
 --     Queued      what a `MarkedQueue` stands for
 --     no_requests room high low      no request waits
---     with_arrivals w new      these requests join, and it is drain_decided whether the channel drains its writes
+--     with_arrivals w new      these requests join, and it is decided whether the channel drains its writes
 --     without w slot      one is served
 --     marked_at marks requests source, with_mark w source      the request of an entry gets its mark
 --     requests_left requests slot      the requests that are left
@@ -20,7 +20,7 @@ pub record Queued : Type 0 where
   pub queue : QueueView
   pub marks : List Bool
 
--- no request waits yet, where there is room for so many, and a drain begins and ends with so many writes
+-- no request waits yet; the numbers are the room for requests, and how many writes a drain begins and ends with
 abbrev pub no_requests : ℕ → ℕ → ℕ → Queued
 no_requests room high low = record { queue = record { room = room; high = high; low = low; requests = []; drain_decided = false }; marks = [] }
 
@@ -66,7 +66,7 @@ abbrev pub requests_left : List Request → Option ℕ → List Request
 requests_left requests (Some slot) = remove requests slot
 requests_left requests None = requests
 
--- what a command leaves, which moves the data of the request at this place, if it moves any
+-- what is left by a command that moves the data of the request at this place, if it moves any
 abbrev pub after : Queued → Command → Option ℕ → Queued
 after w command (Some slot) = without w slot
 after w command None = after_command w command

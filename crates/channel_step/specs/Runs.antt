@@ -30,7 +30,7 @@ first_arrival [] until = until
 first_arrival (m ∷ ms) until = m.arrival
 
 -- After the cycles from one on and before another a channel stands for the steps of its run and for the messages that arrived in
--- them; the others are fit for the rest of the span; and these commands and messages are those that came more.
+-- them; the others are fit for the rest of the span; and these commands and messages are those that were added.
 pub record HasRun (c : Channel) (s : Config) (channel : ℕ) (steps : List (Option Command)) (mail inbox : List Message) (from now until arrived : ℕ) (commands : List IssuedCommand) (messages : List Message) : Type 0 where
   pub stands : StandsFor c s channel (channel_run s channel steps (mail ++ inbox) (now - from)) (mail ++ take arrived inbox)
   pub fit : IsFit s channel (channel_run s channel steps (mail ++ inbox) (now - from)) (mail ++ take arrived inbox) (drop arrived inbox) now until
@@ -38,7 +38,7 @@ pub record HasRun (c : Channel) (s : Config) (channel : ℕ) (steps : List (Opti
   pub commands_are : issued_commands channel (channel_run s channel steps (mail ++ inbox) (now - from)) ≡ issued_commands channel steps ++ commands
   pub messages_are : channel_messages s channel (channel_run s channel steps (mail ++ inbox) (now - from)) ≡ channel_messages s channel steps ++ messages
 
--- After some more cycles, from one on and before another, the same holds, and what came more was added to these commands and
+-- After some more cycles, from one on and before another, the same holds, and what is new was added to these commands and
 -- messages.
 pub record HasAdvanced (c : Channel) (s : Config) (channel : ℕ) (steps : List (Option Command)) (mail inbox : List Message) (now then until arrived : ℕ) (commands commands_then : List IssuedCommand) (messages messages_then : List Message) : Type 0 where
   pub issued : List IssuedCommand

@@ -46,7 +46,7 @@ use std::alloc::{AllocError, Global};
 pub struct Channel {
     config: Config,
     number: ChannelId,
-    /// The cycle that it stands at: so many are over.
+    /// The cycle that it stands at: this many are over.
     cycle: Cycle,
     marked_queue: MarkedQueue,
     banks: Banks,
@@ -57,7 +57,7 @@ pub struct Channel {
     ahead: Ahead,
 }
 
-/// What a channel did from one cycle to another, the last that is over: how many messages arrived.
+/// What a channel did up to the last cycle that is over: how many messages arrived.
 #[derive(Clone, Copy)]
 struct Advance {
     arrived: usize,
@@ -143,7 +143,7 @@ impl Channel {
     }
 
     /// The first cycle with a command from `now` on, if nothing arrives, and that command; None where there is none. It is looked for
-    /// only where it is not known.
+    /// only if it is not known yet.
     #[inline(always)]
     fn find(&self, now: Cycle) -> Option<(Cycle, Choice)>
         requires places { All (IsInBanks (rank_count self.now.banks)) self.now.marked_queue.queue.requests }
@@ -179,8 +179,8 @@ impl Channel {
         }
     }
 
-    /// The next command that the channel issues, and in which cycle, if that is before `end` and nothing arrives before that. Where
-    /// it is not, what was found is kept.
+    /// The next command that the channel issues, and in which cycle, if that is before `end` and nothing arrives before that. Otherwise
+    /// what was found is kept.
     fn look(&mut self, now: Cycle, end: Cycle) -> Option<(Cycle, Choice)>
         requires { IsInSomeCycle self.old now }
         ensures same_queue { self.new.marked_queue ≡ self.old.marked_queue }
@@ -214,7 +214,7 @@ impl Channel {
         }
     }
 
-    /// Counts a cycle in which a command is issued, which moves data of a row hit or not. The cycle is then over, and what comes next
+    /// Counts a cycle in which a command is issued, which may move data of a row hit. The cycle is then over, and what comes next
     /// is not known.
     fn count(&mut self, seen: Seen, command: &Command, hit: bool)
         requires cycle { self.old.cycle < 2 ^ 62 }
@@ -230,7 +230,7 @@ impl Channel {
         *cycle += 1;
     }
 
-    /// Counts the cycles before `until`, in each of which is seen what is seen in the next one, and nothing is issued. They are
+    /// Counts the cycles before `until`, in each of which the same is seen as in the next one, and nothing is issued. They are
     /// then over.
     fn pass(&mut self, refreshing: bool, until: Cycle)
         requires until { self.old.cycle < until }
@@ -280,7 +280,7 @@ impl Channel {
         self.marked_queue.decide_drain();
     }
 
-    /// Counts the cycles from this one on and before `until`, at most 2^62, in which nothing is issued, and nothing arrives but in
+    /// Counts the cycles from this one on and before `until`, at most 2^62, in which nothing is issued, and nothing arrives except in
     /// the first. The channel is in the cycle `until` then.
     fn wait(&mut self, until: Cycle)
         requires in_cycle { IsInSomeCycle self.old self.old.cycle }
@@ -303,7 +303,7 @@ impl Channel {
     }
 
     /// Moves on to the cycle `until`, at most 2^62, where nothing arrives and nothing is issued before that. A channel that stands
-    /// there already is left as it is. It takes no memory, and the time of one cycle, however many are skipped.
+    /// there already is left as it is. It takes no memory, and no more time than one cycle, however many are skipped.
     pub fn skip(&mut self, until: Cycle)
         requires idle { CanSkip self.old until }
         requires until { until ≤ 2 ^ 62 }
@@ -340,7 +340,7 @@ impl Channel {
         self.count(seen, &chosen.command, taken.hit);
     }
 
-    /// Whether what was found is known to be the next command still, now that the requests from a place on have arrived.
+    /// Whether what was found is known to be still the next command, now that the requests from a place on have arrived.
     #[inline(always)]
     fn keeps_found(&self, found: Option<(Cycle, Choice)>, older: usize) -> bool
         requires places { All (IsInBanks (rank_count self.now.banks)) self.now.marked_queue.queue.requests }
@@ -395,8 +395,8 @@ impl Channel {
         }
     }
 
-    /// Takes in those of these messages that arrive in a cycle, and decides whether the channel drains its writes in it. Tells how
-    /// many.
+    /// Takes in those of these messages that arrive in a cycle, and decides whether the channel drains its writes in it. Returns
+    /// how many they are.
     fn arrive(&mut self, inbox: &[Message], now: Cycle) -> Result<usize, AllocError>
         requires { CanStep self.old inbox.now now }
         ensures some { IfOk result (λ due. due ≡ length (take_while (λ m. m.arrival == now) inbox.now)) }
@@ -471,7 +471,7 @@ impl Channel {
     }
 
     /// Runs the channel over the cycles from `from` on and before `until`, in which these messages arrive, by arrival and then
-    /// by link. What it issues and sends is put behind what the commands and messages hold. Only memory can be refused; what the
+    /// by link. What it issues and sends is put behind what the commands and messages hold. The only error is out of memory; what the
     /// channel and the lists hold is then not known. It goes from one cycle in which something arrives or is issued to the next, and
     /// skips those between.
     #[inline(never)]
@@ -501,7 +501,7 @@ impl Channel {
     }
 }
 
-/// The places of a channel's queue: as many as there are credits.
+/// How many places a channel's queue has: one for each credit.
 fn room_of(config: &Config) -> usize
     ensures room { result ≡ queue_room config.now }
     ensures most { result ≤ 8192 }
@@ -510,7 +510,7 @@ fn room_of(config: &Config) -> usize
     usize::from(config.cores) * credits
 }
 
-/// The banks of a channel.
+/// How many banks a channel has.
 fn banks_of(config: &Config) -> usize
     ensures banks { result ≡ 16 * config.now.ranks }
     ensures most { result ≤ 64 }
@@ -518,7 +518,7 @@ fn banks_of(config: &Config) -> usize
     16 * config.ranks as usize
 }
 
-/// Whether what was found is for no cycle before another one.
+/// Whether what was found is issued in no cycle before a given one.
 #[inline(always)]
 fn is_none_before(found: Option<(Cycle, Choice)>, end: Cycle) -> bool
     ensures { (commands : ℕ → Option Command) (requests : List Request) (from : ℕ) → result ≡ true → IsAhead commands requests from (Known found)
@@ -530,7 +530,7 @@ fn is_none_before(found: Option<(Cycle, Choice)>, end: Cycle) -> bool
     }
 }
 
-/// How many of these messages arrive in a cycle, as the first ones.
+/// How many messages at the head of these arrive in a cycle.
 fn due_count(inbox: &[Message], now: Cycle) -> usize
     ensures { result ≡ length (take_while (λ m. m.arrival == now) inbox.now) }
 {

@@ -16,7 +16,7 @@ pub(crate) struct Seen {
     pub draining: bool,
 }
 
-/// So many cycles of draining; None where the channel never drains.
+/// This number of cycles of draining; None if the channel never drains.
 pub(crate) fn drained(config: &Config, cycles: u64) -> Option<u64>
     ensures { result ≡ draining_of config.now cycles }
 {

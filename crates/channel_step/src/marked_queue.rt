@@ -62,7 +62,7 @@ impl MarkedQueue {
         &self.queue
     }
 
-    /// Gives out the request at a place, and tells whether it is one that no ACT was issued for.
+    /// Takes out the request at a place, and tells whether no ACT was issued for it.
     fn serve(&mut self, slot: usize) -> Taken
         requires { slot < length self.old.queue.requests }
         ensures served { result.served ≡ slice_get self.old.queue.requests slot }
@@ -121,7 +121,7 @@ impl MarkedQueue {
         }
     }
 
-    /// Does to the requests what a choice does, and gives out the one that it serves. The request of an ACT likely waits at one of these
+    /// Does to the requests what a choice does, and returns the one that it serves. The request of an ACT likely waits at one of these
     /// places.
     pub(crate) fn take(&mut self, choice: &Choice, likely: [Option<usize>; 2]) -> Taken
         requires slot { ForSome choice.now.slot (λ slot. slot < length self.old.queue.requests) }
@@ -151,7 +151,7 @@ fn is_of_entry(request: &Request, source: Source) -> bool
     request.core == source.core && request.entry == source.entry
 }
 
-/// A place that is given, if the request there is of an entry, as no other one is.
+/// The given place, if the request there, and so no other one, is of this entry.
 fn entry_at(requests: &[Request], place: Option<usize>, source: Source) -> Option<usize>
     requires { Differ requests.now }
     ensures { IfSome result (λ found. position (λ r. is_source r source) requests.now ≡ Some found) }
@@ -165,8 +165,8 @@ fn entry_at(requests: &[Request], place: Option<usize>, source: Source) -> Optio
     }
 }
 
-/// The place of the first of these requests that is of an entry, no two of which are of one. It is sought at the likely places
-/// first.
+/// The place of the first of these requests that is of this entry; no two of them are of the same entry. The likely places are
+/// searched first.
 fn place_of_entry(requests: &[Request], source: Source, likely: [Option<usize>; 2]) -> Option<usize>
     requires { Differ requests.now }
     ensures { result ≡ position (λ r. is_source r source) requests.now }

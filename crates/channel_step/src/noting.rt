@@ -33,7 +33,7 @@ pub(crate) fn note_refresh(refresh: &mut Refresh, command: Command, now: Cycle)
     }
 }
 
-/// The places where the request of an ACT likely waits: those of the oldest requests for its bank. Of another command it is none.
+/// The places where the request of an ACT likely waits: those of the oldest requests for its bank. For any other command there are none.
 pub(crate) fn likely_places(
     bank_candidates: &BankCandidates,
     command: Command,

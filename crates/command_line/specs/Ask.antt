@@ -5,7 +5,7 @@
 --     IsCallForHelp words, IsCallForVersion words      they call for help, or for the version
 --     IsAskedBy words ask      they ask for this
 --     GivesAll command      each argument that the command needs is there
---     HasBadAddress command      a `map` of what is no number
+--     HasBadAddress command      a `map` of something that is not a number
 --     IsAnswerTo words result      an answer to words that the command line takes
 use Rattle.std.specs.Prelude.{◌≡◌, ◌≢◌, ◌⊎◌, ℕ, ◌<◌, ◌^◌, ⊤, Bool, true, false, List, [], ◌∷◌, map, codes, Option, Some, None, Result, Ok, Err, IsSome, IsErr}
 use Rattle.std.specs.Str.Parse.{IsNumeral, digits_value, without_leading_plus}
@@ -39,7 +39,7 @@ IsCallForHelp words = kinds_of_fault words ≡ DisplayHelp ∷ []
 abbrev pub IsCallForVersion : List Text → Type 0
 IsCallForVersion words = kinds_of_fault words ≡ DisplayVersion ∷ []
 
--- the number that a text of decimal digits is, after a plus or none
+-- the number that a text of decimal digits is, with or without a leading plus
 abbrev pub IsCount : Option Text → ℕ → Type 0
 IsCount None n = ⊥
 IsCount (Some text) n = n ≡ digits_value 10 (without_leading_plus text)
@@ -49,7 +49,7 @@ abbrev pub IsCountOr : ℕ → Option Text → ℕ → Type 0
 IsCountOr absent None n = n ≡ absent
 IsCountOr absent (Some text) n = IsCount (Some text) n
 
--- the number that a text is in a trace
+-- the number that a text is, read as in a trace
 abbrev pub IsAddress : Option Text → ℕ → Type 0
 IsAddress None n = ⊥
 IsAddress (Some text) n = number_of text ≡ Ok n
@@ -126,12 +126,12 @@ abbrev pub IsHelpUnlessMemory : Result Ask Fault → Type 0
 IsHelpUnlessMemory (Ok ask) = IsHelp ask
 IsHelpUnlessMemory (Err fault) = fault ≡ Memory
 
--- the same of the version
+-- the same for the version
 abbrev pub IsVersionUnlessMemory : Result Ask Fault → Type 0
 IsVersionUnlessMemory (Ok ask) = IsVersion ask
 IsVersionUnlessMemory (Err fault) = fault ≡ Memory
 
--- an error that is no call for help or for the version, nor out of memory
+-- an error that is neither a call for help or for the version nor out of memory
 pub record IsNoHelp (kind : ErrorKind) : Type 0 where
   pub no_help : kind ≢ DisplayHelp
   pub no_version : kind ≢ DisplayVersion
@@ -187,7 +187,7 @@ abbrev pub IsNoAddress : Option Text → Type 0
 IsNoAddress None = ⊥
 IsNoAddress (Some text) = IsErr (number_of text)
 
--- the command is a `map` of what is no number
+-- the command is a `map` of something that is not a number
 abbrev pub HasBadAddress : Option (Text × List Row) → Type 0
 HasBadAddress None = ⊥
 HasBadAddress (Some command) = (command.0 ≡ codes "map") × IsNoAddress (first_of (codes "address") command.1)

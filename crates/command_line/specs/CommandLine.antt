@@ -66,7 +66,7 @@ page_app = command_app (codes "page") (
 abbrev pub with_version : App → App
 with_version app = record app { top = record app.top { has_version = true } }
 
--- a command that wants a subcommand
+-- a command that requires a subcommand
 abbrev pub with_subcommand_required : App → App
 with_subcommand_required app = record app { top = record app.top { subcommand_required = true } }
 

@@ -128,7 +128,7 @@ fn check_ask<'a>(found: &ArgMatches<'a>) -> Result<Ask<'a>, Fault>
     })
 }
 
-// The number of a trace that a text is.
+// The number that a text is, read as in a trace.
 fn address_of(text: &str) -> Result<u64, Fault>
     ensures number { IfOk result (λ a. number_of text.now ≡ Ok a) }
     ensures refused { IfErr result (λ e. (e ≡ Fault.CommandLine) × IsErr (number_of text.now)) }
@@ -190,7 +190,7 @@ fn ask_of<'a>(alloc: Global, matches: &ArgMatches<'a>) -> Result<Ask<'a>, Fault>
     }
 }
 
-// What explains an address that is no number.
+// What explains an address that is not a number.
 fn explain_address(alloc: Global, matches: &ArgMatches<'_>) -> Result<String, AllocError> {
     match matches.subcommand() {
         Some((_, found)) => match found.get_str("address") {
@@ -203,7 +203,7 @@ fn explain_address(alloc: Global, matches: &ArgMatches<'_>) -> Result<String, Al
     }
 }
 
-// What the matches of a command line ask for, and why not.
+// What the matches of a command line ask for, or why they are refused.
 fn command_of<'a>(alloc: Global, matches: &ArgMatches<'a>) -> Result<Ask<'a>, Reason>
     ensures asked { IfOk result (IsCommandOf (subcommand_rows_of matches.now)) }
     ensures refused { GivesAll (subcommand_rows_of matches.now) → IfErr result (IsCommandFault (subcommand_rows_of matches.now)) }

@@ -2,7 +2,7 @@
 --     first_cycle rows      the cycle of the first row
 --     AllUpTo cycle rows      none of the rows is after a cycle
 --     AllAfter cycle rows      each of the rows is after a cycle
---     IsNextOf lists count place cycle      of the first so many lists, the one at this place begins in this cycle, and none sooner
+--     IsNextOf lists count place cycle      of the first `count` lists, the one at this place begins in this cycle, and none sooner
 --     IsNext lists place      the same of all lists
 use Rattle.std.specs.Prelude.{◌≡◌, ℕ, ◌<◌, ◌≤◌, List, [], ◌∷◌, length, slice_index_or, Option, Some, None, IfSome}
 use Rattle.std.specs.List.{AllByRecursion as Each}
@@ -21,7 +21,7 @@ AllUpTo cycle rows = Each (λ row. row.cycle ≤ cycle) rows
 abbrev pub AllAfter : ℕ → List IssuedCommand → Type 0
 AllAfter cycle rows = Each (λ row. cycle < row.cycle) rows
 
--- Of the first so many lists, the one at this place begins in this cycle. Those before it begin later, and those behind it no sooner.
+-- Of the first `count` lists, the one at this place begins in this cycle. Those before it begin later, and those after it no sooner.
 pub record IsNextOf (lists : List (List IssuedCommand)) (count place cycle : ℕ) : Type 0 where
   pub within : place < count
   pub starts : first_cycle (slice_index_or lists place []) ≡ Some cycle

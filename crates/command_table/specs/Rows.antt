@@ -1,4 +1,4 @@
--- What a row is that is kept in few bytes.
+-- What a row that is kept in few bytes stands for.
 --     command_of kind rank group bank row column core entry      the command of a kind, with as many of these operands as it has
 --     operands_in command      the operands of a command, and 0 for those that it does not have
 --     IsUsual row      its numbers are those of a usual machine and trace

@@ -1,5 +1,5 @@
 -- Tables of commands, cycle by cycle.
---     IsRising table      no row is of an earlier cycle than one before it
+--     IsRising table      no row has an earlier cycle than one before it
 --     rows_in cycle table      the rows of one cycle
 --     rows_up_to cycle table      the rows up to a cycle
 --     rows_after cycle table      the rows after a cycle
@@ -10,7 +10,7 @@ use Rattle.std.specs.Prelude.{◌≡◌, ℕ, ◌≤◌, ◌==◌, nat_lt, nat_l
 use Rattle.std.specs.List.{AllPairs}
 use Rattle.sim_base.specs.declared.command.IssuedCommand.{IssuedCommand}
 
--- no row is of an earlier cycle than one before it
+-- no row has an earlier cycle than one before it
 abbrev pub IsRising : List IssuedCommand → Type 0
 IsRising table = AllPairs (λ a b. a.cycle ≤ b.cycle) table
 
@@ -30,7 +30,7 @@ rows_after cycle table = filter (λ row. nat_lt cycle row.cycle) table
 abbrev pub HaveSameCycles : List IssuedCommand → List IssuedCommand → Type 0
 HaveSameCycles table other = (cycle : ℕ) → rows_in cycle table ≡ rows_in cycle other
 
--- a row before the first one of a table that is of no earlier cycle
+-- a table with one more row, before the first one whose cycle is no earlier
 unfoldable pub put : IssuedCommand → List IssuedCommand → List IssuedCommand
 put row [] = row ∷ []
 put row (first ∷ rest) = if nat_lt first.cycle row.cycle then first ∷ put row rest else row ∷ first ∷ rest

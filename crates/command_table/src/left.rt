@@ -9,7 +9,7 @@ use sim_base::command::IssuedCommand;
 use sim_base::message::Cycle;
 use std::marker::Model;
 
-/// What is left of a list, which is at least one command: those from a place on and before an end, and the cycle of the first.
+/// What is left of a list, at least one command: those from a place on and before an end, and the cycle of the first.
 #[derive(Drop)]
 pub(crate) struct Left<'a> {
     cycle: Cycle,
@@ -31,7 +31,7 @@ impl<'a> Model for Left<'a> {
 }
 
 impl<'a> Left<'a> {
-    /// The commands of a list from a place on and before an end, if that is any.
+    /// The commands of a list from a place on and before an end, if there are any.
     #[inline(always)]
     pub(crate) fn between(list: &'a CommandList, place: usize, end: usize) -> Option<Self>
         requires { end ≤ length list.now }
@@ -59,7 +59,7 @@ impl<'a> Left<'a> {
         Left::between(list, place, list.len())
     }
 
-    /// The same once more.
+    /// A copy of what is left.
     pub(crate) fn copied(&self) -> Left<'a>
         ensures { result ≡ self.now }
     {
@@ -87,7 +87,7 @@ impl<'a> Left<'a> {
         self.list.get(self.place)
     }
 
-    /// What is left without the first command, if that is any.
+    /// What is left without the first command, if anything is.
     #[inline(always)]
     pub(crate) fn rest(&self) -> Option<Left<'a>>
         ensures some { IfSome result (λ rest. rest ≡ drop 1 self.now) }
@@ -103,7 +103,7 @@ impl<'a> Left<'a> {
         self.end - self.place
     }
 
-    /// The command that so many of those that are left stand before, if there is one.
+    /// The command that has `count` of those that are left before it, if there is one.
     pub(crate) fn get(&self, count: usize) -> Option<IssuedCommand>
         ensures { result ≡ slice_get self.now count }
     {
@@ -114,7 +114,7 @@ impl<'a> Left<'a> {
         }
     }
 
-    /// Whether so many commands and the one behind them are up to a cycle. Where not, none of those behind them is.
+    /// Whether the first `count` commands and the next one are up to a cycle. If not, none after the first `count` is.
     fn goes_up_to(&self, count: usize, cycle: Cycle) -> bool
         requires { IsRising self.now }
         ensures { MatchBool result (AllUpTo cycle (take (count + 1) self.now)) (AllAfter cycle (drop count self.now)) }
@@ -145,7 +145,7 @@ impl<'a> Left<'a> {
         low
     }
 
-    /// The commands up to a cycle, if that is any.
+    /// The commands up to a cycle, if there are any.
     pub(crate) fn up_to(&self, cycle: Cycle) -> Option<Left<'a>>
         requires { IsRising self.now }
         ensures { unwrap_or result [] ≡ rows_up_to cycle self.now }
@@ -156,7 +156,7 @@ impl<'a> Left<'a> {
         Left::between(self.list, self.place, end)
     }
 
-    /// The commands after a cycle, if that is any.
+    /// The commands after a cycle, if there are any.
     pub(crate) fn after(&self, cycle: Cycle) -> Option<Left<'a>>
         requires { IsRising self.now }
         ensures { unwrap_or result [] ≡ rows_after cycle self.now }

@@ -2,7 +2,7 @@
 #![tactic(auto)]
 
 mod compact;
+mod cuts;
 mod left;
 pub mod list;
-pub mod piece;
 pub mod table;

@@ -18,7 +18,7 @@ pub(crate) enum Kept {
 }
 
 /// Commands in the order in which they were put in. Each takes 24 bytes, as long as the numbers of all are those of a usual machine and trace
-/// (`Compact`); from the first on that has a greater one, each takes 56.
+/// (`Compact`); once one has a greater number, each takes 56.
 #[derive(Drop)]
 pub struct CommandList {
     kept: Kept,
@@ -61,7 +61,7 @@ impl CommandList {
         }
     }
 
-    /// Whether there is none.
+    /// Whether there are none.
     pub fn is_empty(&self) -> bool
         ensures { IsTrue result ↔ (self.now ≡ []) }
     {
@@ -79,7 +79,7 @@ impl CommandList {
         }
     }
 
-    /// Keeps a command, and from it on each as it is.
+    /// Adds a command; from now on each is kept as it is.
     #[inline(never)]
     fn push_whole(&mut self, row: IssuedCommand) -> Result<(), AllocError>
         ensures ok { OnOk result (self.new ≡ self.old ++ row ∷ []) }
@@ -96,7 +96,7 @@ impl CommandList {
         }
     }
 
-    /// Puts a command behind the others. Only memory can be refused; the list is then as it was.
+    /// Adds a command after the others. The only error is out of memory; the list is then unchanged.
     #[inline(always)]
     pub fn push(&mut self, row: IssuedCommand) -> Result<(), AllocError>
         ensures ok { OnOk result (self.new ≡ self.old ++ row ∷ []) }
@@ -110,7 +110,7 @@ impl CommandList {
         self.push_whole(row)
     }
 
-    /// The commands as they are. Only memory can be refused.
+    /// The commands as they are. The only error is out of memory.
     pub fn to_vec(&self, alloc: Global) -> Result<Vec<IssuedCommand>, AllocError>
         ensures { IfOk result (λ rows. rows.items ≡ self.now) }
     {

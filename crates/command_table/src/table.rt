@@ -47,7 +47,7 @@ impl<'a> Model for Rows<'a> {
     ghost invariant = { λ r. All IsRising r.lefts.items };
 }
 
-/// The place of the list that goes on soonest, the first of those of one cycle, if one is left.
+/// The place of the list that goes on soonest, if one is left; of several in the same cycle, the first.
 #[inline(always)]
 fn soonest(lefts: &[Left<'_>]) -> Option<usize>
     ensures some { IfSome result (IsNext lefts.now) }
@@ -65,7 +65,7 @@ fn soonest(lefts: &[Left<'_>]) -> Option<usize>
     Some(found)
 }
 
-/// Takes the first command of the list at a place, which is left out where it was the last.
+/// Takes the first command of the list at a place; if it was the list's last, the list is removed.
 #[inline(always)]
 fn drop_first(lefts: &mut Vec<Left<'_>>, place: usize)
     requires place { place < length lefts.old.items }
@@ -80,6 +80,13 @@ fn drop_first(lefts: &mut Vec<Left<'_>>, place: usize)
     }
 }
 
+/// A copy of what is left of lists. The only error is out of memory.
+fn lefts_copied<'a>(alloc: Global, lefts: &[Left<'a>]) -> Result<Vec<Left<'a>>, AllocError>
+    ensures { IfOk result (λ found. found.items ≡ lefts.now) }
+{
+    lefts.iter().map(|left| left.copied()).collect(alloc)
+}
+
 impl<'a> Rows<'a> {
     /// What is left of lists, to be read.
     pub(crate) fn of(lefts: Vec<Left<'a>>) -> Self
@@ -87,6 +94,13 @@ impl<'a> Rows<'a> {
         ensures { result ≡ table_of lefts.entry.items }
     {
         Rows { lefts }
+    }
+
+    /// A copy of what is left, to be read by itself. The only error is out of memory.
+    pub fn copied(&self, alloc: Global) -> Result<Rows<'a>, AllocError>
+        ensures { IfOk result (λ rows. rows ≡ self.now) }
+    {
+        Ok(Rows::of(lefts_copied(alloc, &self.lefts)?))
     }
 
     /// Takes the next command, if one is left.
@@ -103,7 +117,7 @@ impl<'a> Rows<'a> {
     }
 }
 
-/// What is left of lists of which nothing was read. Only memory can be refused.
+/// What is left of lists from which nothing was read. The only error is out of memory.
 fn lefts_of<'a>(alloc: Global, lists: &'a [CommandList]) -> Result<Vec<Left<'a>>, AllocError>
     ensures table { IfOk result (λ lefts. table_of lefts.items ≡ table_of lists.now) }
     ensures rising { IfOk result (λ lefts. All IsRising lists.now → All IsRising lefts.items) }
@@ -117,7 +131,7 @@ fn lefts_of<'a>(alloc: Global, lists: &'a [CommandList]) -> Result<Vec<Left<'a>>
     Ok(lefts)
 }
 
-/// Rows in a list. Only memory can be refused.
+/// Rows in a list. The only error is out of memory.
 fn list_of(alloc: Global, rows: &[IssuedCommand]) -> Result<CommandList, AllocError>
     ensures { IfOk result (λ list. list ≡ rows.now) }
 {
@@ -129,7 +143,7 @@ fn list_of(alloc: Global, rows: &[IssuedCommand]) -> Result<CommandList, AllocEr
 }
 
 impl CommandTable {
-    /// The table of these lists, in each of which no command is of an earlier cycle than one before it.
+    /// The table of these lists, in each of which no command has an earlier cycle than one before it.
     pub fn of(lists: Vec<CommandList>) -> Self
         requires rising { All IsRising lists.items }
         ensures { result ≡ table_of lists.items }
@@ -137,7 +151,7 @@ impl CommandTable {
         CommandTable { lists }
     }
 
-    /// The table that has just these rows, of which none is of an earlier cycle than one before it. Only memory can be refused.
+    /// The table with just these rows, none of which has an earlier cycle than one before it. The only error is out of memory.
     pub fn of_rows(alloc: Global, rows: &[IssuedCommand]) -> Result<Self, AllocError>
         requires rising { IsRising rows.now }
         ensures { IfOk result (λ table. table ≡ rows.now) }
@@ -148,7 +162,7 @@ impl CommandTable {
         })
     }
 
-    /// What is left of the lists before anything is read. Only memory can be refused.
+    /// What is left of the lists before anything is read. The only error is out of memory.
     pub(crate) fn lefts(&self, alloc: Global) -> Result<Vec<Left<'_>>, AllocError>
         ensures table { IfOk result (λ lefts. table_of lefts.items ≡ self.now) }
         ensures rising { IfOk result (λ lefts. All IsRising lefts.items) }
@@ -156,14 +170,14 @@ impl CommandTable {
         lefts_of(alloc, &self.lists)
     }
 
-    /// The table, to be read from its first command on. Only memory can be refused.
+    /// The table, to be read from its first command on. The only error is out of memory.
     pub fn rows(&self, alloc: Global) -> Result<Rows<'_>, AllocError>
         ensures { IfOk result (λ rows. rows ≡ self.now) }
     {
         Ok(Rows::of(self.lefts(alloc)?))
     }
 
-    /// The commands in a list, as they are. Only memory can be refused.
+    /// The commands in a list, as they are. The only error is out of memory.
     pub fn to_vec(&self, alloc: Global) -> Result<Vec<IssuedCommand>, AllocError>
         ensures { IfOk result (λ rows. rows.items ≡ self.now) }
     {

@@ -87,11 +87,11 @@ config_of ms = do
   _ ← relations_of v
   Ok v
 
--- a text by what TOML makes of it
+-- a text, from what TOML makes of it
 abbrev pub config_from : Option Members → Result Values Fault
 config_from None = Err ConfigSyntax
 config_from (Some ms) = config_of ms
 
--- what the bytes of a document say: what is no UTF-8, and a text that is no TOML, is refused as such
+-- what the bytes of a document say: bytes that are not UTF-8, and a text that is not TOML, are refused as such
 unfoldable pub document_of : List ℕ → Result Values Fault
 document_of bytes = if is_utf8 bytes then config_from (parse_document bytes) else Err ConfigSyntax

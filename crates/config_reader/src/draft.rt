@@ -20,7 +20,7 @@ use sim_base::timing::Timing;
 use std::alloc::Global;
 use toml::Table;
 
-/// A configuration whose keys are right, and whose relations are still to be tested.
+/// A configuration whose keys are right, but whose relations have not been tested yet.
 #[derive(Drop)]
 pub(super) struct Draft {
     machine: MachineSize,

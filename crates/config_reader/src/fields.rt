@@ -73,7 +73,7 @@ fn is_field(field: Field, other: Field) -> bool
     field == other
 }
 
-/// How often a field stands in an order.
+/// How often a field occurs in an order.
 pub(super) fn count(order: &[Field], field: Field) -> usize
     ensures { result ≡ count_by (is_field field) order.now }
 {
@@ -83,7 +83,7 @@ pub(super) fn count(order: &[Field], field: Field) -> usize
         .count()
 }
 
-/// Whether each field stands once in an order; only that of the rank may be left out.
+/// Whether each field occurs once in an order; only the rank may be left out.
 fn each_once(order: &[Field]) -> bool
     ensures value { result ≡ each_once order.now }
     ensures in_order { IsTrue result → FieldsInOrder order.now }

@@ -43,7 +43,7 @@ pub(super) fn in_range(key: Key, low: u32, high: u32, value: Option<i64>) -> Res
     }
 }
 
-/// The number at a key, which has to be there.
+/// The number at a key that must be present.
 #[tactic(auto, unfolding(crate::specs::Document::Keys::number_of))]
 pub(super) fn number_at(table: &Table, key: Key, low: u32, high: u32) -> Result<u32, Fault>
     ensures value { result ≡ number_of (table_view table.now) key low high }
@@ -85,7 +85,7 @@ fn as_power(key: Key, n: u32) -> Result<u32, Fault>
     }
 }
 
-/// The power of two at a key, which has to be there.
+/// The power of two at a key that must be present.
 #[tactic(auto, unfolding(crate::specs::Document::Keys::power_of))]
 pub(super) fn power_at(table: &Table, key: Key, low: u32, high: u32) -> Result<u32, Fault>
     ensures value { result ≡ power_of (table_view table.now) key low high }

@@ -45,9 +45,9 @@ fn read_text(alloc: Global, text: &str) -> Result<Config, Fault>
     }
 }
 
-/// Reads a configuration. Of a document that is refused, the fault is the first one: the keys are tested one after the other,
-/// then comes a key that no configuration has, and then the relations by their numbers. Where memory is refused, the fault is
-/// `Memory`.
+/// Reads a configuration. If the document is refused, the fault is the first one found: the keys are tested one after the other,
+/// then comes any key that no configuration has, and then the relations in the order of their numbers. If memory is refused,
+/// the fault is `Memory`.
 #[tactic(auto, using(crate::proofs::DocumentTexts::document_of_text, crate::proofs::DocumentTexts::document_of_bytes))]
 pub fn read_config(alloc: Global, bytes: &[u8]) -> Result<Config, Fault>
     ensures ok { IfOk result (λ c. document_of bytes.now ≡ Ok (values_of c)) }

@@ -1,4 +1,4 @@
-//! The numbers of a document, in groups of keys that stand one after the other.
+//! The numbers of a document, in groups of consecutive keys.
 
 ghost use Rattle.std.specs.Prelude.{◌≡◌, IfOk};
 ghost use Rattle.toml.specs.View.{table_view};

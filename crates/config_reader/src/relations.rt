@@ -13,7 +13,7 @@ use sim_base::overrides::Override;
 use sim_base::place::Field;
 use sim_base::timing::Timing;
 
-/// Refuses by the number of a relation that does not hold.
+/// Refuses a relation that does not hold, by its number.
 fn relation(number: u8, holds: bool) -> Result<(), Fault>
     ensures { result ≡ relation number holds }
 {
@@ -79,7 +79,7 @@ pub(super) fn check_credits(cores: u16, core: CoreLimits) -> Result<(), Fault>
     )
 }
 
-/// Whether each override is of a link below a bound.
+/// Whether each override is for a link below a bound.
 #[tactic(auto, using(crate::proofs::LinkTests::links_exist))]
 fn are_below(overrides: &[Override], bound: u64) -> bool
     ensures value { result ≡ list_all (λ o. nat_lt o.link bound) overrides.now }
@@ -88,14 +88,14 @@ fn are_below(overrides: &[Override], bound: u64) -> bool
     overrides.iter().all(|o| o.link < bound)
 }
 
-/// Whether an override is of a link.
+/// Whether some override is for this link.
 fn has_link(overrides: &[Override], link: u64) -> bool
     ensures { result ≡ list_any (λ o. o.link == link) overrides.now }
 {
     overrides.iter().any(|o| o.link == link)
 }
 
-/// Whether each override is of another link than those after it.
+/// Whether each override is for a different link from those after it.
 fn differ_from_later(overrides: &[Override]) -> bool
     ensures { result ≡ links_differ overrides.now }
 {
@@ -109,7 +109,7 @@ fn differ_from_later(overrides: &[Override]) -> bool
     true
 }
 
-/// Whether no two overrides are of one link.
+/// Whether no two overrides are for the same link.
 #[tactic(auto, using(crate::proofs::LinkTests::links_apart))]
 fn links_differ(overrides: &[Override]) -> bool
     ensures value { result ≡ links_differ overrides.now }

@@ -1,4 +1,4 @@
--- A test that messages may come to a core, of which it is enough that they pass it.
+-- A test of whether messages may come to a core: it is enough that they pass it.
 --     is_expected s core view until earlier m      a message may come after these, before a cycle
 --     are_expected s core view until inbox      all of them may come, one after the other
 use Rattle.std.specs.Prelude.{ℕ, ◌+◌, ◌^◌, ◌/◌, ◌%◌, ◌==◌, nat_lt, nat_le, Bool, false, not, ◌&&◌, List, take, count_by, slice_index_or}

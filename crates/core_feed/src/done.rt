@@ -15,7 +15,7 @@ pub struct CoreDone {
     pub messages: Vec<Message>,
 }
 
-/// Runs a core over the cycles from `from` on and before `until`, in which these messages arrive. Only memory can be refused.
+/// Runs a core over the cycles from `from` on and before `until`, in which these messages arrive. The only error is out of memory.
 pub(crate) fn run_alone(
     alloc: Global,
     core: Core,

@@ -1,6 +1,6 @@
-//! A core that is fed with messages. They are tested as they come, by what the core knows when the span begins: a reply is of a
-//! Read that waits then, and a credit one that the core does not hold then. That is enough for them to be fit, and more than is
-//! needed: end a span before the reply to what it sends arrives.
+//! A core that is fed with messages. They are tested as they come, by what the core knows when the span begins: a reply must be
+//! to a Read that waits then, and a credit one that the core does not hold then. That is enough for them to be fit, and more than is
+//! needed: so end a span before the reply to what it sends arrives.
 
 ghost use Rattle.std.specs.Prelude.{◌≡◌, ◌↔◌, ◌++◌, ◌<◌, ◌^◌, [], false, IfOk, IfErr, IsErr, IsTrue, Err};
 ghost use Rattle.sim_base.specs.declared.message.Message.{Message};
@@ -38,9 +38,9 @@ pub struct FedCore {
 /// Why a core was not fed.
 #[derive(Clone, Copy, PartialEq, Eq, Debug)]
 pub enum FeedFault {
-    /// A message may not come then, or the cycle may not be gone on to.
+    /// A message may not come then, or the core may not go on to the cycle.
     Unfit,
-    /// There is no memory.
+    /// Memory was refused.
     Memory,
 }
 
@@ -54,7 +54,7 @@ pub struct FedCoreDone {
 impl FedCore {
     ghost use Rattle.core_feed.specs.Fed.{feed_of, steps_of, sent_by, after, MaySkipTo};
 
-    /// A core that has done nothing yet, with its trace. Its number should be below the number of cores. Only memory can be refused.
+    /// A core that has done nothing yet, with its trace. Its number should be below the number of cores. The only error is out of memory.
     pub fn start(
         alloc: Global,
         config: &Config,
@@ -138,9 +138,9 @@ impl FedCore {
         self.core.now() <= until && until < 1 << 62 && self.are_expected(until, inbox)
     }
 
-    /// Runs the cycles from the one where the core stands up to and without `until`. The messages that arrive in them are given,
+    /// Runs the cycles from the one where the core stands up to but not including `until`. The messages that arrive in them are given,
     /// and those that the core sends in them come back. What the test of the messages refuses is unfit, and so are a cycle
-    /// before the one where the core stands and one from 2^62 on; the core is then gone, as it is where there is no memory.
+    /// before the one where the core stands and one from 2^62 on; the core is then gone, as it is where memory is refused.
     pub fn run(
         self,
         alloc: Global,
@@ -229,8 +229,8 @@ impl FedCore {
         })
     }
 
-    /// A core anew, with the same trace, that runs all cycles before the one where this core stands in one span, with all
-    /// messages that came. It keeps the same as this core, and sends what this core sent. Only memory can be refused.
+    /// A new core, with the same trace, that runs all cycles before the one where this core stands in one span, with all
+    /// messages that came. It keeps the same as this core, and sends what this core sent. The only error is out of memory.
     pub fn replay(&self, alloc: Global) -> Result<CoreDone, AllocError>
         ensures core { IfOk result (λ done. view_of done.core ≡ view_of self.now.core) }
         ensures sent { IfOk result (λ done. done.messages.items ≡ sent_by (feed_of self.now)) }

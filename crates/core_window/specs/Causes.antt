@@ -23,7 +23,7 @@ cause_at width window len number gone two m =
     else (if number + m == two then stop.Memory
     else stop.Credit)))
 
--- the first entry that isn't done, where so many were issued and these Reads wait
+-- the first entry that isn't done, where this number of entries were issued and these Reads wait
 abbrev pub first_undone : ℕ → List OutstandingRead → ℕ
 first_undone issued [] = issued
 first_undone issued (read ∷ others) = read.entry

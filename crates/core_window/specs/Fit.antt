@@ -20,7 +20,7 @@ use Rattle.core_window.specs.Stands.{credits_had, credits_spent, StandsFor}
 use Rattle.core_window.specs.Views.{CoreView}
 use Rattle.core_window.specs.Outstanding.{is_read_at, is_answered}
 
--- a reply is of a Read that was issued in an earlier cycle, and that had none
+-- a reply is of a Read that was issued in an earlier cycle, and that has had none yet
 pub record IsAwaited (trace : List Entry) (steps : List CoreStep) (mail : List Message) (entry : ℕ) : Type 0 where
   pub is_of_a_read : is_read_at trace entry ≡ true
   pub is_issued : entry < issued_before steps
@@ -71,7 +71,7 @@ pub record MayRun (view : CoreView) (from until : ℕ) (inbox : List Message) : 
   pub fit : Fit s core trace steps mail from until inbox
 
 -- A core goes over a span of cycles, in which these messages arrive, from one state to another, and sends these messages:
--- whatever it stood for, and the arrivals are fit for, it then stands for the longer run, and sent what that sends more.
+-- whatever past it stood for that the arrivals are fit for, it then stands for the longer run, and has sent what that run sends more.
 abbrev pub Runs : CoreView → ℕ → ℕ → List Message → CoreView → List Message → Type 0
 Runs before from until inbox after sent =
     (s : Config) (core : ℕ) (trace : List Entry) (steps : List CoreStep) (mail : List Message)

@@ -3,7 +3,7 @@
 --     Sends n a b sent      a core goes n cycles, in which no message comes, and sends these
 --     Advances n a before b after      the same, with a list behind which it puts them
 --     GoesOn until a b sent      a core goes some cycles, at most up to a cycle
---     GoesQuietly until a b      a core goes no cycles or some, and sends nothing
+--     GoesQuietly until a b      a core goes zero or more cycles, and sends nothing
 --     Does view core_step why memory      what a core does in the next cycle
 use Rattle.std.specs.Prelude.{◌≡◌, ℕ, ◌-◌, ◌<◌, ◌≤◌, false, true, List, ◌++◌, length, take, drop, slice_get, Option, Some, None}
 use Rattle.std.specs.List.{AllByRecursion as Each}
@@ -91,7 +91,7 @@ pub record GoesOn (until : ℕ) (a : CoreView) (before : List Message) (b : Core
   pub until_then : b.now ≤ until
   pub advances : Advances (b.now - a.now) a before b after
 
--- a core goes on by no cycle or by some, at most up to a cycle, while no further message comes, and sends nothing
+-- a core goes on by zero or more cycles, at most up to a cycle, while no further message comes, and sends nothing
 pub record GoesQuietly (until : ℕ) (a b : CoreView) : Type 0 where
   pub since : a.now ≤ b.now
   pub until_then : b.now ≤ until
@@ -108,7 +108,7 @@ pub record IsReceiving (view : CoreView) (m : Message) : Type 0 where
   pub now : m.arrival ≡ length steps
   pub due : IsDue s core trace steps mail m
 
--- within a span a core has taken so many messages of its inbox, and sent these; no other comes before the cycle where it stands
+-- within a span a core has taken a number of messages of its inbox, and sent these; no other comes before the cycle where it stands
 pub record IsMidway (s : Config) (core : ℕ) (trace : List Entry) (steps : List CoreStep) (mail : List Message) (from until : ℕ) (inbox : List Message) (taken : ℕ) (view : CoreView) (sent : List Message) : Type 0 where
   pub since : from ≤ view.now
   pub stands : StandsAt s core trace (core_run s core trace steps (mail ++ inbox) (view.now - from)) (mail ++ take taken inbox) view
@@ -116,8 +116,8 @@ pub record IsMidway (s : Config) (core : ℕ) (trace : List Entry) (steps : List
   pub others : Each (λ m. view.now ≤ m.arrival) (drop taken inbox)
   pub until_then : view.now ≤ until
 
--- one core may do what another may: they differ in the cycle where they stand, and in what they counted but for the entries that
--- they issued and retired
+-- one core may do what another may: they may differ in the cycle where they stand, and in what they counted, except for the entries
+-- that they issued and retired
 pub record IsLike (a v : CoreView) : Type 0 where
   pub config : v.config ≡ a.config
   pub entries : v.trace ≡ a.trace

@@ -3,7 +3,7 @@
 --     IsSeen trace from one two entry      the same, and which entry the first is
 --     IsIssued trace first m memory      the one memory entry that is among some that issue, if one is
 --     more_credit write c, less_credit write c      one credit more, and one less
---     cycle_counts ..      what statistics count in a cycle, but for replies
+--     cycle_counts ..      what statistics count in a cycle, except for replies
 use Rattle.std.specs.Prelude.{◌≡◌, ℕ, ◌+◌, ◌-◌, ◌<◌, ◌≤◌, nat_lt, nat_le, Bool, true, false, ◌&&◌, List, [], ◌∷◌, ◌==◌, length, slice_get, Option, Some, None, if◌then◌else◌}
 use Rattle.std.specs.Option.{IfSome, option_to_list}
 use Rattle.sim_base.specs.Counts.{is_read, is_write, is_stop}
@@ -77,8 +77,8 @@ abbrev pub is_write_among : Option MemoryEntry → Bool
 is_write_among None = false
 is_write_among (Some e) = is_write e.entry
 
--- what statistics count in a cycle, but for replies: it has this core_step, this cause to stop and this memory entry, and before it
--- so many entries of the trace were retired
+-- what statistics count in a cycle, except for replies: it has this core_step, this cause to stop and this memory entry; the numbers
+-- are the entries of the trace retired before it, the length of the trace, and the cycle
 abbrev pub cycle_counts : CoreStep → Stop → Option MemoryEntry → ℕ → ℕ → ℕ → CoreStats
 cycle_counts core_step why memory before len now =
     record {
@@ -104,7 +104,7 @@ pub record IsLast (s : Config) (core : ℕ) (trace : List Entry) (inbox sent : L
   pub second : number + m ≤ two
   pub first : lacks ≡ true → number + m ≤ one
 
--- a core that issued entries up to a number, and had retired so many of them, may issue from there on: the memory entries ahead
+-- a core that issued entries up to a number, and had retired `gone` of them, may issue from there on: the memory entries ahead
 -- are known, and whether it lacks a credit for the first of them
 pub record MayIssue (s : Config) (core : ℕ) (trace : List Entry) (inbox sent : List Message) (now number gone one two : ℕ) (lacks : Bool) : Type 0 where
   pub within : number ≤ length trace

@@ -29,7 +29,7 @@ steady_counts core_step why = cycle_counts core_step why None 0 0 0
 abbrev pub steady_view : CoreView → CoreStep → Stop → ℕ → CoreView
 steady_view a core_step why n = record a { now = a.now + n; stats = core_joined a.stats (core_times n (steady_counts core_step why)) }
 
--- with so many cycles more in which a core stops for this cause
+-- with this number of further cycles in which a core stops for this cause
 abbrev pub with_stop : CoreStats → Stop → ℕ → CoreStats
 with_stop a stop.End n = record a { stop_end = a.stop_end + n }
 with_stop a stop.Width n = record a { stop_width = a.stop_width + n }
@@ -49,8 +49,8 @@ pub record IsSteady (a : CoreView) (n : ℕ) (core_step : CoreStep) (why : Stop)
   pub unfinished : (n * core_step.retired ≡ 0) ⊎ (a.stats.retired + n * core_step.retired < length a.trace)
 
 -- The window of a core that issues its width of Plain entries in each of n cycles lets it retire r of them in each: those that
--- are done by then, and no more than the width; and it has room for those that issue. Before them, so many entries were issued
--- and so many retired.
+-- are done by then, and no more than the width; and it has room for those that issue. Before them, `issued` entries were issued
+-- and `retired` retired.
 pub record IsFlow (width window issued retired : ℕ) (outstanding : List OutstandingRead) (r n : ℕ) : Type 0 where
   pub retires : (k : ℕ) → k < n → r ≡ min width (first_undone (issued + k * width) outstanding - (retired + k * r))
   pub room : (k : ℕ) → k < n → issued + k * width + width ≤ retired + k * r + r + window

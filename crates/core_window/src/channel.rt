@@ -8,7 +8,7 @@ use address_map::digits::Digits;
 use sim_base::place::Place;
 use sim_base::trace::Entry;
 
-/// Where a Read or a Write lies; for a Plain entry, which lies nowhere, where address 0 does.
+/// Where a Read or a Write lies; for a Plain entry, which lies nowhere, the place of address 0.
 pub fn place_of_entry(digits: &Digits, entry: Entry) -> Place
     ensures { (s : Config) → IsDigits s digits.now → IsPlaced s entry result }
 {

@@ -136,7 +136,7 @@ impl Core {
         }
     }
 
-    /// Goes on by a cycle, in which no further message comes, and does this.
+    /// Goes on by one cycle, in which no further message comes, and does this work in it.
     fn step(&mut self, cycle_work: CycleWork, sent: &mut Vec<Message>) -> Result<(), AllocError>
         requires stands { IsStanding (view_of self.old) }
         requires cycle_work { Does (view_of self.old) cycle_work.core_step cycle_work.why cycle_work.memory }
@@ -190,7 +190,7 @@ impl Core {
         self.cycle += cycles;
     }
 
-    /// A reply comes: its Read waits no more.
+    /// A reply comes: its Read no longer waits.
     fn take_reply(&mut self, entry: u64)
         requires room { MayTakeReply (view_of self.old) entry }
         requires order { IsByNumber self.old.outstanding.items }
@@ -231,7 +231,7 @@ impl Core {
         }
     }
 
-    /// The cycles, at most so many, in which the core issues its width of Plain entries and does the same in each.
+    /// The cycles, at most `most` of them, in which the core issues its width of Plain entries and does the same in each.
     fn flow(&self, most: u64) -> Flow
         requires { IsStanding (view_of self.now) }
         ensures steady { IsSteady (view_of self.now) result.cycles (record { retired = result.retired; issued = self.now.config.width }) Stop.Width }
@@ -256,7 +256,7 @@ impl Core {
         flow_of(&numbers, &self.outstanding, most)
     }
 
-    /// Goes on by a cycle, or up to a cycle, if the core does nothing until a message comes.
+    /// Goes on by one cycle, or up to a given cycle if the core does nothing until a message comes.
     fn rest_or_step(&mut self, until: Cycle, sent: &mut Vec<Message>) -> Result<(), AllocError>
         requires stands { IsStanding (view_of self.old) }
         requires order { self.old.cycle < until }
@@ -386,7 +386,7 @@ impl Core {
         self.work_on(until, sent)
     }
 
-    /// A core that has done nothing yet, with its trace. Only memory can be refused.
+    /// A core that has done nothing yet, with its trace. The only error is out of memory.
     pub fn start(
         alloc: Global,
         config: &Config,
@@ -415,8 +415,8 @@ impl Core {
         })
     }
 
-    /// Runs the cycles from `from`, where the core stands, up to and without `until`, below 2^62. The messages that arrive in
-    /// them are given; those that the core sends in them are put behind what `sent` holds. Only memory can be refused; what the
+    /// Runs the cycles from `from`, where the core stands, up to but not including `until`, below 2^62. The messages that arrive in
+    /// them are given; those that the core sends in them are put behind what `sent` holds. The only error is out of memory; what the
     /// core and the list hold is then not known.
     pub fn run(
         &mut self,
@@ -438,7 +438,7 @@ impl Core {
         self.advance(until, sent)
     }
 
-    /// The cycle where the core stands, if it retires or issues an entry in it: else it never does.
+    /// The cycle where the core stands, if it retires or issues an entry in it; otherwise it never does.
     fn next_work(&self, from: Cycle) -> Option<Cycle>
         requires at { self.now.cycle ≡ from }
         requires stands { MayRest (view_of self.now) }
@@ -470,7 +470,7 @@ impl Core {
         self.next_work(from)
     }
 
-    /// The cycles that go by at least before the core issues its next Read or Write: in each it issues its width of entries at most.
+    /// A number of cycles that surely pass before the core issues its next Read or Write: in each it issues at most its width of entries.
     fn plain_cycles(&self) -> u64
         ensures { self.now.found.one < length self.now.trace → self.now.stats.issued + result * self.now.config.width ≤ self.now.found.one }
     {
@@ -540,7 +540,7 @@ impl Core {
         *stats
     }
 
-    /// Whether the Read with this number was issued and has no reply yet: which replies may come to it, for one that tests its messages.
+    /// Whether the Read with this number was issued and has no reply yet: which replies may come to it, for callers that test its messages.
     pub fn is_awaited(&self, entry: u64) -> bool
         ensures { result ≡ is_outstanding (view_of self.now).outstanding entry }
     {

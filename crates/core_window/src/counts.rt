@@ -50,7 +50,7 @@ fn write_count(memory: Option<MemoryEntry>) -> u64
     }
 }
 
-/// What statistics count in a cycle, but for replies. Before it, so many entries of a trace of this length were retired.
+/// What statistics count in a cycle, except for replies. `before` entries of the trace, whose length is `len`, were retired before it.
 pub fn cycle_counts(
     core_step: CoreStep,
     why: Stop,
@@ -79,7 +79,7 @@ pub fn cycle_counts(
     }
 }
 
-/// So many cycles more in which a core stops for this cause.
+/// Counts `cycles` more cycles in which a core stops for this cause.
 fn count_stop(stats: &mut CoreStats, why: Stop, cycles: u64)
     requires { CoreFits (with_stop stats.old why cycles) }
     ensures { stats.new ≡ with_stop stats.old why cycles }
@@ -118,7 +118,7 @@ pub fn count_cycles(stats: &mut CoreStats, core_step: CoreStep, why: Stop, cycle
     count_stop(stats, why, cycles);
 }
 
-/// Counts a cycle, but for its replies. The trace of the core has this length.
+/// Counts a cycle, except for its replies. The trace of the core has this length.
 pub fn count_cycle(
     stats: &mut CoreStats,
     core_step: CoreStep,

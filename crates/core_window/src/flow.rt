@@ -5,7 +5,7 @@ ghost use Rattle.core_window.specs.Steady.{IsFlow};
 
 use crate::outstanding::OutstandingRead;
 
-/// In so many cycles a core issues its width of Plain entries, and in each of them it retires so many entries.
+/// In each of `cycles` cycles a core issues its width of Plain entries and retires `retired` entries.
 #[derive(Clone, Copy, PartialEq, Eq, Debug)]
 pub struct Flow {
     pub retired: u16,
@@ -13,7 +13,7 @@ pub struct Flow {
 }
 
 /// The numbers of a core by which entries go through its window: how many entries it issued and retired, and how many of the
-/// next ones are Plain, but for the last of its trace.
+/// next ones are Plain, except for the last of its trace.
 #[derive(Clone, Copy, PartialEq, Eq, Debug)]
 pub struct WindowNumbers {
     pub width: u16,
@@ -23,7 +23,7 @@ pub struct WindowNumbers {
     pub plain: u64,
 }
 
-/// As many cycles as take no more than so many entries, each its width of them, and no more cycles than so many.
+/// How many cycles take no more than `entries` entries, where each takes `width` of them; at most `most`.
 pub(crate) fn cycles_within(entries: u64, width: u16, most: u64) -> u64
     requires { 0 < width }
     ensures entries { result * width ≤ entries }
@@ -36,7 +36,7 @@ pub(crate) fn cycles_within(entries: u64, width: u16, most: u64) -> u64
     }
 }
 
-/// The cycles, at most so many, in which the core issues its width of Plain entries and does the same in each. Where it can't
+/// The cycles, at most `most` of them, in which the core issues its width of Plain entries and does the same in each. Where it can't
 /// do so in the next cycle, there are none.
 pub fn flow_of(numbers: &WindowNumbers, outstanding: &[OutstandingRead], most: u64) -> Flow
     requires positive { 0 < numbers.now.width }

@@ -17,8 +17,8 @@ use sim_base::config::Config;
 use sim_base::place::Place;
 use sim_base::trace::{Entry, Stop};
 
-/// The number of the next Read or Write from a number on, before which so many stand, and the entry itself; the length of the
-/// trace, where there is none.
+/// The number of the next Read or Write from a number on, before which `before` of them stand, and the entry itself; the length
+/// of the trace, where there is none.
 fn next_or_end(trace: &Trace, from: u64, before: u64) -> MemoryEntry
     requires { from ≤ length trace.now }
     ensures next { IsNextOrEnd trace.now from result.number }
@@ -44,7 +44,7 @@ pub struct Ahead {
     pub second: Entry,
 }
 
-/// The memory entry behind one of this number, before which so many stand; the length of the trace, where there is none.
+/// The memory entry behind the one of this number, before which `before` of them stand; the length of the trace, where there is none.
 fn entry_behind(trace: &Trace, number: u64, before: u64) -> MemoryEntry
     requires { number ≤ length trace.now }
     ensures inside { number < length trace.now → IsNextOrEnd trace.now (number + 1) result.number }
@@ -62,7 +62,7 @@ fn entry_behind(trace: &Trace, number: u64, before: u64) -> MemoryEntry
     }
 }
 
-/// The next two memory entries, of which the first is known. Before it, so many stand.
+/// The next two memory entries, of which the first is known. `before` of them stand before it.
 #[tactic(auto, using(crate::proofs::Foreseeing::seen_from))]
 pub fn ahead_of(digits: &Digits, trace: &Trace, first: MemoryEntry, before: u64) -> Ahead
     requires { first.number ≤ length trace.now }
@@ -81,7 +81,7 @@ pub fn ahead_of(digits: &Digits, trace: &Trace, first: MemoryEntry, before: u64)
     }
 }
 
-/// The second of two memory entries becomes the first, and the one behind it is looked for. Before it, so many stand.
+/// The second of two memory entries becomes the first, and the one behind it is looked for. `before` of them stand before it.
 #[tactic(auto, using(crate::proofs::Foreseeing::seen_from))]
 pub fn go_to_second(digits: &Digits, trace: &Trace, ahead: &mut Ahead, before: u64)
     requires { ahead.old.two ≤ length trace.now }
@@ -98,8 +98,8 @@ pub fn go_to_second(digits: &Digits, trace: &Trace, ahead: &mut Ahead, before: u
     ahead.second = next.entry;
 }
 
-/// Looks for the next two memory entries from a number on, where of those that were found the first may have issued, and the
-/// second has not. Before that number, so many stand.
+/// Looks for the next two memory entries from a number on, where the first of those found earlier may have issued, and the
+/// second has not. `before` of them stand before that number.
 #[tactic(auto, using(crate::proofs::Foreseeing::seen_still))]
 pub fn look_ahead(digits: &Digits, trace: &Trace, ahead: &mut Ahead, number: u64, before: u64)
     requires seen { (from : ℕ) × (from ≤ number) × IsSeen trace.now from ahead.old.one ahead.old.two ahead.old.entry }
@@ -114,7 +114,7 @@ pub fn look_ahead(digits: &Digits, trace: &Trace, ahead: &mut Ahead, number: u64
     }
 }
 
-/// The next two memory entries from a number on, before which so many stand.
+/// The next two memory entries from a number on, before which `before` of them stand.
 pub fn next_two(digits: &Digits, trace: &Trace, from: u64, before: u64) -> Ahead
     requires { from ≤ length trace.now }
     ensures seen { IsSeen trace.now from result.one result.two result.entry }
@@ -130,7 +130,7 @@ pub struct Issue {
     pub why: Stop,
 }
 
-/// Why no more entries issue than so many.
+/// Why no more than this number of entries issue.
 pub fn cause_at(
     width: u16,
     window: u32,
@@ -157,7 +157,7 @@ pub fn cause_at(
     }
 }
 
-/// How many entries issue from a number on, where so many were retired.
+/// How many entries issue from a number on, where `gone` entries were retired.
 fn count_of(width: u16, window: u32, number: u64, gone: u64, ahead: &Ahead, lacks: bool) -> u16
     ensures { result ≡ issue_count width window number gone ahead.now.one ahead.now.two lacks }
 {
@@ -173,7 +173,7 @@ fn count_of(width: u16, window: u32, number: u64, gone: u64, ahead: &Ahead, lack
     count as u16
 }
 
-/// The number up to which entries may issue by the width, the window and the end of the trace, where so many were retired.
+/// The number up to which entries may issue by the width, the window and the end of the trace, where `gone` entries were retired.
 pub fn most_issued(config: &Config, len: u64, number: u64, gone: u64) -> u64
     requires { number ≤ 2 ^ 62 }
     ensures { result ≡ min (number + min config.now.width (config.now.window - (number - gone))) len }
@@ -182,7 +182,7 @@ pub fn most_issued(config: &Config, len: u64, number: u64, gone: u64) -> u64
     (number + u64::from(config.width).min(room)).min(len)
 }
 
-/// How many entries issue from a number on, where so many were retired, and why no more: the memory entries ahead are known,
+/// How many entries issue from a number on, where `gone` were retired, and why no more: the memory entries ahead are known,
 /// and whether the core lacks a credit for the first of them, if this is near enough to issue.
 pub fn issue_of(
     config: &Config,

@@ -6,7 +6,7 @@ ghost use Rattle.core_window.specs.Causes.{first_undone};
 use crate::outstanding::OutstandingRead;
 use sim_base::trace::Stop;
 
-/// The first entry that isn't done, where so many were issued and these Reads wait.
+/// The first entry that isn't done, where `issued` entries were issued and these Reads wait.
 fn first_undone(outstanding: &[OutstandingRead], issued: u64) -> u64
     ensures { result ≡ first_undone issued outstanding.now }
 {
@@ -16,7 +16,7 @@ fn first_undone(outstanding: &[OutstandingRead], issued: u64) -> u64
     }
 }
 
-/// How many entries retire, where so many are retired: up to the first that isn't done, and no more than the width.
+/// How many entries retire, where `retired` entries have retired already: up to the first that isn't done, and no more than the width.
 pub fn retire_count(width: u16, outstanding: &[OutstandingRead], issued: u64, retired: u64) -> u16
     ensures { result ≡ min width (first_undone issued outstanding.now - retired) }
 {
@@ -24,7 +24,7 @@ pub fn retire_count(width: u16, outstanding: &[OutstandingRead], issued: u64, re
     u64::from(width).min(done) as u16
 }
 
-/// Whether an entry retires, where so many are retired: the first of them is done.
+/// Whether an entry retires, where `retired` entries have retired already: whether the next one is done.
 pub fn is_next_done(outstanding: &[OutstandingRead], issued: u64, retired: u64) -> bool
     ensures { IsTrue result ↔ retired < first_undone issued outstanding.now }
 {

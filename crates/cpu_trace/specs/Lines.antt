@@ -16,7 +16,7 @@ written (Some address) = Write address ∷ []
 abbrev pub entries_of : Line → List Entry
 entries_of line = replicate line.plain Plain ++ Read line.read ∷ written line.write
 
--- the entries of a line, of which there are none where it is blank
+-- the entries of a line, or none where it is blank
 abbrev pub entries_in : Option Line → List Entry
 entries_in None = []
 entries_in (Some line) = entries_of line

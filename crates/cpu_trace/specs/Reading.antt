@@ -3,10 +3,10 @@
 --     appended so_far more, joined so_far more      what is kept with some more, or with what is kept of others
 --     kept_of lines      what is kept of the entries of lines, or their first bad line
 --     kept_from so_far number lines      the same after what was kept so far, where the first line has this number
---     IsReadUpTo text before count rest after      so many lines of a text are read, and then what is left of it
+--     IsReadUpTo text before count rest after      the first `count` lines of a text are read, and `rest` is left of it
 --     IsReadingOf lines reading, IsUnreadOf lines unread      what is read of lines, and why they are not read
 --     IsRead lines result      either of these
---     told_behind before unread      why lines behind so many others are not read
+--     told_behind before unread      why lines that follow this many others are not read
 --     fault_of core unread      the fault of a core's trace whose lines are not read
 --     line_told unread, lines_told result      how many lines there are at least
 use Rattle.std.specs.Prelude.{◌≡◌, ⊤, ℕ, ◌+◌, ◌^◌, ◌≤◌, nat_le, List, [], ◌∷◌, ◌++◌, length, Option, Some, None, option_and_then, Result, Ok, Err, MatchResult, if◌then◌else◌}
@@ -39,7 +39,7 @@ unfoldable pub kept_from : Option (List Entry) → ℕ → List (List ℕ) → R
 kept_from so_far number [] = Ok so_far
 kept_from so_far number (line ∷ lines) = in_line number (line_entries line) >>= λ entries. kept_from (appended so_far entries) (number + 1) lines
 
--- So many lines at the start of a text are read, and then what is left of it: what is kept before them and after them.
+-- The first `count` lines of a text are read, and `rest` is left of it: what is kept before them and after them.
 pub record IsReadUpTo (text : List ℕ) (before : Option (List Entry)) (count : ℕ) (rest : List ℕ) (after : Option (List Entry)) : Type 0 where
   pub counted : length (lines_of text) ≡ count + length (lines_of rest)
   pub is_kept : (number : ℕ) → kept_from before number (lines_of text) ≡ kept_from after (number + count) (lines_of rest)
@@ -55,11 +55,11 @@ abbrev pub IsUnreadOf : List (List ℕ) → Unread → Type 0
 IsUnreadOf lines (unread.BadLine line cause) = kept_of lines ≡ Err (record { line = line; cause = cause })
 IsUnreadOf lines unread.Memory = ⊤
 
--- lines are read, or it is told why not
+-- lines are read, or there is a reason why not
 abbrev pub IsRead : List (List ℕ) → Result Reading Unread → Type 0
 IsRead lines result = MatchResult result (IsReadingOf lines) (IsUnreadOf lines)
 
--- why lines behind so many others are not read
+-- why lines that follow this many others are not read
 abbrev pub told_behind : ℕ → Unread → Unread
 told_behind before (unread.BadLine line cause) = unread.BadLine (before + line) cause
 told_behind before unread.Memory = unread.Memory
@@ -69,7 +69,7 @@ abbrev pub fault_of : ℕ → Unread → Fault
 fault_of core (unread.BadLine line cause) = fault.TraceLine core line cause
 fault_of core unread.Memory = fault.Memory
 
--- the line that it is told of, if there is one
+-- the line that it reports, if there is one
 abbrev pub line_told : Unread → ℕ
 line_told (unread.BadLine line cause) = line
 line_told unread.Memory = 0

@@ -50,7 +50,7 @@ impl Entries {
         }
     }
 
-    /// No entries, with room for so many Read and Write ones. Only memory can be refused.
+    /// No entries, with room for `capacity` Read and Write ones. The only error is out of memory.
     pub(crate) fn with_capacity(alloc: Global, capacity: usize) -> Result<Self, AllocError>
         ensures { IfOk result (λ entries. entries ≡ []) }
     {
@@ -89,7 +89,7 @@ impl Entries {
         self.len += plain;
     }
 
-    /// Adds other entries behind these.
+    /// Adds other entries after these.
     pub(crate) fn append(&mut self, others: &Entries) -> Result<(), AllocError>
         requires { length self.old + length others.now ≤ 2 ^ 62 }
         ensures { OnOk result (self.new ≡ self.old ++ others.now) }
@@ -158,7 +158,7 @@ impl Entries {
         }
     }
 
-    /// The first Read or Write entry from a number on, looked for where so many of them stand before it.
+    /// The first Read or Write entry from a number on. It is found at once if `before` of them stand before it.
     pub(crate) fn next_memory_near(&self, from: u64, before: u64) -> Option<MemoryEntry>
         ensures found { IfSome result (IsNextMemory self.now from) }
         ensures none { IfNone result (IsPlainBetween self.now from (length self.now)) }

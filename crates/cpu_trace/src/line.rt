@@ -32,7 +32,7 @@ fn separators(line: &[u8]) -> usize
     line.iter().take_while(|byte| is_separator(**byte)).count()
 }
 
-// How long the token is with which a line begins.
+// The length of the token that a line begins with.
 fn token_len(line: &[u8]) -> usize
     ensures value { result ≡ prefix_len (λ byte. not (is_separator byte)) line.now }
     ensures bound { result ≤ length line.now }
@@ -75,7 +75,7 @@ fn read_tokens(plain: &[u8], read: &[u8], write: Option<&[u8]>) -> Result<Line, 
 
 /// The numbers of a line, or none where it is blank.
 ///
-/// Of what is wrong with a line, the number of its tokens comes first, and then each token from the left.
+/// The number of tokens is tested first, and then each token from the left.
 #[tactic(auto, unfolding(sim_base::specs::TraceText::line_entries, sim_base::specs::TraceText::entries_of_tokens))]
 pub(crate) fn read_line(line: &[u8]) -> Result<Option<Line>, LineCause>
     ensures { MatchResult result (λ numbers. line_entries line.now ≡ Ok (entries_in numbers)) (λ cause. line_entries line.now ≡ Err cause) }

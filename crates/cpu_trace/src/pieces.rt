@@ -22,7 +22,7 @@ fn line_feed_from(text: &[u8], from: usize) -> Option<usize>
     Some(from + place)
 }
 
-// A piece of so many bytes at least at the start of a text, and what stands behind the line feed at its end.
+// A piece of at least `size` bytes at the start of a text, and what follows the line feed at its end.
 fn first_piece(text: &[u8], size: usize) -> Option<(&[u8], &[u8])>
     ensures { IfSome result (λ parts. text.now ≡ parts.0.now ++ 10 ∷ parts.1.now) }
 {
@@ -31,7 +31,7 @@ fn first_piece(text: &[u8], size: usize) -> Option<(&[u8], &[u8])>
     Some((piece, &behind[1..]))
 }
 
-// Cuts a text at line feeds into pieces, each but the last of so many bytes at least.
+// Cuts a text at line feeds into pieces of at least `size` bytes, except for the last.
 fn cut(alloc: Global, text: &[u8], size: usize) -> Result<Vec<&[u8]>, AllocError>
     ensures { IfOk result (λ pieces. lines_of text.now ≡ lines_of_pieces pieces.items) }
 {
@@ -64,7 +64,7 @@ fn read_pieces<R: Threads + Sync>(
         .collect(rt, alloc)
 }
 
-/// Reads the lines of a text, in pieces of so many bytes at least.
+/// Reads the lines of a text, in pieces of at least `size` bytes.
 pub(crate) fn read_in_pieces<R: Threads + Sync>(
     rt: &R,
     alloc: Global,

@@ -14,10 +14,10 @@ use sim_base::message::CoreId;
 use std::alloc::Global;
 use std::thread::Threads;
 
-// How many bytes a piece of a text has at least, if it is not the last.
+// The least number of bytes in a piece of a text, if it is not the last.
 const PIECE_SIZE: usize = 1 << 18;
 
-// Reads the lines of a text, in pieces where it has more than so many bytes.
+// Reads the lines of a text, in pieces if it has more than `size` bytes.
 fn read_text<R: Threads + Sync>(
     rt: &R,
     alloc: Global,
@@ -33,8 +33,8 @@ fn read_text<R: Threads + Sync>(
     }
 }
 
-/// Reads a core's trace, as `read_trace` does and with its faults, in pieces of so many bytes where its text is longer. So tests read short texts
-/// in pieces.
+/// Reads a core's trace as `read_trace` does, with the same faults, but in pieces of at least `size` bytes if its text is longer. Tests use it
+/// to read short texts in pieces.
 pub fn read_trace_in_pieces<R: Threads + Sync>(
     rt: &R,
     alloc: Global,
@@ -59,8 +59,8 @@ pub fn read_trace_in_pieces<R: Threads + Sync>(
 
 /// Reads a core's trace. A long text is read in pieces, in as many threads as there are processors.
 ///
-/// Refuses by `TraceLine` for the first bad line, by `TraceTooLong` where no line is bad and there are more than 2^62
-/// entries, and else by `Memory` alone, which may come at any time.
+/// Fails with `TraceLine` for the first bad line, with `TraceTooLong` if no line is bad and there are more than 2^62
+/// entries, and otherwise only with `Memory`, which may come at any time.
 pub fn read_trace<R: Threads + Sync>(
     rt: &R,
     alloc: Global,

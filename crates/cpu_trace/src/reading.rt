@@ -11,7 +11,7 @@ use sim_base::message::CoreId;
 use sim_base::trace::Entry;
 use std::alloc::{AllocError, Global};
 
-/// What lines have: how many they are, and what is kept of their entries. Nothing is kept of more than 2^62 entries.
+/// What lines have: how many there are, and what is kept of their entries. Nothing is kept of more than 2^62 entries.
 #[derive(Drop)]
 pub(crate) struct Reading {
     pub lines: u64,
@@ -38,7 +38,7 @@ impl From<AllocError> for Unread {
 }
 
 impl Unread {
-    /// Why lines are not read that stand behind so many others.
+    /// Why lines that follow `lines` others are not read.
     fn told_behind(self, lines: u64) -> Unread
         requires { lines + line_told self < 2 ^ 64 }
         ensures { result ≡ told_behind lines self }
@@ -106,7 +106,7 @@ pub(crate) fn extended(
     Ok(Some(entries))
 }
 
-// What was kept of lines, with what was kept of those behind them.
+// What was kept of lines, with what was kept of those after them.
 fn joined(so_far: Option<Entries>, more: &Option<Entries>) -> Result<Option<Entries>, AllocError>
     ensures { IfOk result (λ all. all ≡ joined so_far more.now) }
 {
@@ -131,7 +131,7 @@ impl Reading {
         }
     }
 
-    /// What these lines have with those behind them, of which the first bad line or out of memory comes out.
+    /// What these lines and those after them have together. If the latter were not read, the result says why.
     pub(crate) fn followed_by(self, next: Result<Reading, Unread>) -> Result<Reading, Unread>
         requires { self.lines + lines_told next < 2 ^ 64 }
         ensures { (lines behind : List (List ℕ)) → IsReadingOf lines self → IsRead behind next → IsRead (lines ++ behind) result }

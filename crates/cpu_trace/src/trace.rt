@@ -34,7 +34,7 @@ impl Trace {
         Ok(Trace { entries })
     }
 
-    /// The trace with these entries, of which there are at most 2^62: for callers whose entries stand in no text, as those of tests do.
+    /// The trace with these entries, of which there are at most 2^62: for callers, such as tests, whose entries are not in a text.
     pub fn from_entries(alloc: Global, entries: &[Entry]) -> Result<Trace, AllocError>
         requires { length entries.now ≤ 2 ^ 62 }
         ensures { IfOk result (λ trace. trace ≡ entries.now) }
@@ -74,8 +74,8 @@ impl Trace {
         self.entries.next_memory(from)
     }
 
-    /// The same as `next_memory`. It is found at once where as many Read and Write entries stand before it as the caller
-    /// says; with another number it is looked for among all.
+    /// The same as `next_memory`. It is found at once if `before` is the number of Read and Write entries before it;
+    /// otherwise it is searched for among all of them.
     pub fn next_memory_near(&self, from: u64, before: u64) -> Option<MemoryEntry>
         ensures found { IfSome result (IsNextMemory self.now from) }
         ensures none { IfNone result (IsPlainBetween self.now from (length self.now)) }

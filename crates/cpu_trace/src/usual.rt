@@ -1,5 +1,5 @@
 //! Lines of the usual form, which are read in one pass: two numbers or three, a space between them, and a line feed. A
-//! number has at most 19 decimal digits, or at most 16 hexadecimal ones behind `0x`, so that it fits 64 bits.
+//! number has at most 19 decimal digits, or at most 16 hexadecimal ones after `0x`, so that it fits 64 bits.
 
 ghost use Rattle.std.specs.Prelude.{◌≡◌, ◌^◌, ◌<◌, ◌≤◌, ◌∷◌, length, IfSome};
 ghost use Rattle.std.specs.Char.{digit_value};
@@ -31,8 +31,8 @@ fn digit_of(radix: u64, byte: u8) -> Option<u64>
     if digit < radix { Some(digit) } else { None }
 }
 
-// The number that the digits at the start of a text write, of which no more than so many are read, and what stands
-// behind them; none where it reads no digit. It is inlined, so that each radix has a loop of its own.
+// The number that the digits at the start of a text write, of which no more than `most` are read, and what follows
+// them; none if no digit is read. It is inlined, so that each radix has a loop of its own.
 #[inline(always)]
 fn split_digits(radix: u64, most: usize, text: &[u8]) -> Option<(u64, &[u8])>
     requires lower { 2 ≤ radix }
@@ -56,7 +56,7 @@ fn split_digits(radix: u64, most: usize, text: &[u8]) -> Option<(u64, &[u8])>
     Some((number, &text[len..]))
 }
 
-// What stands behind a byte at the start of a text.
+// What follows this byte at the start of a text.
 #[inline(always)]
 fn behind(byte: u8, text: &[u8]) -> Option<&[u8]>
     ensures { IfSome result (λ rest. text.now ≡ byte ∷ rest.now) }
@@ -65,7 +65,7 @@ fn behind(byte: u8, text: &[u8]) -> Option<&[u8]>
     if *first == byte { Some(rest) } else { None }
 }
 
-// What stands behind `0x` at the start of a text.
+// What follows `0x` at the start of a text.
 #[inline(always)]
 fn behind_mark(text: &[u8]) -> Option<&[u8]>
     ensures { IfSome result (λ rest. text.now ≡ 48 ∷ 120 ∷ rest.now) }
@@ -73,7 +73,7 @@ fn behind_mark(text: &[u8]) -> Option<&[u8]>
     behind(b'x', behind(b'0', text)?)
 }
 
-// The number that the token at the start of a text writes, and what stands behind it.
+// The number that the token at the start of a text writes, and what follows it.
 #[inline(always)]
 fn split_number(text: &[u8]) -> Option<(u64, &[u8])>
     ensures { IfSome result (λ parts. BeginsWithToken text.now parts.0 parts.1.now) }
@@ -84,8 +84,8 @@ fn split_number(text: &[u8]) -> Option<(u64, &[u8])>
     }
 }
 
-/// The numbers of the line at the start of a text, and what stands behind its line feed, where the line has the usual form.
-/// None says nothing of the line: the general reader takes it.
+/// The numbers of the line at the start of a text, and what follows its line feed, if the line has the usual form.
+/// None says nothing about the line: it is left to the general reader.
 #[inline(always)]
 pub(crate) fn split_usual_line(text: &[u8]) -> Option<(Line, &[u8])>
     ensures line { IfSome result (λ parts. BeginsWithLine text.now parts.0 parts.1.now) }

@@ -15,12 +15,12 @@ use std::sync::Wait;
 pub trait Phases<T, D: DoneOf<T>> {
     ghost use Rattle.std.specs.Prelude.{map, IfOk, IsPermutation};
 
-    /// Runs the tasks of a phase: of each comes just one, in whatever order. Only memory can be refused.
+    /// Runs the tasks of a phase: exactly one result comes of each, in any order. The only error is out of memory.
     fn run_tasks(&mut self, tasks: Vec<T>) -> Result<Vec<D>, AllocError>
         ensures { IfOk result (λ dones. IsPermutation tasks.items (map D.task dones.items)) };
 }
 
-/// The caller's seats at a board where threads wait. The crew is ready until memory was refused once.
+/// The caller's seats at a board where threads wait. The crew is ready until memory is refused for the first time.
 #[derive(Drop)]
 pub struct Crew<'a, T: Drop, D: DoneOf<T> + Drop, W: Work<T, D>, B: Room, R: Wait> {
     rt: &'a R,
@@ -84,7 +84,7 @@ impl<'a, T: Drop, D: DoneOf<T> + Drop, W: Work<T, D>, B: Room, R: Wait> Phases<T
     }
 }
 
-// Runs tasks one after the other, by the caller.
+// Runs tasks one after the other, in the caller's thread.
 fn run_all<T: Drop, D: DoneOf<T> + Drop, W: Work<T, D>>(
     alloc: Global,
     work: &W,
@@ -135,7 +135,7 @@ fn unload<T: Drop, D: DoneOf<T> + Drop, B: Room>(
     dones.append(&mut more)
 }
 
-// Loads come home, until what came home is what was put.
+// Loads come home, until all that was put has come home.
 fn gather<T: Drop, D: DoneOf<T> + Drop, B: Room, R: Wait>(
     rt: &R,
     hall: &Hall<T, D, B>,

@@ -30,7 +30,7 @@ pub(crate) struct Hall<T: Drop, D: DoneOf<T> + Drop, B: Room> {
 }
 
 impl<T: Drop, D: DoneOf<T> + Drop, B: Room> Hall<T, D, B> {
-    /// A hall with this board, for so many threads. Only memory can be refused.
+    /// A hall with this board, for this number of threads. The only error is out of memory.
     pub(crate) fn new(
         alloc: Global,
         board: Board<T, B>,
@@ -57,7 +57,7 @@ impl<T: Drop, D: DoneOf<T> + Drop, B: Room> Hall<T, D, B> {
         self.turns.store(0, Ordering::SeqCst);
     }
 
-    // Waits for the workers before this one to have had their turn, but not for long.
+    // Waits until the workers before this one have had their turn, but not for long.
     fn wait_for_turn(&self, worker: usize) {
         for _ in 0..self.patience.turns {
             if self.turns.load(Ordering::SeqCst) >= worker {
@@ -67,7 +67,7 @@ impl<T: Drop, D: DoneOf<T> + Drop, B: Room> Hall<T, D, B> {
         }
     }
 
-    // Takes the task in front; the first of a phase in turn.
+    // Takes the task in front; the first one of a phase only in its turn.
     fn next_task<R: Wait>(
         &self,
         rt: &R,
@@ -87,7 +87,7 @@ impl<T: Drop, D: DoneOf<T> + Drop, B: Room> Hall<T, D, B> {
         task
     }
 
-    /// Takes tasks and runs them until the board is empty at one moment. Only memory can be refused.
+    /// Takes tasks and runs them until the board is empty at one moment. The only error is out of memory.
     pub(crate) fn claim<W: Work<T, D>, R: Wait>(
         &self,
         rt: &R,

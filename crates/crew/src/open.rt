@@ -8,7 +8,7 @@ use crate::seats::{Board, PutSeat};
 use std::alloc::{AllocError, Global};
 use std::marker::{Model, PhantomData};
 
-/// A board that has no name yet. To a contract it is its name to be, and how many tasks it has room for.
+/// A board that has no name yet. To a contract it is its future name, and how many tasks it has room for.
 #[derive(Drop)]
 pub struct Blank<T: Drop> {
     queue: Queue<T>,
@@ -28,7 +28,7 @@ impl<T: Drop> Model for Blank<T> {
 }
 
 impl<T: Drop> Blank<T> {
-    /// A board with room for so many tasks. Only memory can be refused.
+    /// A board with room for `room` tasks. The only error is out of memory.
     pub fn open(alloc: Global, room: usize) -> Result<Blank<T>, AllocError>
         requires { 0 < room }
         ensures { IfOk result (λ b. b.room ≡ room) }

@@ -10,7 +10,7 @@ use std::collections::LinkedList;
 use std::marker::Brand;
 
 /// What a pass knows: whether it may put (1 or 0), what it has put since the board was cleared last, and what it has taken and
-/// not sent home. No value of it is made.
+/// not sent home. No value of this type is ever made.
 pub struct View<T> {
     pub parts: u64,
     pub put: LinkedList<T>,
@@ -56,7 +56,7 @@ impl<T> Lesson<T, View<T>> for Takes {
     ghost fact = { λ v items. Moment items v };
 }
 
-/// What came home is no more than was put; where it is as much, it is what was put.
+/// No more came home than was put; where it is equally many, it is exactly what was put.
 pub struct Settles;
 
 impl<T> Lesson<T, View<T>> for Settles {
@@ -81,7 +81,7 @@ impl<T> Split<View<T>> for Cut {
     ghost right = { λ v. view_of 0 [] v.taken };
 }
 
-/// What another took comes home.
+/// What another pass took comes home.
 pub struct Home;
 
 impl<T> Join<View<T>> for Home {

@@ -16,7 +16,7 @@ use std::sync::Wait;
 use std::thread;
 use std::thread::{Scope, Threads};
 
-/// Why a run has no end.
+/// Why a run did not come to its end.
 #[derive(Drop, Debug, Clone, Copy, PartialEq, Eq)]
 pub enum Refused {
     /// Memory was refused.
@@ -30,12 +30,12 @@ pub trait Course<T, D: DoneOf<T>, E> {
     /// Where it leads.
     ghost leads: { Self → E → Type 0 };
 
-    /// Runs the phases. Only memory can be refused.
+    /// Runs the phases. The only error is out of memory.
     fn run<P: Phases<T, D>>(self, alloc: Global, crew: &mut P) -> Result<E, AllocError>
         ensures { IfOk result (leads self) };
 }
 
-// Starts so many threads, which get the numbers from 1 on.
+// Starts this number of threads, which are numbered from 1 on.
 fn start<
     's,
     'e: 's,
@@ -170,8 +170,8 @@ fn named<
     crewed(rt, alloc, work, &hall, seat, workers, course)
 }
 
-/// Runs a course by so many workers: the caller, and threads that are started once. All have ended when this returns, also where
-/// it is refused. Phases of more than `room` tasks are run by the caller alone.
+/// Runs a course with a number of workers: the caller, and threads that are started once. All have ended when this returns, even
+/// where it is refused. Phases of more than `room` tasks are run by the caller alone.
 pub fn with_crew<
     T: Drop + Send,
     D: DoneOf<T> + Drop + Send,

@@ -69,14 +69,14 @@ impl<T: Drop, B: Room> Board<T, B> {
         self.queue.capacity()
     }
 
-    /// Puts a task. It comes back only where the board is full; the seat then knows what it knew.
+    /// Puts a task. It comes back only if the board is full; the seat then knows what it knew before.
     pub fn put<R: Wait>(&self, rt: &R, seat: &mut PutSeat<T, B>, task: T) -> Result<(), T>
         ensures { MatchResult result (λ _. seat.new ≡ put_view (seat.old.put ++ task ∷ []) seat.old.home) (λ t. (t ≡ task) × (seat.new ≡ seat.old) × (self.now ≤ length seat.old.put)) }
     {
         self.queue.push_as::<Puts, R>(rt, &mut seat.pass, task)
     }
 
-    /// Takes the task in front. There is none where the board was empty at a moment of the call.
+    /// Takes the task in front. There is none if the board was empty at some moment during the call.
     pub fn take<R: Wait>(&self, rt: &R, seat: &mut TakeSeat<T, B>) -> Option<T>
         ensures seat { MatchOption result (seat.new ≡ seat.old) (λ t. seat.new ≡ seat.old ++ t ∷ []) }
         ensures front { MatchOption result (WasEmpty seat.old) (WasFront seat.old) }
@@ -113,7 +113,7 @@ impl<T: Drop, B: Room> Board<T, B> {
         self.queue.absorb::<Home>(&mut seat.pass, theirs.pass);
     }
 
-    /// How many of the tasks that were put have not come home, where so many were put and so many came home. It is 0 just where
+    /// How many of the tasks that were put have not come home, where `put` tasks were put and `home` came home. It is 0 if and only if
     /// what came home is what was put, each task once.
     pub fn missing(&self, seat: &mut PutSeat<T, B>, put: usize, home: usize) -> usize
         requires { (put ≡ length seat.old.put) × (home ≡ length seat.old.home) }

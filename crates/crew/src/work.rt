@@ -12,7 +12,7 @@ pub trait DoneOf<T> {
 
 /// How tasks are run. Several threads use one value of it. They are numbered, and the caller is number 0.
 pub trait Work<T, D: DoneOf<T>> {
-    /// Runs a task. Only memory can be refused.
+    /// Runs a task. The only error is out of memory.
     fn run(&self, alloc: Global, worker: usize, task: T) -> Result<D, AllocError>
         ensures { IfOk result (λ done. D.task done ≡ task) };
 }

@@ -13,7 +13,7 @@ use std::thread::Threads;
 use std::{env, io};
 use whole_files::files::HostFiles;
 
-// Hands the words, the files, the streams and the threads of the host over. How far a run is is told where standard error is a terminal.
+// Hands the words, the files, the streams and the threads of the host over. The progress of a run is shown if standard error is a terminal.
 fn perform_words<T: Threads + Wait + Sync>(rt: &HostRuntime, threads: &T) -> io::Result<u8> {
     let arguments: Vec<String> = env::args(rt)?.collect(rt.alloc())?;
     let words: Vec<&str> = arguments
@@ -39,7 +39,7 @@ fn perform_words<T: Threads + Wait + Sync>(rt: &HostRuntime, threads: &T) -> io:
     ))
 }
 
-// Why the words of the command line could not be had.
+// Why the words of the command line could not be obtained.
 fn words_fault(error: &io::Error) -> Fault {
     match error.kind() {
         ErrorKind::OutOfMemory => Fault::Memory,

@@ -36,7 +36,7 @@ impl fmt::Display for Hundredths {
 #[derive(Clone, Copy, PartialEq, Eq, Debug)]
 pub struct Grouped(pub u64);
 
-/// What a group of three digits counts, but for the last group.
+/// What each group of three digits counts, except for the last group.
 const GROUPS: [u64; 6] = [
     1_000_000_000_000_000_000,
     1_000_000_000_000_000,
@@ -83,7 +83,7 @@ impl fmt::Display for Compact {
     }
 }
 
-/// Words that are no markup: what HTML would read as such is escaped.
+/// Words that are not markup: what HTML would read as markup is escaped.
 #[derive(Clone, Copy)]
 pub struct Escaped<'a>(pub &'a str);
 
@@ -103,8 +103,8 @@ impl fmt::Display for Escaped<'_> {
     }
 }
 
-/// `part` of `whole`, in units of which `whole` has `units`, rounded down: 1000 for tenths of a percent. It is 0 of a whole of 0, and
-/// 2^64 - 1 where it is more.
+/// `part` of `whole`, in units of which `whole` has `units`, rounded down: 1000 for tenths of a percent. It is 0 for a whole of 0, and
+/// saturates at 2^64 - 1.
 pub fn share_of(part: u128, whole: u64, units: u64) -> u64
     ensures none { whole ≡ 0 → result ≡ 0 }
     ensures exact { 0 < whole → result ≡ min (part * units / whole) (2 ^ 64 - 1) }

@@ -114,9 +114,9 @@ impl fmt::Display for CycleTicks {
 /// How values are drawn.
 #[derive(Clone, Copy, PartialEq, Eq, Debug)]
 pub enum Form {
-    /// The area below them is filled; a step of no value is as one of 0.
+    /// The area below them is filled; a step without a value counts as 0.
     Area,
-    /// A line, with a gap at a step of no value.
+    /// A line, with a gap at a step without a value.
     Line,
 }
 
@@ -201,7 +201,7 @@ impl fmt::Display for Drawn<'_> {
     }
 }
 
-/// A plot: what it is of, the name of its values with their unit, its axes and its series, of which later ones lie above earlier ones.
+/// A plot: what it is of, the name of its values with their unit, its axes and its series, later ones drawn over earlier ones.
 #[derive(Clone, Copy)]
 pub struct Plot<'a> {
     pub name: &'a str,

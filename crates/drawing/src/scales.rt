@@ -12,8 +12,8 @@ pub struct Scale {
 }
 
 impl Scale {
-    /// How far a value lies from the beginning, in tenths of a pixel, rounded down. A value beyond the span lies at the end; on a scale of
-    /// no span each lies at the beginning.
+    /// How far a value lies from the beginning, in tenths of a pixel, rounded down. A value beyond the span lies at the end; on a scale
+    /// with a span of 0 every value lies at the beginning.
     pub fn length_of(self, value: u64) -> u64
         ensures within { result ≤ self.extent }
         ensures exact { 0 < self.span → result ≡ min value self.span * self.extent / self.span }
@@ -28,7 +28,7 @@ impl Scale {
     }
 }
 
-/// A distance between ticks, which is 1, 2 or 5 times a power of ten: with it a span has at most so many of them, not counting the first.
+/// A distance between ticks, which is 1, 2 or 5 times a power of ten: with it a span has at most `most` ticks, not counting the first.
 pub fn tick_step(span: u64, most: u64) -> u64
     requires { 0 < most }
     ensures some { 0 < result }
@@ -52,7 +52,7 @@ pub fn tick_step(span: u64, most: u64) -> u64
     u64::MAX
 }
 
-/// The least multiple of the distance between its ticks that is no less than a value: where an axis for this value ends.
+/// The least multiple of the distance between its ticks that is not less than a value: where an axis for this value ends.
 pub fn axis_end(value: u64, most: u64) -> u64
     requires { 0 < most }
     ensures { value ≤ result }

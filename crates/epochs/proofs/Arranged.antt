@@ -7,12 +7,14 @@ use Rattle.sim_base.specs.declared.config.Config.{Config}
 use Rattle.statistics.proofs.RunSteps.{travels}
 use Rattle.epochs.specs.Merging.{is_among, names_of, after}
 use Rattle.epochs.specs.Ordered.{IsFurther}
-use Rattle.epochs.specs.Planning.{EndsAt, IsNext}
-use Rattle.epochs.specs.Units.{unit_count}
-use Rattle.epochs.proofs.Standing.{length-places, same-default}
+use Rattle.units.specs.Spans.{EndsAt}
+use Rattle.epochs.specs.Planning.{IsNext}
+use Rattle.units.specs.Units.{unit_count}
+use Rattle.units.proofs.Standing.{length-places, same-default}
 use Rattle.epochs.proofs.Sorting.{among-place}
 use Rattle.sim_base.specs.declared.job.JobName.{JobName}
-use Rattle.epochs.specs.Views.{SimView, PhaseView, JobView, job_at, jobs_of}
+use Rattle.units.specs.Views.{SimView}
+use Rattle.epochs.specs.Jobs.{PhaseView, JobView, job_at, jobs_of}
 
 -- the end of a phase is after its beginning, and not past the limit
 pub ends-within : (s : Config) (now limit until : ℕ) → now < limit → EndsAt s now limit until → (now < until) × (until ≤ limit)

@@ -11,13 +11,13 @@ use Rattle.std.proofs.lemmas.List.FromFn.{get_or-map-range_with_len}
 use Rattle.sim_base.specs.History.{below, is_unit}
 use Rattle.epochs.specs.Merging.{same_name, is_among, names_of, fault_at, first_of, first_fault, missing}
 use Rattle.epochs.specs.ByUnit.{result_at, results_by_unit}
-use Rattle.epochs.specs.Units.{unit_at, unit_count, Exists}
-use Rattle.epochs.specs.Views.{PhaseView, JobView, name_at, job_at, jobs_of}
+use Rattle.units.specs.Units.{unit_at, unit_count, Exists}
+use Rattle.epochs.specs.Jobs.{PhaseView, JobView, name_at, job_at, jobs_of}
 use Rattle.sim_base.specs.declared.job.JobName.{JobName}
 use Rattle.sim_base.specs.declared.fault.MergeFault.{MergeFault}
 use Rattle.sim_base.specs.declared.fault.MergeFault.TheVariants.{Missing, Double, Stranger}
-use Rattle.epochs.proofs.Due.{place-at, place_of_unit, exists-at, same_unit, unit_is}
-use Rattle.epochs.proofs.Standing.{length-places}
+use Rattle.units.proofs.Due.{place-at, place_of_unit, exists-at, same_unit, unit_is}
+use Rattle.units.proofs.Standing.{length-places}
 
 map-range_same : {X : Type 0} (f g : ℕ → X) (a n : ℕ) → ((i : ℕ) → i < n → f (a + i) ≡ g (a + i)) → map f (range_with_len a n) ≡ map g (range_with_len a n)
 map-range_same f g a zero h = refl

@@ -5,7 +5,8 @@ use Rattle.sim_base.specs.declared.message.Unit.{Unit as MachineUnit}
 use Rattle.epochs.specs.Merging.{merge_fault}
 use Rattle.epochs.specs.Ordered.{IsOnTheWay, run_fault, IsWhyStopped, OnlyPermutes}
 use Rattle.epochs.specs.Planning.{IsNext}
-use Rattle.epochs.specs.Views.{SimView, PhaseView, JobView, jobs_of}
+use Rattle.units.specs.Views.{SimView}
+use Rattle.epochs.specs.Jobs.{PhaseView, JobView, jobs_of}
 use Rattle.sim_base.specs.declared.fault.MergeFault.{MergeFault}
 use Rattle.sim_base.specs.declared.fault.MergeFault.TheVariants as merging
 use Rattle.sim_base.specs.declared.fault.Fault.{Fault}

@@ -6,9 +6,9 @@ use Rattle.sim_base.specs.declared.trace.Entry.{Entry}
 use Rattle.sim_base.specs.Machine.{cycles_run}
 use Rattle.span_laws.specs.Ends.{ends_before}
 use Rattle.span_laws.proofs.Over.{cycles-are_counted}
-use Rattle.epochs.specs.Drained.{NotEnded}
+use Rattle.units.specs.Drained.{NotEnded}
 use Rattle.epochs.specs.Ordered.{stop_of}
-use Rattle.epochs.specs.Views.{SimView}
+use Rattle.units.specs.Views.{SimView}
 
 cycles-next : (s : Config) (traces : List (List Entry)) (n : ℕ) → cycles_run s traces (suc n) ≡ cond (ends_before s traces (cycles_run s traces n)) (cycles_run s traces n) (suc n)
 unfolding cycles_run

@@ -8,8 +8,8 @@ use Rattle.std.proofs.lemmas.List.Sums.{sum_by-cons, sum_by-append}
 use Rattle.std.proofs.lemmas.Simd.{map-map}
 use Rattle.sim_base.specs.History.{below}
 use Rattle.epochs.specs.Merging.{same_name, is_among, names_of, first_of, first_fault, missing, merge_fault}
-use Rattle.epochs.specs.Units.{unit_at, unit_count}
-use Rattle.epochs.specs.Views.{PhaseView, JobView, name_at, job_at, jobs_of}
+use Rattle.units.specs.Units.{unit_at, unit_count}
+use Rattle.epochs.specs.Jobs.{PhaseView, JobView, name_at, job_at, jobs_of}
 use Rattle.sim_base.specs.declared.job.JobName.{JobName}
 use Rattle.sim_base.specs.declared.fault.MergeFault.TheVariants.{Missing}
 use Rattle.epochs.proofs.Sorting.{same_name-self, same_name-is, name-place, or-true, place-among, fault-none, first-none_yet, first-end}

@@ -3,8 +3,8 @@
 --     Lies p names by_unit      the same, of a list
 use Rattle.std.specs.Prelude.{ℕ, List, map, Option, Some, None, if◌then◌else◌}
 use Rattle.sim_base.specs.History.{below}
-use Rattle.epochs.specs.Units.{unit_count}
-use Rattle.epochs.specs.Views.{PhaseView, JobView, name_at, job_at}
+use Rattle.units.specs.Units.{unit_count}
+use Rattle.epochs.specs.Jobs.{PhaseView, JobView, name_at, job_at}
 use Rattle.epochs.specs.Merging.{is_among}
 use Rattle.sim_base.specs.declared.job.JobName.{JobName}
 

@@ -1,14 +1,5 @@
-pub mod Units
-pub mod Views
-pub mod Parts
+pub mod Jobs
 pub mod Planning
-pub mod Flight
 pub mod Merging
 pub mod ByUnit
 pub mod Ordered
-pub mod Drained
-pub mod Quiet
-pub mod Wakes
-pub mod Rests
-pub mod Shards
-pub mod Legs

@@ -10,8 +10,9 @@
 use Rattle.std.specs.Prelude.{◌≡◌, ◌+◌, ◌==◌, Bool, true, not, ◌&&◌, List, [], ◌∷◌, ◌++◌, length, map, find, option_map, Option, Some, None, if◌then◌else◌}
 use Rattle.std.specs.List.{list_any}
 use Rattle.sim_base.specs.History.{below, is_unit}
-use Rattle.epochs.specs.Units.{unit_at, unit_count}
-use Rattle.epochs.specs.Views.{SimView, PhaseView, JobView, name_at}
+use Rattle.units.specs.Units.{unit_at, unit_count}
+use Rattle.units.specs.Views.{SimView}
+use Rattle.epochs.specs.Jobs.{PhaseView, JobView, name_at}
 use Rattle.sim_base.specs.declared.job.JobName.{JobName}
 use Rattle.sim_base.specs.declared.fault.MergeFault.{MergeFault}
 use Rattle.sim_base.specs.declared.fault.MergeFault.TheVariants.{Missing, Double, Stranger}
@@ -28,8 +29,8 @@ is_among names name = list_any (λ n. same_name n name) names
 abbrev pub names_of : PhaseView → List JobName
 names_of p = map (name_at p) (below (unit_count p.machine))
 
--- A result that comes after others is a stranger where its name is of no job of the phase, and a double where one of them has
--- its name. It is told by how many come before it.
+-- A result that comes after others is a stranger where its name belongs to no job of the phase, and a double where one of them has
+-- its name. The fault says how many come before it.
 unfoldable pub fault_at : PhaseView → List JobName → JobName → Option MergeFault
 fault_at p earlier name =
     if not (is_among (names_of p) name) then Some (Stranger (length earlier))
@@ -50,7 +51,7 @@ first_fault p earlier (name ∷ names) = first_of (fault_at p earlier name) (fir
 unfoldable pub missing : PhaseView → List JobName → Option MergeFault
 missing p names = option_map (λ place. Missing (unit_at p.machine place)) (find (λ place. not (is_among names (name_at p place))) (below (unit_count p.machine)))
 
--- what is wrong with the results of a phase: the first stranger or double decides, and else the first unit without a result
+-- what is wrong with the results of a phase: the first stranger or double decides, and otherwise the first unit without a result
 abbrev pub merge_fault : PhaseView → List JobName → Option MergeFault
 merge_fault p names = first_of (first_fault p [] names) (missing p names)
 

@@ -1,18 +1,18 @@
 -- A simulator that is run in one thread.
 --     IsFurther sim limit after      the same run, further on, and not past a limit
---     HasReached sim limit after      the same run, at a limit
 --     stop_of sim limit      where a run up to a limit stops
 --     IsOnTheWay sim limit phase      a phase of the same run, on the way to a limit
 --     DoNotFit may_give phase cause      the results of a phase, in an order that may be given, are not one of each job
 --     run_fault cause      what a run says where results do not fit
 --     StopsAtMisfit may_give sim limit fault      a phase has results that do not fit
---     IsWhyStopped may_give sim limit fault      why a run does not come to a limit
+--     IsWhyStopped may_give sim limit fault      why a run does not reach a limit
 --     OnlyPermutes may_give      an order leaves no result out, and repeats none
 use Rattle.std.specs.Prelude.{◌≡◌, ◌⊎◌, ℕ, ◌<◌, ◌≤◌, nat_lt, false, List, map, Some, IsPermutation, if◌then◌else◌}
 use Rattle.sim_base.specs.Machine.{cycles_run}
 use Rattle.epochs.specs.Merging.{merge_fault}
 use Rattle.epochs.specs.Planning.{IsNext}
-use Rattle.epochs.specs.Views.{SimView, PhaseView, JobView, jobs_of}
+use Rattle.units.specs.Views.{SimView}
+use Rattle.epochs.specs.Jobs.{PhaseView, JobView, jobs_of}
 use Rattle.sim_base.specs.declared.fault.MergeFault.{MergeFault}
 use Rattle.sim_base.specs.declared.fault.MergeFault.TheVariants as merging
 use Rattle.sim_base.specs.declared.fault.Fault.{Fault}
@@ -24,12 +24,6 @@ pub record IsFurther (sim : SimView) (limit : ℕ) (after : SimView) : Type 0 wh
   pub traces_are : after.traces ≡ sim.traces
   pub further : sim.now < after.now
   pub within : after.now ≤ limit
-
--- the run of the same machine over the same traces, when the cycles before a limit are over
-pub record HasReached (sim : SimView) (limit : ℕ) (after : SimView) : Type 0 where
-  pub machine_is : after.machine ≡ sim.machine
-  pub traces_are : after.traces ≡ sim.traces
-  pub at_limit : after.now ≡ limit
 
 -- Where a run up to a limit stops: at its last cycle, which is the limit, or where the configuration ends it drained and it is over
 -- sooner, the first before which it is over. A simulator that stands there or further on stays.
@@ -55,7 +49,7 @@ pub record DoNotFit (may_give : ℕ → List JobView → List JobView → Type 0
   pub given : may_give phase.number (jobs_of phase) arranged
   pub fault_is : merge_fault phase (map (λ (d : JobView). d.name) arranged) ≡ Some cause
 
--- Where results do not fit a run tells why. Out of memory is the same out of memory.
+-- Where results do not fit, a run says why. Out of memory stays out of memory.
 abbrev pub run_fault : MergeFault → Fault
 run_fault (merging.Missing unit) = Merge (merging.Missing unit)
 run_fault (merging.Double place) = Merge (merging.Double place)
@@ -70,7 +64,7 @@ pub record StopsAtMisfit (may_give : ℕ → List JobView → List JobView → T
   pub misfit : DoNotFit may_give phase cause
   pub fault_is : fault ≡ Merge cause
 
--- a run stops before its limit for out of memory, or at a phase whose results do not fit as the order gives them
+-- a run stops before its limit because it is out of memory, or at a phase whose results do not fit as the order gives them
 abbrev pub IsWhyStopped : (ℕ → List JobView → List JobView → Type 0) → SimView → ℕ → Fault → Type 0
 IsWhyStopped may_give sim limit fault = (fault ≡ Memory) ⊎ StopsAtMisfit may_give sim limit fault
 

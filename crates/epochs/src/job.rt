@@ -2,17 +2,17 @@
 
 ghost use Rattle.std.specs.Prelude.{◌≡◌, ◌<◌, IfOk};
 ghost use Rattle.std.specs.Arc.{arc_value};
-ghost use Rattle.epochs.specs.Views.{JobView};
-ghost use Rattle.epochs.specs.Parts.{HasRun, IsJob};
+ghost use Rattle.units.specs.Parts.{HasRun};
+ghost use Rattle.epochs.specs.Jobs.{IsJob, JobView};
 
-use crate::machine::Machine;
-use crate::part::UnitState;
-use crate::slot::Mail;
 use sim_base::job::JobName;
 use sim_base::message::Cycle;
 use std::alloc::{AllocError, Global};
 use std::marker::Model;
 use std::sync::Arc;
+use units::machine::Machine;
+use units::mail::Mail;
+use units::part::UnitState;
 
 /// A unit of a machine at the beginning of a span of cycles, with the messages that arrive at it in them, and a list for those that it sends.
 #[derive(Drop)]
@@ -25,7 +25,7 @@ pub struct Job {
 
 impl Model for Job {
     ghost use Rattle.std.specs.Arc.{arc_value};
-    ghost use Rattle.epochs.specs.Views.{JobView};
+    ghost use Rattle.epochs.specs.Jobs.{JobView};
 
     ghost Value = { JobView };
 
@@ -34,7 +34,7 @@ impl Model for Job {
 
     ghost coded = { Prim.hlevel (codes, config.the_row.coded) };
 
-    ghost use Rattle.epochs.specs.Parts.{IsJob};
+    ghost use Rattle.epochs.specs.Jobs.{IsJob};
 
     ghost view = { λ j. record { machine = (arc_value j.machine).config; traces = (arc_value j.machine).traces.items; name = j.name } };
 
@@ -52,7 +52,7 @@ pub struct Done {
 
 impl Model for Done {
     ghost use Rattle.std.specs.Arc.{arc_value};
-    ghost use Rattle.epochs.specs.Views.{JobView};
+    ghost use Rattle.epochs.specs.Jobs.{JobView};
 
     ghost Value = { JobView };
 
@@ -61,7 +61,7 @@ impl Model for Done {
 
     ghost coded = { Prim.hlevel (codes, config.the_row.coded) };
 
-    ghost use Rattle.epochs.specs.Parts.{HasRun};
+    ghost use Rattle.units.specs.Parts.{HasRun};
 
     ghost view = { λ d. record { machine = (arc_value d.machine).config; traces = (arc_value d.machine).traces.items; name = d.name } };
 
@@ -96,7 +96,7 @@ impl Job {
         self.name
     }
 
-    /// Runs the unit over the span. Only memory can be refused; the unit is then gone.
+    /// Runs the unit over the span. The only error is out of memory; the unit is then gone.
     pub fn run(self) -> Result<Done, AllocError>
         ensures { IfOk result (λ done. done ≡ self) }
     {

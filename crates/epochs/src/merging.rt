@@ -3,19 +3,16 @@
 ghost use Rattle.std.specs.Prelude.{◌≡◌, ◌==◌, ◌&&◌, ◌<◌, ◌+◌, ◌-◌, ◌∷◌, ◌++◌, [], fold, flat_map, length, map, false, is_some, slice_index_or, List, Some, None, Err, All, ◌⊎◌, IfOk, IfErr, OnOk, IfSome, IfNone};
 ghost use Rattle.std.specs.Arc.{arc_value};
 ghost use Rattle.sim_base.specs.History.{below, insert_by_age};
-ghost use Rattle.epochs.specs.Units.{unit_at, unit_count, Exists};
-ghost use Rattle.epochs.specs.Views.{name_at, job_at, jobs_of};
-ghost use Rattle.epochs.specs.Parts.{StandAt};
-ghost use Rattle.epochs.specs.Flight.{fresh};
+ghost use Rattle.units.specs.Units.{unit_at, unit_count, Exists};
+ghost use Rattle.epochs.specs.Jobs.{name_at, job_at, jobs_of};
+ghost use Rattle.units.specs.Parts.{StandAt};
+ghost use Rattle.units.specs.Flight.{fresh};
 ghost use Rattle.epochs.specs.Merging.{names_of, is_among, fault_at, first_fault, missing, merge_fault, after, IsOf};
 ghost use Rattle.epochs.specs.ByUnit.{results_by_unit};
 ghost use Rattle.sim_base.specs.declared.job.JobName.{JobName};
 
 use crate::job::{Done, Sent};
-use crate::machine::{Machine, unit_at};
-use crate::part::UnitState;
 use crate::phase::{Outline, Phase};
-use crate::sim::Sim;
 use links::flight::Links;
 use sim_base::config::Config;
 use sim_base::fault::MergeFault;
@@ -23,6 +20,9 @@ use sim_base::job::JobName;
 use sim_base::message::{Cycle, Unit};
 use std::alloc::{AllocError, Global};
 use std::sync::Arc;
+use units::machine::{Machine, unit_at};
+use units::part::UnitState;
+use units::sim::Sim;
 
 /// The units of the results of a phase, which stand by their places. Their messages go into the links.
 fn parts_of(
@@ -97,14 +97,14 @@ pub(crate) fn place_of(config: &Config, unit: Unit) -> Option<usize>
     }
 }
 
-/// Whether a name is of this phase.
+/// Whether a name belongs to this phase.
 fn is_of_phase(phase: &Outline, name: JobName) -> bool
     ensures { result ≡ ((name.phase == phase.now.number) && ((name.from == phase.now.from) && (name.until == phase.now.until))) }
 {
     name.phase == phase.number && (name.from == phase.from && name.until == phase.until)
 }
 
-/// The place of the unit that a name is of, if it is that of a job of the phase.
+/// The place of the unit that a name refers to, if it is the name of a job of the phase.
 fn place_of_job(phase: &Outline, name: JobName) -> Option<usize>
     ensures some { IfSome result (λ place. (place < unit_count phase.now.machine) × (name_at phase.now place ≡ name)) }
     ensures none { IfNone result (is_among (names_of phase.now) name ≡ false) }
@@ -137,7 +137,7 @@ fn is_taken(by_unit: &[Option<Done>], place: usize) -> bool
     by_unit[place].is_some()
 }
 
-/// Puts a result, which comes after so many others, in the place of its unit.
+/// Puts a result, which comes after `index` others, in the place of its unit.
 fn put(
     phase: &Outline,
     by_unit: &mut Vec<Option<Done>>,
@@ -164,8 +164,8 @@ fn put(
     }
 }
 
-/// The results of a phase, each put in the place of its unit, of which all are empty. The first result that is of no job of the phase, or
-/// whose name stood earlier, is a fault.
+/// The results of a phase, each put in the place of its unit, of which all are empty. The first result that belongs to no job of the phase, or
+/// whose name came earlier, is a fault.
 fn sorted_by_unit(
     phase: &Outline,
     empty: Vec<Option<Done>>,
@@ -212,7 +212,7 @@ fn add(all: &mut Vec<Done>, done: Done) -> Result<(), MergeFault>
     }
 }
 
-/// The results of all units, in their order. The first unit without one is a fault; only memory is another.
+/// The results of all units, in their order. The first unit without one is a fault; the only other fault is refused memory.
 fn all_there(
     alloc: Global,
     phase: &Outline,
@@ -238,8 +238,8 @@ fn all_there(
 }
 
 /// Puts the results of a phase together, in whatever order they come: the simulator then stands at the end of the phase. The
-/// first result of the list that is of no job of the phase, or whose name stood earlier, is a fault, and else the first unit without
-/// a result, cores before channels: that is answered also where memory is short. Where the results are whole, only memory can be
+/// first result of the list that belongs to no job of the phase, or whose name came earlier, is a fault, and otherwise the first unit
+/// without a result, cores before channels: that is reported even where memory is short. Where the results are whole, only memory can be
 /// refused.
 pub fn merge(phase: Phase, alloc: Global, results: Vec<Done>) -> Result<Sim, MergeFault>
     requires of { All (IsOf phase) results.items }

@@ -1,32 +1,33 @@
 //! A run in one thread, in which the results of each phase come in an order that someone chooses.
 
 ghost use Rattle.std.specs.Prelude.{◌≡◌, ◌≢◌, ◌<◌, ◌≤◌, ◌^◌, All, Any, IfOk, IfErr};
-ghost use Rattle.epochs.specs.Ordered.{IsFurther, HasReached, stop_of, IsWhyStopped, OnlyPermutes, run_fault};
+ghost use Rattle.epochs.specs.Ordered.{IsFurther, stop_of, IsWhyStopped, OnlyPermutes, run_fault};
+ghost use Rattle.units.specs.Views.{HasReached};
 
 use crate::job::{Done, Job};
 use crate::merging::merge;
 use crate::planning::{Planned, plan};
-use crate::sim::Sim;
 use sim_base::fault::{Fault, MergeFault};
 use sim_base::message::Cycle;
 use std::alloc::{AllocError, Global};
+use units::sim::Sim;
 
 /// An order in which the results of a phase come back.
 pub trait Order {
     ghost use Rattle.std.specs.Prelude.{◌≡◌, ℕ, List, All, Any};
-    ghost use Rattle.epochs.specs.Views.{JobView};
+    ghost use Rattle.epochs.specs.Jobs.{JobView};
 
     // Which lists it may give for the results of the phase with a number. Each order says it: this default lets none through.
     ghost may_give: { ℕ → List JobView → List JobView → Type 0 } = { λ _ _ _. ⊥ };
 
-    /// The results of a phase in their order. None of this phase is made up: each is one of those that are given. Results of other
+    /// The results of a phase in their order. None of this phase is made up: each is one of those passed in. Results of other
     /// phases may stand among them.
     fn arrange(&mut self, phase: u64, results: Vec<Done>) -> Vec<Done>
         ensures may { may_give phase results.items result.items }
         ensures given { All (λ d. d.name.phase ≡ phase → Any (λ r. r ≡ d) results.items) result.items };
 }
 
-/// What a run says where the results of a phase are no whole of it.
+/// What a run reports where the results of a phase are not one of each job.
 fn fault_of(cause: MergeFault) -> Fault
     ensures { result ≡ run_fault cause }
 {
@@ -38,7 +39,7 @@ fn fault_of(cause: MergeFault) -> Fault
     }
 }
 
-/// The results of jobs, in their order. Only memory can be refused.
+/// The results of jobs, in their order. The only error is out of memory.
 pub(crate) fn results_of(alloc: Global, jobs: Vec<Job>) -> Result<Vec<Done>, AllocError>
     ensures { IfOk result (λ results. results.items ≡ jobs.items) }
 {
@@ -87,8 +88,8 @@ fn run_phases<O: Order>(sim: Sim, alloc: Global, stop: Cycle, order: &mut O) -> 
 /// Runs a simulator up to a limit, at most 10^12 cycles, or, where the configuration ends it drained, up to the first cycle before which
 /// all is done. What comes of each job is put together in the order that is given,
 /// and the simulator that comes back does not depend on it. What the order gives for the results of a phase may not be one of
-/// each job: the run then stops at this phase, and fault 16 says what is wrong, as `merge` finds it. Only memory (fault 10) is another,
-/// and the only one with an order that leaves no result out, repeats none, and brings none of another phase.
+/// each job: the run then stops at this phase, and fault 16 says what is wrong, as `merge` finds it. The only other fault is
+/// refused memory (fault 10), and that is the only one with an order that leaves no result out, repeats none, and brings none of another phase.
 pub fn run_in_order<O: Order>(
     sim: Sim,
     alloc: Global,

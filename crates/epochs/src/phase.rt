@@ -3,13 +3,13 @@
 ghost use Rattle.std.specs.Prelude.{◌≡◌};
 
 use crate::job::Done;
-use crate::machine::Machine;
 use links::flight::Links;
 use sim_base::message::Cycle;
 use std::marker::Model;
 use std::sync::Arc;
+use units::machine::Machine;
 
-/// What a phase is: a span of cycles from one on and before another. What is kept meanwhile are the messages that arrive later.
+/// What a phase is: a span of cycles from one on and before another. The messages that arrive later are kept meanwhile.
 #[derive(Drop)]
 pub(crate) struct Outline {
     pub(crate) machine: Arc<Machine>,
@@ -21,7 +21,7 @@ pub(crate) struct Outline {
 
 impl Model for Outline {
     ghost use Rattle.std.specs.Arc.{arc_value};
-    ghost use Rattle.epochs.specs.Views.{PhaseView};
+    ghost use Rattle.epochs.specs.Jobs.{PhaseView};
 
     ghost Value = { PhaseView };
 
@@ -30,7 +30,7 @@ impl Model for Outline {
 
     ghost coded = { Prim.hlevel (codes, config.the_row.coded) };
 
-    ghost use Rattle.epochs.specs.Parts.{IsPhase};
+    ghost use Rattle.epochs.specs.Jobs.{IsPhase};
 
     ghost view = { λ p. record { machine = (arc_value p.machine).config; traces = (arc_value p.machine).traces.items; number = p.number; from = p.from; until = p.until } };
 
@@ -41,14 +41,14 @@ impl Model for Outline {
 #[derive(Drop)]
 pub struct Phase {
     pub(crate) outline: Outline,
-    /// A place for the result of each unit, all of them empty. They are made with the jobs, so that what is wrong with results is told
-    /// without memory.
+    /// A place for the result of each unit, all of them empty. They are made with the jobs, so that reporting what is wrong with results
+    /// takes no memory.
     pub(crate) by_unit: Vec<Option<Done>>,
 }
 
 impl Model for Phase {
     ghost use Rattle.std.specs.Prelude.{◌≡◌, []};
-    ghost use Rattle.epochs.specs.Views.{PhaseView};
+    ghost use Rattle.epochs.specs.Jobs.{PhaseView};
     ghost use Rattle.epochs.specs.ByUnit.{results_by_unit};
 
     ghost Value = { PhaseView };

@@ -8,44 +8,32 @@ ghost use Rattle.sim_base.specs.Locality.{TravelsFor};
 ghost use Rattle.sim_base.specs.Machine.{run};
 ghost use Rattle.links.specs.InFlight.{is_due};
 ghost use Rattle.span_laws.specs.Mail.{mail_in};
-ghost use Rattle.epochs.specs.Units.{unit_count, Exists};
-ghost use Rattle.epochs.specs.Views.{job_at, jobs_of};
-ghost use Rattle.epochs.specs.Parts.{IsPart, IsSim, late};
-ghost use Rattle.epochs.specs.Planning.{EndsAt, IsNext, IsPlanned};
+ghost use Rattle.units.specs.Units.{unit_count, Exists};
+ghost use Rattle.epochs.specs.Jobs.{job_at, jobs_of};
+ghost use Rattle.units.specs.Parts.{IsPart, IsSim, late};
+ghost use Rattle.epochs.specs.Planning.{IsNext, IsPlanned};
 
 use crate::job::Job;
-use crate::machine::{Machine, unit_at};
 use crate::merging::no_results;
-use crate::part::UnitState;
 use crate::phase::{Outline, Phase};
-use crate::sim::Sim;
-use crate::slot::Mail;
 use links::flight::Links;
-use links::latency::shortest;
-use sim_base::config::Config;
 use sim_base::job::JobName;
 use sim_base::message::Cycle;
 use std::alloc::{AllocError, Global};
 use std::sync::Arc;
+use units::machine::{Machine, unit_at};
+use units::mail::Mail;
+use units::part::UnitState;
+use units::sim::Sim;
+use units::span::end_of_phase;
 
 /// What is to be done next.
 #[derive(Drop)]
 pub enum Planned {
-    /// Nothing: in the cycles that the simulator has gone over nothing happens. They are no phase.
+    /// Nothing: the simulator has skipped cycles in which nothing happens. They do not count as a phase.
     Quiet(Sim),
     /// All units are to run, each by a job, and their results to be merged with the phase.
     Work(Phase, Vec<Job>),
-}
-
-/// Before which cycle a phase ends that begins in this one.
-pub(crate) fn end_of_phase(config: &Config, now: Cycle, limit: Cycle) -> Cycle
-    requires { now < limit }
-    ensures ends { EndsAt config.now now limit result }
-    ensures some { now < result }
-    ensures within { result ≤ limit }
-    ensures travels { TravelsFor config.now (result - now) }
-{
-    now + shortest(config).min(limit - now)
 }
 
 /// The job of a unit, which takes what arrives at it out of the links.
@@ -104,7 +92,7 @@ fn jobs(
     Ok(jobs)
 }
 
-/// The next phase of a simulator that stands before a limit, at most 10^12 cycles, and its jobs. Only memory can be refused; the
+/// The next phase of a simulator that stands before a limit, at most 10^12 cycles, and its jobs. The only error is out of memory; the
 /// simulator is then gone.
 fn work(sim: Sim, alloc: Global, limit: Cycle) -> Result<(Phase, Vec<Job>), AllocError>
     requires before { sim.now < limit }
@@ -133,7 +121,7 @@ fn work(sim: Sim, alloc: Global, limit: Cycle) -> Result<(Phase, Vec<Job>), Allo
 }
 
 /// What is to be done next by a simulator that stands before a limit, at most 10^12 cycles. Where nothing happens in the next
-/// cycle, it goes over all cycles up to the next in which something does, or up to the limit. Only memory can be refused; the
+/// cycle, it skips all cycles up to the next one in which something does, or up to the limit. The only error is out of memory; the
 /// simulator is then gone.
 pub fn plan(sim: Sim, alloc: Global, limit: Cycle) -> Result<Planned, AllocError>
     requires before { sim.now < limit }

@@ -1,6 +1,6 @@
 //! Texts that explain a refusal to a user: what stands where the fault is, and what may stand there. `explain_text` makes most of them.
 //!
-//! A text has lines that are each ended by a line feed; it is empty where there is nothing to say. The calls fail for memory alone.
+//! A text has lines, each ended by a line feed; it is empty where there is nothing to say. The calls fail only if memory is refused.
 #![tactic(auto)]
 
 mod config;

@@ -1,4 +1,4 @@
--- How the texts on a file begin: with what a reader goes to.
+-- How the texts about a file begin: with where a reader should look.
 --     Begins head text      a text has this beginning
 --     file_head path, line_head path line, row_head path row      the path of a file, with the number of a line or of a row
 --     length_text path      what is said of a trace that is too long

@@ -13,7 +13,7 @@ use sim_base::key::Key;
 use std::alloc::{AllocError, Global};
 use toml::Table;
 
-// What is wrong at a place of a document, and the line of that place, behind the path.
+// What is wrong at a place of a document, and the line of that place, after the path.
 fn place_text(
     alloc: Global,
     document: &[u8],
@@ -28,7 +28,7 @@ fn place_text(
     format!(in alloc; " line {line}, column {column}: {flaw}\n{}\n", Shown(text))
 }
 
-// Why a text is no TOML, behind the path.
+// Why a text is not TOML, after the path.
 fn text_flaw(alloc: Global, text: &str) -> Result<String, AllocError> {
     match toml::table_from_str(alloc, text) {
         Err(error) => match error.span() {
@@ -39,7 +39,7 @@ fn text_flaw(alloc: Global, text: &str) -> Result<String, AllocError> {
     }
 }
 
-// Why a document is no TOML in UTF-8, behind the path.
+// Why a document is not TOML in UTF-8, after the path.
 fn flaw_of(alloc: Global, document: &[u8]) -> Result<String, AllocError> {
     match str::from_utf8(document) {
         Ok(text) => text_flaw(alloc, text),
@@ -47,14 +47,14 @@ fn flaw_of(alloc: Global, document: &[u8]) -> Result<String, AllocError> {
     }
 }
 
-/// Says why a document is no TOML in UTF-8, and where.
+/// Says why a document is not TOML in UTF-8, and where.
 pub fn syntax_text(alloc: Global, path: &str, document: &[u8]) -> Result<String, AllocError>
     ensures { IfOk result (λ s. Begins (file_head path.now) (string_bytes s)) }
 {
     of_file(alloc, path, flaw_of(alloc, document)?.as_str())
 }
 
-// The table of a document; an empty one where the document is no TOML.
+// The table of a document; an empty one where the document is not TOML.
 fn table_of(alloc: Global, document: &[u8]) -> Result<Table, AllocError> {
     let Ok(text) = str::from_utf8(document) else {
         return Ok(Table::new(alloc));

@@ -5,7 +5,7 @@ ghost use Rattle.explain_text.specs.Heads.{Begins, file_head};
 
 use std::alloc::{AllocError, Global};
 
-/// A text behind the beginning of its first line.
+/// A text after the beginning of its first line.
 pub(crate) fn behind(head: String, rest: &str) -> Result<String, AllocError>
     ensures { IfOk result (λ s. string_bytes s ≡ string_bytes head ++ rest.now) }
 {
@@ -14,7 +14,7 @@ pub(crate) fn behind(head: String, rest: &str) -> Result<String, AllocError>
     Ok(text)
 }
 
-/// A text behind the path of its file.
+/// A text after the path of its file.
 pub(crate) fn of_file(alloc: Global, path: &str, rest: &str) -> Result<String, AllocError>
     ensures { IfOk result (λ s. Begins (file_head path.now) (string_bytes s)) }
 {

@@ -21,7 +21,7 @@ pub(crate) enum Allowed {
 }
 
 impl Allowed {
-    /// What may stand at a key. At `fields`, `end` and `link` it is no integer.
+    /// What may stand at a key. At `fields`, `end` and `link` that is not an integer.
     pub(crate) fn at(key: Key) -> Allowed {
         match key {
             Key::Cores => Allowed::Integers(1, 256),

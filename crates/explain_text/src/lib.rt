@@ -1,6 +1,6 @@
 //! What the texts that explain a refusal are made of: the place of a fault, what stands there, and what may stand there.
 //!
-//! A text has lines that are each ended by a line feed. The calls fail for memory alone.
+//! A text has lines, each ended by a line feed. The calls fail only if memory is refused.
 #![tactic(auto)]
 
 pub mod config;

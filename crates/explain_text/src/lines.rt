@@ -14,7 +14,7 @@ pub(crate) struct Position {
 }
 
 impl Position {
-    /// The place behind so many bytes of a text.
+    /// The place right after the first `bytes` bytes of a text.
     pub(crate) fn behind(text: &[u8], bytes: usize) -> Position {
         let before = text.get(..bytes).unwrap_or(text);
         let feeds = before.iter().filter(|byte| **byte == b'\n').count() as u64;

@@ -87,7 +87,7 @@ fn array_at<'t>(table: &'t Table, key: Key) -> Option<&'t Array> {
     }
 }
 
-/// Says what is wrong with `link`, or with the first of its items that is not right, behind the path.
+/// Says what is wrong with `link`, or with the first of its items that is not right, after the path.
 pub(crate) fn link_text(alloc: Global, document: &Section<'_>) -> Result<String, AllocError> {
     match array_at(document.table, Key::Link) {
         Some(items) => items_text(alloc, document.path, items),

@@ -5,7 +5,7 @@ use std::alloc::{AllocError, Global};
 use strsim::levenshtein;
 use toml::Table;
 
-/// A longer name is no slip of the hand.
+/// A longer name is not taken for a typing error.
 const LONGEST: usize = 40;
 
 fn lowered(alloc: Global, name: &str) -> Result<String, AllocError> {
@@ -14,7 +14,7 @@ fn lowered(alloc: Global, name: &str) -> Result<String, AllocError> {
         .collect(alloc)
 }
 
-// How many letters must be put in, left out or changed, whatever their case.
+// How many letters must be inserted, deleted or changed, ignoring case.
 fn edits(alloc: Global, from: &str, to: &str) -> Result<usize, AllocError> {
     let from = lowered(alloc, from)?;
     let to = lowered(alloc, to)?;

@@ -103,7 +103,7 @@ fn relation_of(number: u8) -> Option<Relation> {
     })
 }
 
-// The number that a key has where it is absent.
+// The number that an absent key counts as.
 fn default_of(key: Key) -> Option<u64> {
     match key {
         Key::Ranks => Some(1),
@@ -201,7 +201,7 @@ impl fmt::Display for Filled<'_> {
     }
 }
 
-// Writes a word and what follows it; a number, where the word is the name of a key.
+// Writes a word and what follows it; if the word is the name of a key, its number instead of the word.
 fn write_piece<W: fmt::Write>(
     f: &mut fmt::Formatter<W>,
     table: &Table,
@@ -259,7 +259,7 @@ fn sides_text(alloc: Global, number: u8, table: &Table) -> Result<String, AllocE
     }
 }
 
-// Relation 8: each link that has a latency of its own is there.
+// Relation 8: each link that has a latency of its own exists.
 fn absent_link_text(alloc: Global, table: &Table) -> Result<String, AllocError> {
     let ids = ids_of(alloc, table)?;
     let (cores, channels) = (
@@ -287,7 +287,7 @@ fn absent_link(ids: &[i64], cores: Option<u64>, channels: Option<u64>) -> Option
     Some((id, links))
 }
 
-// The first id that stands earlier too.
+// The first id that also occurs earlier.
 fn repeated(ids: &[i64]) -> Option<i64> {
     for index in 0..ids.len() {
         if ids[..index].contains(&ids[index]) {
@@ -297,7 +297,7 @@ fn repeated(ids: &[i64]) -> Option<i64> {
     None
 }
 
-// Relation 9: no two latencies are of one link.
+// Relation 9: no two latencies are for the same link.
 fn repeated_link_text(alloc: Global, table: &Table) -> Result<String, AllocError> {
     match repeated(&ids_of(alloc, table)?) {
         Some(id) => format!(in alloc; " two items of link have the id {id}\n"),
@@ -305,7 +305,7 @@ fn repeated_link_text(alloc: Global, table: &Table) -> Result<String, AllocError
     }
 }
 
-// Relation 10: where there are several ranks an address has a field of the rank.
+// Relation 10: if there are several ranks, an address has a field for the rank.
 fn rank_text(alloc: Global, table: &Table) -> Result<String, AllocError> {
     const RULE: &str = "where ranks is above 1 fields must have \"rank\"";
     let (Some(ranks), Some(fields)) = (number_at(table, Key::Ranks), table.get("fields")) else {
@@ -318,7 +318,7 @@ fn rank_text(alloc: Global, table: &Table) -> Result<String, AllocError> {
     )
 }
 
-/// Says which relation does not hold, and by which numbers, behind the path.
+/// Says which relation does not hold, and with which numbers, after the path.
 pub(crate) fn broken_text(alloc: Global, number: u8, table: &Table) -> Result<String, AllocError> {
     match number {
         8 => absent_link_text(alloc, table),

@@ -34,18 +34,18 @@ static COMMANDS: [&[u8]; 6] = [b"ACT", b"RD", b"WR", b"PRE", b"PREA", b"REF"];
 pub(crate) enum RowFlaw<'a> {
     /// It is not the header of the table.
     Header(TableKind),
-    /// It has not as many fields as the header.
+    /// It does not have as many fields as the header.
     Length { fields: usize, columns: usize },
     /// This field names no command.
     Command(&'a [u8]),
-    /// This field is no number.
+    /// This field is not a number.
     Number(&'a [u8]),
     /// Its fields are not those of a row in its place.
     Fields(TableKind),
 }
 
 impl<'a> RowFlaw<'a> {
-    /// What is wrong with a row of a table whose header has so many columns; row 0 is the header.
+    /// What is wrong with a row of a table whose header has `columns` columns; row 0 is the header.
     pub(crate) fn of(
         kind: TableKind,
         row: u64,
@@ -83,7 +83,7 @@ fn is_command(field: &[u8]) -> bool {
     COMMANDS.iter().any(|command| *command == field)
 }
 
-// The first field beside the command that is not empty and no number.
+// The first field other than the command that is neither empty nor a number.
 fn first_that_is_no_number(record: &ByteRecord) -> Option<&[u8]> {
     for (index, field) in record.iter().enumerate() {
         if index != COMMAND && !field.iter().all(|byte| byte.is_ascii_digit()) {

@@ -17,7 +17,7 @@ pub(crate) struct Section<'a> {
     pub(crate) item: Option<usize>,
 }
 
-/// Where in the document a table stands, behind the document's path.
+/// Where in the document a table stands, after the document's path.
 impl fmt::Display for Section<'_> {
     fn fmt<W: fmt::Write>(&self, f: &mut fmt::Formatter<W>) -> fmt::Result {
         match self.item {
@@ -44,7 +44,7 @@ impl<'a> Section<'a> {
         }
     }
 
-    /// Says what is wrong with the type of a key's value, or that the key is missing, behind the path.
+    /// Says what is wrong with the type of a key's value, or that the key is missing, after the path.
     pub(crate) fn key_text(&self, alloc: Global, key: Key) -> Result<String, AllocError> {
         match self.table.get(key.name()) {
             Some(value) => {
@@ -68,7 +68,7 @@ impl<'a> Section<'a> {
         Ok(text)
     }
 
-    // What stands in the document, and may be meant for a key that is missing, as a line of its own.
+    // What stands in the document and may have been meant as the missing key, as a line of its own.
     fn instead_text(&self, alloc: Global, key: Key) -> Result<String, AllocError> {
         if let Some(holder) = self.holder_of(key) {
             return format!(in alloc;
@@ -114,7 +114,7 @@ impl<'a> Section<'a> {
         is_near(alloc, name, key)
     }
 
-    /// Says that the value of a key is out of its range, behind the path.
+    /// Says that the value of a key is out of its range, after the path.
     pub(crate) fn range_text(&self, alloc: Global, key: Key) -> Result<String, AllocError> {
         let allowed = Allowed::at(key);
         match self.table.get(key.name()) {
@@ -138,7 +138,7 @@ impl<'a> Section<'a> {
             .find(|name| key_named(keys, name).is_none())
     }
 
-    /// Says which name is not known, and which may be meant, behind the path.
+    /// Says which name is not known, and which may be meant, after the path.
     pub(crate) fn unknown_text(&self, alloc: Global) -> Result<String, AllocError> {
         match self.unknown() {
             Some(name) => {
@@ -164,7 +164,7 @@ impl<'a> Section<'a> {
         }
     }
 
-    /// Whether a name stands in the table that no key has.
+    /// Whether the table has a name that no key has.
     pub(crate) fn has_unknown(&self) -> bool {
         self.unknown().is_some()
     }
@@ -194,7 +194,7 @@ pub(crate) fn entry_text(alloc: Global, key: Key, value: &Value) -> Result<Strin
     }
 }
 
-// A key and a value that is no table.
+// A key and a value that is not a table.
 fn line_text(alloc: Global, key: Key, value: &Value) -> Result<String, AllocError> {
     let mut table = Table::new(alloc);
     table.insert(String::from_str(alloc, key.name())?, value.clone()?)?;

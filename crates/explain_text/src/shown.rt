@@ -5,10 +5,10 @@ use std::fmt;
 /// How many characters of a foreign text are shown.
 const MOST: usize = 80;
 
-/// So many bytes hold more characters than are shown, and cut none that is shown.
+/// This many bytes hold more characters than are shown, and a cut after them splits none that is shown.
 const HEAD: usize = 4 * (MOST + 1);
 
-/// Bytes that someone else wrote, as they are shown: at most 80 characters, and `...` where more follow; `?` for what is no UTF-8, a space
+/// Bytes that someone else wrote, as they are shown: at most 80 characters, and `...` where more follow; `?` for what is not UTF-8, a space
 /// for a tab, and escapes for characters that a terminal does not print.
 #[derive(Clone, Copy)]
 pub(crate) struct Shown<'a>(pub(crate) &'a [u8]);
@@ -27,7 +27,7 @@ impl fmt::Display for Shown<'_> {
     }
 }
 
-// Writes the characters of a text, the first of which has this place in the whole. It gives the place after the last one.
+// Writes the characters of a text, the first of which has this place in the whole. It returns the place after the last one.
 fn write_text<W: fmt::Write>(
     f: &mut fmt::Formatter<W>,
     text: &str,

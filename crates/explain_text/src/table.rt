@@ -21,7 +21,7 @@ fn open<'t>(alloc: Global, table: &'t [u8]) -> Reader<&'t [u8]> {
         .from_reader(alloc, table)
 }
 
-// Reads up to a record, and tells whether there is one; that of the header has the number 0.
+// Reads up to a record, and tells whether there is one; the header has the number 0.
 fn read_to(
     reader: &mut Reader<&[u8]>,
     record: &mut ByteRecord,
@@ -61,7 +61,7 @@ fn column_count(alloc: Global, table: &[u8]) -> Result<usize, AllocError> {
     Ok(record_at(alloc, table, 0)?.map_or(0, |header| header.len()))
 }
 
-// What stands in a row, and what is wrong with it, behind its number.
+// What stands in a row, and what is wrong with it, after its number.
 fn record_text(
     alloc: Global,
     kind: TableKind,
@@ -74,7 +74,7 @@ fn record_text(
     format!(in alloc; ": {}\n{flaw}\n", Shown(&text))
 }
 
-// What is said of a row that is not there, behind its number.
+// What is said of a row that is not there, after its number.
 fn absent_text(alloc: Global, kind: TableKind, row: u64) -> Result<String, AllocError> {
     match row {
         0 => {

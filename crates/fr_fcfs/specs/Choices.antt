@@ -19,7 +19,7 @@ use Rattle.queue.specs.View.{QueueView}
 use Rattle.fr_fcfs.specs.Requests.{candidates_of}
 use Rattle.fr_fcfs.specs.declared.choice.Choice.{Choice}
 
--- The banks and the refreshes stand for the commands so far, under a configuration with these groups and this mark of the queue,
+-- The banks and the refreshes stand for the commands so far, under a configuration with this many groups and the queue's `high`,
 -- and the candidates for the queue and the rows that are open.
 pub record StandFor (bank_candidates : BankCandidates) (banks : Banks) (refresh : RefreshCounts) (queue : QueueView) (groups : ℕ) (s : Config) (history : List IssuedCommand) : Type 0 where
   pub banks_stand : BanksStandFor banks s history

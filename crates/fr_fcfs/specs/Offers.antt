@@ -4,8 +4,8 @@
 --     hits_in s history requests accesses bank cycle      the place of the first ready row hit of a bank in a cycle
 --     rows_in s history requests accesses bank cycle      the place of its first request for which an ACT or a PRE may be issued then
 --     IsBest now hits rows offer      an offer is the first from now on
---     IsBestSoFar room now hits rows offer      the same, where one with a place behind all others stands for none
---     IsFirstReady s history queue now offer      an offer is what the first request of the queue needs that is ready
+--     IsBestSoFar room now hits rows offer      the same, where one with a place after all others stands for none
+--     IsFirstReady s history queue now offer      an offer is what the first ready request of the queue needs
 use Rattle.std.specs.Prelude.{◌≡◌, ℕ, ◌<◌, ◌≤◌, ◌==◌, nat_lt, max, Bool, true, false, not, ◌&&◌, List, filter, Option, Some, None, option_map, slice_get, if◌then◌else◌}
 use Rattle.sim_base.specs.declared.config.Config.{Config}
 use Rattle.sim_base.specs.declared.command.Command.{Command}
@@ -94,11 +94,11 @@ IsBest now hits rows (Some o) = IsBestOffer now hits rows o
 abbrev pub goes_before : Offer → Offer → Bool
 goes_before a b = if a.cycle == b.cycle then (if a.hit then (if b.hit then nat_lt a.slot b.slot else true) else (if b.hit then false else nat_lt a.slot b.slot)) else nat_lt a.cycle b.cycle
 
--- what stands for no offer, where there are so many places: all offers go before it
+-- what stands for no offer, where there are this many places: all offers go before it
 abbrev pub no_offer : ℕ → Offer
 no_offer room = record { cycle = 18446744073709551615; hit = false; slot = room }
 
--- an offer, if it has one of so many places
+-- an offer, if it has one of this many places
 abbrev pub if_within : ℕ → Offer → Option Offer
 if_within room o = if nat_lt o.slot room then Some o else None
 
@@ -111,7 +111,7 @@ pub record IsBestSoFar (room now : ℕ) (hits rows : ℕ → Option ℕ) (o : Of
 abbrev pub offer_from : ℕ → ℕ → Bool → ℕ → Offer
 offer_from now ready hit slot = record { cycle = max now ready; hit = hit; slot = slot }
 
--- from which cycle on commands of a kind may be issued to a bank, where they find it as they should
+-- from which cycle on commands of a kind may be issued to a bank, if they find it as they should
 abbrev pub IsReadyFrom : Config → List IssuedCommand → BankId → Kind → ℕ → Type 0
 IsReadyFrom s history bank kind ready =
     (command : Command) → kind_of command ≡ kind → bank_of command ≡ Some bank → finds_its_banks s history command ≡ true → IsLegalFrom s history command ready
@@ -121,7 +121,7 @@ abbrev pub row_kind : Option ℕ → Kind
 row_kind (Some row) = kind.Pre
 row_kind None = kind.Act
 
--- An offer is what the first request needs that is ready from now on.
+-- An offer is what the first ready request, from now on, needs.
 pub record IsReadyAt (s : Config) (history : List IssuedCommand) (queue : QueueView) (now : ℕ) (o : Offer) : Type 0 where
   pub from_now : now ≤ o.cycle
   pub none_before : (cycle : ℕ) → now ≤ cycle → cycle < o.cycle → first_ready s history cycle (candidates_of s queue) ≡ None

@@ -1,6 +1,6 @@
 -- What a request needs, and which requests may be served next.
---     IsInBanks ranks r      a request asks for a bank that there is
---     KnowsRows bank_candidates history      bank_candidates that know which rows are open
+--     IsInBanks ranks r      a request asks for a bank that exists
+--     KnowsRows bank_candidates history      candidates that know which rows are open
 --     IsLegalFrom s history command cycle      from which cycle on a command may be issued
 --     is_hit history r      the request waits for its data alone
 --     candidates_of s queue      the requests that may be served next
@@ -16,7 +16,7 @@ use Rattle.bank_candidates.specs.Candidates.{bank_at}
 use Rattle.bank_candidates.specs.Stands.{StandsFor as CandidatesStandFor}
 use Rattle.queue.specs.View.{QueueView, is_draining}
 
--- a request asks for a bank of so many ranks, each with four groups of four banks at most
+-- a request asks for a bank of this many ranks, each with at most four groups of four banks
 pub record IsInBanks (ranks : ℕ) (r : Request) : Type 0 where
   pub rank : r.place.rank < ranks
   pub group : r.place.group < 4

@@ -1,4 +1,4 @@
-//! Whether the next command stays so when requests arrive.
+//! Whether the next command stays the same when requests arrive.
 
 ghost use Rattle.std.specs.Prelude.{◌≡◌, ◌*◌, ◌<◌, true, List, Option, All, IsTrue, take};
 ghost use Rattle.sim_base.specs.Rules.{kind_of, open_row};
@@ -26,7 +26,7 @@ use queue_columns::words::bank_number;
 use sim_base::command::Kind;
 use sim_base::message::{Cycle, Request};
 
-/// The kind of what a request for a row needs where this row of its bank is open.
+/// The kind of command that a request for a row needs, given the open row of its bank.
 #[inline(always)]
 fn kind_needed(open_row: Option<u32>, row: u32, write: bool) -> Kind
     ensures kind { (r : Request) → r.place.row ≡ row → r.write ≡ write → result ≡ kind_of (needed_at open_row r) }
@@ -48,7 +48,7 @@ fn moves_data(kind: Kind) -> bool
     matches!(kind, Kind::Rd | Kind::Wr)
 }
 
-/// Whether what a request needs may not be issued before a cycle, and is no row hit, unless a row hit is chosen for the cycle.
+/// Whether what a request needs may not be issued before a cycle, and is not a row hit, unless a row hit is chosen for the cycle.
 #[inline(always)]
 fn comes_after(
     bank_candidates: &BankCandidates,
@@ -68,9 +68,8 @@ fn comes_after(
     after && (hit || !moves_data(kind))
 }
 
-/// Whether the choice for a cycle, which is the next one, is known to stay so now that the requests of the queue from a place on have
-/// arrived. It stays where none of them goes before it; of those for which it might, none is looked at where the channel ever
-/// drains its writes.
+/// Whether the choice for a cycle, which is the next one, is known to stay the same now that the requests of the queue from a place on
+/// have arrived. It stays if none of them goes before it. If the channel ever drains its writes, none is looked at, and it is not known.
 #[inline(always)]
 pub fn stays(
     queue: &Queue,

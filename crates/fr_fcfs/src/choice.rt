@@ -49,7 +49,7 @@ fn choice_at(bank_candidates: &BankCandidates, requests: &[Request], slot: usize
     }
 }
 
-/// The first cycle from now on in which some request has what it needs issued, and what that is.
+/// The first cycle from now on in which a command that some request needs may be issued, and that command.
 #[inline]
 fn next_of_requests(
     queue: &Queue,
@@ -111,8 +111,8 @@ fn with_refresh(
 }
 
 /// The first cycle with a command from `now` on, if the queue stays as it is, and that command; None where there is none. `groups`
-/// is the number of groups of each rank. What a rank needs that is to be refreshed goes first, and holds the requests back; of
-/// these row hits go first, and then the oldest.
+/// is the number of groups of each rank. What a rank that is to be refreshed needs goes first, and holds the requests back; of
+/// these, row hits go first, and then the oldest.
 pub fn next(
     queue: &Queue,
     bank_candidates: &BankCandidates,

@@ -53,7 +53,7 @@ fn if_allowed(candidate: Option<usize>, allowed: bool) -> Option<usize>
     if allowed { candidate } else { None }
 }
 
-/// Banks, if the access that is asked of them goes.
+/// These banks, if the access that is asked of them goes; otherwise none.
 #[inline(always)]
 fn banks_if(banks: BankSet, allowed: bool) -> BankSet
     ensures { (k : ℕ) → is_in result k ≡ (allowed && is_in banks k) }
@@ -99,7 +99,7 @@ fn hit(bank_candidates: &BankCandidates, accesses: Accesses) -> BankSet
     reads.union(writes)
 }
 
-/// Takes what opens or closes the row of one bank more into the best offer so far. No request of the accesses that go asks for the open
+/// Takes what opens or closes the row of one more bank into the best offer so far. No request of the accesses that go asks for the open
 /// row. The request is looked for only where the command may be issued soon enough.
 #[inline(always)]
 fn with_row(
@@ -127,7 +127,7 @@ fn with_row(
     }
 }
 
-/// Takes the row hit of one bank more into the best offer so far. It is looked for only where it may be issued soon enough.
+/// Takes the row hit of one more bank into the best offer so far. It is looked for only where it may be issued soon enough.
 #[inline(always)]
 fn with_hit(
     best: &mut Offer,

@@ -72,7 +72,7 @@ fn has_open_bank(bank_candidates: &BankCandidates, rank: u32, groups: u32) -> bo
     false
 }
 
-/// What a rank needs that is to be refreshed.
+/// What a rank that is to be refreshed needs.
 #[inline(never)]
 pub(crate) fn refresh_need(
     bank_candidates: &BankCandidates,

@@ -30,7 +30,7 @@ pub(crate) struct Offer {
     pub(crate) slot: usize,
 }
 
-/// Whether an offer goes before another: it is for an earlier cycle, or in the same one a row hit, or else an older request.
+/// Whether an offer goes before another: it is for an earlier cycle, or in the same one as a row hit, or else for an older request.
 #[inline(always)]
 fn goes_before(a: Offer, b: Offer) -> bool
     ensures { result ≡ goes_before a b }

@@ -12,10 +12,10 @@ is_below bound word = nat_lt word bound
 abbrev pub NoneBelow : ℕ → List ℕ → ℕ → Type 0
 NoneBelow bound words place = (k : ℕ) → k < place → is_below bound (slice_index words k) ≡ false
 
--- the greatest word that there can be
+-- the greatest possible word
 abbrev pub greatest : ℕ
 greatest = 2 ^ 64 - 1
 
--- the least of some words, and the greatest that there can be where there is none
+-- the least of some words, or the greatest possible word if there are none
 abbrev pub least_of : List ℕ → ℕ
 least_of words = fold min greatest words

@@ -8,10 +8,10 @@ ghost use Rattle.lane_scan.specs.Scans.{is_below, NoneBelow, least_of};
 use crate::lanes::{below_bits, least_lane, lesser, load};
 use std::simd::prelude::*;
 
-/// The words that are tested at once.
+/// How many words are tested at once.
 const TESTED: usize = 16;
 
-/// The words of a full vector of which the least are kept.
+/// How many words a full vector has when the least are kept.
 const LANES: usize = 8;
 
 /// How many of N words from a place on come before the first that is below a bound.
@@ -58,7 +58,7 @@ pub fn first_below(words: &[u64], bound: u64) -> Option<usize>
     None
 }
 
-/// Goes on over the words from a place on, N at a time, up to where fewer than N are left; the least word so far.
+/// Goes on over the words from a place on, N at a time, until fewer than N are left. Gives where that is, and the least word so far.
 fn least_from<const N: usize>(words: &[u64], from: usize, least: u64) -> (usize, u64)
     requires begun { from ≤ length words.now }
     requires so_far { least ≡ least_of (take from words.now) }
@@ -77,7 +77,7 @@ fn least_from<const N: usize>(words: &[u64], from: usize, least: u64) -> (usize,
     (at, least.min(least_lane(lanes)))
 }
 
-/// The least word, and the greatest that there can be where there is none.
+/// The least word, or the greatest possible word if there are none.
 pub fn least(words: &[u64]) -> u64
     ensures { result ≡ least_of words.now }
 {

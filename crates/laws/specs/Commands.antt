@@ -1,5 +1,5 @@
 -- What holds of the commands of a run.
---     channel_steps_of s traces n channel      what a channel does in the first n cycles of a run, a command or none a cycle
+--     channel_steps_of s traces n channel      what a channel does in the first n cycles of a run, one command or none per cycle
 --     history_of s traces n channel      its commands, each with its cycle
 --     CommandsAreLegal s traces n      each command is legal in its cycle, over those of its channel in the cycles before it
 --     HistoriesAreLegal s traces n      each command is legal over those that stand before it in its channel's history
@@ -14,7 +14,7 @@ use Rattle.sim_base.specs.declared.command.Command.{Command}
 use Rattle.sim_base.specs.declared.command.IssuedCommand.{IssuedCommand}
 use Rattle.sim_base.specs.declared.trace.Entry.{Entry}
 
--- what a channel does in the first n cycles of a run, a command or none a cycle
+-- what a channel does in the first n cycles of a run, one command or none per cycle
 abbrev pub channel_steps_of : Config → List (List Entry) → ℕ → ℕ → List (Option Command)
 channel_steps_of s traces n channel = steps_of_channel channel (run s traces n)
 

@@ -37,7 +37,7 @@ CreditsComeBackOnce s traces n =
     (core channel : ℕ) (write : Bool) → core < s.cores → channel < s.channels →
     credits_back s traces n core channel write ≤ requests_sent s traces n core channel write
 
--- in no cycle the queue of a channel has more requests than all cores together have credits for it
+-- in no cycle does the queue of a channel have more requests than all cores together have credits for it
 abbrev pub QueuesAreBounded : Config → List (List Entry) → ℕ → Type 0
 QueuesAreBounded s traces n =
     (channel cycle : ℕ) → channel < s.channels → cycle ≤ n →

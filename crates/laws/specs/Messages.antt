@@ -1,7 +1,7 @@
 -- What the messages of a run say.
 --     is_request_of core entry load      a request of this entry of this core
 --     RequestsAreSentOnce s traces n      no entry is requested twice
---     IsRequestTo s traces history channel m r      a message carries a request to a channel, as the trace of its core says it
+--     IsRequestTo s traces history channel m r      a message carries a request to a channel, as the trace of its core has it
 --     RequestsFit s traces n      each message to a channel carries such a request
 --     FitsCore s core link load, AnswersFit s traces n      each message to a core is a reply or a credit of a channel, on its link
 use Rattle.std.specs.Prelude.{◌≡◌, ℕ, ◌<◌, ◌≤◌, ◌==◌, Bool, false, ◌&&◌, List, slice_get, count_by, All, Some, IsSomeAnd, if◌then◌else◌}
@@ -53,6 +53,6 @@ FitsCore s core link (load.Reply entry) = (channel : ℕ) × (channel < s.channe
 FitsCore s core link (load.Credit write entry) = (channel : ℕ) × (channel < s.channels) × (link ≡ credit_link s core channel)
 FitsCore s core link (load.Request r) = ⊥
 
--- each message to a core is one
+-- each message to a core is such a reply or credit
 abbrev pub AnswersFit : Config → List (List Entry) → ℕ → Type 0
 AnswersFit s traces n = (core : ℕ) → core < s.cores → All (λ m. FitsCore s core m.link m.load) (inbox s traces (run s traces n) (Core core))

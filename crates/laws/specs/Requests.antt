@@ -1,11 +1,11 @@
 -- What becomes of the requests of a run.
 --     serves_entry core entry command      a command moves the data of an entry of a core
 --     IsServedAt s traces n core entry channel cycle      a channel moves the data of an entry in a cycle
---     RequestsAreServedOnce s traces n      the data of an entry is moved by one command at most
+--     RequestsAreServedOnce s traces n      the data of an entry is moved by at most one command
 --     AnswersRead trace steps m      a reply is that of a Read that the core issued before the reply arrives
 --     RepliesAnswerReads s traces n      each reply is that of such a Read
 --     ReadsAreAnsweredOnce s traces n      no two replies are those of one entry
---     CommandsNameTheQueue s traces n      a command stands only in the name of an entry whose request is in the queue
+--     CommandsNameTheQueue s traces n      a command is issued only on behalf of an entry whose request is in the queue
 use Rattle.std.specs.Prelude.{◌≡◌, ℕ, ◌<◌, ◌≤◌, ◌==◌, Bool, false, ◌&&◌, IsTrue, List, take, slice_get, slice_index_or, count_by, All, Contains, IfSome, Option, Some, None}
 use Rattle.sim_base.specs.declared.config.Config.{Config}
 use Rattle.sim_base.specs.History.{trace_of, steps_of_core, issued_before, inbox}
@@ -43,7 +43,7 @@ serves_entry_in core entry (Some command) = serves_entry core entry command
 abbrev pub IsServedAt : Config → List (List Entry) → ℕ → ℕ → ℕ → ℕ → ℕ → Type 0
 IsServedAt s traces n core entry channel cycle = IsTrue (serves_entry_in core entry (slice_index_or (channel_steps_of s traces n channel) cycle None))
 
--- the data of an entry of a core is moved by one channel at most, and in one cycle
+-- the data of an entry of a core is moved by at most one channel, and in at most one cycle
 abbrev pub RequestsAreServedOnce : Config → List (List Entry) → ℕ → Type 0
 RequestsAreServedOnce s traces n =
     (core entry channel other cycle later : ℕ) → channel < s.channels → other < s.channels →
@@ -70,12 +70,12 @@ RepliesAnswerReads s traces n =
     (core : ℕ) → core < s.cores →
     All (AnswersRead (trace_of traces core) (steps_of_core core (run s traces n))) (inbox s traces (run s traces n) (Core core))
 
--- to no entry two replies are sent
+-- no two replies are sent for the same entry
 abbrev pub ReadsAreAnsweredOnce : Config → List (List Entry) → ℕ → Type 0
 ReadsAreAnsweredOnce s traces n =
     (core entry : ℕ) → core < s.cores → count_by (λ m. is_reply_to entry m.load) (inbox s traces (run s traces n) (Core core)) ≤ 1
 
--- each command that stands in the name of an entry does so while the entry's request is in the channel's queue
+-- each command that is issued on behalf of an entry is issued while the entry's request is in the channel's queue
 abbrev pub CommandsNameTheQueue : Config → List (List Entry) → ℕ → Type 0
 CommandsNameTheQueue s traces n =
     (channel cycle : ℕ) (command : Command) → channel < s.channels → cycle < n →

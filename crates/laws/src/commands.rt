@@ -15,7 +15,7 @@ pub fn commands_are_legal()
     ensures ascending { (s : Config) (traces : List (List Entry)) (n : ℕ) → CyclesAscend s traces n }
 {}
 
-/// The table of all commands of a run, which stands by cycle and then by channel: each row keeps the rules over the rows of its
+/// The table of all commands of a run is in order, by cycle and then by channel: each row keeps the rules over the rows of its
 /// channel before it, and none comes while a refresh is overdue.
 pub fn tables_keep_the_rules()
     ensures ordered { (s : Config) (traces : List (List Entry)) (n : ℕ) → TablesAreOrdered s traces n }

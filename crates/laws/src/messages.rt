@@ -12,7 +12,7 @@ pub fn links_carry_one_a_cycle()
     ensures { (s : Config) (traces : List (List Entry)) (n : ℕ) → LinksCarryOneACycle s traces n }
 {}
 
-/// Each message to a channel is the request of an entry that its core has issued, as the core's trace says it; each message to a
+/// Each message to a channel is the request of an entry that its core has issued, as the core's trace has it; each message to a
 /// core is a reply or a credit of a channel; and no entry is requested twice.
 pub fn messages_fit_their_links()
     ensures requests { (s : Config) (traces : List (List Entry)) (n : ℕ) → RequestsFit s traces n }
@@ -20,12 +20,12 @@ pub fn messages_fit_their_links()
     ensures once { (s : Config) (traces : List (List Entry)) (n : ℕ) → RequestsAreSentOnce s traces n }
 {}
 
-/// A command stands in the name of an entry only while the entry's request is in the channel's queue.
+/// A command is issued on behalf of an entry only while the entry's request is in the channel's queue.
 pub fn commands_name_the_queue()
     ensures { (s : Config) (traces : List (List Entry)) (n : ℕ) → CommandsNameTheQueue s traces n }
 {}
 
-/// The data of an entry is moved by one command at most, of one channel.
+/// The data of an entry is moved by at most one command, of one channel.
 pub fn requests_are_served_once()
     ensures { (s : Config) (traces : List (List Entry)) (n : ℕ) → RequestsAreServedOnce s traces n }
 {}

@@ -13,7 +13,7 @@ pub record InFlight : Type 0 where
   pub channels : ℕ
   pub messages : List Message
 
--- the unit that a link of a machine with so many channels leads to
+-- the unit that a link of a machine with this number of channels leads to
 abbrev pub receiver_of : ℕ → ℕ → MachineUnit
 receiver_of channels link = if link % 3 == 0 then Channel (link / 3 % channels) else Core (link / 3 / channels)
 

@@ -1,6 +1,6 @@
--- The latencies that count for the shortest: those of overrides, and those of kinds of links where some link has no override.
+-- The latencies that matter for the shortest: those of overrides, and those of kinds of links where some link has no override.
 --     has_usual s kind      some link of a kind has no override
---     usual_or_longest s kind latency      the latency of a kind, where it counts
+--     usual_or_longest s kind latency      the latency of a kind, where it matters
 --     least_own s      the least latency of an override
 use Rattle.std.specs.Prelude.{ℕ, ◌*◌, ◌%◌, ◌==◌, nat_lt, Bool, min, fold, count_by, if◌then◌else◌}
 use Rattle.sim_base.specs.declared.config.Config.{Config}

@@ -10,7 +10,7 @@
 --     lesser_of first second      the lesser of two cycles
 --     due_of_both from until rings number      what arrives within a span in a ring and in the one behind it, by age
 --     without_due from until rings number, without_due_of_both from until rings number      the rings without what arrives within a span
---     HasRoom rings number more      a ring has room for so many messages more
+--     HasRoom rings number more      a ring has room for this many further messages
 --     count_to channels number ms      how many of some messages go to a ring
 --     CanTakeUp channels rings ms      each ring has room for those of some messages that go to it
 --     Grows old new      the same messages, with more room
@@ -65,7 +65,7 @@ abbrev pub AreRings : ℕ → ℕ → List (List Message) → Type 0
 AreRings channels first [] = Unit {0}
 AreRings channels first (ms ∷ rest) = IsRing channels first ms × AreRings channels (first + 1) rest
 
--- the ring has room for so many messages more
+-- the ring has room for this many further messages
 pub record HasRoom (rings : List (Buffer Message)) (number more : ℕ) : Type 0 where
   pub exists : number < length rings
   pub room : length (slice_index_or rings number (buffer [] 0)).items + more ≤ (slice_index_or rings number (buffer [] 0)).capacity
@@ -82,16 +82,16 @@ count_to channels number ms = count_by (goes_to channels number) ms
 abbrev pub CanTakeUp : ℕ → List (Buffer Message) → List Message → Type 0
 CanTakeUp channels rings ms = (number : ℕ) → 0 < count_to channels number ms → HasRoom rings number (count_to channels number ms)
 
--- the ring of each message has room for so many more
+-- the ring of each message has room for this many more
 abbrev pub HaveRoom : ℕ → List (Buffer Message) → ℕ → List Message → Type 0
 HaveRoom channels rings more ms = AllByRecursion (λ m. HasRoom rings (ring_to channels m) more) ms
 
--- the lesser of a cycle and of the arrival of the first message; the one of them that there is
+-- the lesser of a cycle and of the arrival of the first message; if there is only one of them, that one
 abbrev pub sooner_of : Option ℕ → List Message → Option ℕ
 sooner_of least [] = least
 sooner_of least (m ∷ ms) = Some (option_map_or (λ cycle. min cycle m.arrival) least m.arrival)
 
--- rings of which some may have got more room, or which may have got empty rings behind them
+-- the same rings, some of which may have got more room, and which may have got empty rings behind them
 pub record Grows (old new : List (Buffer Message)) : Type 0 where
   pub messages : joined (contents new) ≡ joined (contents old)
   pub rings : (channels first : ℕ) → AreRings channels first (contents old) → AreRings channels first (contents new)
@@ -101,7 +101,7 @@ pub record Grows (old new : List (Buffer Message)) : Type 0 where
 abbrev pub arrives_outside : ℕ → ℕ → Message → Bool
 arrives_outside from until m = not (arrives_within from until m)
 
--- the lesser of two cycles; the one of them that there is
+-- the lesser of two cycles; if there is only one of them, that one
 abbrev pub lesser_of : Option ℕ → Option ℕ → Option ℕ
 lesser_of None second = second
 lesser_of (Some a) None = Some a

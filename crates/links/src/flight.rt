@@ -18,10 +18,10 @@ use sim_base::message::{Cycle, Inbox, LinkId, Message, Unit};
 use std::alloc::{AllocError, Global};
 use std::marker::Model;
 
-/// So many messages are put into their rings one after the other; more are worth a sort, and a count of those that go to each ring.
+/// Up to this many messages are put into their rings one after the other; more are worth a sort, and a count of those that go to each ring.
 const FEW_MESSAGES: usize = 64;
 
-/// Of so many links at most the numbers of their rings are kept.
+/// The numbers of the rings are kept for at most this many links.
 const MOST_NUMBERS: u64 = 16_384;
 
 /// The messages in flight on the links of a machine.
@@ -32,10 +32,10 @@ const MOST_NUMBERS: u64 = 16_384;
 pub struct Links {
     alloc: Global,
     channels: u16,
-    /// The number of the ring of each of the first links: to look it up takes less than to find it.
+    /// The number of the ring of each of the first links: to look it up takes less time than to compute it.
     numbers: Vec<usize>,
     /// A ring for each channel and then two for each core, of replies and of credits, as far as messages have been sent to them. A core's
-    /// credits pass replies in flight; in rings of their own nearly every message joins at the back.
+    /// credits overtake replies in flight; in rings of their own nearly every message joins at the back.
     rings: Vec<Ring>,
 }
 
@@ -69,7 +69,7 @@ fn ring_of_link(channels: u16, link: LinkId) -> usize
     }
 }
 
-/// The numbers of the rings of so many links, or of fewer, where memory is refused.
+/// The numbers of the rings of the first `links` links, or of fewer where memory is refused.
 fn numbers_of(alloc: Global, channels: u16, links: u64) -> Vec<usize>
     requires { 0 < channels }
     ensures { AreNumbers channels result.items }
@@ -108,7 +108,7 @@ fn ring_of_unit(channels: u16, unit: Unit) -> Option<usize>
     }
 }
 
-/// Makes as many rings.
+/// Makes rings until there are `count` of them.
 fn make_rings(alloc: Global, rings: &mut Vec<Ring>, count: usize) -> Result<(), AllocError>
     ensures grows { Grows rings.old.items rings.new.items }
     ensures count { OnOk result (count ≤ length rings.new.items) }
@@ -119,7 +119,7 @@ fn make_rings(alloc: Global, rings: &mut Vec<Ring>, count: usize) -> Result<(), 
     Ok(())
 }
 
-/// Whether a ring is there and has room for so many messages more.
+/// Whether a ring exists and has room for `more` further messages.
 fn has_room(rings: &[Ring], number: usize, more: usize) -> bool
     ensures { IsTrue result → HasRoom rings.now number more }
 {
@@ -129,7 +129,7 @@ fn has_room(rings: &[Ring], number: usize, more: usize) -> bool
     }
 }
 
-/// Makes a ring, where it is not there, and room in it for so many messages more.
+/// Makes a ring if it does not exist, and room in it for `more` further messages.
 #[cold]
 #[inline(never)]
 fn make_ring_with_room(
@@ -147,7 +147,7 @@ fn make_ring_with_room(
     Ok(())
 }
 
-/// Makes room in a ring for so many messages more, where there is too little.
+/// Makes room in a ring for `more` further messages, where there is too little.
 fn make_room_at(
     alloc: Global,
     rings: &mut Vec<Ring>,
@@ -201,7 +201,7 @@ fn make_room_for_all(
     Ok(())
 }
 
-/// Adds one to the count at a number. Counts that are not there are 0.
+/// Adds one to the count at a number. Counts that do not exist yet are 0.
 fn count_one(counts: &mut Vec<usize>, number: usize) -> Result<(), AllocError>
     requires { number + 1 < 2 ^ 64 }
     ensures { OnOk result ((n : ℕ) → slice_index_or counts.new.items n 0 ≡ slice_index_or counts.old.items n 0 + (if number == n then 1 else 0)) }
@@ -231,7 +231,7 @@ fn count_by_ring(
     Ok(counts)
 }
 
-/// Makes room in each ring for so many messages more.
+/// Makes room in each ring for as many further messages as its count says.
 fn make_counted_room(
     alloc: Global,
     rings: &mut Vec<Ring>,
@@ -246,8 +246,8 @@ fn make_counted_room(
     Ok(())
 }
 
-/// Makes room for messages in the rings that they go to: for few of them each ring gets room for all, which is soon seen; for many each
-/// gets room for its own.
+/// Makes room for messages in the rings that they go to: for a few, each ring gets room for all of them, which is quickly checked; for many,
+/// each gets room for its own.
 fn make_room_for(
     alloc: Global,
     rings: &mut Vec<Ring>,
@@ -308,8 +308,8 @@ fn put_all(rings: &mut Vec<Ring>, numbers: &[usize], channels: u16, messages: &[
     }
 }
 
-/// Puts messages in order of arrival, in which nearly every one joins its ring at the back. Those that arrive together stay in order, and
-/// so all come to stand in the rings as they would have.
+/// Puts messages in order of arrival, in which nearly every one joins its ring at the back. Those that arrive together stay in order, so
+/// that all end up in the rings where they would have been.
 fn sort_by_arrival(alloc: Global, messages: &mut [Message]) -> Result<(), AllocError>
     ensures same { IsPermutation messages.old messages.new }
     ensures puts { (ms : List Message) → fold insert_by_age ms messages.new ≡ fold insert_by_age ms messages.old }
@@ -433,7 +433,7 @@ fn first_arrival_in(rings: &[Ring], number: usize) -> Option<Cycle>
     first_arrival(rings.get(number)?)
 }
 
-/// The lesser of two cycles; the one of them that there is.
+/// The lesser of two cycles; if there is only one of them, that one.
 fn lesser(first: Option<Cycle>, second: Option<Cycle>) -> Option<Cycle>
     ensures { result ≡ lesser_of first second }
 {
@@ -450,7 +450,7 @@ fn all_empty(rings: &[Ring]) -> bool
     rings.iter().all(|ring| ring.is_empty())
 }
 
-/// The lesser of a cycle and of the arrival of a ring's first message; the one of them that there is.
+/// The lesser of a cycle and of the arrival of a ring's first message; if there is only one of them, that one.
 fn sooner(least: Option<Cycle>, ring: &Ring) -> Option<Cycle>
     ensures { result ≡ sooner_of least ring.now.items }
 {
@@ -543,8 +543,8 @@ impl Links {
         }
     }
 
-    /// Takes out the messages to a unit that arrive from `from` on and before `until`, by age, into a list of their own, where `take_due_into` fills
-    /// one of the caller's: so tests do. Where memory is refused, the links stay as they were.
+    /// Takes out the messages to a unit that arrive from `from` on and before `until`, by age, into a new list, where `take_due_into` fills
+    /// one of the caller's. It is for tests. Where memory is refused, the links stay as they were.
     pub fn take_due(
         &mut self,
         alloc: Global,

@@ -10,7 +10,7 @@ use sim_base::config::Config;
 /// No message travels longer.
 const LONGEST: u32 = 1_000_000;
 
-/// Fewer links of a kind have a latency of their own than there are.
+/// Whether some link of a kind has no latency of its own: fewer have one than there are links.
 fn has_usual_link(config: &Config, kind: u64) -> bool
     ensures { result ≡ has_usual config.now kind }
 {

@@ -19,7 +19,7 @@ fn are_left(first: &[Message], i: usize, second: &[Message], j: usize) -> bool
     i < first.len() && j < second.len()
 }
 
-/// Copies two lists by age into an empty one as one; of two messages of one age the one of the first list goes first.
+/// Copies two lists by age into an empty one as one; of two messages of the same age the one of the first list goes first.
 #[inline(always)]
 fn merge_into(
     inbox: &mut Vec<Message>,
@@ -47,7 +47,7 @@ fn merge_into(
     Ok(())
 }
 
-/// Two lists by age as one; of two messages of one age the one of the first list goes first.
+/// Two lists by age as one; of two messages of the same age the one of the first list goes first.
 pub fn merged(
     alloc: Global,
     first: &[Message],

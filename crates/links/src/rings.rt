@@ -18,7 +18,7 @@ pub type Ring = HeapCircularBuffer<Message>;
 /// The least capacity of a ring that holds any message.
 const FEW: usize = 4;
 
-/// Makes room for so many messages more.
+/// Makes room for `more` further messages.
 pub fn make_room(ring: &mut Ring, more: usize) -> Result<(), AllocError>
     ensures items { ring.new.items ≡ ring.old.items }
     ensures capacity { ring.old.capacity ≤ ring.new.capacity }
@@ -57,8 +57,8 @@ fn younger_before(ring: &Ring, place: usize, message: &Message) -> Option<Messag
     }
 }
 
-/// Puts a message that goes before the last one into its place by age, which is sought from the back: each younger one moves back by
-/// a place.
+/// Puts a message that goes before the last one into its place by age, which is searched for from the back: each younger one moves
+/// back by one place.
 #[cold]
 #[inline(never)]
 fn put_among(ring: &mut Ring, message: &Message)

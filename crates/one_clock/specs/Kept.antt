@@ -1,7 +1,7 @@
 -- What a user may rely on in what a run gives.
---     SharesDataBus s table      in no cycle two commands of a channel have data on its bus
+--     SharesDataBus s table      in no cycle do two commands of a channel have data on its bus
 --     refreshes_until rank cycle table      how many REFs of a rank stand in a cycle or before it
---     IsRefreshedInTime s cycles table      of each interval of nREFI cycles, a rank's REF comes by the slack after its end
+--     IsRefreshedInTime s cycles table      a rank's REF for each interval of nREFI cycles comes no later than the slack after its end
 --     QueuesFit s channels      no queue was ever longer than the cores have credits for
 use Rattle.std.specs.Prelude.{ℕ, ◌+◌, ◌*◌, ◌<◌, ◌≤◌, nat_le, ◌&&◌, List, All, count_by}
 use Rattle.sim_base.specs.declared.config.Config.{Config}
@@ -12,7 +12,7 @@ use Rattle.statistics.specs.declared.channels.ChannelStats.{ChannelStats}
 use Rattle.laws.specs.DataBus.{has_data_in}
 use Rattle.laws.specs.Tables.{rows_on}
 
--- in no cycle two commands of a channel have data on its bus
+-- in no cycle do two commands of a channel have data on its bus
 abbrev pub SharesDataBus : Config → List IssuedCommand → Type 0
 SharesDataBus s table = (channel cycle : ℕ) → channel < s.channels → count_by (has_data_in s.timing cycle) (rows_on channel table) ≤ 1
 
@@ -20,8 +20,8 @@ SharesDataBus s table = (channel cycle : ℕ) → channel < s.channels → count
 abbrev pub refreshes_until : ℕ → ℕ → List IssuedCommand → ℕ
 refreshes_until rank cycle table = count_by (λ row. refreshes rank row.command && nat_le row.cycle cycle) table
 
--- Where there are refreshes, m REFs of each rank or more stand at m * nREFI + refresh_slack or before it, if that cycle is one of
--- so many.
+-- Where there are refreshes, at least m REFs of each rank stand at m * nREFI + refresh_slack or before it, if that cycle is one of
+-- the first `cycles`.
 abbrev pub IsRefreshedInTime : Config → ℕ → List IssuedCommand → Type 0
 IsRefreshedInTime s cycles table =
     (channel rank m : ℕ) → channel < s.channels → rank < s.ranks → 0 < s.timing.n_refi →

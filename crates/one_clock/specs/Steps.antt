@@ -1,4 +1,4 @@
--- What one core does in a cycle of the run, with the cause for which it stops; and entries by kind, where there may be none.
+-- What one core does in a cycle of the run, and why it stops issuing; and entries by kind, where there may be none.
 --     core_step_of s traces history core      what a core of the machine does in the cycle after a history
 --     is_read_in, is_write_in      an entry that reads memory, and one that writes it
 use Rattle.std.specs.Prelude.{ℕ, Bool, false, List, Option, Some, None}

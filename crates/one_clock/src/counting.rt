@@ -47,7 +47,7 @@ fn is_write_number(trace: &Trace, number: u64) -> bool
     }
 }
 
-/// The Reads among so many entries from `first` on.
+/// The Reads among `count` entries from `first` on.
 fn read_count(trace: &Trace, first: u64, count: u16) -> usize
     requires { first + count < 2 ^ 64 }
     ensures { result ≡ count_by (λ k. is_read_in (slice_get trace.now (first + k))) (below count) }
@@ -57,7 +57,7 @@ fn read_count(trace: &Trace, first: u64, count: u16) -> usize
         .count()
 }
 
-/// The Writes among so many entries from `first` on.
+/// The Writes among `count` entries from `first` on.
 fn write_count(trace: &Trace, first: u64, count: u16) -> usize
     requires { first + count < 2 ^ 64 }
     ensures { result ≡ count_by (λ k. is_write_in (slice_get trace.now (first + k))) (below count) }
@@ -94,7 +94,7 @@ fn replies_now(alloc: Global, now: u64, inbox: &[Message]) -> Result<Vec<Message
         .collect(alloc)
 }
 
-/// The cycle in which an entry issues; the number of cycles, where it does not.
+/// The cycle in which an entry issues; the number of cycles, if it does not.
 #[tactic(auto, using(crate::proofs::Counted::issue_cycle_found, crate::proofs::Counted::issue_cycle_none, crate::proofs::Counted::issued_none, crate::proofs::Counted::issued_more))]
 fn cycle_of_issue(past_steps: &[CoreStep], entry: u64) -> u64
     requires { length past_steps.now < 2 ^ 40 }
@@ -136,7 +136,7 @@ fn total_wait(past_steps: &[CoreStep], arrived: &[Message]) -> u128
     total
 }
 
-/// The cycle, if the last of so many entries retires in it.
+/// The cycle, if the last of `entries` entries retires in it.
 fn finish_now(entries: u64, now: u64, gone: u64, retired: u16) -> Option<u64>
     ensures { result ≡ (if nat_lt gone entries && nat_le entries (gone + retired) then Some now else None) }
 {
@@ -160,8 +160,8 @@ fn is_same_stop(a: Stop, b: Stop) -> bool
     }
 }
 
-/// The statistics of the cycle after these steps, in which a core that has issued and retired so much does this and stops
-/// for this cause.
+/// The statistics of the cycle after these steps, in which a core that has issued and retired this much does this and
+/// stops for this cause.
 #[tactic(auto, unfolding(statistics::specs::Cores::core_cycle_with, statistics::specs::Cores::finish_in), using(crate::proofs::Counted::reads_are, crate::proofs::Counted::writes_are))]
 pub fn core_cycle_stats(
     alloc: Global,

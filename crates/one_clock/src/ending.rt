@@ -19,7 +19,7 @@ use sim_base::place::BankId;
 use statistics::final_state::{ChannelState, CoreState, Credits, OpenRow};
 use std::alloc::{AllocError, Global};
 
-/// The credits that a core holds for a channel, of those that arrived before a cycle.
+/// The credits that a core holds for a channel, counting those that arrived before a cycle.
 fn credits_held(
     s: &Config,
     core: CoreId,
@@ -51,7 +51,7 @@ fn all_credits_held(
         .collect(alloc)
 }
 
-/// The state in which a core is left after so many cycles.
+/// The state in which a core is left after this many cycles.
 #[tactic(auto, unfolding(statistics::specs::Runs::last_of_core, statistics::specs::Runs::core_last, statistics::specs::Runs::credits_of, sim_base::specs::Final::credits_left, sim_base::specs::History::messages_of_core), using(crate::proofs::Next::length_steps))]
 pub fn core_left(
     alloc: Global,
@@ -138,7 +138,7 @@ fn open_rows_of(
         .collect(alloc)
 }
 
-/// The state in which a channel is left after so many cycles.
+/// The state in which a channel is left after this many cycles.
 #[tactic(auto, using(crate::proofs::Ended::channel_left_is))]
 pub fn channel_left(
     alloc: Global,

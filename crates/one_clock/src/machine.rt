@@ -46,7 +46,7 @@ pub struct Machine {
     pub flight: Vec<Message>,
 }
 
-/// What all units do in one cycle: each core, with why it stops and without, and each channel; and the messages that they send.
+/// What all units do in one cycle: each core, both with and without why it stops, and each channel; and the messages that they send.
 #[derive(Clone, Copy)]
 struct MachineCycle<'a> {
     core_steps: &'a [(CoreStep, Stop)],
@@ -490,7 +490,7 @@ fn start_channels(
     Ok(channels)
 }
 
-/// What is left of each core and of each channel after so many cycles.
+/// What is left of each core and of each channel after this many cycles.
 fn units_left(
     alloc: Global,
     s: &Config,
@@ -524,7 +524,7 @@ impl Machine {
         })
     }
 
-    /// Takes in what all do and send in one cycle.
+    /// Takes in what all units do and send in one cycle.
     fn note(
         &mut self,
         alloc: Global,
@@ -605,7 +605,7 @@ impl Machine {
         self.note(alloc, s, traces, cycle, &all)
     }
 
-    /// What the run leaves, where it ends after so many cycles.
+    /// What the run leaves if it ends after this many cycles.
     #[tactic(auto, unfolding(statistics::specs::Runs::outcome_of, statistics::specs::Runs::outcome_after, statistics::specs::Runs::stats_of, statistics::specs::Runs::final_of), using(crate::proofs::Next::length_run))]
     fn outcome(
         self,
@@ -665,9 +665,9 @@ fn run_machine(
 /// configuration ends it drained, as many as it takes until all is retired, served and delivered. There is one trace for each
 /// core, and the limit is at most 10^12 cycles. The only error is out of memory.
 ///
-/// The commands stand in order, and each keeps the timing rules over those of its channel before it. No cycle of a channel's
-/// data bus belongs to two of them. Where ranks are refreshed, the n-th REF of each stands at cycle `n * nREFI` and the slack,
-/// or earlier, and no command comes while one is overdue. No core sends a channel more requests of a kind than the credits that it held
+/// The commands are in order, and each keeps the timing rules over those of its channel before it. No cycle of a channel's
+/// data bus belongs to two of them. Where ranks are refreshed, the n-th REF of each stands at cycle `n * nREFI` plus the slack,
+/// or earlier, if the run lasts that long, and no command comes while one is overdue. No core sends a channel more requests of a kind than the credits that it held
 /// and those that came back allow, and no more come back than were spent; so no channel's queue is ever longer than
 /// `cores * (read_credits + write_credits)`.
 pub fn run_plain(

@@ -74,7 +74,7 @@ impl CorePast {
     }
 }
 
-/// The past of a channel: its commands, the requests that it is still to serve, by age, and whether it drained its writes last.
+/// The past of a channel: its commands, the requests that it is still to serve, by age, and whether it drained its writes in the last cycle.
 #[derive(Drop)]
 pub struct ChannelPast {
     commands: Vec<IssuedCommand>,

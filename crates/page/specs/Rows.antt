@@ -12,7 +12,7 @@ IsOfRun s row = (row.cycle < s.cycles) × (row.channel < length s.channels)
 abbrev pub IsOfRunAt : RunStats → List IssuedCommand → ℕ → Type 0
 IsOfRunAt s rows place = IfSome (slice_get rows place) (IsOfRun s)
 
--- where a fault names a command, that is there and is none of the run
+-- where a fault names a command, this command exists and is not of the run
 abbrev pub IsReason : RunStats → List IssuedCommand → PageFault → Type 0
 IsReason s rows (Command place) = IsSomeAnd (slice_get rows place) (λ row. ¬ IsOfRun s row)
 IsReason _ _ Memory = Unit {0}

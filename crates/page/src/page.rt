@@ -15,13 +15,13 @@ use std::io::{ErrorKind, Write};
 /// Writes the page of a run: its statistics, what its channels did over the whole run, and what they did in a window, one command
 /// after the other. The commands are taken in the order of the list, which is to be that of their cycles.
 ///
-/// The memory that the call takes goes with the channels, the banks that the run uses and the commands of the window, and not with the
+/// The memory that the call takes grows with the channels, the banks that the run uses and the commands of the window, but not with the
 /// length of the run.
 ///
 /// # Errors
 ///
-/// `PageFault::Command` where a command is none of the run; nothing is then written. `PageFault::Memory` where memory is refused, and
-/// `PageFault::Write` where the writer fails or takes no byte; what went out before is not known.
+/// `PageFault::Command` where a command is not of the run; nothing is then written. `PageFault::Memory` where memory is refused, and
+/// `PageFault::Write` where the writer fails or takes no byte; how much went out before that is not known.
 pub fn write_page<W: Write>(
     alloc: Global,
     stats: &Stats,

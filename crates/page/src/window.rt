@@ -2,7 +2,7 @@
 
 ghost use Rattle.std.specs.Prelude.{◌≡◌, ◌+◌, min};
 
-/// So many cycles, from a cycle on.
+/// A number of cycles, from a cycle on.
 #[derive(Clone, Copy, PartialEq, Eq, Debug)]
 pub struct Window {
     pub from: u64,
@@ -10,7 +10,7 @@ pub struct Window {
 }
 
 impl Window {
-    /// The cycle behind the last, in a run of so many cycles.
+    /// The cycle after the last one, in a run of `cycles` cycles.
     pub(crate) fn end_in(self, cycles: u64) -> u64
         ensures { result ≡ min (self.from + self.cycles) cycles }
     {

@@ -8,7 +8,7 @@ use std::io;
 use std::io::{ErrorKind, Write};
 use std::test::Fail;
 
-/// Takes so many writes. Then it takes no byte, or fails.
+/// Takes `left` writes. Then it takes no byte, or fails.
 #[derive(Drop)]
 struct Failing {
     left: u64,

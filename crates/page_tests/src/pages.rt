@@ -19,7 +19,7 @@ fn tables_have_the_numbers(rt: HostRuntime) -> Result<(), Fail> {
         "<b>1,000</b> cycles, <b>1</b> core, <b>1</b> channel, <b>3</b> commands",
         "<tr><th scope=\"row\">0</th><td>1</td><td>0</td><td>0.0</td><td>0.4</td><td>0.04</td><td>1</td><td>96.0</td><td>0.0</td><td>–</td></tr>",
         "<tr><th scope=\"row\">0</th><td>1,234</td><td>1.23</td><td>1</td><td>50.0</td><td>90.0</td><td>5.0</td><td>2.5</td><td>2.0</td><td>0.5</td></tr>",
-        // 5 of 1000 cycles of 1100 pixels, and then the 25 of the window.
+        // 5 of the 1000 cycles, which have 1100 pixels, and then the 25 of the window.
         r#"<rect class="credit" x="56.0" y="2.0" width="5.5" height="16.0"><title>core 0, credit: 0.5 %</title></rect>"#,
         r#"<rect class="window" x="61.5" y="2.0" width="27.5" height="16.0">"#,
         // The RD takes four of the five cycles of the step from cycle 25 on.

@@ -55,7 +55,7 @@ pub(crate) fn one_read() -> [IssuedCommand; 3] {
     [row_of(10, act), row_of(26, rd), row_of(60, pre)]
 }
 
-/// The statistics of a run of one core and one channel of so many cycles.
+/// The statistics of a run of one core and one channel over `cycles` cycles.
 pub(crate) fn stats_of(alloc: Global, cycles: u64) -> Result<Stats, AllocError> {
     let core = CoreStats {
         retired: 1234,
@@ -90,7 +90,7 @@ pub(crate) fn list_of(alloc: Global, rows: &[IssuedCommand]) -> Result<CommandLi
     Ok(list)
 }
 
-/// What the page of a run of so many cycles and these commands is, and how the call ended.
+/// The page of a run of `cycles` cycles with these commands, and how the call ended.
 pub(crate) fn page_of(
     alloc: Global,
     cycles: u64,

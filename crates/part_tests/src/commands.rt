@@ -1,11 +1,12 @@
 //! Commands of two channels, whose order in a table is known by hand.
 
-ghost use Rattle.std.specs.Prelude.{◌≤◌, IfOk};
+ghost use Rattle.std.specs.Prelude.{◌≤◌};
 ghost use Rattle.command_table.specs.Tables.{IsRising};
 
 use crate::expect::expect;
 use command_table::list::CommandList;
 use command_table::table::{CommandTable, Rows};
+use fixtures::lists::list_of_two;
 use sim_base::command::{Command, IssuedCommand, Source};
 use sim_base::place::BankId;
 use std::alloc::{AllocError, Global};
@@ -64,20 +65,6 @@ const REF: IssuedCommand = IssuedCommand {
     command: Command::Ref { rank: 1 },
 };
 
-fn list_of(
-    alloc: Global,
-    first: IssuedCommand,
-    second: IssuedCommand,
-) -> Result<CommandList, AllocError>
-    requires { first.cycle ≤ second.cycle }
-    ensures { IfOk result IsRising }
-{
-    let mut list = CommandList::new(alloc);
-    list.push(first)?;
-    list.push(second)?;
-    Ok(list)
-}
-
 fn table_of(
     alloc: Global,
     first: CommandList,
@@ -89,7 +76,7 @@ fn table_of(
     Ok(CommandTable::of(vec![in alloc; first, second]?))
 }
 
-// Three commands, where there are so many.
+// Three commands, or fewer where there are fewer.
 type Three = [Option<IssuedCommand>; 3];
 
 // The commands in the first three places.
@@ -101,7 +88,7 @@ static KEPT: Three = [Some(ACT), Some(RD), None];
 
 static BOTH: [IssuedCommand; 2] = [ACT, RD];
 
-// Asserts how many commands a list has, and whether it has none; those of two commands, and all of them.
+// Asserts how many commands a list has, and whether it is empty; those of two commands, and all of them.
 fn assert_kept(rt: &impl Abort, alloc: Global, list: &CommandList) -> Result<(), AllocError> {
     let rows = list.to_vec(alloc)?;
     expect(
@@ -124,7 +111,7 @@ fn size_of_none(alloc: Global) -> (usize, bool) {
 #[test]
 fn keeps_commands(rt: HostRuntime) -> Result<(), Fail> {
     expect(&rt, &size_of_none(rt.alloc()), &(0, true));
-    let list = list_of(rt.alloc(), ACT, RD)?;
+    let list = list_of_two(rt.alloc(), ACT, RD)?;
     Ok(assert_kept(&rt, rt.alloc(), &list)?)
 }
 
@@ -134,8 +121,8 @@ fn next_three(rows: &mut Rows<'_>) -> Three {
 }
 
 fn table_of_two(alloc: Global) -> Result<CommandTable, AllocError> {
-    let first = list_of(alloc, ACT, RD)?;
-    let second = list_of(alloc, PRE, REF)?;
+    let first = list_of_two(alloc, ACT, RD)?;
+    let second = list_of_two(alloc, PRE, REF)?;
     table_of(alloc, first, second)
 }
 

@@ -46,7 +46,7 @@ fn links_of(alloc: Global, inbox: &[Message]) -> Result<Vec<LinkId>, AllocError>
     inbox.iter().map(|message| message.link).collect(alloc)
 }
 
-// On which links the messages come that are due.
+// The links on which the messages that are due come.
 fn links_due(
     alloc: Global,
     links: &mut Links,
@@ -86,7 +86,7 @@ fn links_to_channel(alloc: Global) -> Result<Vec<LinkId>, AllocError> {
     Ok(wanted)
 }
 
-// Whether what is due of core 5 and of channel 3 comes by its links.
+// Whether what is due at core 5 and at channel 3 comes in the order of its links.
 fn come_by_link(alloc: Global, links: &mut Links) -> Result<[bool; 2], AllocError> {
     let core = links_due(alloc, links, Unit::Core(5), 7, 8)? == links_to_core(alloc)?;
     let channel = links_due(alloc, links, Unit::Channel(3), 0, 100)? == links_to_channel(alloc)?;
@@ -100,7 +100,7 @@ fn links_of_small(alloc: Global, changes: &[&str], more: &str) -> Result<(Links,
     Ok((Links::start(alloc, &config)?, shortest))
 }
 
-// When a message arrives before and after what is due of core 5 and of channel 3, and whether that comes by its links.
+// When a message arrives, before and after what is due at core 5 and at channel 3 is taken, and whether that comes in the order of its links.
 type Filled = (Option<Cycle>, [bool; 2], Option<Cycle>);
 
 // Sends a message on each link.
@@ -232,7 +232,7 @@ fn send(rt: &impl Abort, alloc: Global, links: &mut Links, sent: &Sent) -> Resul
     }
 }
 
-// Sends over the links of a machine, of which the shortest takes so many cycles.
+// Sends over the links of a machine, the shortest of which takes this number of cycles.
 fn send_on(
     rt: &impl Abort,
     alloc: Global,

@@ -1,4 +1,4 @@
-//! Both kernels on columns of each length up to some, with a word of its own at each place in turn, and at none.
+//! Both kernels on columns of each length up to a maximum, with a different word at each place in turn, and at none.
 
 ghost use Rattle.std.specs.Prelude.{◌≡◌, length, IfOk};
 
@@ -8,7 +8,7 @@ use std::alloc::{AllocError, Global};
 use std::process::Abort;
 use std::test::Fail;
 
-/// A column with a word of its own at one place, if the place is in it.
+/// A column with a different word at one place, if the place is in it.
 fn column(
     alloc: Global,
     len: usize,

@@ -1,4 +1,4 @@
-//! What some commands leave allowed, counted by hand from the distances of one profile.
+//! What is allowed after some commands, counted by hand from the distances of one profile.
 
 ghost use Rattle.std.specs.Prelude.{◌≡◌, ◌+◌, ◌*◌, ◌<◌, IsTrue, IfOk};
 ghost use Rattle.bank_ready.specs.Stands.{rank_count};

@@ -1,4 +1,4 @@
-//! Short runs, as they are worked out by hand.
+//! Short runs, worked out by hand.
 
 use crate::expect::expect;
 use refresh::Refresh;

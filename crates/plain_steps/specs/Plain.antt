@@ -19,7 +19,7 @@ use Rattle.sim_base.specs.declared.message.Unit.TheVariants.{Core, Channel}
 use Rattle.sim_base.specs.declared.trace.Entry.{Entry}
 use Rattle.plain_steps.specs.declared.scheduling.ChannelStep.{ChannelStep}
 
--- what a core did, row by row, what it sent, and what was sent to it, by age
+-- what a core did, step by step, what it sent, and what was sent to it, by age
 pub record CoreView : Type 0 where
   pub past_steps : List CoreStep
   pub sent : List Message
@@ -30,7 +30,7 @@ abbrev pub core_view : Config → List (List Entry) → List MachineStep → ℕ
 core_view s traces history core =
     record { past_steps = steps_of_core core history; sent = messages_of_core s traces history core; inbox = inbox s traces history (Core core) }
 
--- the commands that a channel issued, the requests sent to it that are not served, by age, and whether it drained its writes last
+-- the commands that a channel issued, the requests sent to it that are not served, by age, and whether it drained its writes in the last cycle
 pub record ChannelView : Type 0 where
   pub commands : List IssuedCommand
   pub pending : List Message

@@ -357,7 +357,7 @@ struct IssueStage<'a> {
 }
 
 impl IssueStage<'_> {
-    /// Why the core issues no entry more after m in this cycle.
+    /// Why the core issues no further entry after m in this cycle.
     #[tactic(auto, unfolding(sim_base::specs::Windows::stop_after))]
     fn stop_cause(&self, m: u16) -> Option<Stop>
         ensures { let i = self.now in result ≡ stop_after i.config.now i.core i.trace.now i.inbox.now i.sent.now i.cycle i.first i.gone m }
@@ -399,7 +399,7 @@ impl IssueStage<'_> {
         (0..self.config.width + 1).find(|m| self.has_stop_cause(*m))
     }
 
-    /// The least count of entries at which there is a cause to stop.
+    /// The least number of entries after which there is a cause to stop.
     #[tactic(auto, unfolding(sim_base::specs::Windows::first_stop))]
     fn issue_count(&self) -> u16
         ensures { let i = self.now in result ≡ first_stop i.config.now i.core i.trace.now i.inbox.now i.sent.now i.cycle i.first i.gone }

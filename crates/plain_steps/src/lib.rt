@@ -1,4 +1,4 @@
-//! What one core and one channel of the plain machine do in a cycle, by a search of their whole past.
+//! What one core and one channel of the plain machine do in a cycle, found by searching their whole past.
 #![tactic(auto)]
 
 pub mod cores;

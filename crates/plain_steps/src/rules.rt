@@ -51,7 +51,7 @@ pub fn recent_act_count(t: Timing, of_rank: u32, now: u64, history: &[IssuedComm
         .count()
 }
 
-/// Whether an earlier command does not hold this one back any more.
+/// Whether an earlier command no longer holds this one back.
 #[tactic(auto, unfolding(sim_base::specs::Rules::is_past_gap))]
 fn has_passed_gap(gaps: &GapTable, now: u64, command: Command, i: IssuedCommand) -> bool
     ensures { result ≡ is_past_gap gaps.now now command i }

@@ -366,8 +366,8 @@ pub struct ChannelStep {
     pub draining: bool,
 }
 
-/// What a channel does in the cycle `now`, after these commands, with these messages still pending, where it drained its
-/// writes in the cycle before or not.
+/// What a channel does in the cycle `now`, after these commands, with these messages still pending, given whether it
+/// drained its writes in the cycle before.
 pub fn channel_step(
     alloc: Global,
     s: &Config,

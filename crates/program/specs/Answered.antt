@@ -7,8 +7,8 @@
 --     IsStatsOf path held stats      the statistics whose table a file holds
 --     place_line ranks place, verdict_line found      the lines that are printed
 --     IsAnswer ask status old new      what is asked has been done
---     IsLeft refusal ask old new      what is left where it has not
---     IsAnswered words status old new, IsRefusedBy refusal words old new, IsRefused words old new      the same of the words of a command line
+--     IsLeft refusal ask old new      what is left where it has not been done
+--     IsAnswered words status old new, IsRefusedBy refusal words old new, IsRefused words old new      the same for the words of a command line
 use Rattle.std.specs.Prelude.{◌≡◌, ◌⊎◌, ℕ, nat_lt, List, [], ◌∷◌, ◌++◌, map, codes, decimal, string_bytes, Option, Some, Ok, if◌then◌else◌}
 use Rattle.std.specs.Io.KnownBytes.{Appends}
 use Rattle.sim_base.specs.declared.config.Config.{Config}
@@ -65,7 +65,7 @@ pub record IsRunLeft (refusal : Refusal) (config : List ℕ) (cycles workers : �
   pub unplaced : IsUnplaced refusal out run old new
 
 -- What is left of a run that is refused: it had no outcome, or memory was refused, and no file has changed and none was opened to be
--- written; or it is left undone after its outcome was there.
+-- written; or it had an outcome and is left undone after that.
 abbrev pub IsUnfinished : Refusal → List ℕ → ℕ → ℕ → List ℕ → List (List ℕ) → Held → Held → List (List ℕ) → List (List ℕ) → Type 0
 IsUnfinished refusal config cycles workers out traces old new before after =
     LeavesAll refusal old new before after ⊎ IsRunLeft refusal config cycles workers out traces old new
@@ -90,7 +90,7 @@ abbrev pub verdict_status : Verdict → ℕ
 verdict_status Legal = 0
 verdict_status (Broken row rule) = 1
 
--- the verdict was printed, and the status is its
+-- the verdict was printed, and the status is that of the verdict
 pub record IsChecked (config commands : List ℕ) (status : ℕ) (held : Held) (before after : Option (List ℕ)) : Type 0 where
   pub found : Verdict
   pub judged : IsVerdict config commands held found
@@ -214,7 +214,7 @@ abbrev pub IsRefusedBy : Refusal → List (List ℕ) → Seen → Seen → Type 
 IsRefusedBy refusal words old new =
     LeavesAll refusal old.held new.held old.opened new.opened ⊎ IsUndone refusal words old new
 
--- the same of some refusal
+-- the same for some refusal
 pub record IsRefused (words : List (List ℕ)) (old new : Seen) : Type 0 where
   pub refusal : Refusal
   pub left : IsRefusedBy refusal words old new

@@ -1,6 +1,6 @@
--- The page of a run. What stands in its text is not said here; it is tested.
+-- The page of a run. What stands in its text is not specified here, but covered by tests.
 --     AreTablesIn stats_table commands_table stats commands      what the two tables hold
---     AreTablesAt stats_path commands_path held stats commands      the same of what two files hold
+--     AreTablesAt stats_path commands_path held stats commands      the same for what two files hold
 --     IsNoPage stats commands fault      why they make no page
 --     IsPageDone dir file old new      the page is in its place
 use Rattle.std.specs.Prelude.{◌≡◌, ℕ, ◌+◌, ◌-◌, ◌<◌, ⊤, List, ◌∷◌, length, slice_get, IsSomeAnd, Some}
@@ -22,7 +22,7 @@ pub record AreTablesIn (stats_table commands_table : List ℕ) (stats : RunStats
   pub count_is : length (records_of commands_table) ≡ length commands + 1
   pub rising : IsRising commands
 
--- the same of the tables that two files hold
+-- the same for the tables that two files hold
 pub record AreTablesAt (stats_path commands_path : List ℕ) (held : Held) (stats : RunStats) (commands : List IssuedCommand) : Type 0 where
   pub stats_table : List ℕ
   pub commands_table : List ℕ
@@ -30,7 +30,7 @@ pub record AreTablesAt (stats_path commands_path : List ℕ) (held : Held) (stat
   pub commands_is : held commands_path ≡ Some commands_table
   pub tables : AreTablesIn stats_table commands_table stats commands
 
--- the command in this row, counted from 1, is none of the run; or memory was refused, or a writer
+-- the command in this row, counted from 1, is not of the run; or memory was refused, or a writer
 abbrev pub IsNoPage : RunStats → List IssuedCommand → Fault → Type 0
 IsNoPage stats commands (CheckRow row) = (0 < row) × IsSomeAnd (slice_get commands (row - 1)) (λ command. ¬ IsOfRun stats command)
 IsNoPage stats commands Memory = ⊤

@@ -10,7 +10,7 @@
 --     IsFoundFault, IsReady tells held paths ..      what was read has a fault, or none
 --     IsInputFault, IsAnswerFault tells held paths ..      why the input, or the whole, is refused
 --     IsAskFault tells held ask fault      why what is asked is refused
---     IsFaultOf tells held words fault      the same of the words of a command line
+--     IsFaultOf tells held words fault      the same for the words of a command line
 use Rattle.std.specs.Prelude.{◌≡◌, ◌⊎◌, ℕ, true, ⊤, List, [], ◌∷◌, length, map, Some, None, Ok, Err, IsOk}
 use Rattle.clap.specs.Words.{Text}
 use Rattle.sim_base.specs.declared.config.Config.{Config}
@@ -31,7 +31,7 @@ use Rattle.program.specs.Pages.{AreTablesIn}
 use Rattle.command_line.specs.declared.words.Ask.{Ask}
 use Rattle.command_line.specs.declared.words.Ask.TheVariants.{Run, Check, Map, Show, Page, Help, Version}
 
--- the words call for no help and no version, and the command line does not take them, unless they are a `map` of what is no number
+-- the words call for no help and no version, and the command line does not take them, unless they are a `map` of something that is not a number
 pub record HasNoAsk (words : List Text) : Type 0 where
   pub no_help : ¬ (IsCallForHelp words)
   pub no_version : ¬ (IsCallForVersion words)
@@ -181,13 +181,13 @@ IsAnswerFault tells held paths is_fault is_right fault =
 abbrev pub IsAskFault : Type 0 → Held → Ask → Fault → Type 0
 IsAskFault tells held ask fault = IsAnswerFault tells held (named ask) (IsFaultIn ask) (IsRight ask) fault
 
--- the words ask for something, and it is refused so
+-- the words ask for something, and that is refused with this fault
 pub record IsFaultOfAsk (tells : Type 0) (held : Held) (words : List Text) (fault : Fault) : Type 0 where
   pub ask : Ask
   pub asked : IsAskedBy words ask
   pub refused : IsAskFault tells held ask fault
 
--- memory was refused; or the words ask for nothing; or they do, and what they ask for is refused so
+-- memory was refused; or the words ask for nothing; or they ask for something, and that is refused with this fault
 abbrev pub IsFaultOf : Type 0 → Held → List Text → Fault → Type 0
 IsFaultOf tells held words fault =
     (fault ≡ Memory) ⊎ ((fault ≡ CommandLine) × HasNoAsk words) ⊎ IsFaultOfAsk tells held words fault

@@ -2,7 +2,7 @@
 
 use workers::watch::Watch;
 
-/// The threads that a run's workers are, and who is told how far it is.
+/// The threads that serve as a run's workers, and who is told how far the run is.
 #[derive(Drop)]
 pub struct Host<'a, R, W: Watch> {
     pub threads: &'a R,

@@ -1,4 +1,4 @@
-//! The page of a run, from the tables in its folder. What stands in it is tested, and not said by a contract.
+//! The page of a run, from the tables in its folder. What stands in it is covered by tests, not by a contract.
 
 ghost use Rattle.std.specs.Prelude.{◌≡◌, ◌+◌, ◌<◌, ◌++◌, ◌∷◌, [], ℕ, length, IfOk, IfErr, OnOk, OnErr};
 ghost use Rattle.page.specs.Rows.{IsOfRunAt};
@@ -86,7 +86,7 @@ fn row_of(commands: &CommandList, place: usize) -> u64
     place as u64 + 1
 }
 
-// Refuses a command that is none of the run.
+// Refuses a command that is not of the run.
 fn stranger(alloc: Global, dir: &str, run: &RunTables, place: usize) -> Reason
     requires there { place < length run.now.commands }
     ensures { result ≡ Fault.CheckRow (place + 1) }

@@ -400,18 +400,18 @@ fn answer_words<R: Threads + Wait + Sync, W: Watch, F: FileSet, P: Write>(
     answer(host, alloc, &ask, files, output)
 }
 
-/// Does what the words ask for, of which the first is the program's name, and gives the status: 0 done, 1 a table that breaks
-/// a rule, 2 refused. A run's workers are threads of the host, whose watcher is told how far it is.
+/// Does what the words ask for, the first of which is the program's name, and returns the status: 0 done, 1 a table that breaks
+/// a rule, 2 refused. A run's workers are threads of the host, and the host's watcher is told how far the run is.
 ///
 /// A refusal is one line on `errors`, `fault N: ...`, and a second one where the tables in the folder are of two runs; where the
 /// stream refuses, it has a beginning of these lines. The fault is the first in this order: the words, the files that they name,
 /// what stands in these (the configuration, and then as `simulate` and `check` say), and what cannot be written. Memory may be
 /// refused at any time.
 ///
-/// What is promised of files is promised where the set of files tells what it holds. A run whose status is 0 has put the tables of its
+/// Promises about files are made only where the set of files tells what it holds. A run whose status is 0 has put the tables of its
 /// outcome into the folder. Where it is 2, either the run had no outcome, and nothing was opened; or the places of the
 /// tables hold what they held, and none is left under a name that ends in `.part`; or a file could not be renamed after another one
-/// was, and each table is the earlier one or the new one, whole: then there is the second line.
+/// was, and each table is the earlier one or the new one, whole: in that case there is the second line.
 pub fn perform<R: Threads + Wait + Sync, W: Watch, F: FileSet, P: Write, E: Write>(
     host: &mut Host<'_, R, W>,
     alloc: Global,

@@ -22,7 +22,7 @@ impl Model for SharedText {
 }
 
 impl SharedText {
-    /// A text of these bytes. Only memory can be refused.
+    /// A text of these bytes. The only error is out of memory.
     pub(crate) fn new(alloc: Global, bytes: Vec<u8>) -> Result<SharedText, AllocError>
         ensures { IfOk result (λ text. text ≡ bytes.items) }
     {
@@ -32,7 +32,7 @@ impl SharedText {
         }
     }
 
-    /// The same text, whose bytes are shared. Only memory can be refused.
+    /// The same text, whose bytes are shared. The only error is out of memory.
     pub(crate) fn copy(&self) -> Result<SharedText, AllocError>
         ensures { IfOk result (λ text. text ≡ self.now) }
     {

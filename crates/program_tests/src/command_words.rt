@@ -1,4 +1,4 @@
-//! Words of each command, calls for help, and words that are none.
+//! Words of each command, calls for help, and words that form no command.
 
 use crate::expect::expect_at;
 use command_line::words::{Ask, read_words};

@@ -1,9 +1,9 @@
-//! Tables that cannot be written or be given their places: what stood there stands there, or the tables are torn and all there.
+//! Tables that cannot be written or be given their places: what stood there still stands there, or the tables are torn and all there.
 
 use crate::expect::expect_at;
 use crate::files_in_memory::{Failure, MemoryFiles};
 use crate::program_runs::{assert_text, files_by, said_to_run};
-use crate::worked_runs::ONE_READ;
+use fixtures::worked_runs::ONE_READ;
 use std::alloc::{AllocError, Global};
 use std::process::Abort;
 use std::sync::Wait;
@@ -60,7 +60,7 @@ fn assert_left(
     }
 }
 
-// Asserts what a run tells of errors that is refused where a file fails, and what it opened and left.
+// Asserts what a run that is refused because a file fails tells of errors, and what it opened and left.
 fn assert_refused<R: Abort + Threads + Wait + Sync + AllocGlobal>(
     rt: &R,
     case: &Case,

@@ -3,7 +3,7 @@
 use crate::expect::expect_at;
 use crate::files_in_memory::{Failure, MemoryFiles};
 use crate::program_runs::{HEADER, assert_text, said_to};
-use crate::shows::TABLE;
+use fixtures::one_read::STATS;
 use std::alloc::{AllocError, Global};
 use std::process::Abort;
 use std::sync::Wait;
@@ -17,14 +17,14 @@ const COMMANDS: &str = "2,0,ACT,0,0,0,,0,0\n5,0,RD,0,0,0,0,0,0\n";
 
 const LATE: &str = "16,0,PREA,,,,,,\n";
 
-// A folder for each case: a run; one whose statistics are cut; one with a header of commands too few; one with a command behind its end.
+// A folder for each case: a run; one whose statistics are cut; one whose commands have no header; one with a command behind its end.
 fn folders(alloc: Global) -> Result<MemoryFiles, AllocError> {
     let mut files = MemoryFiles::new(alloc);
     let commands = format!(in alloc; "{HEADER}{COMMANDS}")?;
     let late = format!(in alloc; "{HEADER}{COMMANDS}{LATE}")?;
     for dir in ["out", "bad", "late"] {
         let path = format!(in alloc; "{dir}/stats.csv")?;
-        files.add(alloc, path.as_str(), TABLE)?;
+        files.add(alloc, path.as_str(), STATS)?;
     }
     files.add(alloc, "cut/stats.csv", "scope,id,name,value\n")?;
     files.add(alloc, "out/commands.csv", commands.as_str())?;

@@ -2,8 +2,8 @@
 
 use crate::expect::expect_at;
 use crate::files_in_memory::MemoryFiles;
-use crate::worked_runs::Run;
 use fixtures::small::small_text;
+use fixtures::worked_runs::Run;
 use program::host::Host;
 use program::perform::perform;
 use std::alloc::{AllocError, Global};
@@ -106,7 +106,7 @@ pub(crate) fn said_to_run<R: Threads + Wait + Sync + AllocGlobal>(
     said_to(rt, files, line.as_str())
 }
 
-/// Asserts that a run by so many workers succeeds and says nothing.
+/// Asserts that a run by this number of workers succeeds and says nothing.
 fn assert_quiet<R: Abort + Threads + Wait + Sync + AllocGlobal>(
     rt: &R,
     files: &mut MemoryFiles,
@@ -119,7 +119,7 @@ fn assert_quiet<R: Abort + Threads + Wait + Sync + AllocGlobal>(
     Ok(())
 }
 
-/// The files of a run by so many workers, which succeeds and says nothing.
+/// The files of a run by this number of workers, which succeeds and says nothing.
 pub(crate) fn files_by<R: Abort + Threads + Wait + Sync + AllocGlobal>(
     rt: &R,
     run: &Run,

@@ -2,7 +2,7 @@
 
 use crate::files_in_memory::MemoryFiles;
 use crate::program_runs::{Said, add_machine, assert_text, said_to, said_to_run};
-use crate::worked_runs::{ONE_READ, Run};
+use fixtures::worked_runs::{ONE_READ, Run};
 use std::alloc::AllocError;
 use std::process::Abort;
 use std::sync::Wait;

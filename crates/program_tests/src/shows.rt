@@ -2,36 +2,10 @@
 
 use crate::files_in_memory::MemoryFiles;
 use crate::program_runs::said_to;
+use fixtures::one_read::STATS;
 use std::test::Fail;
 
-pub(crate) const TABLE: &str = "scope,id,name,value
-run,0,cycles,16
-core,0,issued,1
-core,0,retired,1
-core,0,reads,1
-core,0,writes,0
-core,0,replies,1
-core,0,read_latency,15
-core,0,stop_end,16
-core,0,stop_width,0
-core,0,stop_window,0
-core,0,stop_memory,0
-core,0,stop_credit,0
-core,0,finish,15
-channel,0,act,1
-channel,0,rd,1
-channel,0,wr,0
-channel,0,pre,0
-channel,0,prea,0
-channel,0,ref,0
-channel,0,hits,0
-channel,0,queued,4
-channel,0,queued_max,1
-channel,0,idle,12
-channel,0,refreshing,0
-";
-
-// A RD in 16 cycles moves data in four of them; one entry in 16 cycles is 0.0625 of one in a cycle.
+// One RD in 16 cycles moves data in four of them; one entry in 16 cycles is 0.0625 entries per cycle.
 const SCREEN: &str = "cycles 16
 
 Channels (1): row hits in % of rd and wr, all else in % of the cycles
@@ -64,7 +38,7 @@ For more information, try '--help'.
 fn shows_a_run(rt: HostRuntime) -> Result<(), Fail> {
     let alloc = rt.alloc();
     let mut files = MemoryFiles::new(alloc);
-    files.add(alloc, "out/stats.csv", TABLE)?;
+    files.add(alloc, "out/stats.csv", STATS)?;
     files.add(alloc, "cut/stats.csv", "scope,id,name,value\n")?;
     for (words, want) in [
         ("dramsim show out", (0, SCREEN, "")),

@@ -1,4 +1,4 @@
-//! Files in memory that tell what they hold, so that what the program promises of files is promised of them.
+//! Files in memory that tell what they hold, so that what the program promises of files holds for them.
 
 ghost use Rattle.std.specs.Prelude.{◌≡◌, ◌≢◌, map, option_map, string_bytes, Some};
 ghost use Rattle.std.specs.BTreeMap.{get_by_text};
@@ -17,7 +17,7 @@ use std::thread::Threads;
 use whole_files::files::FileSet;
 use workers::watch::Unwatched;
 
-/// Files in memory, of which what is written is there once it is closed.
+/// Files in memory, where what is written is there once the file is closed.
 #[derive(Drop)]
 struct ToldFiles {
     files: BTreeMap<String, Vec<u8>>,

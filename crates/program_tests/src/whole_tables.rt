@@ -1,9 +1,9 @@
-//! Whole tables, by as many workers as one likes.
+//! Whole tables, by any number of workers.
 
 use crate::files_in_memory::MemoryFiles;
 use crate::program_runs::{assert_text, files_by};
 use crate::table_lines::{Tables, tables_of};
-use crate::worked_runs::{ONE_READ, Run};
+use fixtures::worked_runs::{ONE_READ, Run};
 use std::process::Abort;
 use std::sync::Wait;
 use std::test::Fail;
@@ -39,7 +39,7 @@ static OF_EIGHT_CORES: [Run; 2] = [
     },
 ];
 
-// Asserts that a run by so many workers has these tables.
+// Asserts that a run by this number of workers has these tables.
 fn assert_same<R: Abort + Threads + Wait + Sync + AllocGlobal>(
     rt: &R,
     run: &Run,
@@ -52,7 +52,7 @@ fn assert_same<R: Abort + Threads + Wait + Sync + AllocGlobal>(
     Ok(())
 }
 
-// By two workers and by five, a run has the tables that it has by one.
+// With two workers and with five, a run has the tables that it has with one.
 fn assert_alike<R: Abort + Threads + Wait + Sync + AllocGlobal>(
     rt: &R,
     run: &Run,

@@ -1,10 +1,10 @@
--- What is told of a run that goes on.
+-- What is told of a run in progress.
 --     quotient dividend divisor      rounded down, if there is anything to divide by
 --     percent_of stage      how many in a hundred of the traces' entries have retired
---     left_by millis part whole      how many seconds are left where so many milliseconds were spent on a part of the whole
+--     left_by millis part whole      how many seconds are left where `millis` milliseconds were spent on a part of the whole
 --     sooner_of one other      the lesser of what is known
 --     left_of stage millis      how many seconds are left of a run
---     figures_of stage millis      all that is told of a run that has gone on for so many milliseconds
+--     figures_of stage millis      all that is told of a run that has gone on for `millis` milliseconds
 use Rattle.std.specs.Prelude.{ℕ, ◌-◌, ◌*◌, ◌/◌, ◌^◌, ◌==◌, min, Bool, true, false, Option, Some, None, option_and_then, if◌then◌else◌}
 use Rattle.progress.specs.declared.figures.Figures.{Figures}
 use Rattle.workers.specs.declared.watch.Stage.{Stage}
@@ -16,7 +16,7 @@ quotient dividend divisor = if divisor == 0 then None else Some (dividend / divi
 abbrev pub percent_of : Stage → Option ℕ
 percent_of stage = option_and_then (λ retired. quotient (100 * min retired (2 ^ 80)) stage.entries) stage.retired
 
--- of more milliseconds than 2^40 as many are taken, and of a rest above 2^80 so much
+-- milliseconds above 2^40 count as 2^40, and a rest above 2^80 counts as 2^80
 abbrev pub left_by : ℕ → ℕ → ℕ → Option ℕ
 left_by millis part whole =
     option_and_then (λ more. Some (more / 1000)) (quotient (min millis (2 ^ 40) * min (whole - part) (2 ^ 80)) part)

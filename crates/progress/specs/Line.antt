@@ -1,5 +1,5 @@
 -- The line, as it is written.
---     line_of text      a text as a line of 79 characters, that stands in place of another
+--     line_of text      a text as a line of 79 characters that replaces another
 use Rattle.std.specs.Prelude.{ℕ, List, ◌∷◌}
 use Rattle.std.specs.Fmt.{padded, format_spec}
 

@@ -1,4 +1,4 @@
-//! What is told of a run that goes on.
+//! What is told of a run in progress.
 
 ghost use Rattle.std.specs.Prelude.{◌≡◌, ◌/◌, ◌*◌};
 ghost use Rattle.std.specs.Duration.{as_nanos};
@@ -23,7 +23,7 @@ pub struct Figures {
     pub percent: Option<u128>,
     /// How many cycles there were in a second.
     pub rate: Option<u128>,
-    /// How many seconds are left, if the run goes on as it went so far.
+    /// How many seconds are left, if the run goes on as it has so far.
     pub left: Option<u128>,
 }
 
@@ -42,7 +42,7 @@ fn rate_of(cycles: Cycle, millis: u128) -> Option<u128>
     (1_000 * u128::from(cycles)).checked_div(millis)
 }
 
-// How many seconds are left where so many milliseconds were spent on a part of the whole.
+// How many seconds are left where `millis` milliseconds were spent on a part of the whole.
 fn left_by(millis: u128, part: u128, whole: u128) -> Option<u128>
     ensures { result ≡ left_by millis part whole }
 {
@@ -75,7 +75,7 @@ fn left_of(stage: Stage, millis: u128) -> Option<u128>
 }
 
 impl Figures {
-    /// What is told of a run that has gone on for so long.
+    /// What is told of a run that has gone on for this long.
     pub fn of(stage: Stage, elapsed: Duration) -> Figures
         ensures { result ≡ figures_of stage (as_nanos elapsed / 1_000_000) }
     {

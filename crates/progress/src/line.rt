@@ -86,8 +86,8 @@ impl fmt::Display for Figures {
     }
 }
 
-/// The text, cut or filled with spaces to 79 characters, behind a carriage return: it stands in place of the line that stood there.
-/// Only memory can be refused.
+/// The text, cut or filled with spaces to 79 characters, after a carriage return: it replaces the line that stood there.
+/// The only error is out of memory.
 pub fn line_of(alloc: Global, text: &str) -> Result<String, AllocError>
     ensures { IfOk result (λ line. string_bytes line ≡ line_of text.now) }
 {

@@ -12,10 +12,10 @@ use std::rt::Clock;
 use std::time::Instant;
 use workers::watch::{Stage, Watch};
 
-/// Nothing is drawn of a run before it has gone on for so many milliseconds.
+/// Nothing is drawn of a run until it has gone on for this many milliseconds.
 const QUIET: u128 = 1_000;
 
-/// How many milliseconds a line stands before it is drawn anew.
+/// How many milliseconds a line stands before it is redrawn.
 const STANDS: u128 = 500;
 
 /// When a run began, when it was looked at last, how far it went since, and when the line was drawn.
@@ -57,8 +57,8 @@ impl Course {
     }
 }
 
-/// Draws how far a run is, on one line, twice a second from its first second on, and clears the line where the run has ended. Where the
-/// clock fails, no line is drawn; that the stream or memory refuses a line changes nothing else.
+/// Draws how far a run is, on one line, twice a second from its first second on, and clears the line where the run has ended. If the
+/// clock fails, no line is drawn; if the stream or memory refuses a line, nothing else changes.
 #[derive(Drop)]
 pub struct ProgressLine<'a, C: Clock, E: Write> {
     alloc: Global,
@@ -69,7 +69,7 @@ pub struct ProgressLine<'a, C: Clock, E: Write> {
 }
 
 impl<'a, C: Clock, E: Write> ProgressLine<'a, C, E> {
-    /// A line on this stream, by this clock. Where the stream is no terminal, no run is to be watched.
+    /// A line on this stream, by this clock. If the stream is not a terminal, no run is watched.
     pub fn new(alloc: Global, clock: &'a C, errors: E, is_terminal: bool) -> Self
         ensures watches { result.watches ≡ is_terminal }
         ensures begun { result.course ≡ None }

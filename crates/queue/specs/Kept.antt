@@ -1,11 +1,12 @@
 -- What a queue keeps beside its requests.
---     AreKept inside      the marks are those of the requests, what waits and what writes is counted, and it is known whether the queue drains
+--     AreKept inside      the marks are those of the requests, the blocked ones and the writes are counted, and it is known whether the queue drains
 use Rattle.std.specs.Prelude.{◌≡◌, ◌-◌, ◌^◌, ◌<◌, ◌≤◌, length}
 use Rattle.queue.specs.declared.Queue.TheInside.{Inside}
 use Rattle.queue.specs.View.{drains_by}
 use Rattle.queue_columns.specs.Columns.{eligible_column, blocked_count, write_count, AreCounted}
 
--- the marks are those of the requests, each counter counts its lines, the writes and those that are blocked are counted, what it keeps of a drain is so with these writes, there is room for as many as the queue takes, and these are few
+-- The marks are those of the requests, each counter counts its lines, and the writes and the blocked requests are counted. What is kept of a
+-- drain is right for these writes. There is room for as many requests as the queue takes, and these are fewer than 2^16 - 1.
 pub record AreKept (q : Inside) : Type 0 where
   pub eligible_are : q.aged.marks ≡ eligible_column q.aged.requests
   pub blocked_are : q.blocked ≡ blocked_count q.aged.marks

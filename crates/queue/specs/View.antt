@@ -1,13 +1,13 @@
 -- What a queue stands for.
 --     QueueView      its requests, and what decides whether it drains
---     drains_by high low drained writes      whether a queue with so many writes drains, which drained before or not
+--     drains_by high low drained writes      whether a queue with this many writes drains, given whether it drained before
 --     is_draining view      whether it drains with the requests that it has
 use Rattle.std.specs.Prelude.{ℕ, nat_lt, nat_le, Bool, ◌&&◌, ◌||◌, List}
 use Rattle.sim_base.specs.declared.message.Request.{Request}
 use Rattle.queue_columns.specs.Columns.{write_count}
 
--- the requests that there is room for, the numbers of writes with which a drain begins and ends, the requests by age, and
--- whether it drained when that was decided last
+-- how many requests there is room for, the numbers of writes with which a drain begins and ends, the requests by age, and
+-- whether it drained when that was last decided
 pub record QueueView : Type 0 where
   pub room : ℕ
   pub high : ℕ

@@ -1,4 +1,4 @@
-//! Requests by age with their columns, of which any one can leave.
+//! Requests by age, any of which can leave, with their columns.
 
 ghost use Rattle.std.specs.Prelude.{◌≡◌, ◌+◌, ◌-◌, ◌<◌, ◌≤◌, ◌++◌, [], ◌∷◌, IfOk, drop, take, length, remove, slice_set, vec_len, vec_capacity};
 ghost use Rattle.queue_columns.specs.Marks.{mark};
@@ -10,7 +10,7 @@ use sim_base::message::Request;
 use std::alloc::{AllocError, Global};
 use std::marker::Model;
 
-/// Up to so many places are gone through item by item, all lists at once; more of them move list by list, each as one block.
+/// Up to this many places are moved item by item, in all lists at once; more are moved list by list, each as one block.
 const LONG_MOVE: usize = 8;
 
 /// Takes out the first items.
@@ -129,8 +129,8 @@ fn drop_last<T: Drop>(items: &mut Vec<T>)
     let _ = items.pop();
 }
 
-/// Requests by age with their columns, behind some free places that those left which went from the older half. Where a request
-/// leaves, those of the shorter side move by one place.
+/// Requests by age with their columns, after some free places left by requests that went from the older half. When a request
+/// leaves, those on the shorter side move by one place.
 #[derive(Drop)]
 pub(crate) struct Aged {
     room: usize,
@@ -156,7 +156,7 @@ impl Model for Aged {
 }
 
 impl Aged {
-    /// No requests, with room for so many and as many free places more.
+    /// No requests, with room for `room` of them and as many more free places.
     pub(crate) fn with_room(alloc: Global, room: usize) -> Result<Self, AllocError>
         ensures requests { IfOk result (λ aged. aged.requests ≡ []) }
         ensures marks { IfOk result (λ aged. aged.marks ≡ []) }
@@ -218,7 +218,7 @@ impl Aged {
         self.start = 0;
     }
 
-    /// Takes in a request where a place is free behind the youngest one.
+    /// Takes in a request, at the free place after the youngest one.
     #[inline(always)]
     fn push_behind(&mut self, request: Request, marked: bool)
         requires { 0 < self.old.free }
@@ -245,7 +245,7 @@ impl Aged {
         self.push_behind(request, marked);
     }
 
-    /// How many places are free behind the youngest request.
+    /// How many places are free after the youngest request.
     #[inline(always)]
     fn free(&self) -> usize
         ensures { result ≡ self.now.free }

@@ -17,7 +17,7 @@ use sim_base::message::Request;
 use std::alloc::{AllocError, Global};
 use std::marker::Model;
 
-/// Whether a queue with so many writes drains, which drained before or not.
+/// Whether a queue with `writes` writes drains, given whether it drained before.
 #[inline(always)]
 fn drains(high: u32, low: u32, drain_decided: bool, writes: usize) -> bool
     ensures { result ≡ drains_by high low drain_decided writes }
@@ -35,7 +35,7 @@ pub struct Queue {
     high: u32,
     /// Writes with which a drain ends.
     low: u32,
-    /// Whether it drained when that was decided last.
+    /// Whether it drained when that was last decided.
     drain_decided: bool,
     /// Writes among the requests.
     writes: usize,
@@ -63,8 +63,8 @@ impl Model for Queue {
 }
 
 impl Queue {
-    /// An empty queue with places for `room` requests, which drains its writes from `high` of them on down to `low`, and never
-    /// where `high` is 0. Nothing else takes memory.
+    /// An empty queue with places for `room` requests, which drains its writes from `high` of them down to `low`, and never
+    /// if `high` is 0. Only this call allocates memory.
     #[tactic(auto, unfolding(queue_columns::specs::Columns::eligible_column, queue_columns::specs::Columns::tag_column))]
     pub fn with_room(alloc: Global, room: usize, high: u32, low: u32) -> Result<Self, AllocError>
         requires room { room < 2 ^ 16 - 1 }
@@ -110,7 +110,7 @@ impl Queue {
         }
     }
 
-    /// Gives out the request at a place. The others keep their order, and the next one for its line is no longer blocked.
+    /// Takes out the request at a place. The others keep their order, and the next one for its line is no longer blocked.
     pub fn serve(&mut self, slot: usize) -> Request
         requires { slot < length self.old.requests }
         ensures request { (d : Request) → result ≡ slice_index_or self.old.requests slot d }
@@ -144,7 +144,7 @@ impl Queue {
         self.drain_decided = self.drains;
     }
 
-    /// Whether the queue drains its writes with the requests that it has; settling that now changes nothing of it.
+    /// Whether the queue drains its writes with the requests that it has; `decide_drain` does not change that.
     #[inline(always)]
     pub fn draining(&self) -> bool
         ensures { result ≡ is_draining self.now }

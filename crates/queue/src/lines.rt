@@ -29,7 +29,7 @@ pub(crate) fn is_line_asked(place: Place, alike: u16, requests: &[Request]) -> b
     alike != 0 && first_for_line(place, requests).is_some()
 }
 
-/// Counters for the lines of so many requests, 16 to 32 for each where they are many, so that few count two lines, and the highest of them.
+/// Counters for the lines of `room` requests, and the highest of them: 16 to 32 per request if these are many, so that few count two lines.
 pub(crate) fn counters(alloc: Global, room: usize) -> Result<(Vec<u16>, usize), AllocError>
     ensures masked { IfOk result (λ made. made.1 < length made.0.items) }
     ensures counts { IfOk result (λ made. AreCounted made.1 made.0.items []) }
@@ -42,8 +42,8 @@ pub(crate) fn counters(alloc: Global, room: usize) -> Result<(Vec<u16>, usize), 
     Ok((vec![in alloc; 0; mask + 1]?, mask))
 }
 
-/// Marks the first request for a line from a place on, if there is one, and says whether it was not marked. `blocked` is how many
-/// are not marked, and `alike` is 0 only where none asks for the line.
+/// Marks the first request for a line from a place on, if there is one, and says whether it was not marked. `blocked` is the number
+/// of requests that are not marked, and `alike` is 0 only if none asks for the line.
 pub(crate) fn unblock_next(
     place: Place,
     from: usize,

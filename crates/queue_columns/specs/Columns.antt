@@ -2,11 +2,11 @@
 --     bank_number place      the number of a bank
 --     eligible_column requests      which ones may be served: those with no older one for the same line
 --     tag_word eligible write bank      one byte that tells whether a request may be served and whether it writes, and its bank modulo 64
---     tag_of eligible r, tags_of requests marks      the tag of a request, and those of some, of which those that are marked may be served
+--     tag_of eligible r, tags_of requests marks      the tag of a request, and those of some requests, of which the marked ones may be served
 --     tag_column requests      the tags of all
---     blocked_count marks      how many are not marked
---     line_slot mask place      the counter that counts the requests for the line of a place, and for some others
---     slot_count mask requests slot, AreCounted mask counts requests      how many requests a counter counts, and that each says so many
+--     blocked_count marks      how many words are not marks
+--     line_slot mask place      the counter of the requests for the line of a place, and for some other lines
+--     slot_count mask requests slot, AreCounted mask counts requests      how many requests a counter counts, and that each counter says so
 --     marked_items items marks      the items at the places that are marked
 --     write_count requests      how many of them are writes
 use Rattle.std.specs.Prelude.{ℕ, ◌≡◌, ◌<◌, ◌+◌, ◌*◌, ◌/◌, ◌%◌, ◌^◌, bit_and, length, slice_index_or, ◌==◌, Bool, not, List, map, filter, take, count_by}
@@ -33,7 +33,7 @@ tag_word eligible write bank = (mark eligible * 2 + mark write) * 64 + bank % 64
 abbrev pub tag_of : Bool → Request → ℕ
 tag_of eligible r = tag_word eligible r.write (bank_number r.place)
 
--- the tags of some requests, of which those that are marked may be served
+-- the tags of some requests, of which the marked ones may be served
 abbrev pub tags_of : List Request → List ℕ → List ℕ
 tags_of requests marks = zip2 (λ r eligible. tag_of (is_marked eligible) r) requests marks
 
@@ -41,7 +41,7 @@ tags_of requests marks = zip2 (λ r eligible. tag_of (is_marked eligible) r) req
 unfoldable pub tag_column : List Request → List ℕ
 tag_column requests = tags_of requests (eligible_column requests)
 
--- how many of these words are no marks: of the eligible ones, how many requests are blocked by an older one of their line
+-- how many of these words are not marks: in the eligible column, how many requests are blocked by an older one for their line
 abbrev pub blocked_count : List ℕ → ℕ
 blocked_count marks = count_by (λ word. not (is_marked word)) marks
 

@@ -1,4 +1,4 @@
--- Marks, words that say yes or no of each place of a column. A mark is the word 1, and every other word is none.
+-- Marks: words that say yes or no for each place of a column. The word 1 is a mark, and no other word is.
 --     is_marked word      a word is a mark
 --     mark test      the word that says whether a test holds
 use Rattle.std.specs.Prelude.{ℕ, ◌==◌, Bool, if◌then◌else◌}

@@ -20,7 +20,7 @@ pub struct Columns<'a> {
 }
 
 impl<'a> Columns<'a> {
-    /// The columns of these requests, of which these may be served, and which have these tags.
+    /// The columns of these requests, with the marks of those that may be served, and their tags.
     #[inline(always)]
     pub fn new(requests: &'a [Request], eligible: &'a [u64], tags: &'a [u8]) -> Self
         requires eligible { eligible.now ≡ eligible_column requests.now }

@@ -33,7 +33,7 @@ pub fn tag_word(eligible: bool, write: bool, bank: u64) -> u8
     (flags * 64 + bank % 64) as u8
 }
 
-/// The tag of a request that may be served, or may not.
+/// The tag of a request, which may be served or not.
 pub fn tag(eligible: bool, request: Request) -> u8
     ensures { result ≡ tag_of eligible request }
 {

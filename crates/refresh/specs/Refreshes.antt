@@ -1,4 +1,4 @@
--- The refreshes that are due to the ranks of a channel.
+-- The refreshes that are due for the ranks of a channel.
 --     RefreshCounts      how often a rank is to be refreshed, and how often each was
 --     owed counts rank now      refreshes of a rank that are due
 --     lowest_owed counts now      the lowest rank with a refresh that is due
@@ -28,7 +28,7 @@ owed counts rank now = if counts.interval == 0 then 0 else now / counts.interval
 abbrev pub lowest_owed : RefreshCounts → ℕ → Option ℕ
 lowest_owed counts now = find (λ rank. nat_lt 0 (owed counts rank now)) (below counts.ranks)
 
--- the first cycle from now on in which a refresh is due to some rank, where the lowest such rank is told for each cycle
+-- the first cycle from now on in which a refresh is due for some rank, given the lowest such rank in each cycle
 pub record IsFirstDue (lowest : ℕ → Option ℕ) (now time : ℕ) : Type 0 where
   pub from_now : now ≤ time
   pub due : IsSome (lowest time)
@@ -39,7 +39,7 @@ abbrev pub is_due_at : Option ℕ → ℕ → Bool
 is_due_at None cycle = false
 is_due_at (Some first) cycle = nat_le first cycle
 
--- Something is due in just the cycles from that one on, of those from now on, where it is told for each cycle how much is due.
+-- Of the cycles from now on, something is due in just those from that one on, given how much is due in each cycle.
 pub record IsDueFrom (count : ℕ → ℕ) (now : ℕ) (due : Option ℕ) : Type 0 where
   pub from_now : IfSome due (λ first. now ≤ first)
   pub due_at : (cycle : ℕ) → now ≤ cycle → nat_lt 0 (count cycle) ≡ is_due_at due cycle

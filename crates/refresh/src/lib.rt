@@ -1,4 +1,4 @@
-//! The refreshes that are due to the ranks of a channel.
+//! The refreshes that are due for the ranks of a channel.
 #![tactic(auto)]
 
 ghost use Rattle.std.specs.Prelude.{◌≡◌, ◌↔◌, ◌+◌, ◌*◌, ◌<◌, ◌≤◌, ◌^◌, ◌++◌, ℕ, List, [], ◌∷◌, IsTrue, IsNone, IfSome, length, slice_index, slice_set, replicate, find, nat_lt, is_some};
@@ -51,7 +51,7 @@ fn fewest(counts: &[u64]) -> u64
 
 impl Refresh {
     /// The counts of a channel that has issued no command: a refresh of each of its ranks falls due after every
-    /// `refresh_interval` cycles, and never where that is 0.
+    /// `refresh_interval` cycles, and never if that is 0.
     pub fn new(refresh_interval: u32, ranks: u32) -> Self
         requires interval { refresh_interval ≤ 100000 }
         requires ranks_in { Within 1 4 ranks }
@@ -177,7 +177,7 @@ impl Refresh {
     }
 }
 
-/// A law about the counts: a command that refreshes no rank leaves them as they stand.
+/// A law about the counts: those that stand for some commands still do after one more that refreshes no rank.
 #[tactic(auto, using(crate::proofs::Due::stands_without_refresh))]
 pub fn other_commands_change_nothing()
     ensures { (counts : RefreshCounts) (s : Config) (history : List IssuedCommand) (i : IssuedCommand) → IsNoRefresh s i.command → StandsFor counts s history → StandsFor counts s (history ++ i ∷ []) }

@@ -61,7 +61,7 @@ pub record AppendsBeginning (old new : Option (List ℕ)) (text : List ℕ) : Ty
   pub rest : List ℕ
   pub taken : TakesUntil old new text rest
 
--- a stream took lines and what explains them behind them, or a beginning of that
+-- a stream took lines followed by what explains them, or a beginning of that
 pub record IsExplained (old new : Option (List ℕ)) (lines : List ℕ) : Type 0 where
   pub more : List ℕ
   pub begun : AppendsBeginning old new (lines ++ more)

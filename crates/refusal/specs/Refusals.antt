@@ -1,4 +1,4 @@
--- Why the program refuses, and whether a table of a run got its place before.
+-- Why the program refuses, and whether a table of a run got its place before that.
 --     fault_of refusal      why it is refused
 --     IsKept refusal      no table got its place
 --     IsTornRefusal refusal      a table got its place, and another one could not be given its own

@@ -6,7 +6,6 @@
 --     commands_text ranks rows      the whole table
 --     IsTextOf ranks rows result      the text of rows without the header, or why there is none
 use Rattle.std.specs.Prelude.{ℕ, nat_lt, List, [], ◌∷◌, ◌++◌, map, codes, decimal, if◌then◌else◌, ◌≡◌, Result, MatchResult, Vec}
-use Rattle.reports.specs.Rows.{rows_text, table_text, IsReportFault}
 use Rattle.sim_base.specs.Rules.{kind_of, rank_of}
 use Rattle.sim_base.specs.declared.command.Kind.{Kind}
 use Rattle.sim_base.specs.declared.command.Kind.TheVariants as kind
@@ -15,8 +14,9 @@ use Rattle.sim_base.specs.declared.command.Command.TheVariants.{Act, Rd, Wr, Pre
 use Rattle.sim_base.specs.declared.command.IssuedCommand.{IssuedCommand}
 use Rattle.sim_base.specs.declared.fault.Fault.{Fault}
 use Rattle.std.specs.declared.alloc.Global.{Global}
+use Rattle.reports.specs.Rows.{rows_text, table_text, IsReportFault}
 
--- a field of the column of the rank, which is there where there are several ranks
+-- a field of the column of the rank, present only if there are several ranks
 abbrev pub rank_field : ℕ → List ℕ → List (List ℕ)
 rank_field ranks field = if nat_lt 1 ranks then field ∷ [] else []
 
@@ -35,7 +35,7 @@ kind_word kind.Pre = codes "PRE"
 kind_word kind.Prea = codes "PREA"
 kind_word kind.Ref = codes "REF"
 
--- the fields of a command for group, bank, row, column, core and entry; those that it says nothing of are empty
+-- the fields of a command for group, bank, row, column, core and entry; those that it does not state are empty
 abbrev pub operand_fields : Command → List (List ℕ)
 operand_fields (Act bank row source) =
     decimal bank.group ∷ decimal bank.bank ∷ decimal row ∷ [] ∷ decimal source.core ∷ decimal source.entry ∷ []

@@ -107,7 +107,7 @@ flight_entry (load.Request request) = request.entry
 flight_entry (load.Reply entry) = entry
 flight_entry (load.Credit write entry) = entry
 
--- the core of a link of a machine with so many channels; none, where there is no channel
+-- the core of a link of a machine with this many channels; none where there is no channel
 abbrev pub core_of_link : ℕ → ℕ → Option ℕ
 core_of_link channels link = if channels == 0 then None else Some (link / 3 / channels)
 
@@ -115,7 +115,7 @@ core_of_link channels link = if channels == 0 then None else Some (link / 3 / ch
 abbrev pub channel_of_link : ℕ → ℕ → Option ℕ
 channel_of_link channels link = if channels == 0 then None else Some (link / 3 % channels)
 
--- a message in flight of a machine with so many channels
+-- a message in flight of a machine with this many channels
 abbrev pub flight_numbers : ℕ → Message → Numbers
 flight_numbers channels message =
     record blank {

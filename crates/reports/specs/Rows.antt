@@ -28,11 +28,11 @@ optional number = optional_by decimal number
 abbrev pub comma : ℕ
 comma = 44
 
--- a row: its fields, with a comma between each two, and a line feed
+-- a row: its fields, separated by commas, and a line feed
 unfoldable pub row_text : List (List ℕ) → List ℕ
 row_text fields = join_with_byte comma fields ++ codes "\n"
 
--- the text of rows with the line feed at its end, which no rows have
+-- the text of rows with the line feed at its end; without rows there is none
 abbrev pub ended : List ℕ → List ℕ
 ended [] = []
 ended (byte ∷ rest) = byte ∷ rest ++ codes "\n"

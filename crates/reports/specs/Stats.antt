@@ -39,7 +39,7 @@ core_values core =
     ∷ (codes "finish", core.finish)
     ∷ []
 
--- the count of cycles in which a channel drained its writes, which is there where it may
+-- the count of cycles in which a channel drained its writes, present only if it may drain them
 abbrev pub draining_values : Option ℕ → List (List ℕ × Option ℕ)
 draining_values None = []
 draining_values (Some cycles) = (codes "draining", Some cycles) ∷ []

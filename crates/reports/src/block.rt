@@ -9,7 +9,7 @@ use std::marker::Model;
 /// The room for the text, in bytes.
 const SIZE: usize = 4096;
 
-/// Rows, each with a line feed at its end, of which `csv` writes the last. What `csv` does for a text is so done once for many rows.
+/// Rows, each ended by a line feed, the last of which `csv` writes. So what `csv` does for a text is done once for many rows.
 #[derive(Drop)]
 pub(crate) struct Block {
     bytes: [u8; SIZE],
@@ -27,7 +27,7 @@ impl Model for Block {
     ghost invariant = { λ block. block.len ≤ 4096 };
 }
 
-// Puts a line feed behind so many bytes, if there are any. Gives where the next row begins.
+// Puts a line feed after the first `len` bytes, if there are any. Returns where the next row begins.
 #[inline(always)]
 fn end_last(bytes: &mut [u8; SIZE], len: usize) -> usize
     requires { len < 4096 }
@@ -60,7 +60,7 @@ impl Block {
         self.len == 0
     }
 
-    /// Whether there is room for a row more, whichever it is.
+    /// Whether there is room for one more row, whatever it is.
     #[inline]
     pub(crate) fn has_room(&self) -> bool
         ensures { IsTrue result → length self.now + 256 ≤ 4096 }
@@ -76,7 +76,7 @@ impl Block {
         &self.bytes[..self.len]
     }
 
-    /// Lets go of all rows.
+    /// Drops all rows.
     #[inline]
     pub(crate) fn clear(&mut self)
         ensures { self.new ≡ [] }
@@ -84,7 +84,7 @@ impl Block {
         self.len = 0;
     }
 
-    /// Puts a row behind the others.
+    /// Appends a row.
     #[inline]
     pub(crate) fn push(&mut self, row: &[u8])
         requires some { 0 < length row.now }

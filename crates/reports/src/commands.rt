@@ -16,7 +16,7 @@ use sim_base::place::BankId;
 use std::alloc::Global;
 use std::io::Write;
 
-// The fields of a command of a request, behind that of the rank.
+// The fields of a command of a request, after that of the rank.
 #[inline(always)]
 fn put_request(
     line: &mut Line,
@@ -37,7 +37,7 @@ fn put_request(
     put(line, start, Some(u64::from(bank.group)))
 }
 
-// The fields behind that of the rank, of which a command of a whole rank fills none.
+// The fields after that of the rank; a command of a whole rank fills none of them.
 #[inline(always)]
 fn put_operands(line: &mut Line, command: Command) -> usize
     ensures text { drop result line.new ≡ join_with_byte comma (operand_fields command) }
@@ -165,13 +165,13 @@ fn write_rows<W: Write>(
 
 /// Writes the table of commands: a header, and then a row for each command, in their order.
 ///
-/// Where `ranks` is above 1 the table has a column for the rank. The memory that the call takes is that of a batch
-/// of rows, below 64 KB, and some 14 KB for the writer of `csv` and what it is handed.
+/// Where `ranks` is above 1 the table has a column for the rank. The call takes memory for a batch of
+/// rows, below 64 KB, and some 14 KB for the writer of `csv` and what it is handed.
 ///
 /// # Errors
 ///
-/// `Fault::Memory` where memory is refused, and `Fault::Write` where the writer fails or takes no byte. What went out
-/// before is not known.
+/// `Fault::Memory` where memory is refused, and `Fault::Write` where the writer fails or takes no byte. How much
+/// went out before that is not known.
 pub fn write_commands<W: Write>(
     alloc: Global,
     ranks: u32,

@@ -423,13 +423,13 @@ fn write_rows<W: Write>(
 /// that each core holds for each channel; for each channel the refreshes that are due by rank, the open rows and the queue;
 /// and the messages in flight. Fields that a row does not have are empty.
 ///
-/// Where `ranks` is above 1 the table has a column for the rank. The memory that the call takes is that of a batch
-/// of rows, below 64 KB, and some 14 KB for the writer of `csv` and what it is handed.
+/// Where `ranks` is above 1 the table has a column for the rank. The call takes memory for a batch of
+/// rows, below 64 KB, and some 14 KB for the writer of `csv` and what it is handed.
 ///
 /// # Errors
 ///
-/// `Fault::Memory` where memory is refused, and `Fault::Write` where the writer fails or takes no byte. What went out
-/// before is not known.
+/// `Fault::Memory` where memory is refused, and `Fault::Write` where the writer fails or takes no byte. How much
+/// went out before that is not known.
 pub fn write_final<W: Write>(
     alloc: Global,
     state: &FinalState,

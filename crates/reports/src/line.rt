@@ -1,5 +1,5 @@
-//! The text of one row. It is put together from its last field to its first, since digits are found from the last to the first,
-//! so that each byte is written once, where it stays. What puts something before a place gives the place where that begins.
+//! The text of one row. It is put together from its last field to its first, since digits are found from the last to the first;
+//! so each byte is written once, where it stays. A function that puts something before a place returns the place where it begins.
 
 ghost use Rattle.std.specs.Prelude.{◌≡◌, ◌≤◌, ◌<◌, ◌+◌, ◌++◌, ◌∷◌, if◌then◌else◌, nat_lt, length, drop, decimal};
 ghost use Rattle.reports.specs.Rows.{comma, optional};
@@ -44,7 +44,7 @@ fn put_byte(line: &mut Line, end: usize, byte: u8) -> usize
     end - 1
 }
 
-// The numbers of a table are often of one digit.
+// The numbers of a table often have one digit.
 #[inline(always)]
 fn put_digits(line: &mut Line, end: usize, number: u64) -> usize
     requires { (20 ≤ end) × (end ≤ 256) }
@@ -71,7 +71,7 @@ pub(crate) fn put_last(line: &mut Line, number: Option<u64>) -> usize
     }
 }
 
-/// The same with a number that may be wide.
+/// The same for a number that may exceed 64 bits.
 #[inline]
 pub(crate) fn put_last_wide(line: &mut Line, number: Option<u128>) -> usize
     ensures text { drop result line.new ≡ optional number }

@@ -1,4 +1,4 @@
-//! The table of commands in pieces, whose texts are put together at the same time.
+//! The table of commands in pieces, whose texts are put together in parallel.
 
 ghost use Rattle.std.specs.Prelude.{◌≡◌, ◌<◌, flat_map, IfOk, IfErr, OnOk};
 ghost use Rattle.std.specs.Io.KnownBytes.{Appends};
@@ -7,15 +7,14 @@ ghost use Rattle.reports.specs.Commands.{header, lines_text, commands_text, IsTe
 
 use crate::commands::{write_commands, write_each, write_header};
 use crate::table::Table;
-use command_table::piece::Piece;
-use command_table::table::CommandTable;
+use command_table::table::{CommandTable, Rows};
 use rayon::prelude::*;
 use sim_base::fault::Fault;
 use std::alloc::Global;
 use std::io::Write;
 use std::thread::Threads;
 
-// How many commands of a channel a piece has at most. With 2 to 8 channels its text is of some 256 KB to 1 MB.
+// How many commands of a channel a piece has at most. With 2 to 8 channels its text is some 256 KB to 1 MB.
 const MOST: usize = 4096;
 
 // The header alone.
@@ -32,19 +31,19 @@ fn write_header_alone<W: Write>(alloc: Global, ranks: u32, writer: &mut W) -> Re
 fn write_piece<W: Write>(
     alloc: Global,
     ranks: u32,
-    piece: &Piece<'_>,
+    piece: &Rows<'_>,
     writer: &mut W,
 ) -> Result<(), Fault>
     ensures written { OnOk result (Appends (W.contents writer.old) (W.contents writer.new) (lines_text ranks piece.now)) }
     ensures refused { IfErr result (λ e. IsReportFault e) }
 {
     let mut table = Table::new(alloc);
-    write_each(&mut table, ranks, piece.rows(alloc)?, writer)?;
+    write_each(&mut table, ranks, piece.copied(alloc)?, writer)?;
     table.finish(writer)
 }
 
 // The text of a piece.
-fn text_of(alloc: Global, ranks: u32, piece: &Piece<'_>) -> Result<Vec<u8>, Fault>
+fn text_of(alloc: Global, ranks: u32, piece: &Rows<'_>) -> Result<Vec<u8>, Fault>
     ensures { IsTextOf ranks piece.now result }
 {
     let mut text = Vec::new(alloc);
@@ -57,7 +56,7 @@ fn texts_of<R: Threads + Sync>(
     rt: &R,
     alloc: Global,
     ranks: u32,
-    pieces: &[Piece<'_>],
+    pieces: &[Rows<'_>],
 ) -> Result<Vec<Vec<u8>>, Fault>
     ensures texts { IfOk result (λ texts. flat_map (λ text. text.items) texts.items ≡ lines_text ranks (flat_map (λ piece. piece) pieces.now)) }
     ensures refused { IfErr result (λ e. IsReportFault e) }
@@ -66,7 +65,7 @@ fn texts_of<R: Threads + Sync>(
         .par_iter()
         .with_min_len(1)
         .map(
-            |piece: &Piece<'_>| -> Result<Vec<u8>, Fault>
+            |piece: &Rows<'_>| -> Result<Vec<u8>, Fault>
                 ensures { IsTextOf ranks piece.now result }
             { text_of(alloc, ranks, piece) },
         )
@@ -86,12 +85,12 @@ fn write_texts<W: Write>(texts: &[Vec<u8>], writer: &mut W) -> Result<(), Fault>
     Ok(())
 }
 
-// Writes the commands of some pieces, of which all texts are put together before the first is written.
+// Writes the commands of some pieces; all their texts are put together before the first is written.
 fn write_round<R: Threads + Sync, W: Write>(
     rt: &R,
     alloc: Global,
     ranks: u32,
-    pieces: &[Piece<'_>],
+    pieces: &[Rows<'_>],
     writer: &mut W,
 ) -> Result<(), Fault>
     ensures written { OnOk result (Appends (W.contents writer.old) (W.contents writer.new) (lines_text ranks (flat_map (λ piece. piece) pieces.now))) }
@@ -101,13 +100,13 @@ fn write_round<R: Threads + Sync, W: Write>(
     write_texts(&texts, writer)
 }
 
-// Writes the commands of all pieces, so many pieces at a time.
+// Writes the commands of all pieces, `threads` pieces at a time.
 fn write_pieces<R: Threads + Sync, W: Write>(
     rt: &R,
     alloc: Global,
     threads: usize,
     ranks: u32,
-    pieces: &[Piece<'_>],
+    pieces: &[Rows<'_>],
     writer: &mut W,
 ) -> Result<(), Fault>
     requires some { 0 < threads }
@@ -123,11 +122,11 @@ fn write_pieces<R: Threads + Sync, W: Write>(
     Ok(())
 }
 
-/// Writes the table of commands as `write_commands` does, put together by so many threads at most. A table of few commands, and
-/// one for which there is one thread, is put together by the caller alone.
+/// Writes the table of commands as `write_commands` does, put together by at most `threads` threads. If there are few commands,
+/// or only one thread, the caller alone puts it together.
 ///
-/// The memory that the call takes beside that of `write_commands` is that of the texts of as many pieces as there are threads, each of
-/// 4,096 commands of a channel at most.
+/// In addition to the memory of `write_commands`, the call takes that of the texts of as many pieces as there are threads, each of
+/// at most 4,096 commands per channel.
 ///
 /// # Errors
 ///

@@ -182,13 +182,12 @@ fn write_rows<W: Write>(table: &mut Table, stats: &Stats, writer: &mut W) -> Res
 /// Writes the table of statistics: a header, how many cycles there were, and then a row for each count of each core and of
 /// each channel, by number. A channel that may drain its writes has a row `draining` after all others.
 ///
-/// The memory that the call takes is that of a batch of rows, below 64 KB, and some 14 KB for the writer of `csv` and what it is
-/// handed.
+/// The call takes memory for a batch of rows, below 64 KB, and some 14 KB for the writer of `csv` and what it is handed.
 ///
 /// # Errors
 ///
-/// `Fault::Memory` where memory is refused, and `Fault::Write` where the writer fails or takes no byte. What went out
-/// before is not known.
+/// `Fault::Memory` where memory is refused, and `Fault::Write` where the writer fails or takes no byte. How much
+/// went out before that is not known.
 pub fn write_stats<W: Write>(alloc: Global, stats: &Stats, writer: &mut W) -> Result<(), Fault>
     ensures written { OnOk result (Appends (W.contents writer.old) (W.contents writer.new) (stats_text stats.now)) }
     ensures refused { IfErr result (λ e. IsReportFault e) }

@@ -13,10 +13,10 @@ use std::alloc::Global;
 use std::io::Write;
 use std::mem;
 
-// When so many bytes wait in the list, all that waits goes out. With what `csv` may hold beside it that is below 64 KB.
+// Once this many bytes wait in the list, everything that waits goes out. Together with what `csv` may hold, that is below 64 KB.
 const BATCH: usize = 48 * 1024;
 
-// A writer of rows after this text, without quotes. Its buffer of 8 KB is cleared here, so one is made for many rows.
+// A writer that appends rows to this text, without quotes. Its buffer of 8 KB is cleared here, so one writer is made for many rows.
 fn rows_after(text: Vec<u8>) -> Writer<Vec<u8>>
     ensures under { writer_under result ≡ text }
     ensures pending { writer_pending result ≡ [] }
@@ -44,7 +44,7 @@ fn write_out<W: Write>(rows: Writer<Vec<u8>>, writer: &mut W) -> Result<(), Faul
     Ok(())
 }
 
-/// Rows that wait for a writer, below 64 KB of them, and the row that is being put together. They go out together. The last
+/// Rows that wait for a writer, less than 64 KB of them, and the row that is being put together. They go out together. The last
 /// of them wait in a block, which `csv` gets as one text.
 #[derive(Drop)]
 pub(crate) struct Table {
@@ -90,7 +90,7 @@ impl Table {
         Ok(())
     }
 
-    // Hands all rows that wait to the writer. After an error none wait but those of the block.
+    // Hands all waiting rows to the writer. After an error only those of the block still wait.
     fn send<W: Write>(&mut self, writer: &mut W) -> Result<(), Fault>
         ensures written { OnOk result (Keeps (held W.contents writer.old self.old) (held W.contents writer.new self.new)) }
         ensures none { OnOk result (waiting self.new ≡ []) }
@@ -103,7 +103,7 @@ impl Table {
         write_out(full, writer)
     }
 
-    // Empties the block. Where enough rows wait they go out.
+    // Empties the block. If enough rows wait, they go out.
     #[inline(never)]
     fn empty_block<W: Write>(&mut self, writer: &mut W) -> Result<(), Fault>
         ensures written { OnOk result (Keeps (held W.contents writer.old self.old) (held W.contents writer.new self.new)) }
@@ -117,7 +117,7 @@ impl Table {
         self.put_block()
     }
 
-    // Sees that the block has room for a row.
+    // Makes sure that the block has room for a row.
     #[inline(always)]
     fn make_room<W: Write>(&mut self, writer: &mut W) -> Result<(), Fault>
         ensures written { OnOk result (Keeps (held W.contents writer.old self.old) (held W.contents writer.new self.new)) }
@@ -131,7 +131,7 @@ impl Table {
         self.empty_block(writer)
     }
 
-    /// Ends the row whose fields the line has from a place on. Where enough rows wait they go out. After an error those that
+    /// Ends the row whose fields stand in the line from a place on. If enough rows wait, they go out. After an error those that
     /// waited are lost.
     #[inline(always)]
     pub(crate) fn write_row<W: Write>(&mut self, start: usize, writer: &mut W) -> Result<(), Fault>

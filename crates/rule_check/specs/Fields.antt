@@ -36,7 +36,7 @@ names_ranks ranks = nat_lt 1 ranks
 abbrev pub column_count : ℕ → ℕ
 column_count ranks = if names_ranks ranks then 10 else 9
 
--- the text of a field, counted from 0; the empty one where there is no such field
+-- the text of a field, counted from 0; the empty text where there is no such field
 unfoldable pub text_at : List (List ℕ) → ℕ → List ℕ
 text_at fields k = unwrap_or (field_at fields k) []
 
@@ -80,7 +80,7 @@ is_header ranks fields =
 abbrev pub is_empty : List ℕ → Bool
 is_empty text = length text == 0
 
--- the rank that a record names; the only one, where there are not several
+-- the rank that a record names; the only rank where there is just one
 unfoldable pub rank_in : Config → List (List ℕ) → Option ℕ
 rank_in s fields = if names_ranks s.ranks then number_below s.ranks (text_at fields 3) else Some 0
 
@@ -160,7 +160,7 @@ command_in s fields =
     if bytes_eq (text_at fields 2) (codes "PREA") then prea_in s fields else
     if bytes_eq (text_at fields 2) (codes "REF") then ref_in s fields else None
 
--- a command speaks of banks of the configuration
+-- the rank and the bank of a command are of the configuration
 pub record CommandFits (s : Config) (command : Command) : Type 0 where
   pub rank_in_range : rank_of command < s.ranks
   pub bank_in_range : IfSome (bank_of command) (λ bank. (bank.group < s.groups) × (bank.bank < 4))

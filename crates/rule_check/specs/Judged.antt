@@ -7,8 +7,8 @@ use Rattle.rule_check.specs.declared.state.Past.{Past}
 use Rattle.rule_check.specs.Past.{IsPast}
 use Rattle.rule_check.specs.Verdict.{verdict_after}
 
--- A record with this number, after these rows, writes a row that keeps every rule, and a `Past` keeps it: the verdict is that on
--- what comes after it.
+-- A record with this number, after these rows, writes a row that keeps every rule, and a `Past` keeps it: the verdict is the one
+-- on what comes after it.
 pub record IsKeptRow (past : Past) (s : Config) (rows : List IssuedCommand) (number : ℕ) (fields : List (List ℕ)) : Type 0 where
   pub row : IssuedCommand
   pub kept : IsPast past s (rows ++ row ∷ [])

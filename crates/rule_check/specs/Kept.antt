@@ -1,8 +1,8 @@
 -- What is kept of the rows of a channel, in place of the rows themselves.
---     lies scope rank bank earlier      a rule of this scope binds an earlier command to one in a rank, which names this bank, if it names one, and if it binds their kinds
+--     lies scope rank bank earlier      a rule of this scope that binds both kinds binds an earlier command to one of this rank and this bank, if any
 --     latest_where p history      the latest cycle of each kind of command, among those of which p holds
 --     bank_past, group_past, rank_past      what the rows of a channel make of a bank, of a group and of a rank
---     bank_after, group_after, rank_after      what one row more makes of them
+--     bank_after, group_after, rank_after      what one more row makes of them
 --     IsKept channel s history      a `Channel` keeps just this of the rows of a channel
 --     kept_breaks s rules channel row number      which rules a row breaks, by what is kept
 --     keeps_each s rules channel row      a row keeps every rule of its channel, by what is kept
@@ -32,7 +32,7 @@ use Rattle.rule_check.specs.declared.state.Group.{Group}
 use Rattle.rule_check.specs.declared.state.Rank.{Rank}
 use Rattle.rule_check.specs.declared.state.Channel.{Channel}
 
--- a rule of this scope binds a command to a later one in a rank, which names this bank, if it names one, and if the rule binds their kinds
+-- a rule of this scope that binds both kinds binds a command to a later one of this rank and this bank, if any
 abbrev pub lies : Scope → ℕ → Option BankId → Command → Bool
 lies scope rank bank earlier = covers scope (relation_to earlier rank bank)
 
@@ -54,7 +54,7 @@ latest_of l kind.Pre = l.pre
 latest_of l kind.Prea = l.prea
 latest_of l kind.Ref = l.refresh
 
--- one command more
+-- one more command
 abbrev pub noted : Kind → ℕ → Latest → Latest
 noted kind.Act cycle l = record l { act = later_cycle l.act cycle }
 noted kind.Rd cycle l = record l { rd = later_cycle l.rd cycle }
@@ -75,7 +75,7 @@ latest_where p history = fold (λ l i. noted_where (p i.command) (kind_of i.comm
 abbrev pub no_window : Window
 no_window = record { first = 0; second = 0; third = 0; fourth = 0 }
 
--- one ACT more, by the cycle from which on it no longer counts
+-- one more ACT, given the cycle from which on it no longer counts
 abbrev pub window_after : ℕ → Window → Window
 window_after end w =
     record { first = max w.first end; second = max w.second (min w.first end); third = max w.third (min w.second end); fourth = max w.fourth (min w.third end) }
@@ -92,7 +92,7 @@ window_where counts end w = if counts then window_after end w else w
 unfoldable pub window_from : Timing → ℕ → List IssuedCommand → Window
 window_from t rank history = fold (λ w i. window_where (activates rank i.command) (i.cycle + t.n_faw) w) no_window history
 
--- the cycle after which the next refresh of a rank is overdue, after one refresh more; it moves no further once no number is later
+-- the cycle after which the next refresh of a rank is overdue, after one more refresh; it stays once no cycle of a table is later
 abbrev pub deadline_after : ℕ → ℕ → ℕ
 deadline_after interval deadline = if nat_lt deadline number_limit then deadline + interval else deadline
 
@@ -116,7 +116,7 @@ any_bank rank group = Some (record { rank = rank; group = group; bank = 0 })
 abbrev pub bank_past : List IssuedCommand → BankId → Bank
 bank_past history b = record { latest = latest_where (lies InBank b.rank (Some b)) history; row = open_row b history }
 
--- what one row more makes of it
+-- what one more row makes of it
 abbrev pub bank_after : BankId → ℕ → Command → Bank → Bank
 bank_after b cycle command state =
     record { latest = noted_where (lies InBank b.rank (Some b) command) (kind_of command) cycle state.latest; row = row_after b state.row command }
@@ -126,7 +126,7 @@ abbrev pub group_past : List IssuedCommand → ℕ → ℕ → Group
 group_past history rank group =
     record { within = latest_where (lies InGroup rank (any_bank rank group)) history; across = latest_where (lies AcrossGroups rank (any_bank rank group)) history }
 
--- what one row more makes of it
+-- what one more row makes of it
 abbrev pub group_after : ℕ → ℕ → ℕ → Command → Group → Group
 group_after rank group cycle command state =
     record {
@@ -144,7 +144,7 @@ rank_past s history rank =
       deadline = deadline_from s rank history;
     }
 
--- what one row more makes of it
+-- what one more row makes of it
 abbrev pub rank_after : Timing → ℕ → ℕ → Command → Rank → Rank
 rank_after t rank cycle command state =
     record {
@@ -174,7 +174,7 @@ pub record IsKept (c : Channel) (s : Config) (history : List IssuedCommand) : Ty
   pub groups : (k : ℕ) (d : Group) → k < 4 * s.ranks → slice_index_or c.groups.items k d ≡ group_past history (k / 4) (k % 4)
   pub ranks : (k : ℕ) (d : Rank) → k < s.ranks → slice_index_or c.ranks.items k d ≡ rank_past s history k
 
--- the latest command of a kind that lies so to a later one, by what is kept
+-- the latest command of a kind that is in a given relation to a later one, by what is kept
 abbrev pub kept_in_bank : List Bank → BankId → Kind → Option ℕ
 kept_in_bank banks bank which = option_and_then (λ (state : Bank). latest_of state.latest which) (slice_get banks (number_of bank))
 
@@ -200,7 +200,7 @@ kept c InGroup which rank None = kept_in_rank c.ranks.items rank which
 kept c AcrossGroups which rank (Some bank) = kept_across_groups c.groups.items bank which
 kept c AcrossGroups which rank None = None
 
--- the latest of some commands is too near before a cycle
+-- the latest of some commands is less than a distance before a cycle
 abbrev pub is_ahead : ℕ → ℕ → Option ℕ → Bool
 is_ahead now distance None = false
 is_ahead now distance (Some cycle) = nat_lt now (cycle + distance)
@@ -214,7 +214,7 @@ is_too_soon c r row =
 unfoldable pub kept_breaks_distance : List Rule → Channel → IssuedCommand → ℕ → Bool
 kept_breaks_distance table c row number = list_any (λ r. (r.number == number) && is_too_soon c r row) table
 
--- the cycle from which on one ACT more of a rank does not make five in a window
+-- the cycle from which on one more ACT of a rank does not make five in a window
 abbrev pub kept_window : List Rank → ℕ → ℕ
 kept_window ranks rank = unwrap_or (option_map (λ (state : Rank). state.window.fourth) (slice_get ranks rank)) 0
 
@@ -260,7 +260,7 @@ kept_breaks s table c row number =
 abbrev pub comes_too_soon : List Rule → Channel → IssuedCommand → Bool
 comes_too_soon table c row = list_any (λ r. is_too_soon c r row) table
 
--- a row keeps every rule of its channel: they are not taken by their numbers, but all at once
+-- a row keeps every rule of its channel: the rules are not tested by number, but all at once
 abbrev pub keeps_each : Config → List Rule → Channel → IssuedCommand → Bool
 keeps_each s table c row =
     kept_finds_banks s c.banks.items row.command && not (kept_breaks_window c row) && not (kept_breaks_refresh s c row) && not (comes_too_soon table c row)

@@ -18,7 +18,7 @@ use Rattle.rule_check.specs.declared.verdict.Verdict.TheVariants.{Legal, Broken}
 abbrev pub records_of : List ℕ → List (List (List ℕ))
 records_of table = records default_config (strip_bom table)
 
--- a row that breaks a rule decides; else what comes after it does
+-- a row that breaks a rule decides; otherwise what comes after it does
 abbrev pub decided_by_rule : ℕ → Option ℕ → Result Verdict Fault → Result Verdict Fault
 decided_by_rule number (Some rule) rest = Ok (Broken number rule)
 decided_by_rule number None rest = rest

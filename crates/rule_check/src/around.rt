@@ -22,7 +22,7 @@ pub(crate) struct Around<'c> {
     other_ranks: &'c Latest,
 }
 
-/// What is kept of a bank; that of a new one, where there is none.
+/// What is kept of a bank; if nothing is, what is kept of a new one.
 pub(crate) fn bank_at(banks: &[Bank], bank: BankId) -> &Bank
     ensures { result.now ≡ unwrap_or (slice_get banks.now (number_of bank)) NEW_BANK }
 {
@@ -35,7 +35,7 @@ fn group_at(groups: &[Group], bank: BankId) -> &Group
     groups.get(group_number(bank)).unwrap_or(&NEW_GROUP)
 }
 
-/// What is kept of a rank; that of a new one, where there is none.
+/// What is kept of a rank; if nothing is, what is kept of a new one.
 pub(crate) fn rank_at(ranks: &[Rank], rank: u32) -> &Rank
     ensures { result.now ≡ unwrap_or (slice_get ranks.now rank) NEW_RANK }
 {

@@ -1,4 +1,4 @@
-//! How one row more changes what is kept of a channel.
+//! How one more row changes what is kept of a channel.
 
 ghost use Rattle.std.specs.Prelude.{ℕ, ◌≡◌, ◌+◌, ◌*◌, ◌/◌, ◌%◌, ◌<◌, ◌≤◌, ◌&&◌, ◌==◌, ◌++◌, ◌∷◌, [], List, Some, IfSome, IfOk, length, slice_index_or};
 ghost use Rattle.sim_base.specs.declared.config.Config.{Config};
@@ -132,7 +132,7 @@ fn note_in_own_bank(banks: &mut [Bank], bank: BankId, command: Command, cycle: u
     note_in_bank(&mut banks[number_of(bank)], bank, command, cycle);
 }
 
-// A command that names no bank may speak of each.
+// A command that names no bank may concern each of them.
 fn note_in_banks(banks: &mut [Bank], command: Command, cycle: u64)
     requires few { length banks.old ≤ 64 }
     requires names { IfSome (bank_of command) (λ bank. (bank.group < 4) × (bank.bank < 4) × (number_of bank < length banks.old)) }

@@ -49,7 +49,7 @@ pub(crate) fn latest_of(latest: &Latest, kind: Kind) -> Option<u64>
     }
 }
 
-/// Notes one command more.
+/// Notes one more command.
 pub(crate) fn note(latest: &mut Latest, kind: Kind, cycle: u64)
     ensures { latest.new ≡ noted kind cycle latest.old }
 {
@@ -63,7 +63,7 @@ pub(crate) fn note(latest: &mut Latest, kind: Kind, cycle: u64)
     }
 }
 
-/// Whether the latest of some commands is nearer before a cycle than a distance.
+/// Whether the latest of some commands is less than a distance before a cycle.
 pub(crate) fn is_ahead(now: u64, distance: u64, latest: Option<u64>) -> bool
     ensures { result ≡ is_ahead now distance latest }
 {

@@ -7,7 +7,7 @@ ghost use Rattle.rule_check.specs.Numbers.{number_limit, capped_digit, digits_va
 /// Each number of a table is below this one.
 pub(crate) const NUMBER_LIMIT: u64 = 1 << 62;
 
-// The number with one more digit; the limit stands for each number from it on.
+// The number with one more digit; the limit stands for every number not below it.
 fn with_digit(number: u64, byte: u8) -> u64
     ensures { result ≡ capped_digit number byte }
 {
@@ -27,7 +27,7 @@ fn is_digit(byte: u8) -> bool
     byte.is_ascii_digit()
 }
 
-// The number that a text writes, if it has digits alone; the limit stands for each number from it on.
+// The number that a text writes, if it has only digits; the limit stands for every number not below it.
 fn digits_value(text: &[u8]) -> Option<u64>
     ensures { result ≡ digits_value text.now }
 {
@@ -41,7 +41,7 @@ fn digits_value(text: &[u8]) -> Option<u64>
     Some(number)
 }
 
-/// The number in a field, where it is one below a limit of at most 2^62.
+/// The number in a field, if it has one below a limit of at most 2^62.
 #[tactic(auto, using(crate::proofs::Digits::capped_value_is), unfolding(crate::specs::Numbers::number_below))]
 pub(crate) fn number_below(limit: u64, text: &[u8]) -> Option<u64>
     requires { limit ≤ number_limit }
@@ -54,7 +54,7 @@ pub(crate) fn number_below(limit: u64, text: &[u8]) -> Option<u64>
     }
 }
 
-/// The same of a limit of 32 bits.
+/// The same for a limit of 32 bits.
 pub(crate) fn small_number(limit: u32, text: &[u8]) -> Option<u32>
     ensures value { result ≡ number_below limit text.now }
     ensures below { IfSome result (λ n. n < limit) }

@@ -82,7 +82,7 @@ fn lowest_by(
     (1u8..22).find(|number| breaks(config, table, last, channel, row, u32::from(*number)))
 }
 
-// Most rows break none, which is found at once.
+// Most rows break no rule, which takes only one pass to find out.
 fn lowest_if_any(
     config: &Config,
     table: &[Rule],
@@ -115,7 +115,7 @@ pub(crate) fn lowest_broken(
     lowest_if_any(config, table, past.last, channel, row)
 }
 
-/// Keeps one row more.
+/// Keeps one more row.
 pub(crate) fn note(past: &mut Past, config: &Config, row: IssuedCommand)
     requires fits { RowFits config.now row }
     requires stands { (rows : List IssuedCommand) × IsPast past.old config.now rows }

@@ -6,14 +6,14 @@ use crate::latest::{Latest, NOTHING};
 use crate::window::{NO_ACTS, Window};
 use sim_base::command::IssuedCommand;
 
-/// A bank: the latest command of each kind that spoke of it, and its open row.
+/// A bank: the latest command of each kind that concerned it, and its open row.
 #[derive(Clone, Copy)]
 pub(crate) struct Bank {
     pub(crate) latest: Latest,
     pub(crate) row: Option<u32>,
 }
 
-/// A bank of which no command spoke.
+/// A bank that no command has concerned.
 pub(crate) static NEW_BANK: Bank = Bank {
     latest: NOTHING,
     row: None,
@@ -42,7 +42,7 @@ pub(crate) struct Rank {
     pub(crate) deadline: u64,
 }
 
-/// A rank that had no command, and no refresh of which is due.
+/// A rank that has had no command, and has no refresh due.
 pub(crate) static NEW_RANK: Rank = Rank {
     within: NOTHING,
     across: NOTHING,

@@ -21,7 +21,7 @@ use sim_base::rule::Rule;
 use std::alloc::Global;
 use timing::rules::rules;
 
-// What a row decides, if it decides; else it is kept.
+// The verdict, if this row decides it; otherwise the row is kept.
 fn judge(
     config: &Config,
     table: &[Rule],
@@ -118,8 +118,8 @@ fn check_records(alloc: Global, config: &Config, table: &[u8]) -> Result<Verdict
 /// header. The first row that is malformed, or that breaks a rule of DDR4 over the rows before it, decides.
 ///
 /// A malformed row is `CheckRow` with its number, counted from 1 by records and not by lines; 0 is a missing or wrong header.
-/// A broken rule is no error, but the verdict that names the row and the lowest rule that it breaks. Else only memory is
-/// refused. The time is in proportion to the length of the table, and the memory is that of one row and of what the rules need of
+/// A broken rule is not an error: the verdict names the row and the lowest rule that it breaks. Otherwise only memory can be
+/// refused. The time is proportional to the length of the table, and the memory is that of one row and of what the rules need of
 /// the rows before it.
 pub fn check(alloc: Global, config: &Config, table: &[u8]) -> Result<Verdict, Fault>
     ensures ok { IfOk result (λ v. verdict config.now (records_of table.now) ≡ Ok v) }

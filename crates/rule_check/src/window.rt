@@ -3,7 +3,7 @@
 ghost use Rattle.std.specs.Prelude.{◌≡◌, max, min};
 ghost use Rattle.rule_check.specs.Kept.{window_after};
 
-/// The four latest of the cycles from which on an ACT no longer counts, the latest first; 0 where there were not so many.
+/// The four latest of the cycles from which on an ACT no longer counts, the latest first; 0 where there were fewer.
 #[derive(Clone, Copy)]
 pub(crate) struct Window {
     pub(crate) first: u64,
@@ -20,7 +20,7 @@ pub(crate) const NO_ACTS: Window = Window {
     fourth: 0,
 };
 
-/// One ACT more, which counts up to this cycle.
+/// One more ACT, which no longer counts from this cycle on.
 pub(crate) fn window_after(end: u64, w: Window) -> Window
     ensures { result ≡ window_after end w }
 {

@@ -1,4 +1,4 @@
-//! What each channel did over the run, in steps of so many cycles.
+//! What each channel did over the run, in steps of equal length; the last may be shorter.
 
 use command_table::list::CommandList;
 use drawing::numbers::share_of;
@@ -7,7 +7,7 @@ use sim_base::place::BankId;
 use statistics::stats::Stats;
 use std::alloc::{AllocError, Global};
 
-/// At most so many steps are made of a run.
+/// A run is divided into at most this many steps.
 const STEPS: u64 = 200;
 
 /// Cycles that the data of a RD or a WR take on the data bus.
@@ -70,7 +70,7 @@ impl Step {
         }
     }
 
-    // So many of the stacked commands.
+    // How many commands of this kind and of those stacked below it there were.
     fn stacked(&self, upto: Stacked) -> u64 {
         let reads = self.rd;
         let writes = reads.saturating_add(self.wr);
@@ -160,7 +160,7 @@ impl ChannelActivity {
         }
     }
 
-    // Notes a command in the banks. Gives whether it is a row hit.
+    // Notes a command in the banks. Returns whether it is a row hit.
     fn note(&mut self, command: Command) -> Result<bool, AllocError> {
         match command {
             Command::Act { bank, source, .. } => self.open_bank(bank, source)?,

@@ -14,7 +14,7 @@ use std::alloc::Global;
 use std::fmt;
 use std::io::{self, Write};
 
-// So many of something.
+// A count, and the word for what is counted.
 #[derive(Clone, Copy)]
 struct Counted {
     count: u64,
@@ -90,7 +90,7 @@ fn write_steps<W: Write>(
     write_overview(alloc, cycles, activity, writer)
 }
 
-// The timeline of a window, from a cycle to before another.
+// The timeline of a window, from a cycle up to, but not including, another.
 fn write_window<W: Write>(
     alloc: Global,
     activity: &Activity,
@@ -142,8 +142,8 @@ fn write_pictures<W: Write>(
     write_window(alloc, &activity, commands, from, end, writer)
 }
 
-/// Writes a run as one HTML document: its statistics, what its channels did over the whole run, and what they did from a cycle to before
-/// `end`, one command after the other. The commands are taken in the order of the list.
+/// Writes a run as one HTML document: its statistics, what its channels did over the whole run, and what they did from a cycle up to, but
+/// not including, `end`, one command after the other. The commands are taken in the order of the list.
 ///
 /// # Errors
 ///

@@ -1,5 +1,5 @@
 //! The tables and the pictures of a run as HTML: its counts, plots over its cycles, stops of its cores and a timeline, and the document
-//! that has them all. Whether the commands are those of the run is not asked here; `page` does that.
+//! that has them all. Whether the commands are those of the run is not checked here; `page` does that.
 #![tactic(auto)]
 
 mod activity;

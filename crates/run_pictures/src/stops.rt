@@ -95,7 +95,7 @@ struct Bar {
 }
 
 impl Bar {
-    // The part of a bar for one reason, which begins after so many cycles.
+    // The part of a bar for one reason, which begins after `before` cycles.
     fn extent_of(self, before: u64, cycles: u64) -> Extent {
         let scale = Scale {
             span: self.run,

@@ -1,4 +1,4 @@
-//! The timeline of a channel, in strips of so many cycles, one below the other.
+//! The timeline of a channel, in strips of at most `STRIP` cycles, one below the other.
 
 use crate::activity::BURST;
 use crate::kinds::{BankWords, CommandWords, class_of, name_of};
@@ -32,7 +32,7 @@ const HEIGHT: u64 = 75;
 struct Strip {
     from: u64,
     to: u64,
-    /// Cycles that have room.
+    /// Cycles that there is room for.
     room: u64,
     lanes: usize,
 }
@@ -62,7 +62,7 @@ impl Strip {
         self.bus().saturating_add(PITCH)
     }
 
-    // From one cycle to before another, as far as it lies in the strip.
+    // From one cycle up to, but not including, another, as far as that lies in the strip.
     fn extent_of(self, from: u64, to: u64, y: u64, height: u64) -> Extent {
         let start = self.x(from);
         Extent {
@@ -137,7 +137,7 @@ fn write_ticks<W: Write>(strip: Strip, writer: &mut W) -> io::Result<()> {
     Ok(())
 }
 
-// The band of an open row, up to before a cycle.
+// The band of an open row, up to, but not including, a cycle.
 fn write_band<W: Write>(
     strip: Strip,
     place: usize,
@@ -284,7 +284,7 @@ fn write_strip<W: Write>(
     Ok(())
 }
 
-// The strips of a window, from a cycle to before another.
+// The strips of a window, from a cycle up to, but not including, another.
 fn write_strips<W: Write>(
     start: u64,
     end: u64,
@@ -312,7 +312,7 @@ fn write_strips<W: Write>(
     Ok(())
 }
 
-/// Writes the timeline of a channel in a window, from a cycle to before another.
+/// Writes the timeline of a channel in a window, from a cycle up to, but not including, another.
 pub(crate) fn write_timeline<W: Write>(
     id: usize,
     from: u64,

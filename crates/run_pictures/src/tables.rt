@@ -8,7 +8,7 @@ use statistics::stats::Stats;
 use std::fmt;
 use std::io::{self, Write};
 
-// So many cycles of a run, in percent.
+// A number of cycles, in percent of a run.
 fn percent(cycles: u64, run: u64) -> Tenths {
     Tenths(share_of(u128::from(cycles), run, 1000))
 }

@@ -107,7 +107,7 @@ fn closed_channels(alloc: Global, activity: &Activity) -> Result<Vec<ChannelTime
     Ok(channels)
 }
 
-/// What each channel does in a window, from a cycle to before another.
+/// What each channel does in a window, from a cycle up to, but not including, another.
 pub(crate) fn timelines_of(
     alloc: Global,
     from: u64,

@@ -1,7 +1,7 @@
 -- A reader that has read its first record can go on.
-use Rattle.std.proofs.Common.{Bor, ◌≡◌, ℕ, ◌+◌, ◌<◌, ◌^◌, Bool, true, false, List, ◌∷◌, length, ap, arith}
+use Rattle.std.proofs.Common.{Bor, ℕ, ◌<◌, ◌^◌, Bool, true, false, List, length, ap, arith}
 use Rattle.csv.specs.declared.reader.Reader.{Reader}
-use Rattle.rule_check.specs.Left.{IsReading, Takes, left_of}
+use Rattle.rule_check.specs.Left.{Takes, left_of}
 use Rattle.run_tables.specs.Records.{Stands}
 
 pub stands_at_start : (old new : Reader (Bor (List ℕ))) (found : Bool) (fields : List (List ℕ)) → Takes old found fields new → length (left_of old) < 2 ^ 64 → Stands new fields found 0

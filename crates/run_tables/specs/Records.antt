@@ -25,7 +25,7 @@ pub record Stands (reader : Reader (Bor (List ℕ))) (first : List (List ℕ)) (
   pub reading : found ≡ true → IsReading reader
   pub few : row + length (left_from found first (left_of reader)) < 2 ^ 64
 
--- a row is none that must stand there, or memory was refused
+-- a row is not the one that must stand there, or memory was refused
 abbrev pub IsTableFault : Fault → Type 0
 IsTableFault (CheckRow row) = ⊤
 IsTableFault Memory = ⊤

@@ -39,7 +39,7 @@ enum Columns {
     WithoutRank,
 }
 
-/// A field behind that of the rank.
+/// A field after that of the rank.
 #[derive(Clone, Copy)]
 enum Operand {
     Group,
@@ -227,7 +227,7 @@ impl Line<'_> {
     }
 }
 
-// Lets go of the header, which tells the columns.
+// Drops the header, which tells the columns.
 fn take_header(records: &mut Records<'_>) -> Result<Columns, Fault>
     ensures rest { OnOk result (length records.old.records ≡ length records.new.records + 1) }
     ensures fault { IfErr result IsTableFault }
@@ -271,14 +271,14 @@ fn take_row(
 }
 
 /// Reads the table of commands of a run, `commands.csv`, with or without a column for the rank, under no configuration. Each command has
-/// just its fields; the channel is below 16, rank, group and bank below 4, the row below 262,144, the column below 1,024, the core below
-/// 256, cycle and entry below 2^62, and no cycle is before that of the row above. Zeros may lead a number.
+/// exactly its fields; the channel is below 16, rank, group and bank below 4, the row below 262,144, the column below 1,024, the core below
+/// 256, cycle and entry below 2^62, and no cycle is before that of the row above. Numbers may have leading zeros.
 ///
 /// The memory is that of the list, and of one row.
 ///
 /// # Errors
 ///
-/// `Fault::CheckRow` with the first record that is not so: 0 is the header, also where it is missing, and rows are counted from 1.
+/// `Fault::CheckRow` with the first record that is not like this: 0 is the header, even if it is missing, and rows are counted from 1.
 /// `Fault::Memory` where memory is refused.
 pub fn read_commands(alloc: Global, table: &[u8]) -> Result<CommandList, Fault>
     ensures rows { IfOk result (λ rows. length (records_of table.now) ≡ length rows + 1) }

@@ -6,7 +6,7 @@ ghost use Rattle.rule_check.specs.Fields.{text_at};
 
 use csv::ByteRecord;
 
-/// The text of a field, counted from 0; the empty one where there is no such field.
+/// The text of a field, counted from 0; the empty text where there is no such field.
 #[tactic(auto, unfolding(rule_check::specs::Fields::text_at))]
 pub(crate) fn text_at(fields: &ByteRecord, k: usize) -> &[u8]
     ensures { result.now ≡ text_at (fields_of fields.now) k }

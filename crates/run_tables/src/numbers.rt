@@ -34,7 +34,7 @@ pub(crate) fn number_in(text: &[u8]) -> Option<u128>
     }
 }
 
-// The number with one more digit; the limit stands for each number from it on.
+// The number with one more digit; the limit stands for every number not below it.
 fn with_digit(number: u64, digit: u8) -> u64
     ensures { result ≡ capped_digit number digit }
 {
@@ -45,7 +45,7 @@ fn with_digit(number: u64, digit: u8) -> u64
     }
 }
 
-// The number that digits write; the limit stands for each number from it on.
+// The number that digits write; the limit stands for every number not below it.
 fn capped_value(digits: &[u8]) -> u64
     ensures { result ≡ fold capped_digit 0 digits.now }
 {
@@ -72,7 +72,7 @@ fn is_number(text: &[u8]) -> bool
     !text.is_empty() && are_digits(text)
 }
 
-/// The number in a field, where it is one below a limit of at most 2^62. Zeros may lead.
+/// The number in a field, if it has one below a limit of at most 2^62. Leading zeros are allowed.
 #[tactic(auto, using(rule_check::proofs::Digits::capped_value_is), unfolding(rule_check::specs::Numbers::number_below))]
 pub(crate) fn number_below(limit: u64, text: &[u8]) -> Option<u64>
     requires { limit ≤ number_limit }
@@ -87,7 +87,7 @@ pub(crate) fn number_below(limit: u64, text: &[u8]) -> Option<u64>
     }
 }
 
-/// The same of a limit of 32 bits.
+/// The same for a limit of 32 bits.
 pub(crate) fn small_number(limit: u32, text: &[u8]) -> Option<u32>
     ensures value { result ≡ number_below limit text.now }
     ensures below { IfSome result (λ n. n < limit) }

@@ -10,7 +10,7 @@ use sim_base::fault::Fault;
 use std::alloc::Global;
 use std::marker::Model;
 
-/// The records of a table that are left, of which the first can be looked at, and its number: that of the header is 0.
+/// The records of a table that are left, the first of which can be looked at, and the number of that one; the header has number 0.
 #[derive(Drop)]
 pub(crate) struct Records<'t> {
     reader: Reader<&'t [u8]>,
@@ -55,7 +55,7 @@ fn read_next(reader: &mut Reader<&[u8]>, row: &mut ByteRecord) -> Result<bool, F
 }
 
 impl<'t> Records<'t> {
-    /// All records of a table. Only memory can be refused.
+    /// All records of a table. The only error is out of memory.
     pub(crate) fn of(alloc: Global, table: &'t [u8]) -> Result<Records<'t>, Fault>
         ensures all { IfOk result (λ r. r.records ≡ records_of table.now) }
         ensures header { IfOk result (λ r. r.row ≡ 0) }
@@ -89,14 +89,14 @@ impl<'t> Records<'t> {
         &self.first
     }
 
-    /// The fault of the first record that is left, or of its want.
+    /// The fault for the first record that is left, or for its absence.
     pub(crate) fn fault(&self) -> Fault
         ensures { result ≡ Fault.CheckRow self.now.row }
     {
         Fault::CheckRow(self.row)
     }
 
-    /// Lets go of the first record that is left. Only memory can be refused.
+    /// Drops the first record that is left. The only error is out of memory.
     pub(crate) fn drop_first(&mut self) -> Result<(), Fault>
         requires { 0 < length self.old.records }
         ensures rest { OnOk result (self.new.records ≡ drop 1 self.old.records) }

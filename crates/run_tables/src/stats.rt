@@ -19,7 +19,7 @@ use statistics::cores::CoreStats;
 use statistics::stats::Stats;
 use std::alloc::Global;
 
-// Lets go of the header.
+// Drops the header.
 fn take_header(records: &mut Records<'_>) -> Result<(), Fault>
     ensures header { OnOk result (records.old.records ≡ stats_header ∷ records.new.records) }
     ensures fault { IfErr result IsTableFault }
@@ -65,7 +65,7 @@ fn is_line(fields: &ByteRecord, unit: Unit, name: &[u8]) -> bool
         && is_at(fields, 2, name)
 }
 
-// The number in a field, or none where the field is empty. A text that is neither is refused by the fault.
+// The number in a field, or none where the field is empty. A text that is neither is refused with the fault.
 fn optional_in(text: &[u8], fault: Fault) -> Result<Option<u128>, Fault>
     ensures value { IfOk result (λ value. text.now ≡ optional value) }
     ensures fault { IfErr result (λ e. e ≡ fault) }
@@ -158,7 +158,7 @@ fn is_next(records: &Records<'_>, k: usize, text: &[u8]) -> bool
     !records.is_empty() && is_at(records.first(), k, text)
 }
 
-// The counts of each core. There is one at least.
+// The counts of each core. There is at least one.
 fn take_cores(alloc: Global, records: &mut Records<'_>) -> Result<Vec<CoreStats>, Fault>
     ensures cores { IfOk result (λ cores. records.old.records ≡ numbered core_rows cores.items ++ records.new.records) }
     ensures fault { IfErr result IsTableFault }
@@ -208,7 +208,7 @@ fn take_channel(records: &mut Records<'_>, id: u64) -> Result<ChannelStats, Faul
     })
 }
 
-// The counts of each channel, to the end of the table. There is one at least.
+// The counts of each channel, to the end of the table. There is at least one.
 fn take_channels(alloc: Global, records: &mut Records<'_>) -> Result<Vec<ChannelStats>, Fault>
     ensures channels { IfOk result (λ channels. records.old.records ≡ numbered channel_rows channels.items) }
     ensures fault { IfErr result IsTableFault }
@@ -221,8 +221,8 @@ fn take_channels(alloc: Global, records: &mut Records<'_>) -> Result<Vec<Channel
     Ok(channels)
 }
 
-/// Reads the table of statistics of a run, `stats.csv`: just the records that `reports::write_stats` writes, in their order, of one core
-/// and one channel or more.
+/// Reads the table of statistics of a run, `stats.csv`: just the records that `reports::write_stats` writes, in their order, of at
+/// least one core and one channel.
 ///
 /// # Errors
 ///

@@ -1,11 +1,11 @@
 -- What the screen has.
---     Extends old new      a text with more behind it
+--     Extends old new      a text followed by more
 --     channels_head cycles count, cores_head count      the lines above the two tables
 --     IsScreen stats text      the screen of a run
 use Rattle.std.specs.Prelude.{◌≡◌, ℕ, List, ◌++◌, length, codes, decimal}
 use Rattle.statistics.specs.Values.{RunStats}
 
--- a text with more behind it
+-- a text followed by more
 abbrev pub Extends : List ℕ → List ℕ → Type 0
 Extends old new = (more : List ℕ) × (new ≡ old ++ more)
 

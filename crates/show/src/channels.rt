@@ -26,7 +26,7 @@ fn bus(cycles: u64, channel: &ChannelStats) -> Number {
     Number::percent(CYCLES_OF_DATA * moves(channel), u128::from(cycles))
 }
 
-// How many of a hundred cycles these are.
+// What percentage of the cycles these are.
 fn share(cycles: u64, part: u64) -> Number {
     Number::percent(u128::from(part), u128::from(cycles))
 }
@@ -80,7 +80,7 @@ impl Measure {
         }
     }
 
-    // The number of a channel in a run of so many cycles.
+    // The number of a channel in a run of `cycles` cycles.
     fn of(self, cycles: u64, channel: &ChannelStats) -> Number {
         match self {
             Measure::Reads => Number::count(channel.rd),

@@ -30,7 +30,7 @@ impl Column {
         Ok(Column { heading, numbers })
     }
 
-    /// The least, the median and the greatest of the numbers that are there. The median of an even count of them is the lower one of the
+    /// The least, the median and the greatest of the numbers that are there. The median of an even count is the lower of the
     /// two in the middle.
     pub(crate) fn summary(&self, alloc: Global) -> Result<Column, AllocError>
         ensures { IfOk result (λ column. length column.numbers.items ≡ 3) }

@@ -32,7 +32,7 @@ static MEASURES: [Measure; 9] = [
     Measure::Credit,
 ];
 
-// How many of a hundred cycles these are.
+// What percentage of the cycles these are.
 fn share(cycles: u64, part: u64) -> Number {
     Number::percent(u128::from(part), u128::from(cycles))
 }
@@ -52,7 +52,7 @@ impl Measure {
         }
     }
 
-    // The number of a core in a run of so many cycles.
+    // The number of a core in a run of `cycles` cycles.
     fn of(self, cycles: u64, core: &CoreStats) -> Number {
         match self {
             Measure::Retired => Number::count(core.retired),

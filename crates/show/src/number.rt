@@ -37,16 +37,16 @@ impl Form {
 /// A number of the screen.
 #[derive(Clone, Copy, PartialEq, Eq, PartialOrd, Ord, Debug)]
 pub(crate) struct Number {
-    /// The number in halves of a thousandth, rounded down; none where there is nothing to divide by. So to round it to thousandths or
-    /// coarser gives what the exact number gives.
+    /// The number in halves of a thousandth, rounded down; none where there is nothing to divide by. Rounding it to thousandths or
+    /// coarser therefore gives the same as rounding the exact number.
     pub(crate) halves: Option<u128>,
     pub(crate) form: Form,
 }
 
-/// A sum above this one counts as this one.
+/// A greater sum counts as this one.
 const GREATEST_SUM: u128 = 1 << 70;
 
-/// A way to write a number: as digits, of which the last is worth so many halves of a thousandth.
+/// A way to write a number: as digits, the last of which is worth `last_digit` halves of a thousandth.
 #[derive(Clone, Copy)]
 struct Scale {
     last_digit: u128,
@@ -78,7 +78,7 @@ impl Scale {
         self.digits(halves) < self.limit
     }
 
-    /// The power of ten that its decimals are digits below.
+    /// Ten to the power of the number of its decimals.
     fn whole(self) -> u128
         ensures { 0 < result }
     {
@@ -171,14 +171,14 @@ impl Number {
         }
     }
 
-    /// The mean of a sum over so many; none over nothing. A sum above 2^70 counts as 2^70.
+    /// The mean of a sum over a count; none for a count of 0. A sum above 2^70 counts as 2^70.
     pub(crate) fn mean(sum: u128, count: u64) -> Number
         ensures { result ≡ record { halves = halves_of sum count; form = Form.Mean } }
     {
         Number::quotient(sum, u128::from(count), Form::Mean)
     }
 
-    /// How many in a hundred of the whole a part is; none of nothing.
+    /// What percentage of the whole a part is; none for a whole of 0.
     pub(crate) fn percent(part: u128, whole: u128) -> Number
         requires { part < 2 ^ 80 }
         ensures { result ≡ record { halves = halves_of (100 * part) whole; form = Form.Percent } }

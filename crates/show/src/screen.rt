@@ -10,10 +10,10 @@ use crate::table::Table;
 use statistics::stats::Stats;
 use std::alloc::{AllocError, Global};
 
-/// A table with more lines than this one is told in three, unless all are asked for.
+/// A table with more lines than this is shown in three, unless all are asked for.
 const MOST_LINES: usize = 16;
 
-// Puts the table of so many units behind a text.
+// Appends the table of `count` units to a text.
 fn put_table(
     alloc: Global,
     heading: &str,
@@ -56,11 +56,11 @@ fn text_of_cores(alloc: Global, stats: &Stats, all: bool) -> Result<String, Allo
 
 /// What a run did, on one screen of lines of at most 100 characters: its cycles, a table of its channels and one of its cores.
 ///
-/// - Of a channel: its RDs and WRs, how many of a hundred of them were row hits, in how many of a hundred cycles its data bus was taken (4
-///   cycles for each RD and WR), the mean and the greatest length of its queue, and in how many of a hundred cycles its queue was empty, a
-///   refresh was due, and it drained its writes.
-/// - Of a core: the entries that it retired, and in a cycle, the reads that it issued, the mean latency in cycles of those that were
-///   answered, and in how many of a hundred cycles it issued no more for each of the reasons.
+/// - Of a channel: its RDs and WRs, the percentage of them that were row hits, the percentage of cycles in which its data bus was taken
+///   (4 cycles for each RD and WR), the mean and the greatest length of its queue, and the percentages of cycles in which its queue was
+///   empty, a refresh was due, and it drained its writes.
+/// - Of a core: the entries that it retired, in total and per cycle, the reads that it issued, the mean latency in cycles of those that
+///   were answered, and, for each reason, the percentage of cycles in which it issued no more for that reason.
 ///
 /// Numbers have at most four digits, rounded half up, with `k` for a thousand, `M` for a million and so on. `-` stands where there is
 /// nothing to divide by, and for the drain of a channel that never does. A table of more than 16 units has the least, the median and the

@@ -43,7 +43,7 @@ impl Cells {
         Cells::of_column(alloc, &summary)
     }
 
-    // A cell, after as many blanks as make it as wide as the others.
+    // A cell, padded on the left to the width of the others.
     fn write_cell(&self, line: usize, out: &mut String) -> Result<(), AllocError>
         ensures { OnOk result (Extends (string_bytes out.old) (string_bytes out.new)) }
     {
@@ -64,7 +64,7 @@ pub(crate) struct Table {
     columns: Vec<Cells>,
 }
 
-// The labels of so many units, by number, under a heading.
+// The labels of `count` units, by number, under a heading.
 fn numbers_of(alloc: Global, heading: &str, count: usize) -> Result<Cells, AllocError> {
     let mut labels = Cells::under(alloc, heading)?;
     for unit in 0..count {
@@ -97,7 +97,7 @@ fn cells_of(alloc: Global, columns: &[Column], summarized: bool) -> Result<Vec<C
 }
 
 impl Table {
-    /// The table of columns of so many units, or of their summaries.
+    /// The table of columns of `count` units, or of the columns' summaries.
     pub(crate) fn of(
         alloc: Global,
         heading: &str,
@@ -125,7 +125,7 @@ impl Table {
         out.push_str("\n")
     }
 
-    /// Writes all lines, of which the first has the headings.
+    /// Writes all lines, the first of which has the headings.
     pub(crate) fn write(&self, out: &mut String) -> Result<(), AllocError>
         ensures { OnOk result (Extends (string_bytes out.old) (string_bytes out.new)) }
     {

@@ -3,7 +3,7 @@ use Rattle.std.specs.Prelude.{ℕ}
 use Rattle.sim_base.specs.declared.fault.MergeFault.{MergeFault}
 use Rattle.sim_base.specs.declared.fault.MergeFault.TheVariants.{Missing, Double, Stranger, Memory}
 
--- the number of a cause why results cannot be merged
+-- the number of the reason why results cannot be merged
 abbrev pub merge_number : MergeFault → ℕ
 merge_number (Missing unit) = 1
 merge_number (Double index) = 2

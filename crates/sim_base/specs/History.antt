@@ -26,11 +26,11 @@ use Rattle.sim_base.specs.declared.message.Unit.TheVariants.{Core, Channel}
 use Rattle.sim_base.specs.declared.trace.Entry.{Entry}
 use Rattle.sim_base.specs.declared.trace.Entry.TheVariants.{Plain, Read, Write}
 
--- what one core did, a step a cycle
+-- what one core did, one step per cycle
 unfoldable pub steps_of_core : ℕ → List MachineStep → List CoreStep
 steps_of_core core history = map (step_of_core core) history
 
--- what one channel did, a command or none a cycle
+-- what one channel did, one command or none per cycle
 unfoldable pub steps_of_channel : ℕ → List MachineStep → List (Option Command)
 steps_of_channel channel history = map (step_of_channel channel) history
 
@@ -81,7 +81,7 @@ retired_before steps = sum_by (λ core_step. core_step.retired) steps
 unfoldable pub issued_before : List CoreStep → ℕ
 issued_before steps = sum_by (λ core_step. core_step.issued) steps
 
--- the requests among the entries of these numbers, from first on and below end
+-- the requests among the entries numbered from first on and below end
 unfoldable pub requests_between : Config → ℕ → List Entry → ℕ → ℕ → ℕ → List Message
 requests_between s core trace cycle first end =
     filter_map (λ e. request_of s core cycle e.0 e.1) (take (end - first) (drop first (enumerate_from 0 trace)))
@@ -163,11 +163,11 @@ is_to s unit m = is_unit (receiver s m.link) unit
 abbrev pub is_before : Message → Message → Bool
 is_before a b = nat_lt a.arrival b.arrival || (a.arrival == b.arrival && nat_lt a.link b.link)
 
--- the place of a message in such a list: after those that it is not before
+-- the place of a message in a list by age: after those that it is not before
 unfoldable pub place_by_age : Message → List Message → ℕ
 place_by_age m ns = length (take_while (λ n. not (is_before m n)) ns)
 
--- a list in such an order with one message more
+-- a list by age with one more message
 abbrev pub insert_by_age : List Message → Message → List Message
 insert_by_age ns m = insert ns (place_by_age m ns) m
 

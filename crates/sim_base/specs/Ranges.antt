@@ -39,7 +39,7 @@ pub record CoreInRange (window width read_credits write_credits : ℕ) : Type 0 
   pub read_credits_in : Within 1 64 read_credits
   pub write_credits_in : Within 1 64 write_credits
 
--- a message travels for a cycle at least and for a million at most
+-- a message travels for at least one cycle and at most a million
 abbrev pub LatencyInRange : ℕ → Type 0
 LatencyInRange latency = Within 1 1000000 latency
 
@@ -57,7 +57,7 @@ OverridesInRange overrides = All (λ o. LatencyInRange o.latency) overrides
 abbrev pub DistanceInRange : ℕ → Type 0
 DistanceInRange cycles = Within 1 100000 cycles
 
--- each distance between commands is a cycle at least; only the switch between ranks and the interval of refreshes may be 0
+-- each distance between commands is at least one cycle; only the switch between ranks and the interval of refreshes may be 0
 pub record TimingInRange (t : Timing) : Type 0 where
   pub n_rcd : DistanceInRange t.n_rcd
   pub n_rp : DistanceInRange t.n_rp

@@ -4,7 +4,7 @@
 --     DistancesFit t      relations 1 to 5: the distances between commands agree with one another
 --     RefreshFits t ranks      relation 6: a refresh is over before the next one is due
 --     CreditsFit cores read_credits write_credits      relation 7: a channel has a queue place for each credit
---     LinksExist cores channels overrides, LinksDiffer overrides      relations 8 and 9: each override is of a link of the machine, and of another link
+--     LinksExist cores channels overrides, LinksDiffer overrides      relations 8 and 9: each override is for a link of the machine, no two for the same one
 --     RanksHaveField ranks fields      relation 10: an address says which rank it lies in
 --     DrainFits cores write_credits write_high write_low      relations 11 and 12: a drain has a beginning above its end, which can be reached
 use Rattle.std.specs.Prelude.{◌≡◌, ℕ, ◌+◌, ◌*◌, ◌-◌, ◌<◌, ◌≤◌, ◌==◌, max, map, count_by, List, All}
@@ -20,7 +20,7 @@ use Rattle.sim_base.specs.declared.timing.Timing.{Timing}
 abbrev pub refresh_slack_of : Timing → ℕ → ℕ
 refresh_slack_of t ranks = max t.n_ras (max t.n_rtp (t.n_cwl + 4 + t.n_wr)) + t.n_rp + (ranks - 1) * (t.n_rp + 1)
 
--- A burst takes 4 cycles of the data bus, so a WR after a RD, and two of a kind, leave each other that time; and a distance
+-- A burst takes 4 cycles of the data bus, so a WR after a RD, and two commands of a kind, leave room for it; and a distance
 -- within a group is no less than that across groups.
 pub record DistancesFit (t : Timing) : Type 0 where
   pub write_after_read : t.n_cl + 4 ≤ t.n_rtw + t.n_cwl
@@ -37,19 +37,19 @@ RefreshFits t ranks = 0 < t.n_refi → refresh_slack_of t ranks + t.n_rfc + 1 �
 abbrev pub CreditsFit : ℕ → ℕ → ℕ → Type 0
 CreditsFit cores read_credits write_credits = cores * (read_credits + write_credits) ≤ 8192
 
--- a core and a channel have three links
+-- each override is for a link of the machine: a core and a channel have three links
 abbrev pub LinksExist : ℕ → ℕ → List Override → Type 0
 LinksExist cores channels overrides = All (λ o. o.link < 3 * cores * channels) overrides
 
--- no two overrides are of one link
+-- no two overrides are for the same link
 abbrev pub LinksDiffer : List Override → Type 0
 LinksDiffer overrides = IsDistinct (λ a b. a == b) (map (λ o. o.link) overrides)
 
--- with one rank alone, no field of an address need name it
+-- with only one rank, no field of an address need name it
 abbrev pub RanksHaveField : ℕ → List Field → Type 0
 RanksHaveField ranks fields = 1 < ranks → count_by (is_field Rank) fields ≡ 1
 
--- where a channel ever drains its writes, it begins at more of them than it ends at, and the cores' credits allow so many
+-- where a channel ever drains its writes, it begins at more of them than it ends at, and the cores' credits allow that many
 pub record DrainFits (cores write_credits write_high write_low : ℕ) : Type 0 where
   pub ends_below : 0 < write_high + write_low → write_low < write_high
   pub reachable : write_high ≤ cores * write_credits

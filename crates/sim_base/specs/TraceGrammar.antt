@@ -3,7 +3,7 @@
 --     JoinsNumbers line numbers      a line joins numbers by separators
 --     StandsForLine line entries      a line stands for entries
 --     StandsForTrace text entries      a text stands for entries
---     IsRefusedBy text fault      what it says of a text that it is refused
+--     IsRefusedBy text fault      what a fault says about the text that it refuses
 --     IsReadInOneWay text entries      a text stands for just the entries that its lines have
 use Rattle.std.specs.Prelude.{◌≡◌, ℕ, ◌^◌, ◌<◌, ◌⊎◌, ◌↔◌, ⊤, codes, IsTrue, List, [], ◌∷◌, ◌++◌, length, replicate, slice_index, Option, Some, None, Ok}
 use Rattle.std.specs.List.{AllZip, flat_map, join_with_byte, list_all}
@@ -14,13 +14,13 @@ use Rattle.sim_base.specs.declared.trace.Entry.{Entry}
 use Rattle.sim_base.specs.declared.trace.Entry.TheVariants.{Plain, Read, Write}
 use Rattle.sim_base.specs.TraceText.{is_separator, trace_entries}
 
--- one digit or more of a base, which write a number of at most 2^64 - 1
+-- one or more digits of a base, which write a number of at most 2^64 - 1
 pub record AreDigitsOf (radix : ℕ) (digits : List ℕ) (number : ℕ) : Type 0 where
   pub numeral : IsNumeral radix digits
   pub value : digits_value radix digits ≡ number
   pub fits : number < 2 ^ 64
 
--- hexadecimal digits of either case, behind `0x` or `0X`
+-- hexadecimal digits of either case, after `0x` or `0X`
 pub record AreMarkedDigitsOf (token : List ℕ) (number : ℕ) : Type 0 where
   pub mark : List ℕ
   pub digits : List ℕ
@@ -40,7 +40,7 @@ IsGap bytes = IsTrue (list_all is_separator bytes)
 abbrev pub IsApart : List ℕ → Type 0
 IsApart bytes = 0 < length bytes → IsTrue (is_separator (slice_index bytes 0))
 
--- a line begins with a token that writes a number, behind separators or not, and the rest of it stands apart from that token
+-- a line begins with a token that writes a number, possibly after separators, and the rest of it stands apart from that token
 pub record BeginsWithNumber (line : List ℕ) (number : ℕ) (rest : List ℕ) : Type 0 where
   pub gap : List ℕ
   pub token : List ℕ
@@ -54,7 +54,7 @@ abbrev pub JoinsNumbers : List ℕ → List ℕ → Type 0
 JoinsNumbers line [] = IsGap line
 JoinsNumbers line (number ∷ numbers) = (rest : List ℕ) × BeginsWithNumber line number rest × JoinsNumbers rest numbers
 
--- The entries of a line with these numbers: with none it is blank, and else it has two, or three where it writes.
+-- The entries of a line with these numbers: with none it is blank; otherwise it has two, or three if it writes.
 abbrev pub entries_of_numbers : List ℕ → Option (List Entry)
 entries_of_numbers [] = Some []
 entries_of_numbers (plain ∷ []) = None
@@ -76,8 +76,8 @@ pub record StandsForTrace (text : List ℕ) (entries : List Entry) : Type 0 wher
   pub each_line : AllZip StandsForLine lines parts
   pub are_entries : entries ≡ flat_map (λ part. part) parts
 
--- What it says of a text that it is refused as a core's trace: with a bad line it stands for nothing, and where it is too long,
--- for more than 2^62 entries. Out of memory says nothing, and there is no other refusal.
+-- What a fault says about a text that it refuses as a core's trace: a text with a bad line stands for nothing, and one that is too long
+-- stands for more than 2^62 entries. Out of memory says nothing about it, and there is no other refusal.
 abbrev pub IsRefusedBy : List ℕ → Fault → Type 0
 IsRefusedBy text (TraceLine core line cause) = (entries : List Entry) → ¬ StandsForTrace text entries
 IsRefusedBy text (TraceTooLong core) = (entries : List Entry) × StandsForTrace text entries × (2 ^ 62 < length entries)

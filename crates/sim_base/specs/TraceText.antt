@@ -33,11 +33,11 @@ is_separator byte = byte == 32 || byte == 9 || byte == 13
 unfoldable pub lines_of : List ℕ → List (List ℕ)
 lines_of text = slice_split is_line_feed text
 
--- the tokens of a line: what stands between its separators, but for what is empty
+-- the tokens of a line: what stands between its separators, except where that is empty
 unfoldable pub tokens_of : List ℕ → List (List ℕ)
 tokens_of line = filter (λ token. nat_lt 0 (length token)) (slice_split is_separator line)
 
--- the number that digits write, one or more and at most 2^64 - 1
+-- the number that one or more digits write, at most 2^64 - 1
 unfoldable pub numeral_of : ℕ → List ℕ → Result ℕ LineCause
 numeral_of radix digits =
     if length digits == 0 || not (list_all (λ digit. is_digit digit radix) digits) then Err NotANumber
@@ -75,7 +75,7 @@ pub record BadLine : Type 0 where
   pub line : ℕ
   pub cause : LineCause
 
--- what is wrong with a line of this number is said of that line
+-- what is wrong with a line, reported with the number of that line
 abbrev pub in_line : {A : Type 0} → ℕ → Result A LineCause → Result A BadLine
 in_line number (Ok x) = Ok x
 in_line number (Err cause) = Err (record { line = number; cause = cause })

@@ -27,7 +27,7 @@ impl Kind {
     }
 }
 
-/// How the banks of two commands lie to one another. A command of a whole rank speaks of each bank of it.
+/// How the banks of two commands relate. A command for a whole rank applies to each of its banks.
 #[derive(Clone, Copy, PartialEq, Eq, Debug)]
 pub enum Relation {
     SameBank,
@@ -36,7 +36,7 @@ pub enum Relation {
     OtherRank,
 }
 
-/// An entry of a core's trace, in whose name a command is issued.
+/// An entry of a core's trace, on whose behalf a command is issued.
 #[derive(Clone, Copy, PartialEq, Eq, Debug)]
 pub struct Source {
     pub core: CoreId,
@@ -95,7 +95,7 @@ impl Command {
         }
     }
 
-    /// The bank that the command names, if it names one: PREA and REF speak of a whole rank.
+    /// The bank that the command names, if it names one: PREA and REF apply to a whole rank.
     pub fn bank(self) -> Option<BankId>
         ensures { result ≡ bank_of self }
     {
@@ -108,7 +108,7 @@ impl Command {
         }
     }
 
-    /// The rank that the command speaks of.
+    /// The rank that the command applies to.
     pub fn rank(self) -> u32
         ensures { result ≡ rank_of self }
     {
@@ -121,7 +121,7 @@ impl Command {
         }
     }
 
-    /// The entry in whose name it is issued: PREA and REF are issued for a rank.
+    /// The entry on whose behalf it is issued, if there is one: PREA and REF are issued for a rank.
     pub fn source(self) -> Option<Source>
         ensures { result ≡ source_in self }
     {
@@ -142,7 +142,7 @@ impl Command {
         matches!(self.kind(), Kind::Rd | Kind::Wr)
     }
 
-    /// The row that is open in a bank after it, where this one was open before.
+    /// The row that is open in a bank after it, given the row that was open before.
     pub fn row_after(self, bank: BankId, row_before: Option<u32>) -> Option<u32>
         ensures { result ≡ row_after bank row_before self }
     {

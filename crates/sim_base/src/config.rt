@@ -25,9 +25,9 @@ pub struct Config {
     pub rows: u32,
     /// The fields of an address, low end first.
     pub fields: FieldOrder,
-    /// Entries of a core that are issued and not retired, at most.
+    /// The most entries of a core that may be issued and not retired.
     pub window: u32,
-    /// Entries that a core issues in a cycle, and retires, at most.
+    /// The most entries that a core issues in a cycle, and the most that it retires in one.
     pub width: u16,
     pub read_credits: u32,
     pub write_credits: u32,
@@ -64,7 +64,7 @@ impl Config {
     ghost use Rattle.std.specs.Prelude.{◌≡◌, ◌+◌, ◌*◌, ◌≤◌, ◌<◌, ◌^◌, ◌==◌, find, IfOk};
     ghost use Rattle.sim_base.specs.Config.{request_link, reply_link, credit_link, usual_latency, latency};
 
-    /// The same configuration once more. Only memory can be refused.
+    /// A copy of the configuration. The only error is out of memory.
     #[tactic(auto, using(crate::proofs::SameValues::same_from_values))]
     pub fn copy(&self, alloc: Global) -> Result<Config, AllocError>
         ensures { IfOk result (λ c. c ≡ self.now) }

@@ -14,7 +14,7 @@ pub enum LineCause {
     TooFew,
     /// The line has four tokens or more.
     TooMany,
-    /// A token is no number.
+    /// A token is not a number.
     NotANumber,
     /// A number is above 2^64 - 1.
     TooLarge,
@@ -31,13 +31,13 @@ impl fmt::Display for LineCause {
     }
 }
 
-/// Why the results of a phase are no whole of it.
+/// Why the results of a phase cannot be merged.
 #[derive(Clone, Copy, PartialEq, Eq, Debug, Error)]
 pub enum MergeFault {
-    /// No result is that of this unit's job: the least such unit.
+    /// There is no result of this unit's job; it is the least such unit.
     #[error("no result of {0}")]
     Missing(Unit),
-    /// The result at this index is of a job whose result stands earlier.
+    /// The result at this index is of a job that already has a result at an earlier index.
     #[error("a second result at index {0}")]
     Double(usize),
     /// The result at this index is of no job of the phase.
@@ -67,7 +67,7 @@ impl MergeFault {
 /// Why a call is refused. Each fault prints as one line, with its number.
 #[derive(Clone, Copy, PartialEq, Eq, Debug, Error)]
 pub enum Fault {
-    /// The configuration is no UTF-8, or no TOML.
+    /// The configuration is not UTF-8, or not TOML.
     #[error("fault 1: configuration is not TOML")]
     ConfigSyntax,
     /// A key is missing, of another type, or not known.
@@ -79,7 +79,7 @@ pub enum Fault {
     /// A relation between keys does not hold.
     #[error("fault 4: configuration relation {0}")]
     ConfigRelation(u8),
-    /// A line of a core's trace is none; lines are counted from 1, blank ones too.
+    /// A line of a core's trace is malformed; lines are counted from 1, blank ones included.
     #[error("fault 5: trace {core} line {line} {cause}")]
     TraceLine {
         core: CoreId,
@@ -91,7 +91,7 @@ pub enum Fault {
     TraceTooLong {
         core: CoreId,
     },
-    /// There is not one trace for each core.
+    /// There is not exactly one trace for each core.
     #[error("fault 7: trace count")]
     TraceCount,
     /// The number of workers is not from 1 to 64.
@@ -112,13 +112,13 @@ pub enum Fault {
     /// A file could not be read.
     #[error("fault 13: read")]
     Read,
-    /// The words of the command line are none that the program knows.
+    /// The command line is not one that the program knows.
     #[error("fault 14: command line")]
     CommandLine,
     /// A row of a table of commands is malformed; 0 is the header, data rows are counted from 1.
     #[error("fault 15: check row {0}")]
     CheckRow(u64),
-    /// The results of a phase are no whole of it.
+    /// The results of a phase cannot be merged.
     #[error("fault 16: merge {}", .0.number())]
     Merge(MergeFault),
 }

@@ -1,4 +1,4 @@
-//! What every layer speaks of: names of units and links, places, commands, messages and distances in time.
+//! What every layer refers to: names of units and links, places, commands, messages and distances in time.
 #![tactic(auto)]
 
 pub mod command;

@@ -52,7 +52,7 @@ impl Request {
     ghost use Rattle.std.specs.Prelude.{◌≡◌};
     ghost use Rattle.sim_base.specs.Scheduling.{source_of, column_command, needed_at};
 
-    /// The entry that it is of.
+    /// The entry that it belongs to.
     #[inline]
     pub fn source(self) -> Source
         ensures { result ≡ source_of self }

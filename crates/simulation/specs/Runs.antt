@@ -1,11 +1,11 @@
 -- What a run over the bytes of a configuration and of traces gives, and why it is refused.
 --     traces_of core texts      the entries of traces, of which the first is that of this core
 --     AreRead texts traces      the traces of the first cores are what their texts mean
---     limits_of cores texts cycles workers      whether there is one trace a core, and so on
+--     limits_of cores texts cycles workers      whether there is one trace per core, and so on
 --     input_of config texts cycles workers      the entries of all traces, or the first fault of a run's input
 --     IsRefusal config texts cycles workers fault      why a run with these workers is refused
 --     IsRunOf config texts cycles workers outcome      what the one-clock machine that the bytes describe did and left
---     IsJudgedLegal config outcome      `check` says of the table of its commands that it is legal
+--     IsJudgedLegal config outcome      `check` finds the table of its commands legal
 use Rattle.std.specs.Prelude.{◌≡◌, ◌⊎◌, ℕ, ◌+◌, ◌<◌, ◌≤◌, ◌==◌, nat_le, Bool, ◌&&◌, List, [], ◌∷◌, length, slice_index_or, Result, Ok, Err, IsOk, if◌then◌else◌}
 use Rattle.sim_base.specs.declared.config.Config.{Config}
 use Rattle.sim_base.specs.declared.fault.Fault.{Fault}
@@ -37,7 +37,7 @@ traces_of core (text ∷ texts) = do
 abbrev pub AreRead : List (List ℕ) → List (List Entry) → Type 0
 AreRead texts traces = (k : ℕ) (text : List ℕ) (trace : List Entry) → k < length traces → trace_answer k (slice_index_or texts k text) ≡ Ok (slice_index_or traces k trace)
 
--- what is tested between the configuration and the traces: one trace a core, 1 to 64 workers, and at most 10^12 cycles
+-- what is tested between the configuration and the traces: one trace per core, 1 to 64 workers, and at most 10^12 cycles
 unfoldable pub limits_of : ℕ → ℕ → ℕ → ℕ → Result (Unit {0}) Fault
 limits_of cores texts cycles workers = do
   _ ← unless (texts == cores) TraceCount
@@ -68,8 +68,7 @@ pub record IsRunOf (config : List ℕ) (texts : List (List ℕ)) (cycles workers
   pub read : input_of config texts cycles workers ≡ Ok traces
   pub outcome_is : outcome ≡ outcome_of machine traces (cycles_run machine traces cycles)
 
--- Under the configuration that the document states, the verdict of `check` on the text of the table of commands is that it is
--- legal.
+-- Under the configuration that the document states, `check` finds the text of the table of commands legal.
 pub record IsJudgedLegal (config : List ℕ) (outcome : RunOutcome) : Type 0 where
   pub machine : Config
   pub configured : document_of config ≡ Ok (values_of machine)

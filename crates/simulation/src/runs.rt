@@ -27,7 +27,7 @@ pub const MOST_CYCLES: Cycle = 1_000_000_000_000;
 /// The greatest number of workers.
 pub const MOST_WORKERS: u64 = 64;
 
-// One trace a core.
+// One trace per core.
 fn check_count(cores: u16, texts: usize) -> Result<(), Fault>
     ensures { result ≡ unless (texts == cores) Fault.TraceCount }
 {
@@ -155,15 +155,16 @@ fn read_input<R: Threads + Sync>(
     Ok((config, traces))
 }
 
-/// Runs the machine that a configuration and one trace a core describe, for at most `cycles` cycles, and gives its commands, its
-/// statistics and the state in which it ends. Each phase is run by so many workers at most, 1 to 64, each in a thread of its
-/// own; with one worker, in the thread of the caller. A worker passes the gate at the beginning and at the end of each part of a phase. The watcher
-/// is told how far the run is, and when it has ended. What comes out depends on none of the workers, the gate and the watcher.
+/// Runs the machine that a configuration and one trace per core describe, for at most `cycles` cycles, and returns its commands, its
+/// statistics and the state in which it ends. Each phase is run by at most `workers` workers, 1 to 64, each in a thread of its
+/// own; with one worker, in the thread of the caller. A worker passes the gate at the beginning and at the end of each part of a
+/// phase. The watcher is told how far the run is, and when it has ended. The result does not depend on the workers, the gate or
+/// the watcher.
 ///
 /// The input is tested in this order: the configuration, the number of traces, the number of workers (1 to 64), the limit (at
-/// most 10^12 cycles), and the traces by core. The first fault is answered. `Fault::Memory` may come at any time, and the run
-/// itself is refused by nothing but this and, with two workers or more, `Fault::WorkerStart`. The table of its commands is
-/// legal, as `check` reads it under the same configuration.
+/// most 10^12 cycles), and the traces by core. The first fault is returned. `Fault::Memory` may come at any time; the run itself
+/// is refused only with this or, with two or more workers, with `Fault::WorkerStart`. The table of its commands is legal, as
+/// `check` reads it under the same configuration.
 pub fn simulate<R: Threads + Wait + Sync, G: Gate + Sync, W: Watch>(
     rt: &R,
     alloc: Global,
@@ -187,7 +188,7 @@ pub fn simulate<R: Threads + Wait + Sync, G: Gate + Sync, W: Watch>(
 }
 
 /// The same run by the one-clock machine, one cycle after the other, with no workers: their number is only tested, and threads
-/// read long traces alone. Tests compare with it.
+/// are used only to read long traces. Tests compare with it.
 pub fn simulate_plain<R: Threads + Sync>(
     rt: &R,
     alloc: Global,

@@ -40,7 +40,7 @@ ChannelsRunAlone s traces from until =
 abbrev pub IsChannelAt : Config → List (List Entry) → ℕ → ℕ → Channel → Type 0
 IsChannelAt s traces channel now c = StandsFor c s channel (channel_steps_of s traces now channel) (mail_before s traces now (unit.Channel channel) now)
 
--- what a channel gives for a span, and which lists it leaves of which: whatever past it stands for, if these messages are fit for
+-- what a channel makes of a span, and which lists it turns into which: whatever past it stands for, if these messages are fit for
 -- the span after it
 abbrev pub Gives : Channel → List Message → ℕ → ℕ → Channel → List IssuedCommand → List IssuedCommand → List Message → List Message → Type 0
 Gives c inbox from until d commands commands_then messages messages_then =

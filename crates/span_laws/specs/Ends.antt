@@ -2,7 +2,7 @@
 --     ends_before s traces n      a run that ends drained is over before cycle n
 --     RunsStayOver s traces from until      what is over stays so
 --     OverIsSeen s traces now      a run is over where all is retired, nothing is in flight and no request is left in a queue
---     CyclesAreCounted s traces limit n      a run has so many cycles where it is over before cycle n and not before the one before it
+--     CyclesAreCounted s traces limit n      a run has n cycles where it is over before cycle n and not before the one before it
 --     RetiresByWidth s traces from until      a core retires no more than its width in a cycle
 --     FlightStays s traces from until      a message in flight stays in flight up to its arrival
 --     LastsForTrace, LastsForFlight s traces from until      a run is not over before a cycle by which a core cannot retire its trace, or a message is still to arrive

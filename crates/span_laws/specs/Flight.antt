@@ -37,8 +37,8 @@ left_after channels from until units ms = fold (λ rest unit. filter (λ m. not 
 abbrev pub LinksStart : Config → List (List Entry) → Type 0
 LinksStart s traces = IsFlightAt s traces 0 (record { channels = s.channels; messages = [] })
 
--- what is due at a unit in a span, also after it was taken out for other units, is what arrives at the unit in the run, of what
--- was sent before the span
+-- what is due at a unit in a span, even after what is due at other units was taken out, is what arrives at the unit in the run, of
+-- what was sent before the span
 abbrev pub LinksBring : Config → List (List Entry) → ℕ → ℕ → Type 0
 LinksBring s traces from until =
     (flight : InFlight) (units : List MachineUnit) (unit : MachineUnit) → IsFlightAt s traces from flight → has_unit units unit ≡ false

@@ -1,6 +1,6 @@
 -- A span in which no unit sends what arrives within it.
 --     known_mail s traces from until unit      what a unit knows of its mail before a span, up to the span's end
---     GrowsLate until old all      what was sent more arrives in a cycle or later
+--     GrowsLate until old all      what was sent in addition arrives in a cycle or later
 --     CoresSendLate, ChannelsSendLate      so it is with what units send that are run alone over a span, with the mail that they know
 --     LateIsLocal s traces from until      what arrives in the span was then sent before it
 use Rattle.std.specs.Prelude.{◌≡◌, ℕ, ◌-◌, ◌<◌, ◌≤◌, List, ◌++◌, All}
@@ -19,7 +19,7 @@ use Rattle.span_laws.specs.Mail.{mail_before, mail_in}
 abbrev pub known_mail : Config → List (List Entry) → ℕ → ℕ → MachineUnit → List Message
 known_mail s traces from until unit = mail_before s traces from unit from ++ mail_in s traces from unit from until
 
--- messages with more, each of which arrives in this cycle or later
+-- messages with more added to them, each of which arrives in this cycle or later
 pub record GrowsLate (until : ℕ) (old all : List Message) : Type 0 where
   pub more : List Message
   pub is_more : all ≡ old ++ more

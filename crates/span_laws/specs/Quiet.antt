@@ -4,8 +4,8 @@
 --     IsQuiet s traces from until      a span in which nothing happens
 --     RestsAlone s traces from until unit      a unit would do nothing in a span, if nothing arrived at it
 --     IsKnownQuiet s traces from until      what is known of that before the span: each unit would rest, and nothing is to arrive
---     QuietIsKnown, KnownIsQuiet      so a span is quiet just where that is known before it
---     RestIsShortened s traces from until      who would rest in a span would rest in each shorter one
+--     QuietIsKnown, KnownIsQuiet      so a span is quiet if and only if that is known before it
+--     RestIsShortened s traces from until      a unit that would rest in a span would rest in each shorter one
 --     QuietChangesNothing s traces from until      what a quiet span leaves as it was
 use Rattle.std.specs.Prelude.{◌≡◌, ℕ, ◌-◌, ◌<◌, ◌≤◌, List, [], ◌++◌, replicate, None}
 use Rattle.sim_base.specs.declared.config.Config.{Config}
@@ -32,7 +32,7 @@ abbrev pub ChannelsRest : Config → List (List Entry) → ℕ → ℕ → Type 
 ChannelsRest s traces from until =
     (channel : ℕ) → channel < s.channels → channel_steps_of s traces until channel ≡ channel_steps_of s traces from channel ++ replicate (until - from) None
 
--- of the messages that are sent in the first n cycles of a run, those that arrive in a span, at whatever unit
+-- of the messages that are sent in the first n cycles of a run, those that arrive in a span, at any unit
 abbrev pub arrivals_in : Config → List (List Entry) → ℕ → ℕ → ℕ → List Message
 arrivals_in s traces n from until = arriving from until (messages s traces (run s traces n))
 
@@ -61,7 +61,7 @@ KnownIsQuiet s traces from until = from ≤ until → IsKnownQuiet s traces from
 abbrev pub QuietIsKnown : Config → List (List Entry) → ℕ → ℕ → Type 0
 QuietIsKnown s traces from until = from ≤ until → IsQuiet s traces from until → IsKnownQuiet s traces from until
 
--- who would rest in a span would rest in each shorter one
+-- a unit that would rest in a span would rest in each shorter one
 abbrev pub RestIsShortened : Config → List (List Entry) → ℕ → ℕ → Type 0
 RestIsShortened s traces from until =
     (unit : MachineUnit) (sooner : ℕ) → from ≤ sooner → sooner ≤ until → RestsAlone s traces from until unit → RestsAlone s traces from sooner unit

@@ -6,8 +6,8 @@ ghost use Rattle.sim_base.specs.declared.trace.Entry.{Entry};
 ghost use Rattle.span_laws.specs.Mail.{MailIsSettled, MailIsKnown, SpansJoin, MailIsSent};
 ghost use Rattle.span_laws.specs.Local.{LateIsLocal};
 
-/// What arrives at a unit before a cycle is settled when the run has come to this cycle, and known as many cycles sooner as each
-/// message travels. What arrived before a span and what arrives in it make up what arrived by its end. What arrives in it is a
+/// What arrives at a unit before a cycle is settled when the run has come to this cycle, and known earlier by as many cycles as each
+/// message travels at least. What arrived before a span and what arrives in it make up what arrived by its end. What arrives in it is a
 /// part of the messages that were sent, by age.
 pub fn mail_is_known()
     ensures settled { (s : Config) (traces : List (List Entry)) (from until : ℕ) → MailIsSettled s traces from until }

@@ -1,4 +1,4 @@
-//! Tests of units that are run alone over spans, beside the plain machine.
+//! Tests that compare units that are run alone over spans with the plain machine.
 #![tactic(auto)]
 
 #[cfg(test)]

@@ -29,7 +29,7 @@ struct Machine<'a> {
     limit: u64,
 }
 
-/// The seed by which a run is cut into spans, and whether it goes over quiet cycles at once.
+/// The seed by which a run is cut into spans, and whether quiet cycles are skipped.
 #[derive(Clone, Copy, Debug)]
 struct Cut {
     seed: u64,
@@ -45,7 +45,7 @@ fn plain_outcome(alloc: Global, machine: &Machine<'_>) -> Result<Outcome, Fail> 
     Ok(run_plain(alloc, machine.config, machine.traces, limit)?)
 }
 
-/// Runs the units over a span of random length, or over quiet cycles at once where that is wanted.
+/// Runs the units over a span of random length, or skips quiet cycles where that is wanted.
 fn run_once(
     alloc: Global,
     units: &mut Units,
@@ -123,7 +123,7 @@ fn is_same_core(core: &FedCore, plain: &Outcome, id: usize) -> bool {
     }
 }
 
-/// The first core that is gone or not as in the plain machine.
+/// The first core that is gone or differs from that of the plain machine.
 fn other_core(units: &Units, plain: &Outcome) -> Option<usize> {
     for (id, core) in units.cores.iter().enumerate() {
         match core {
@@ -147,7 +147,7 @@ fn is_same_channel(channel: &FedChannel, plain: &Outcome, number: usize) -> bool
     }
 }
 
-/// The first channel that is gone or not as in the plain machine.
+/// The first channel that is gone or differs from that of the plain machine.
 fn other_channel(units: &Units, plain: &Outcome) -> Option<usize> {
     for (number, channel) in units.channels.iter().enumerate() {
         match channel {
@@ -186,7 +186,7 @@ fn assert_same_units(
     );
 }
 
-/// Runs units that are none yet, and compares them with the plain machine.
+/// Runs units, which do not exist yet, and compares them with the plain machine.
 fn assert_units(
     rt: &impl Abort,
     alloc: Global,
@@ -254,7 +254,7 @@ fn assert_made(
     assert_traces(rt, alloc, made, &traces, cut)
 }
 
-/// Compares on the machine of a seed, which cuts its run too.
+/// Compares them on the machine of a seed, which also cuts its run.
 fn assert_seed(rt: &(impl Abort + Threads + Sync), alloc: Global, cut: Cut) -> Result<(), Fail> {
     let made = made_up(alloc, cut.seed)?;
     assert_made(rt, alloc, &made, cut)

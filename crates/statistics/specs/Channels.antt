@@ -4,7 +4,7 @@
 --     channel_none      of no cycle
 --     channel_joined a b      of two stretches of cycles, the first and what follows it
 --     channel_stretch s channel steps inbox more      of the cycles after these steps, in which the channel does this, one after the other
---     channel_times n a      of so many cycles that are each like this one
+--     channel_times n a      of n cycles that are each like this one
 --     quiet_cycle drained queued has_due drains      of a cycle in which nothing is issued
 --     one_command k hit      of a command alone
 --     ChannelFits a      each count fits
@@ -121,8 +121,8 @@ channel_joined a b =
       draining = sum_of_counts a.draining b.draining;
     }
 
--- the statistics of so many cycles that are each like this one: each count is as many times as great, but for the greatest
--- length of the queue
+-- the statistics of n cycles that are each like this one: each count is n times as great, except for the greatest length of
+-- the queue
 abbrev pub channel_times : ℕ → ChannelStats → ChannelStats
 channel_times n a =
     record {
@@ -199,7 +199,7 @@ moves_data_of source (Pre bank other) = false
 moves_data_of source (Prea rank) = false
 moves_data_of source (Ref rank) = false
 
--- an ACT for an entry whose data was moved
+-- an ACT for an entry whose data was already moved
 abbrev pub is_late_act : List IssuedCommand → Option Command → Bool
 is_late_act history (Some (Act bank row source)) = list_any (λ i. moves_data_of source i.command) history
 is_late_act history (Some (Rd bank row column source)) = false

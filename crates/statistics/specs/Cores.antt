@@ -1,10 +1,10 @@
 -- Statistics of a core, over the steps of its run, one a cycle, and its inbox.
 --     core_stats s core trace steps inbox      of all the cycles of these steps
---     core_cycle s core trace steps inbox row      of the one cycle after these steps, in which the core does this
+--     core_cycle s core trace steps inbox done      of the one cycle after these steps, in which the core does this
 --     core_none      of no cycle
 --     core_joined a b      of two stretches of cycles, the first and what follows it
 --     core_stretch s core trace steps inbox more      of the cycles after these steps, in which the core does this, one after the other
---     core_times n a      of so many cycles that are each like this one
+--     core_times n a      of n cycles that are each like this one
 --     CoreFits a      each count fits
 --     RepliesFollowReads steps inbox      each reply that arrived is of an entry that was issued before
 use Rattle.std.specs.Prelude.{ℕ, ◌+◌, ◌*◌, ◌^◌, ◌<◌, ◌==◌, nat_lt, nat_le, Bool, ◌&&◌, List, [], ◌∷◌, ◌++◌, length, take, drop, filter, count_by, sum_by, Option, Some, None, if◌then◌else◌}
@@ -42,7 +42,7 @@ core_stats s core trace steps inbox =
 
 -- the entries that the core issues in the cycle after these steps, in which it does this
 abbrev pub issued_in : List Entry → List CoreStep → CoreStep → List Entry
-issued_in trace steps row = take row.issued (drop (issued_before steps) trace)
+issued_in trace steps done = take done.issued (drop (issued_before steps) trace)
 
 -- a reply that arrives in a cycle
 abbrev pub is_reply_in : ℕ → Message → Bool
@@ -58,17 +58,17 @@ waited steps ms = sum_by (λ m. wait_of steps m.arrival (replied_entry m.load)) 
 
 -- the cycle after these steps, if the last entry retires in it
 unfoldable pub finish_in : List Entry → List CoreStep → CoreStep → Option ℕ
-finish_in trace steps row =
-    if nat_lt (retired_before steps) (length trace) && nat_le (length trace) (retired_before steps + row.retired) then Some (length steps) else None
+finish_in trace steps done =
+    if nat_lt (retired_before steps) (length trace) && nat_le (length trace) (retired_before steps + done.retired) then Some (length steps) else None
 
 -- the statistics of a cycle, in which the core does this, stops for this cause, and these replies arrive
 unfoldable pub core_cycle_with : List Entry → List CoreStep → CoreStep → Stop → List Message → CoreStats
-core_cycle_with trace steps row why arrived =
+core_cycle_with trace steps done why arrived =
     record {
-      issued = row.issued;
-      retired = row.retired;
-      reads = count_by is_read (issued_in trace steps row);
-      writes = count_by is_write (issued_in trace steps row);
+      issued = done.issued;
+      retired = done.retired;
+      reads = count_by is_read (issued_in trace steps done);
+      writes = count_by is_write (issued_in trace steps done);
       replies = length arrived;
       read_latency = waited steps arrived;
       stop_end = one_if (is_stop stop.End why);
@@ -76,13 +76,13 @@ core_cycle_with trace steps row why arrived =
       stop_window = one_if (is_stop stop.Window why);
       stop_memory = one_if (is_stop stop.Memory why);
       stop_credit = one_if (is_stop stop.Credit why);
-      finish = finish_in trace steps row;
+      finish = finish_in trace steps done;
     }
 
 -- the statistics of the cycle after these steps, in which the core does this
 unfoldable pub core_cycle : Config → ℕ → List Entry → List CoreStep → List Message → CoreStep → CoreStats
-core_cycle s core trace steps inbox row =
-    core_cycle_with trace steps row (step s core trace steps inbox).1 (replies_in (length steps) inbox)
+core_cycle s core trace steps inbox done =
+    core_cycle_with trace steps done (step s core trace steps inbox).1 (replies_in (length steps) inbox)
 
 -- the statistics of no cycle
 abbrev pub core_none : CoreStats
@@ -120,7 +120,7 @@ core_joined a b =
       finish = option_or b.finish a.finish;
     }
 
--- the statistics of so many cycles that are each like this one: each count is as many times as great
+-- the statistics of n cycles that are each like this one: each count is n times as great
 abbrev pub core_times : ℕ → CoreStats → CoreStats
 core_times n a =
     record {
@@ -155,8 +155,8 @@ pub record CoreFits (a : CoreStats) : Type 0 where
 -- the statistics of the cycles after these steps, in which the core does this, one after the other
 unfoldable pub core_stretch : Config → ℕ → List Entry → List CoreStep → List Message → List CoreStep → CoreStats
 core_stretch s core trace steps inbox [] = core_none
-core_stretch s core trace steps inbox (row ∷ more) =
-    core_joined (core_cycle s core trace steps inbox row) (core_stretch s core trace (steps ++ row ∷ []) inbox more)
+core_stretch s core trace steps inbox (done ∷ more) =
+    core_joined (core_cycle s core trace steps inbox done) (core_stretch s core trace (steps ++ done ∷ []) inbox more)
 
 -- a reply, if it arrived within these steps, is of an entry that was issued in an earlier cycle
 abbrev pub FollowsItsRead : List CoreStep → Message → Type 0

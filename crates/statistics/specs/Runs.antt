@@ -3,7 +3,7 @@
 --     core_last, channel_last      the state of one unit
 --     final_of s traces history      the state before the cycle after a history
 --     outcome_after s traces history      both, with the commands
---     outcome_of s traces cycles      the same, of the run of so many cycles
+--     outcome_of s traces cycles      the same, for the run of this many cycles
 use Rattle.std.specs.Prelude.{ℕ, true, false, List, length, map, filter_map, option_map, Option}
 use Rattle.sim_base.specs.declared.config.Config.{Config}
 use Rattle.sim_base.specs.Counts.{in_flight}
@@ -93,6 +93,6 @@ unfoldable pub outcome_after : Config → List (List Entry) → List MachineStep
 outcome_after s traces history =
     record { commands = commands history; stats = stats_of s traces history; last = final_of s traces history; ranks = s.ranks }
 
--- what the run of so many cycles leaves
+-- what the run of this many cycles leaves
 unfoldable pub outcome_of : Config → List (List Entry) → ℕ → RunOutcome
 outcome_of s traces cycles = outcome_after s traces (run s traces cycles)

@@ -90,7 +90,7 @@ impl ChannelStats {
         }
     }
 
-    /// The statistics of so many cycles that are each as these.
+    /// The statistics of `cycles` cycles, each with these statistics.
     pub fn times(self, cycles: u64) -> ChannelStats
         requires { ChannelFits (channel_times cycles self) }
         ensures { result ≡ channel_times cycles self }
@@ -115,7 +115,7 @@ impl ChannelStats {
         }
     }
 
-    /// Adds so many cycles, in each of which the queue has this length, a refresh is due or not, the channel drains its writes
+    /// Adds `cycles` cycles, in each of which the queue has this length, a refresh is due or not, the channel drains its writes
     /// or not, and nothing is issued.
     #[inline(always)]
     pub fn add_cycles(&mut self, cycles: u64, queued: usize, refreshing: bool, draining: bool)
@@ -138,7 +138,7 @@ impl ChannelStats {
         }
     }
 
-    /// Adds a command of this kind, and a row hit, where it moves data of one. Its cycle is counted apart.
+    /// Adds a command of this kind, and a row hit if it moves the data of one. Its cycle is counted separately.
     #[inline(always)]
     pub fn add_command(&mut self, kind: Kind, hit: bool)
         requires { ChannelFits (channel_joined self.old (one_command kind hit)) }

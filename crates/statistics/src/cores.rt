@@ -17,17 +17,17 @@ pub struct CoreStats {
     pub replies: u64,
     /// Cycles from the issue of a read to the arrival of its reply, summed over those replies.
     pub read_latency: u128,
-    /// Cycles in which it stopped issuing since no entry was left.
+    /// Cycles in which it stopped issuing because no entry was left.
     pub stop_end: u64,
-    /// Cycles in which it stopped after as many entries as it issues in a cycle.
+    /// Cycles in which it stopped after as many entries as it may issue in a cycle.
     pub stop_width: u64,
-    /// Cycles in which it stopped since its window was full.
+    /// Cycles in which it stopped because its window was full.
     pub stop_window: u64,
     /// Cycles in which it stopped before a second memory entry.
     pub stop_memory: u64,
     /// Cycles in which it stopped for want of a credit.
     pub stop_credit: u64,
-    /// The cycle in which the last entry of its trace retired, if one of these cycles is it.
+    /// The cycle in which the last entry of its trace retired, if it is one of these cycles.
     pub finish: Option<Cycle>,
 }
 
@@ -64,7 +64,7 @@ impl CoreStats {
         }
     }
 
-    /// The statistics of so many cycles that are each as these.
+    /// The statistics of `cycles` cycles, each with these statistics.
     pub fn times(self, cycles: u64) -> CoreStats
         requires { CoreFits (core_times cycles self) }
         ensures { result ≡ core_times cycles self }

@@ -1,4 +1,4 @@
-//! What a run answers.
+//! The outcome of a run.
 
 use crate::final_state::FinalState;
 use crate::stats::Stats;

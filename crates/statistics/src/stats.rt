@@ -24,7 +24,7 @@ impl Model for Stats {
 impl Stats {
     ghost use Rattle.std.specs.Prelude.{◌≡◌, IfOk};
 
-    /// The statistics of a run of so many cycles, with just these cores and these channels.
+    /// The statistics of a run of `cycles` cycles, with just these cores and these channels.
     pub fn of_parts(
         alloc: Global,
         cycles: u64,

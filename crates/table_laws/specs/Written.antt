@@ -1,5 +1,5 @@
 -- Rows of commands that a table can hold.
---     SourceIsOf s source, BankIsOf s bank, CommandIsOf s command      what a command speaks of is of the configuration
+--     SourceIsOf s source, BankIsOf s bank, CommandIsOf s command      what a command names is of the configuration
 --     RowIsOf s row      a row is one of the configuration's, in a cycle below the limit of numbers
 use Rattle.std.specs.Prelude.{◌<◌, ◌^◌}
 use Rattle.sim_base.specs.declared.config.Config.{Config}
@@ -14,13 +14,13 @@ pub record SourceIsOf (s : Config) (source : Source) : Type 0 where
   pub core : source.core < s.cores
   pub entry : source.entry < 2 ^ 62
 
--- a bank that there is
+-- a bank that exists in the configuration
 pub record BankIsOf (s : Config) (place : BankId) : Type 0 where
   pub rank : place.rank < s.ranks
   pub group : place.group < s.groups
   pub bank : place.bank < 4
 
--- what a command speaks of is of the configuration
+-- what a command names is of the configuration
 abbrev pub CommandIsOf : Config → Command → Type 0
 CommandIsOf s (Act bank row source) = BankIsOf s bank × (row < s.rows) × SourceIsOf s source
 CommandIsOf s (Rd bank row column source) = BankIsOf s bank × (row < s.rows) × (column < s.columns) × SourceIsOf s source

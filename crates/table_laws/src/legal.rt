@@ -9,7 +9,7 @@ ghost use Rattle.reports.specs.Commands.{commands_text};
 ghost use Rattle.rule_check.specs.Verdict.{records_of, verdict};
 ghost use Rattle.rule_check.specs.declared.verdict.Verdict.TheVariants.{Legal};
 
-/// `check` says of the text of a run's table of commands that it is legal, under the same configuration.
+/// `check` finds the text of a run's table of commands legal, under the same configuration.
 pub fn tables_of_runs_are_legal()
     ensures { (s : Config) (traces : List (List Entry)) (n : ℕ) → n ≤ 2 ^ 62 → All (λ t. length t ≤ 2 ^ 62) traces
         → verdict s (records_of (commands_text s.ranks (commands (run s traces n)))) ≡ Ok Legal }

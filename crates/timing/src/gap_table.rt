@@ -24,7 +24,7 @@ struct HoldsAfter {
     by_kind: [HoldsBetween; 6],
 }
 
-/// How far each kind of command holds each other kind back. It stands for the distances that it was made of.
+/// How far each kind of command holds each other kind back. It stands for the distances that it was made from.
 #[derive(Clone, Copy)]
 pub struct GapTable {
     timing: Timing,
@@ -149,7 +149,7 @@ impl GapTable {
         self.between(earlier, later).bound[index_of_relation(relation)]
     }
 
-    /// The cycles in which a rank takes four ACTs at most, from 1 to 100,000.
+    /// The cycles in which a rank accepts at most four ACTs, from 1 to 100,000.
     #[inline(always)]
     pub fn four_act_window(&self) -> u32
         ensures value { result ≡ self.now.n_faw }

@@ -27,8 +27,8 @@ fn relation_of_banks(earlier: Option<BankId>, later: Option<BankId>) -> Relation
     }
 }
 
-/// How the banks of a command lie to those of a later one in a rank, which names this bank, if it names one. A command that
-/// names no bank speaks of each bank of its rank.
+/// How the banks of a command relate to those of a later one in a rank, which names this bank, if it names one. A command
+/// that names no bank applies to each bank of its rank.
 pub fn relation_to(earlier: Command, rank: u32, bank: Option<BankId>) -> Relation
     ensures { result ≡ relation_to earlier rank bank }
 {
@@ -39,7 +39,7 @@ pub fn relation_to(earlier: Command, rank: u32, bank: Option<BankId>) -> Relatio
     }
 }
 
-/// How the banks of two commands lie to one another.
+/// How the banks of two commands relate.
 pub fn relation(earlier: Command, later: Command) -> Relation
     ensures { result ≡ relation_of earlier later }
 {

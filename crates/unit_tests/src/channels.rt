@@ -1,4 +1,4 @@
-//! An idle channel, which is refreshed or not, and a channel with one read, as they are worked out by hand.
+//! An idle channel, which is refreshed or not, and a channel with one read, worked out by hand.
 
 ghost use Rattle.std.specs.Prelude.{◌≡◌, ◌≤◌, ◌^◌, [], IfOk};
 ghost use Rattle.channel_step.specs.Fit.{IsFit};
@@ -6,10 +6,10 @@ ghost use Rattle.channel_step.specs.Past.{CarriesRequest};
 ghost use Rattle.channel_step.specs.Channels.{StandsFor, HasRank, HasBank};
 
 use crate::expect::expect_at;
-use crate::none::NO_CHANNEL;
 use crate::one_read::{ACT, BANK, CREDIT, RD, REPLY};
 use channel_step::channel::Channel;
 use command_table::list::CommandList;
+use fixtures::none::NO_CHANNEL;
 use fixtures::small::{RANK_FIELD, small};
 use sim_base::command::{Command, IssuedCommand};
 use sim_base::config::Config;
@@ -130,7 +130,7 @@ fn first_read(config: &Config) -> Message
     }
 }
 
-/// Asserts what a channel did, no refresh of which is due, and that no request waits.
+/// Asserts what a channel did, that none of its refreshes is due, and that no request waits.
 fn assert_did(
     rt: &impl Abort,
     channel: &Channel,

@@ -3,9 +3,9 @@
 ghost use Rattle.std.specs.Prelude.{◌≤◌, length};
 
 use crate::expect::expect;
-use crate::none::NO_CORE;
 use core_window::core_unit::Core;
 use cpu_trace::trace::Trace;
+use fixtures::none::NO_CORE;
 use fixtures::small::small;
 use sim_base::config::Config;
 use sim_base::fault::Fault;

@@ -1,11 +1,11 @@
 //! A channel of the small machine, whose commands and messages are worked out by hand, and messages that do not fit it.
 
 use crate::expect::{expect, expect_at};
-use crate::none::NO_CHANNEL;
 use crate::one_read::{ACT, BANK, CREDIT, RD, REPLY};
 use channel_feed::done::ChannelDone;
 use channel_feed::fault::FeedFault;
 use channel_feed::fed::FedChannel;
+use fixtures::none::NO_CHANNEL;
 use fixtures::small::small;
 use sim_base::command::{Command, IssuedCommand, Source};
 use sim_base::message::{Cycle, LinkId, Load, Message, Request};
@@ -36,7 +36,7 @@ const FIRST_LINE: Place = Place {
 };
 
 /// A message to the channel: the Read of an entry of one of the first lines, and its arrival; a Read on a link and with an arrival
-/// that may be others than its own; or a reply.
+/// that may not be its own; or a reply.
 #[derive(Clone, Copy)]
 enum Mail {
     Read(u64, u32, Cycle),
@@ -76,7 +76,7 @@ fn messages_of(alloc: Global, mail: &[Mail]) -> Result<Vec<Message>, AllocError>
     mail.iter().map(|one| message_of(*one)).collect(alloc)
 }
 
-/// What a channel is told: to run up to a cycle, with these messages, or to go over the cycles before one.
+/// What a channel is told: to run up to a cycle, with these messages, or to skip the cycles before one.
 #[derive(Clone, Copy)]
 enum Step<'x> {
     Run(&'x [Mail], Cycle),
@@ -151,7 +151,7 @@ impl Running {
 /// A further step, and what is wrong with it, or nothing.
 type Further<'x> = (Step<'x>, Option<&'x str>);
 
-/// Steps; where the channel stands after them, when it acts then next, what it did and what it counted; and further steps, one at a time.
+/// Steps; where the channel stands after them, when it acts next, what it did and what it counted; and further steps, one at a time.
 struct Case<'x> {
     steps: &'x [Step<'x>],
     now: Cycle,
@@ -466,7 +466,7 @@ static CASES: [Case<'static>; 10] = [
     },
 ];
 
-/// Asserts that a channel anew did in one span what this one did.
+/// Asserts that a new channel did in one span what this one did.
 fn assert_replay(rt: &impl Abort, running: &Running, fed: &FedChannel, done: &ChannelDone) {
     let channel = &done.channel;
     expect(
@@ -557,7 +557,7 @@ fn run_case(
     take_case(rt, alloc, &mut running, number, case, further)
 }
 
-/// Takes a channel through a case, and for each further step one anew.
+/// Takes a channel through a case, and a new one for each further step.
 fn run_each(rt: &impl Abort, alloc: Global, number: usize, case: &Case<'_>) -> Result<(), Fail> {
     run_case(rt, alloc, number, case, None)?;
     for further in case.further {

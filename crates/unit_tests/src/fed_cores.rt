@@ -1,10 +1,10 @@
 //! Short runs of one profile, counted by hand, and messages that may not come.
 
 use crate::expect::{expect, expect_at};
-use crate::none::NO_CORE;
 use core_feed::done::CoreDone;
 use core_feed::fed::{FedCore, FeedFault};
 use cpu_trace::trace::Trace;
+use fixtures::none::NO_CORE;
 use fixtures::small::small;
 use sim_base::config::Config;
 use sim_base::message::{Cycle, LinkId, Load, Message, Request};
@@ -62,7 +62,7 @@ fn mail_of(alloc: Global, mail: &[Mail]) -> Result<Vec<Message>, AllocError> {
     mail.iter().map(|one| message_of(*one)).collect(alloc)
 }
 
-/// What a core is told: to run up to a cycle, with these messages; to run up to one cycle by cycle, with none; or to go over the
+/// What a core is told: to run up to a cycle, with these messages; to run up to one cycle by cycle, with none; or to skip the
 /// cycles before one.
 #[derive(Clone, Copy)]
 enum Step<'x> {
@@ -142,7 +142,7 @@ impl Feeding {
 /// A further step, and what is wrong with it, or nothing.
 type Further<'x> = (Step<'x>, Option<&'x str>);
 
-/// Other lines of the small machine, the entries of its core's trace, and steps; when the core acts then next, what it counted, and
+/// Other lines of the small machine, the entries of its core's trace, and steps; when the core then acts next, what it counted, and
 /// on which links what it sent arrives, and when; and further steps, one at a time.
 struct Case<'x> {
     changes: &'x [&'x str],
@@ -480,7 +480,7 @@ static CASES: [Case<'static>; 13] = [
     },
 ];
 
-/// What a core counted, where it stands, and what it sent, span by span and by a core anew in one span.
+/// What a core counted, where it stands, and what it sent, span by span and by a new core in one span.
 fn assert_replay(rt: &impl Abort, feeding: &Feeding, core: &FedCore, done: &CoreDone) {
     let replay = &done.core;
     expect(
@@ -490,7 +490,7 @@ fn assert_replay(rt: &impl Abort, feeding: &Feeding, core: &FedCore, done: &Core
     );
 }
 
-/// Asserts that a core anew does in one span what this one did.
+/// Asserts that a new core does in one span what this one did.
 fn replays(rt: &impl Abort, alloc: Global, feeding: &Feeding) -> Result<(), Fail> {
     let core = feeding.core()?;
     let done = core.replay(alloc)?;
@@ -560,7 +560,7 @@ fn run_case(
     take_case(rt, alloc, &mut feeding, number, case, further)
 }
 
-/// Takes a core through a case, and for each further step one anew.
+/// Takes a core through a case, and a new one for each further step.
 fn run_each(rt: &impl Abort, alloc: Global, number: usize, case: &Case<'_>) -> Result<(), Fail> {
     run_case(rt, alloc, number, case, None)?;
     for further in case.further {

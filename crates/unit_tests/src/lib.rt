@@ -12,6 +12,4 @@ mod fed_channels;
 #[cfg(test)]
 mod fed_cores;
 #[cfg(test)]
-mod none;
-#[cfg(test)]
 mod one_read;

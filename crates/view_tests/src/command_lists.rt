@@ -92,7 +92,7 @@ fn without_a_rank(rt: HostRuntime) -> Result<(), Fail> {
     Ok(())
 }
 
-// The row that a table is refused by.
+// The row because of which a table is refused.
 fn refused(alloc: Global, table: &str) -> Option<u64> {
     match read_commands(alloc, table.as_bytes()) {
         Err(Fault::CheckRow(row)) => Some(row),
@@ -113,14 +113,14 @@ fn wrong_headers(rt: HostRuntime) {
     }
 }
 
-// A table whose first row is of cycle 9.
+// A table whose first row is in cycle 9.
 fn table_with(alloc: Global, line: &str) -> Result<String, AllocError> {
     format!(in alloc;
         "cycle,channel,command,rank,group,bank,row,column,core,entry\n9,0,REF,0,,,,,,\n{line}\n"
     )
 }
 
-// The second row is refused, since it is one that no run writes, or of an earlier cycle than the first.
+// The second row is refused, since no run writes such a row, or since it is in an earlier cycle than the first.
 #[test]
 fn wrong_rows(rt: HostRuntime) -> Result<(), Fail> {
     let alloc = rt.alloc();

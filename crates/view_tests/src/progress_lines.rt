@@ -151,7 +151,7 @@ impl<'a> Clock for Shown<'a> {
     }
 }
 
-/// A run that has gone on for so many cycles of a million.
+/// A run that has gone on for `now` cycles of a million.
 fn stage_at(now: Cycle) -> Stage {
     Stage {
         now,
@@ -195,7 +195,7 @@ fn lines_of(alloc: Global, texts: &[&str]) -> Result<Vec<u8>, AllocError> {
 }
 
 /// The run is looked at when it begins, and after 900, 1,000, 1,499 and 1,500 ms. It is drawn the third and the fifth time, and then
-/// cleared. The stretch of 900 ms is cut to the half; those of 100 and 499 ms are kept and cut, and that of 1 ms is doubled.
+/// cleared. The stretch of 900 ms is cut in half; those of 100 and 499 ms are kept and cut, and that of 1 ms is doubled.
 #[test]
 fn the_line_is_drawn_twice_a_second(rt: HostRuntime) -> Result<(), Fail> {
     let times = [5_000, 5_900, 6_000, 6_499, 6_500];

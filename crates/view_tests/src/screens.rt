@@ -24,7 +24,7 @@ core  retired  per cycle  reads  latency (cycles)  end %  width %  window %  mem
    1        0      0.000      0                 -  100.0      0.0       0.0       0.0       0.0
 ";
 
-// Nothing is divided by no cycles, no replies, and no RDs and WRs.
+// Nothing is divided by a number of cycles, of replies, or of RDs and WRs that is 0.
 const NO_CYCLES: &str = "cycles 0
 
 Channels (1): row hits in % of rd and wr, all else in % of the cycles
@@ -36,7 +36,7 @@ core  retired  per cycle  reads  latency (cycles)  end %  width %  window %  mem
    0        0          -      0                 -      -        -         -         -         -
 ";
 
-// Of 17 cores the ninth is the median; the first has no reply, so that the latency's is the eighth of 16.
+// Of 17 cores the ninth is the median; the first has no reply, so that the median latency is the eighth of 16.
 const SEVENTEEN: &str = "cycles 1000
 
 Channels (1): row hits in % of rd and wr, all else in % of the cycles

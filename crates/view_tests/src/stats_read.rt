@@ -107,7 +107,7 @@ fn each_count(rt: HostRuntime) -> Result<(), Fail> {
     Ok(())
 }
 
-// The row that a table is refused by.
+// The row because of which a table is refused.
 fn refused(alloc: Global, table: &str) -> Option<u64> {
     match read_stats(alloc, table.as_bytes()) {
         Err(Fault::CheckRow(row)) => Some(row),

@@ -1,4 +1,4 @@
--- How one file comes to its path: it is written under that path with `.part` behind it, and gets its place when it is whole.
+-- How one file comes to its path: it is written under that path with `.part` appended, and gets its place when it is whole.
 --     part_of path      the path under which it is written
 --     IsMoveTo path move      its way
 --     IsWhole path text old new      it is in its place

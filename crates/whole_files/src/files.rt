@@ -13,7 +13,7 @@ use std::rt::Files;
 /// Files by their paths, as the program sees them. Tests put memory in their place.
 ///
 /// A set that *tells* says by its clauses what each path holds, and what was opened to be written. It reads whatever it holds, and
-/// removes whatever it is told to. The files of the host do not tell, since no clause can say what a file system gives: of them only
+/// removes whatever it is told to. The files of the host do not tell, since no clause can say what a file system gives: for them only
 /// the faults are claimed here.
 pub trait FileSet {
     /// A file that is being written.
@@ -43,7 +43,7 @@ pub trait FileSet {
         ensures noted { OnOk result (tells → opened self.new ≡ opened self.old ++ path.now ∷ []) }
         ensures others { tells → SameBut path.now (held self.old) (held self.new) };
 
-    /// Why a file is refused that is being written, with the host's cause where the set knows it.
+    /// Why a file that is being written is refused, with the host's cause where the set knows it.
     fn cause(&self, _alloc: Global, _path: &str, _out: &Self::Out, fault: Fault) -> Reason
         ensures { result ≡ fault }
     {
@@ -57,8 +57,8 @@ pub trait FileSet {
         ensures others { tells → SameBut path.now (held self.old) (held self.new) }
         ensures unopened { tells → opened self.new ≡ opened self.old };
 
-    /// Tests whether a file could be given this path. Refuses by `Fault::Write` where something stands there that no file
-    /// replaces, as a folder, or that is not to be replaced, as a file that may not be written, or where that cannot be told.
+    /// Tests whether a file could be given this path. Refuses by `Fault::Write` where something stands there that no file can
+    /// replace, such as a folder, or that must not be replaced, such as a file that may not be written, or where that cannot be told.
     fn test_place(&mut self, path: &str) -> Result<(), Reason>
         ensures fault { IfErr result (λ e. IsWriteFault e) }
         ensures same { tells → SameFiles (held self.old) (held self.new) }
@@ -94,7 +94,7 @@ fn read_fault(error: &io::Error) -> Fault
     }
 }
 
-// Why a file is not written, or is not given a place, by what the host answers.
+// Why a file is not written, or is not given a place, according to the host's answer.
 fn written(alloc: Global, path: &str, answer: io::Result<()>) -> Result<(), Reason>
     ensures { IfErr result (λ e. e ≡ Fault.Write) }
 {
@@ -104,7 +104,7 @@ fn written(alloc: Global, path: &str, answer: io::Result<()>) -> Result<(), Reas
     }
 }
 
-// Opens a file as if to write it, and leaves it as it is: one that is protected, as by its mode or its folder's, refuses that.
+// Opens a file as if to write it, and leaves it as it is: one that is protected, for example by its mode or its folder's, refuses that.
 fn test_writing(alloc: Global, files: &impl Files, path: &str) -> Result<(), Reason>
     ensures { IfErr result (λ e. e ≡ Fault.Write) }
 {

@@ -36,7 +36,7 @@ pub(crate) fn move_in(alloc: Global, folder: &str, part: &str, name: &str) -> Re
     })
 }
 
-/// The way of a file to its path, from the same one with `.part` behind it.
+/// The way of a file to its path, from the same path with `.part` appended.
 pub(crate) fn move_to(alloc: Global, path: &str) -> Result<Move, Fault>
     ensures way { IfOk result (IsMoveTo path.now) }
     ensures fault { IfErr result (λ e. e ≡ Fault.Memory) }
@@ -57,7 +57,7 @@ pub(crate) fn place_one<F: FileSet>(alloc: Global, files: &mut F, way: &Move) ->
     files.rename(alloc, way.from.as_str(), way.to.as_str())
 }
 
-/// Removes what was written and did not get its place, if it can be.
+/// Removes what was written and did not get its place, if possible.
 pub(crate) fn discard_one<F: FileSet>(files: &mut F, way: &Move)
     ensures gone { F.tells → F.held files.new (string_bytes way.now.from) ≡ None }
     ensures others { F.tells → SameBut (string_bytes way.now.from) (F.held files.old) (F.held files.new) }

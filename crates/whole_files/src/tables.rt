@@ -127,7 +127,7 @@ fn test_places<F: FileSet>(files: &mut F, moves: &Moves) -> Result<(), Reason>
     files.test_place(moves.last.to.as_str())
 }
 
-// Gives the tables their places, one right after the other. What can be found before the first has its place refuses before that.
+// Gives the tables their places, one right after the other. Faults that can be found beforehand are refused before the first has its place.
 fn place<F: FileSet>(alloc: Global, files: &mut F, moves: &Moves) -> Result<(), Refusal>
     ensures placed { OnOk result (InFolder moves.now (λ folder. F.tells → IsPlaced folder (F.held files.old) (F.held files.new))) }
     ensures kept { IfErr result (λ e. IsKept e → F.tells → SameFiles (F.held files.old) (F.held files.new)) }
@@ -146,7 +146,7 @@ fn place<F: FileSet>(alloc: Global, files: &mut F, moves: &Moves) -> Result<(), 
     Ok(())
 }
 
-// Removes all that was written under such names, in reverse order: where only the first is gone, the others are whole and wait for
+// Removes all that was written under these names, in reverse order: if only the first is gone, the others are whole and wait for
 // their places.
 fn discard<F: FileSet>(files: &mut F, moves: &Moves)
     ensures gone { InFolder moves.now (λ folder. F.tells → HasNoParts folder (F.held files.new)) }
@@ -157,10 +157,10 @@ fn discard<F: FileSet>(files: &mut F, moves: &Moves)
     discard_one(files, &moves.commands);
 }
 
-/// Writes the tables of a run into a folder. Each is written under its name and `.part`, and when all three are whole, they get their
-/// places, one right after the other. Where that fails before the first has its place, what was written is removed, and
-/// what stood in the places stands there; where it fails later, the refusal is `Torn`, and nothing is removed. The table of commands is
-/// put together by so many threads at most.
+/// Writes the tables of a run into a folder. Each is written under its name with `.part` appended, and when all three are whole, they
+/// get their places, one right after the other. If that fails before the first has its place, what was written is removed, and the
+/// places hold what they held before; if it fails later, the refusal is `Torn`, and nothing is removed. The table of commands is put
+/// together by at most `threads` threads.
 pub fn write_tables<R: Threads + Sync, F: FileSet>(
     rt: &R,
     alloc: Global,

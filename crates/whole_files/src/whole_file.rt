@@ -30,7 +30,7 @@ fn stage_text<F: FileSet>(
     files.close(alloc, path, out)
 }
 
-// Gives a file that is written its place, if that can be.
+// Gives a written file its place, if possible.
 fn settle<F: FileSet>(alloc: Global, files: &mut F, way: &Move) -> Result<(), Reason>
     ensures renamed { OnOk result (F.tells → IsRenamed (string_bytes way.now.from) (string_bytes way.now.to) (F.held files.old) (F.held files.new)) }
     ensures refused { OnErr result (F.tells → SameFiles (F.held files.old) (F.held files.new)) }
@@ -52,8 +52,8 @@ fn write_by<F: FileSet>(alloc: Global, files: &mut F, way: &Move, text: &[u8]) -
     settle(alloc, files, way)
 }
 
-/// Writes a file. It is written under its path and `.part`, and gets its place when it is whole. Where that fails, what was
-/// written is removed, and what stood in the place stands there.
+/// Writes a file. It is written under its path with `.part` appended, and gets its place when it is whole. If that fails, what
+/// was written is removed, and the place holds what it held before.
 pub fn write_whole<F: FileSet>(
     alloc: Global,
     files: &mut F,

@@ -1,6 +1,6 @@
 -- Why a run is not brought to its end.
 --     IsOfHost fault      the host refused: memory, or a worker's start
---     IsRefusedTo workers fault      the host refused so many workers
+--     IsRefusedTo workers fault      the host refused this number of workers
 use Rattle.std.specs.Prelude.{◌≡◌, ◌⊎◌, ℕ, ◌≤◌}
 use Rattle.sim_base.specs.declared.fault.Fault.{Fault}
 use Rattle.sim_base.specs.declared.fault.Fault.TheVariants.{Memory, WorkerStart}

@@ -1,7 +1,7 @@
 -- What a watcher is told of a run.
 --     retired_by s traces now      how many entries of the traces have retired
---     IsPlanOf s traces plan      what stays the same of what is told
---     IsStageOf s traces limit now stage      what is told when so many cycles are over
+--     IsPlanOf s traces plan      the part of what is told that stays the same
+--     IsStageOf s traces limit now stage      what is told when `now` cycles are over
 use Rattle.std.specs.Prelude.{◌≡◌, ℕ, List, length, sum_by, IfSome}
 use Rattle.sim_base.specs.declared.config.Config.{Config}
 use Rattle.sim_base.specs.declared.trace.Entry.{Entry}
@@ -19,7 +19,7 @@ pub record IsPlanOf (s : Config) (traces : List (List Entry)) (plan : Plan) : Ty
   pub end_is : plan.ends_drained ≡ s.ends_drained
   pub entries_are : plan.entries ≡ sum_by length traces
 
--- How far a run up to a limit is when so many cycles are over. What retired is not told where memory is refused.
+-- How far a run up to a limit is when `now` cycles are over. How much has retired is not told where memory is refused.
 pub record IsStageOf (s : Config) (traces : List (List Entry)) (limit now : ℕ) (stage : Stage) : Type 0 where
   pub now_is : stage.now ≡ now
   pub limit_is : stage.limit ≡ limit

@@ -3,13 +3,13 @@
 ghost use Rattle.std.specs.Prelude.{◌≡◌, IfOk};
 
 use crew::work::Work;
-use epochs::task::{Task, TaskDone, TaskName};
+use shards::task::{Task, TaskDone, TaskName};
 use std::alloc::{AllocError, Global};
 
 /// What a worker passes before it runs a part of a phase, and after it. Several threads use one gate. Workers are numbered from 0 in each
 /// phase.
 pub trait Gate {
-    /// Whether the parts pass the gate. Where they do not, the caller may run a machine in place, with no phases in parts.
+    /// Whether the parts pass the gate. If they do not, the caller may run a machine in place, without splitting phases into parts.
     fn watches(&self) -> bool;
 
     /// The worker is about to run the part.
@@ -45,7 +45,7 @@ impl<'a, G: Gate> Work<Task, TaskDone> for AtGate<'a, G> {
     }
 }
 
-/// Runs a part of a phase between its enter and its leave. Only memory can be refused; the gate is then not left.
+/// Runs a part of a phase between its enter and its leave. The only error is out of memory; the part then does not leave the gate.
 pub(crate) fn run_at<G: Gate>(gate: &G, worker: usize, task: Task) -> Result<TaskDone, AllocError>
     ensures { IfOk result (λ done. done ≡ task) }
 {
@@ -56,7 +56,7 @@ pub(crate) fn run_at<G: Gate>(gate: &G, worker: usize, task: Task) -> Result<Tas
     Ok(done)
 }
 
-/// Runs parts of a phase one after the other. Only memory can be refused.
+/// Runs parts of a phase one after the other. The only error is out of memory.
 pub(crate) fn run_all<G: Gate>(
     gate: &G,
     alloc: Global,

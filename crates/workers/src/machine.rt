@@ -3,7 +3,7 @@
 ghost use Rattle.std.specs.Prelude.{◌≡◌, ◌<◌, ◌≤◌, ◌^◌, length, IfOk, IfErr};
 ghost use Rattle.sim_base.specs.Machine.{cycles_run};
 ghost use Rattle.statistics.specs.Runs.{outcome_of};
-ghost use Rattle.epochs.specs.Ordered.{HasReached};
+ghost use Rattle.units.specs.Views.{HasReached};
 ghost use Rattle.workers.specs.Runs.{IsRefusedTo};
 
 use crate::gate::{AtGate, Gate};
@@ -13,9 +13,9 @@ use cpu_trace::trace::Trace;
 use crew::bell::Patience;
 use crew::caller::Phases;
 use crew::run::{Course, Refused, with_crew};
-use epochs::fleet::Leg;
-use epochs::sim::Sim;
-use epochs::task::{Task, TaskDone};
+use shards::fleet::{Fleet, Leg};
+use shards::rested::run_alone;
+use shards::task::{Task, TaskDone};
 use sim_base::config::Config;
 use sim_base::fault::Fault;
 use sim_base::message::Cycle;
@@ -23,6 +23,7 @@ use statistics::outcome::Outcome;
 use std::alloc::{AllocError, Global};
 use std::sync::Wait;
 use std::thread::Threads;
+use units::sim::Sim;
 
 /// How long a worker looks for the next phase before it sleeps: for a tenth of a millisecond, which is longer than most phases, and then with its processor
 /// left to others between two looks.
@@ -32,22 +33,22 @@ const PATIENCE: Patience = Patience {
     turns: 200,
 };
 
-/// A machine of no more units is run by the caller as a whole: it costs less than to wake other threads.
+/// A machine with at most this many units is run by the caller as a whole: that costs less than waking other threads.
 const FEW: usize = 16;
 
-/// Where fewer messages are in flight, the caller runs a machine alone for a while.
+/// Where fewer messages than this are in flight, the caller runs a machine alone for a while.
 const BUSY: usize = 32;
 
-/// After how many cycles it is looked for the first time how much is in flight. Each time is twice as far as the time before.
+/// After how many cycles the run first checks how much is in flight. Each time the distance doubles.
 const FIRST_LAP: Cycle = 4_096;
 
-/// How many shards there are for each worker: one of channels, and one of cores, which have less to do and fill up what is left of a phase.
+/// How many shards there are for each worker: one of channels, and one of cores, which have less to do and fill what is left of a phase.
 const SHARDS: usize = 2;
 
-/// How many shards there are at most: what is sent goes by a list for each pair of them.
+/// How many shards there are at most: what is sent goes through a list for each pair of them.
 const MOST_SHARDS: usize = 64;
 
-/// In how many shards the units are shared out, and how many messages in flight make it worth while.
+/// In how many shards the units are shared out, and how many messages in flight make that worthwhile.
 #[derive(Clone, Copy)]
 struct Sharing {
     shards: usize,
@@ -60,7 +61,7 @@ struct Sharing {
 enum Way {
     /// By the caller, in place.
     Alone,
-    /// In shards, each run by a worker in each phase, where enough is in flight; else by the caller, for a while.
+    /// In shards, each run by a worker in each phase, where enough is in flight; otherwise by the caller, for a while.
     Shared(Sharing),
 }
 
@@ -77,7 +78,7 @@ fn run_shared<N: Runner>(
     ensures ok { IfOk result (HasReached sim limit) }
     ensures refused { IfErr result (λ fault. fault ≡ Fault.Memory) }
 {
-    let mut fleet = sim.shared_out(alloc, sharing.shards)?;
+    let mut fleet = Fleet::share_out(sim, alloc, sharing.shards)?;
     loop {
         match fleet.further(alloc, limit)? {
             Leg::Done(sim) => return Ok(sim),
@@ -89,7 +90,7 @@ fn run_shared<N: Runner>(
     }
 }
 
-/// A simulator at a limit, run by all workers where enough is in flight now, and else by the caller alone.
+/// A simulator at a limit, run by all workers where enough is in flight now, and otherwise by the caller alone.
 fn run_lap<N: Runner>(
     sim: Sim,
     alloc: Global,
@@ -103,7 +104,7 @@ fn run_lap<N: Runner>(
     ensures refused { IfErr result (λ fault. fault ≡ Fault.Memory) }
 {
     if sim.in_flight(alloc)? < sharing.busy {
-        return Ok(sim.run_alone(alloc, limit)?);
+        return Ok(run_alone(sim, alloc, limit)?);
     }
     run_shared(sim, alloc, limit, sharing, runner)
 }
@@ -157,7 +158,7 @@ fn run_by<W: Watch, N: Runner>(
     while let Some(stop) = sim.next_stop(cycles) {
         let until = stretch_end(&sim, alloc, stop, plan, watch, &mut look);
         sim = match way {
-            Way::Alone => sim.run_alone(alloc, until)?,
+            Way::Alone => run_alone(sim, alloc, until)?,
             Way::Shared(sharing) => run_laps(sim, alloc, until, sharing, runner)?,
         };
     }
@@ -165,7 +166,7 @@ fn run_by<W: Watch, N: Runner>(
     Ok(outcome)
 }
 
-/// The phases of a machine that so many workers run.
+/// The phases of a machine that several workers run.
 #[derive(Drop)]
 struct Voyage<'a, W: Watch> {
     watch: &'a mut W,
@@ -204,7 +205,7 @@ impl<'a, W: Watch> Course<Task, TaskDone, Outcome> for Voyage<'a, W> {
     }
 }
 
-/// How many shards the units of a machine are shared out in for so many workers: some for each, and no more than there are units, or than `MOST_SHARDS`.
+/// In how many shards the units of a machine are shared out for this number of workers: some for each, and no more than there are units, or than `MOST_SHARDS`.
 fn shards_for(workers: usize, config: &Config) -> usize
     requires { 2 ≤ workers }
     ensures { 2 ≤ result }
@@ -289,8 +290,8 @@ fn run_watched<R: Threads + Wait + Sync, G: Gate + Sync, W: Watch>(
 }
 
 /// Runs a machine over one trace a core, up to a limit of at most 10^12 cycles or, where the configuration ends it drained, until
-/// all is done, and gives its commands, its statistics and the state in which it ends. Each phase is run by so many workers at
-/// most, 1 to 64: the caller, and threads that are started once. With one worker it is run in the thread of the caller, and in
+/// all is done, and gives its commands, its statistics and the state in which it ends. Each phase is run by at most `workers`
+/// workers, 1 to 64: the caller, and threads that are started once. With one worker it is run in the thread of the caller, and in
 /// place where the gate does not watch. The watcher is told how far the run is, and when it has ended. What comes out depends on neither
 /// it, nor the workers, nor the order in which they end: it is what the one-clock machine does. Only the host can refuse: memory (fault
 /// 10), or, where there are several workers, a worker's start (fault 11). All workers have ended when this returns.

@@ -4,7 +4,7 @@ ghost use Rattle.std.specs.Prelude.{◌≡◌, IsPermutation, IfOk, IfErr};
 
 use crate::gate::{Gate, run_all};
 use crew::caller::Phases;
-use epochs::task::{Task, TaskDone};
+use shards::task::{Task, TaskDone};
 use sim_base::fault::Fault;
 use std::alloc::Global;
 
@@ -12,7 +12,7 @@ use std::alloc::Global;
 pub trait Runner {
     ghost use Rattle.std.specs.Prelude.{◌≡◌, IsPermutation, IfOk, IfErr};
 
-    /// Runs the parts of a phase: of each comes just one result, with its name, in whatever order, and nothing else. Only memory can be
+    /// Runs the parts of a phase: exactly one result comes of each, with its name, in any order, and nothing else. Only memory can be
     /// refused (fault 10).
     fn run_phase(&mut self, tasks: Vec<Task>) -> Result<Vec<TaskDone>, Fault>
         ensures each { IfOk result (λ results. IsPermutation tasks.items results.items) }
@@ -42,7 +42,7 @@ impl<'a, G: Gate> Runner for Serial<'a, G> {
     }
 }
 
-/// Has a crew run the parts, which its threads claim from the last on: those of channels, which have most to do, come last in a machine.
+/// Has a crew run the parts, which its threads claim starting from the last: those of channels, which have most to do, come last in a machine.
 #[derive(Drop)]
 pub struct Claims<'a, P: Phases<Task, TaskDone>> {
     pub crew: &'a mut P,

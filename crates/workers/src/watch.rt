@@ -4,10 +4,10 @@ ghost use Rattle.std.specs.Prelude.{◌≡◌, ◌<◌, ◌≤◌, length, sum_b
 ghost use Rattle.workers.specs.Stages.{retired_by, IsPlanOf, IsStageOf};
 
 use cpu_trace::trace::Trace;
-use epochs::sim::Sim;
 use sim_base::message::Cycle;
 use statistics::cores::CoreStats;
 use std::alloc::Global;
+use units::sim::Sim;
 
 /// How far a run is.
 #[derive(Clone, Copy, Debug)]
@@ -24,16 +24,16 @@ pub struct Stage {
     pub entries: u128,
 }
 
-/// Who is told how far a run is. The watcher is asked before the first cycle, and each time that the run has gone on for as many cycles as
+/// Who is told how far a run is. The watcher is asked before the first cycle, and each time the run has gone on for as many cycles as
 /// it answered. Whatever it answers, what comes out of the run is the same.
 pub trait Watch {
-    /// Whether it watches. Where it does not, it is asked nothing, and nothing is counted for it.
+    /// Whether it watches. If it does not, it is asked nothing, and nothing is counted for it.
     fn watches(&self) -> bool;
 
     /// How many cycles the run may go on before the watcher is asked again; 0 is taken as 1.
     fn next_stretch(&mut self, stage: &Stage) -> Cycle;
 
-    /// The run has ended, also where it was refused.
+    /// The run has ended, even if it was refused.
     fn end(&mut self);
 }
 
@@ -53,7 +53,7 @@ impl Watch for Unwatched {
     fn end(&mut self) {}
 }
 
-/// What stays the same of what a watcher is told of a run.
+/// The part of what a watcher is told that stays the same over a run.
 #[derive(Clone, Copy)]
 pub(crate) struct Plan {
     pub(crate) limit: Cycle,

@@ -21,7 +21,7 @@ write_low = 4
 pub struct Machine {
     /// Its own keys.
     own: &'static str,
-    /// The places of the channel's queue that are kept full.
+    /// How many places of the channel's queue are kept full.
     pub room: usize,
     /// Cycles of a span.
     pub span: Cycle,

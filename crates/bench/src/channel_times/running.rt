@@ -1,4 +1,4 @@
-//! A channel that is run span by span, and then anew in one span.
+//! A channel that is run span by span, and then again in one span.
 
 use crate::channel_times::machine::Machine;
 use crate::channel_times::traffic::Traffic;
@@ -12,7 +12,7 @@ use std::alloc::{AllocError, Global};
 use std::rt::Clock;
 use std::time::Instant;
 
-/// Said where a channel is asked for that could not be started, or a run of which failed.
+/// Said where a channel is needed that could not be started, or one of whose runs failed.
 const FAILED: &str = "a run of the channel failed";
 
 /// A channel that is run span by span, with its machine; no channel, where a run of it failed.
@@ -24,7 +24,7 @@ pub struct Running {
     pub watch: Stopwatch,
 }
 
-/// How many commands a channel issued that was run anew.
+/// How many commands a channel issued when it was run again.
 fn commands_of(replay: Result<ChannelDone, AllocError>) -> Result<u64, AllocError> {
     Ok(replay?.commands.len() as u64)
 }
@@ -83,7 +83,7 @@ impl Running {
         self.run(rt, alloc, &inbox, now.wrapping_add(machine.span))
     }
 
-    /// Runs it span by span until it has issued so many commands, for at most as many spans.
+    /// Runs it span by span until it has issued `commands` commands, for at most that number of spans.
     pub fn run_spans(
         &mut self,
         rt: &impl Clock,
@@ -101,7 +101,7 @@ impl Running {
         Ok(())
     }
 
-    /// Runs a channel anew over all cycles that were run, in one span. Says how many commands it issued.
+    /// Runs a new channel over all cycles that were run, in one span. Returns how many commands it issued.
     #[inline(never)]
     pub fn run_at_once(
         &self,

@@ -7,7 +7,7 @@ use sim_base::config::Config;
 use sim_base::message::{Cycle, Load, Message, Request};
 use std::alloc::{AllocError, Global};
 
-/// Lines among which addresses are: four rows of each of 32 banks.
+/// The number of lines that addresses are chosen from: four rows of each of 32 banks.
 const LINES: u32 = 128 * 32 * 4;
 
 /// What is asked for next.
@@ -26,7 +26,7 @@ impl Traffic {
         }
     }
 
-    /// The request that comes after so many others in a span. In each cycle of the span one of each core comes. Three in ten
+    /// The request that comes after `before` others in a span. In each cycle of the span one comes from each core. Three in ten
     /// write.
     fn next_request(&mut self, config: &Config, from: Cycle, before: u64) -> Message {
         let cores = u64::from(config.cores);
@@ -53,7 +53,7 @@ impl Traffic {
         }
     }
 
-    /// So many requests, the first of which arrive in a cycle.
+    /// A number of requests, the first of which arrive in a given cycle.
     pub fn requests(
         &mut self,
         alloc: Global,

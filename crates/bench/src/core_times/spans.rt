@@ -1,4 +1,4 @@
-//! A core that is run span by span, and then anew in one span.
+//! A core that is run span by span, and then again in one span.
 
 use crate::clock::Stopwatch;
 use crate::core_times::traces::sparse_trace;
@@ -27,7 +27,7 @@ nREFI = 0
 /// Cycles of a span.
 const SPAN: u64 = 2000;
 
-/// Said where a core is asked for that could not be started, or a run of which failed.
+/// Said where a core is needed that could not be started, or one of whose runs failed.
 const FAILED: &str = "a run of the core failed";
 
 /// What a core did, and how long it took.
@@ -38,7 +38,7 @@ pub struct Did {
     pub watch: Stopwatch,
 }
 
-/// What a core did that was run in one span.
+/// What a core that was run in one span did.
 fn did_at_once(done: CoreDone, watch: Stopwatch) -> Did {
     Did {
         retired: done.core.stats().retired,
@@ -65,7 +65,7 @@ pub struct Running {
 }
 
 impl Running {
-    /// A core that has a trace of so many lines to run.
+    /// A core that has a trace of `lines` lines to run.
     pub fn start<R: Threads + Sync>(rt: &R, alloc: Global, lines: u64) -> Result<Running> {
         let config = ddr4_2400(alloc, "", MACHINE)?;
         let core = start_core(rt, alloc, &config, lines).ok();
@@ -114,7 +114,7 @@ impl Running {
         Ok(done.messages)
     }
 
-    /// Runs it span by span until it has retired as many entries.
+    /// Runs it span by span until it has retired `len` entries.
     fn run_spans(&mut self, alloc: Global, len: u64) -> Result<()> {
         let mut inbox = Vec::new(alloc);
         for span in 1..len.saturating_add(2) {
@@ -128,7 +128,7 @@ impl Running {
         Ok(())
     }
 
-    /// What it does until it has retired as many entries, span by span, where the test of the messages counts too.
+    /// What it does until it has retired `len` entries, span by span. The time includes the test of the messages.
     pub fn run_all(&mut self, rt: &impl Clock, alloc: Global, len: u64) -> Result<Did> {
         let mut watch = Stopwatch::new();
         let start = Instant::now(rt);
@@ -142,7 +142,7 @@ impl Running {
         })
     }
 
-    /// What a core does anew over all cycles that were run, in one span.
+    /// What a new core does over all cycles that were run, in one span.
     pub fn run_at_once(&self, rt: &impl Clock, alloc: Global) -> Result<Did> {
         let core = self.core()?;
         let mut watch = Stopwatch::new();

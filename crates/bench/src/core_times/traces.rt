@@ -22,7 +22,7 @@ fn put_line(alloc: Global, text: &mut String, address: u64) -> Result<(), AllocE
     text.push_str(&line)
 }
 
-/// Puts so many lines at the end of a text, with addresses that look random.
+/// Puts `lines` lines at the end of a text, with addresses that look random.
 fn put_lines(alloc: Global, text: &mut String, lines: u64) -> Result<(), AllocError> {
     let mut state = 1u64;
     for _ in 0..lines {
@@ -32,7 +32,7 @@ fn put_lines(alloc: Global, text: &mut String, lines: u64) -> Result<(), AllocEr
     Ok(())
 }
 
-/// A trace of so many lines, each with 1,000 Plain entries and a Read of an address that looks random.
+/// A trace of `lines` lines, each with 1,000 Plain entries and a Read of an address that looks random.
 pub fn sparse_trace<R: Threads + Sync>(rt: &R, alloc: Global, lines: u64) -> Result<Trace> {
     let mut text = String::new(alloc);
     put_lines(alloc, &mut text, lines)?;

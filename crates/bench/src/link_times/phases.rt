@@ -2,46 +2,15 @@
 
 use crate::clock::Stopwatch;
 use anyhow::Result;
-use config_reader::read_config;
+use fixtures::small::small;
 use links::flight::Links;
 use sim_base::message::{Cycle, LinkId, Load, Message, Unit};
 use std::alloc::{AllocError, Global};
 use std::rt::Clock;
 use std::time::Instant;
 
-const MACHINE: &str = "\
-cores = 256
-channels = 16
-groups = 2
-columns = 128
-rows = 65536
-fields = [\"channel\", \"column\", \"group\", \"bank\", \"row\"]
-window = 8
-width = 2
-read_credits = 4
-write_credits = 4
-request_latency = 2
-reply_latency = 2
-credit_latency = 2
-nRCD = 3
-nRP = 3
-nRAS = 8
-nRC = 11
-nCL = 4
-nCWL = 3
-nCCD_S = 4
-nCCD_L = 5
-nRRD_S = 2
-nRRD_L = 3
-nFAW = 12
-nRTP = 2
-nWR = 4
-nWTR_S = 1
-nWTR_L = 2
-nRTW = 7
-nRFC = 20
-nREFI = 0
-";
+/// What differs from the small machine of the worked cases.
+const MANY: [&str; 2] = ["cores = 256", "channels = 16"];
 
 /// Cores and channels.
 pub const UNITS: u64 = 256 + 16;
@@ -83,7 +52,7 @@ fn messages_of(alloc: Global, phase: u64, arrival: Cycle) -> Result<Vec<Message>
     Ok(messages)
 }
 
-/// Takes out what arrives at each unit, and says how much that is.
+/// Takes out what arrives at each unit, and returns how much that is.
 fn take_all(
     alloc: Global,
     links: &mut Links,
@@ -106,7 +75,7 @@ fn take_all(
 }
 
 impl Times {
-    /// Sends messages in a phase, and takes out what arrives in it, which is the same.
+    /// Sends messages in a phase, and takes out what arrives in it: the same messages.
     fn add_phase(
         &mut self,
         rt: &impl Clock,
@@ -136,11 +105,11 @@ impl Times {
 
 /// The links of the machine, with nothing in flight.
 fn start_links(alloc: Global) -> Result<Links> {
-    let config = read_config(alloc, MACHINE.as_bytes())?;
+    let config = small(alloc, &MANY, "")?;
     Ok(Links::start(alloc, &config)?)
 }
 
-/// Sends messages in so many phases, each of which takes out what the one before it sent.
+/// Sends messages in `phases` phases, each of which takes out what the one before it sent.
 fn run_all(rt: &impl Clock, alloc: Global, links: &mut Links, phases: u64) -> Result<Times> {
     let mut times = Times {
         arrived: 0,
@@ -157,7 +126,7 @@ fn run_all(rt: &impl Clock, alloc: Global, links: &mut Links, phases: u64) -> Re
     Ok(times)
 }
 
-/// Sends messages in so many phases, over links that have nothing in flight.
+/// Sends messages in `phases` phases, over links that have nothing in flight.
 pub fn run_phases(rt: &impl Clock, alloc: Global, phases: u64) -> Result<Times> {
     let mut links = start_links(alloc)?;
     run_all(rt, alloc, &mut links, phases)

@@ -1,5 +1,5 @@
 -- The order of an address's fields in a document.
---     each_once order      each field stands once in the order; only that of the rank may be left out
+--     each_once order      each field occurs once in the order; only the rank may be left out
 --     fields_of ms      the order that a document states
 use Rattle.std.specs.Prelude.{ℕ, List, [], ◌∷◌, Bool, true, ◌==◌, nat_le, ◌&&◌, if◌then◌else◌, codes, Option, Some, None, is_some, option_and_then, count_by, Result, Ok, Err}
 use Rattle.std.specs.Str.{bytes_eq}
@@ -36,13 +36,13 @@ abbrev pub are_texts : Items → Bool
 are_texts no_items = true
 are_texts (item d ds) = is_some (as_str d) && are_texts ds
 
--- each field stands once in the order; only that of the rank may be left out
+-- each field occurs once in the order; only the rank may be left out
 abbrev pub each_once : List Field → Bool
 each_once order =
     (count_by (is_field Channel) order == 1) && (count_by (is_field Column) order == 1) && nat_le (count_by (is_field Rank) order) 1
     && (count_by (is_field Group) order == 1) && (count_by (is_field Bank) order == 1) && (count_by (is_field Row) order == 1)
 
--- an order of fields by its names
+-- the order of fields that the names give
 unfoldable pub order_of : Items → Result (List Field) Fault
 order_of ds = do
   order ← fields_named ds
@@ -52,6 +52,6 @@ abbrev pub fields_from : Option Items → Result (List Field) Fault
 fields_from None = Err (ConfigKey key.Fields)
 fields_from (Some ds) = if are_texts ds then order_of ds else Err (ConfigKey key.Fields)
 
--- the order of the fields: what is no array of texts is refused first, and then any other wrong list
+-- the order of the fields: anything but an array of texts is refused first, and then any other wrong list
 unfoldable pub fields_of : Members → Result (List Field) Fault
 fields_of ms = fields_from (option_and_then as_array (data_at ms key.Fields))

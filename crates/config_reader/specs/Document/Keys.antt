@@ -1,7 +1,7 @@
 -- What one key of a document gives: its value, or the fault by which the document is refused.
 --     x >>= f      what f makes of x, where x was not refused
 --     data_at, integer_at      what stands at a key
---     number_of, power_of      a number at a key, which has to be there
+--     number_of, power_of      a number at a key that must be present
 --     number_or, power_or      a number at a key that may be left out
 --     known_of      refuses a key that no configuration has
 use Rattle.std.specs.Prelude.{ℕ, suc, ℤ, pos, negsuc, List, [], ◌∷◌, Bool, true, nat_le, ◌&&◌, if◌then◌else◌, Option, Some, None, option_and_then, Result, Ok, Err}
@@ -25,11 +25,11 @@ Err e >>= f = Err e
 abbrev pub data_at : Members → Key → Option Data
 data_at ms k = get_member (key_name k) ms
 
--- the integer at a key; text, a float and a boolean are none
+-- the integer at a key; a text, a float and a boolean are not integers
 abbrev pub integer_at : Members → Key → Option ℤ
 integer_at ms k = option_and_then as_integer (data_at ms k)
 
--- an integer as a number from low up to high: what is no integer is refused first, and then what is out of range
+-- an integer as a number from low up to high: a value that is not an integer is refused first, then one that is out of range
 abbrev pub in_range : Key → ℕ → ℕ → Option ℤ → Result ℕ Fault
 in_range k low high None = Err (ConfigKey k)
 in_range k low high (Some (pos n)) = if nat_le low n && nat_le n high then Ok n else Err (ConfigRange k)
@@ -39,7 +39,7 @@ in_range k low high (Some (negsuc n)) = Err (ConfigRange k)
 unfoldable pub number_of : Members → Key → ℕ → ℕ → Result ℕ Fault
 number_of ms k low high = in_range k low high (integer_at ms k)
 
--- a number by what stands at its key, where something does
+-- a number from what stands at its key, or the default where nothing does
 abbrev pub number_from : ℕ → Key → ℕ → ℕ → Option Data → Result ℕ Fault
 number_from default k low high None = Ok default
 number_from default k low high (Some d) = in_range k low high (as_integer d)

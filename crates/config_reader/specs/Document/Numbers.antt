@@ -1,6 +1,6 @@
 -- The numbers of a document, key by key.
---     distances_at      four distances whose keys stand one after the other
---     machine_of, memory_of, core_of, latencies_of, timing_of, drain_of      groups of keys that stand one after the other
+--     distances_at      four distances at consecutive keys
+--     machine_of, memory_of, core_of, latencies_of, timing_of, drain_of      groups of consecutive keys
 --     end_of      whether the run ends as soon as all is done
 use Rattle.std.specs.Prelude.{ℕ, List, Bool, true, false, if◌then◌else◌, codes, Option, Some, None, Result, Ok, Err}
 use Rattle.std.specs.Str.{bytes_eq}
@@ -109,6 +109,6 @@ abbrev pub end_from : Option Data → Result Bool Fault
 end_from None = Ok false
 end_from (Some d) = end_named (as_str d)
 
--- whether the run ends as soon as all is done: `drained`; it ends at the limit alone by `limit`, and where the key is left out
+-- whether the run ends as soon as all is done: `drained`; with `limit`, or where the key is left out, it ends only at the limit
 unfoldable pub end_of : Members → Result Bool Fault
 end_of ms = end_from (data_at ms key.End)

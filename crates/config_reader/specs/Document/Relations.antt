@@ -1,5 +1,5 @@
 -- The tests of what must hold between the numbers of a configuration, by their numbers from 1 to 12.
---     relation n holds      refuses by the number of a relation that does not hold
+--     relation n holds      refuses a relation that does not hold, by its number
 --     relations_of v      the first relation that does not hold
 --     IsRelated v      each relation holds
 --     distances_of, refresh_of, credits_of, links_of, ranks_of, drain_fits_of      one relation after the other
@@ -16,7 +16,7 @@ use Rattle.sim_base.specs.declared.place.Field.TheVariants.{Rank}
 use Rattle.sim_base.specs.declared.timing.Timing.{Timing}
 use Rattle.config_reader.specs.Document.Keys.{◌>>=◌}
 
--- refuses by the number of a relation that does not hold
+-- refuses a relation that does not hold, by its number
 abbrev pub relation : ℕ → Bool → Result (Unit {0}) Fault
 relation n holds = if holds then Ok tt else Err (ConfigRelation n)
 
@@ -37,12 +37,12 @@ refresh_of t ranks = relation 6 ((t.n_refi == 0) || nat_le (refresh_slack_of t r
 unfoldable pub credits_of : ℕ → ℕ → ℕ → Result (Unit {0}) Fault
 credits_of cores read_credits write_credits = relation 7 (nat_le (cores * (read_credits + write_credits)) 8192)
 
--- no two overrides are of one link
+-- no two overrides are for the same link
 abbrev pub links_differ : List Override → Bool
 links_differ [] = true
 links_differ (o ∷ os) = not (list_any (λ p. p.link == o.link) os) && links_differ os
 
--- relations 8 and 9: each override is of a link of the machine, and of another link
+-- relations 8 and 9: each override is for a link of the machine, and no two are for the same link
 unfoldable pub links_of : ℕ → ℕ → List Override → Result (Unit {0}) Fault
 links_of cores channels overrides = do
   _ ← relation 8 (list_all (λ o. nat_lt o.link (3 * cores * channels)) overrides)
@@ -52,13 +52,13 @@ links_of cores channels overrides = do
 unfoldable pub ranks_of : ℕ → List Field → Result (Unit {0}) Fault
 ranks_of ranks fields = relation 10 ((ranks == 1) || (count_by (is_field Rank) fields == 1))
 
--- relations 11 and 12: a drain has a beginning above its end, which can be reached
+-- relations 11 and 12: a drain begins above where it ends, and its beginning can be reached
 unfoldable pub drain_fits_of : ℕ → ℕ → ℕ → ℕ → Result (Unit {0}) Fault
 drain_fits_of cores write_credits write_high write_low = do
   _ ← relation 11 ((write_high + write_low == 0) || nat_lt write_low write_high)
   relation 12 (nat_le write_high (cores * write_credits))
 
--- the relations by their numbers: the fault is of the first that does not hold
+-- the relations in the order of their numbers: the fault is that of the first that does not hold
 unfoldable pub relations_of : Values → Result (Unit {0}) Fault
 relations_of v = do
   _ ← distances_of v.timing

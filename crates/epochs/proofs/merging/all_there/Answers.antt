@@ -1,11 +1,11 @@
 use Rattle.std.proofs.Common.{◌≡◌, Some, None, ◌∷◌, ◌++◌, map, length, rules, inr, ap, ap₂, sym, ◌∙◌}
 use Rattle.std.specs.Vec.Iter.{into_iter_items}
-use Rattle.epochs.specs.Units.{unit_at}
-use Rattle.epochs.specs.Views.{PhaseView}
-use Rattle.epochs.specs.declared.machine.Machine.{Machine}
+use Rattle.units.specs.Units.{unit_at}
+use Rattle.epochs.specs.Jobs.{PhaseView}
+use Rattle.units.specs.declared.machine.Machine.{Machine}
 use Rattle.sim_base.specs.declared.fault.MergeFault.TheVariants.{Missing}
 use Rattle.epochs.proofs.Sorting.{by_unit-missing, by_unit-all}
-use Rattle.epochs.proofs.Standing.{all-yielded}
+use Rattle.units.proofs.Standing.{all-yielded}
 use Rattle.epochs.proofs.merging.all_there.Goals as goal
 
 pub returns-clause-ok : goal.returns-clause-ok

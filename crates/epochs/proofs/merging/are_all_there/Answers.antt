@@ -1,7 +1,7 @@
 use Rattle.std.proofs.Common.{Some, ap, sym, ◌∙◌, arith}
-use Rattle.epochs.specs.Units.{unit_at}
-use Rattle.epochs.specs.Views.{PhaseView}
-use Rattle.epochs.specs.declared.machine.Machine.{Machine}
+use Rattle.units.specs.Units.{unit_at}
+use Rattle.epochs.specs.Jobs.{PhaseView}
+use Rattle.units.specs.declared.machine.Machine.{Machine}
 use Rattle.sim_base.specs.declared.fault.MergeFault.TheVariants.{Missing}
 use Rattle.epochs.proofs.Sorting.{missing-at, missing-none}
 use Rattle.epochs.proofs.merging.are_all_there.Goals as goal

@@ -3,9 +3,9 @@ use Rattle.std.specs.Arc.{arc_value}
 use Rattle.std.specs.Prelude.{flat_map, fold}
 use Rattle.sim_base.specs.History.{below, insert_by_age}
 use Rattle.links.specs.InFlight.{InFlight}
-use Rattle.epochs.specs.Units.{unit_count}
-use Rattle.epochs.specs.Flight.{fresh}
-use Rattle.epochs.proofs.Joining.{join-flight}
+use Rattle.units.specs.Units.{unit_count}
+use Rattle.units.specs.Flight.{fresh}
+use Rattle.units.proofs.Joining.{join-flight}
 use Rattle.epochs.proofs.merging.joined.Goals as goal
 
 pub invariant_of-result : goal.invariant_of-result

@@ -1,11 +1,11 @@
 use Rattle.std.proofs.Common.{◌≡◌, [], ◌∷◌, ◌++◌, ◌+◌, map, ap, ap₂, sym, ◌∙◌, add-one, arith}
 use Rattle.sim_base.specs.History.{below}
-use Rattle.epochs.specs.Units.{unit_count}
-use Rattle.epochs.specs.Views.{PhaseView}
-use Rattle.epochs.specs.declared.machine.Machine.{Machine}
+use Rattle.units.specs.Units.{unit_count}
+use Rattle.epochs.specs.Jobs.{PhaseView}
+use Rattle.units.specs.declared.machine.Machine.{Machine}
 use Rattle.epochs.specs.ByUnit.{result_at}
 use Rattle.epochs.proofs.Sorting.{by_unit-none}
-use Rattle.epochs.proofs.Standing.{places-more}
+use Rattle.units.proofs.Standing.{places-more}
 use Rattle.epochs.proofs.merging.no_results.Goals as goal
 
 pub loop-preserved : goal.loop-preserved

@@ -5,12 +5,12 @@ use Rattle.std.specs.Vec.Iter.{into_iter_items}
 use Rattle.sim_base.specs.History.{below, insert_by_age}
 use Rattle.statistics.proofs.Lists.{length-push_suc}
 use Rattle.links.specs.InFlight.{InFlight}
-use Rattle.epochs.specs.Units.{unit_count, unit_at}
-use Rattle.epochs.specs.Views.{PhaseView, JobView, job_at}
-use Rattle.epochs.specs.Parts.{IsPart, StandAt, HasRun}
-use Rattle.epochs.specs.Flight.{fresh}
-use Rattle.epochs.proofs.Joining.{fresh-more}
-use Rattle.epochs.proofs.Standing.{stand-push, length-places, seam-is, all-yielded}
+use Rattle.units.specs.Units.{unit_count, unit_at}
+use Rattle.epochs.specs.Jobs.{PhaseView, JobView, job_at}
+use Rattle.units.specs.Parts.{IsPart, StandAt, HasRun}
+use Rattle.units.specs.Flight.{fresh}
+use Rattle.units.proofs.Joining.{fresh-more}
+use Rattle.units.proofs.Standing.{stand-push, length-places, seam-is, all-yielded}
 use Rattle.epochs.proofs.merging.parts_of.Goals as goal
 
 pub loop-done-preserved : goal.loop-done-preserved

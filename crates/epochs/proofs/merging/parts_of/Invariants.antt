@@ -4,8 +4,8 @@ use Rattle.std.specs.Arc.{arc_value}
 use Rattle.std.specs.Prelude.{flat_map, fold}
 use Rattle.std.specs.Vec.Iter.{into_iter_items, into_iter_len}
 use Rattle.sim_base.specs.History.{below, insert_by_age}
-use Rattle.epochs.specs.Flight.{fresh}
-use Rattle.epochs.specs.Parts.{StandAt}
+use Rattle.units.specs.Flight.{fresh}
+use Rattle.units.specs.Parts.{StandAt}
 use Rattle.epochs.proofs.merging.parts_of.Given as goal
 
 abbrev pub invariant-loop-done : goal.invariant-loop-done

@@ -1,7 +1,7 @@
 use Rattle.std.proofs.Common.{ap, sym, subst, ◌∙◌}
-use Rattle.epochs.specs.Units.{Exists}
-use Rattle.epochs.specs.Views.{PhaseView}
-use Rattle.epochs.specs.declared.machine.Machine.{Machine}
+use Rattle.units.specs.Units.{Exists}
+use Rattle.epochs.specs.Jobs.{PhaseView}
+use Rattle.units.specs.declared.machine.Machine.{Machine}
 use Rattle.epochs.proofs.Sorting.{not_unit, not_phase, none-weaker}
 use Rattle.epochs.proofs.merging.place_of_job.Goals as goal
 

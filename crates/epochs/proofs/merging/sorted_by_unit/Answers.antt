@@ -4,9 +4,9 @@ use Rattle.std.proofs.lemmas.List.{map-append, length-map, length_push}
 use Rattle.std.proofs.lemmas.Result.{err_from_is_err_and}
 use Rattle.epochs.specs.Merging.{first_fault}
 use Rattle.epochs.specs.ByUnit.{results_by_unit}
-use Rattle.epochs.specs.Views.{JobView}
+use Rattle.epochs.specs.Jobs.{JobView}
 use Rattle.epochs.proofs.Sorting.{length-by_unit, first-none_yet, first-found, first-end}
-use Rattle.epochs.proofs.Standing.{all-yielded, nothing_left}
+use Rattle.units.proofs.Standing.{all-yielded, nothing_left}
 use Rattle.epochs.proofs.merging.sorted_by_unit.Goals as goal
 
 pub loop-done-init : goal.loop-done-init

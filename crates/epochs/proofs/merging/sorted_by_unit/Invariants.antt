@@ -3,7 +3,7 @@ use Rattle.std.proofs.Common.{◌≡◌, ◌++◌, [], length, map}
 use Rattle.std.specs.Vec.Iter.{into_iter_items, into_iter_len}
 use Rattle.epochs.specs.Merging.{first_fault}
 use Rattle.epochs.specs.ByUnit.{results_by_unit}
-use Rattle.epochs.specs.Units.{unit_count}
+use Rattle.units.specs.Units.{unit_count}
 use Rattle.epochs.proofs.merging.sorted_by_unit.Given as goal
 
 abbrev pub invariant-loop-done : goal.invariant-loop-done

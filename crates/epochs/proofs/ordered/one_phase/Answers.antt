@@ -1,6 +1,6 @@
 use Rattle.std.proofs.Common.{subst, ◌∙◌}
 use Rattle.epochs.specs.Planning.{IsPlanned}
-use Rattle.epochs.specs.Views.{jobs_of}
+use Rattle.epochs.specs.Jobs.{jobs_of}
 use Rattle.epochs.proofs.Arranged.{of_run}
 use Rattle.epochs.proofs.Stopped.{next-on_the_way, stops}
 use Rattle.epochs.proofs.ordered.one_phase.Goals as goal

@@ -1,6 +1,6 @@
 -- The run is the same, no earlier than where it began, and not past the limit, and did not end on the way; in each round it comes nearer to the limit.
 use Rattle.std.proofs.Common.{◌≡◌, ◌≤◌, ◌-◌}
-use Rattle.epochs.specs.Drained.{NotEnded}
+use Rattle.units.specs.Drained.{NotEnded}
 use Rattle.epochs.proofs.ordered.run_in_order.Given as goal
 
 abbrev pub invariant-loop-stop : goal.invariant-loop-stop

@@ -9,12 +9,12 @@ use Rattle.statistics.proofs.Lists.{length-push_suc}
 use Rattle.sim_base.specs.declared.message.Unit.{Unit as MachineUnit}
 use Rattle.links.specs.InFlight.{InFlight, is_due}
 use Rattle.span_laws.specs.Mail.{mail_in}
-use Rattle.epochs.specs.Units.{unit_count, unit_at, Exists}
-use Rattle.epochs.specs.Views.{PhaseView, job_at, job_of}
-use Rattle.epochs.specs.Parts.{IsPart}
-use Rattle.epochs.specs.Flight.{left}
-use Rattle.epochs.proofs.Due.{due-mail, left-due, left-all, left-none, left-more, exists-at}
-use Rattle.epochs.proofs.Standing.{seam-within, stand-seam, length-places, places-more, all-yielded}
+use Rattle.units.specs.Units.{unit_count, unit_at, Exists}
+use Rattle.epochs.specs.Jobs.{PhaseView, job_at, job_of}
+use Rattle.units.specs.Parts.{IsPart}
+use Rattle.units.specs.Flight.{left}
+use Rattle.units.proofs.Due.{due-mail, left-due, left-all, left-none, left-more, exists-at}
+use Rattle.units.proofs.Standing.{seam-within, stand-seam, length-places, places-more, all-yielded}
 use Rattle.epochs.proofs.planning.jobs.Goals as goal
 
 pub loop-part-init : goal.loop-part-init

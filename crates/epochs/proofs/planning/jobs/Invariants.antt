@@ -5,8 +5,8 @@ use Rattle.std.specs.Vec.Iter.{into_iter_items, into_iter_len}
 use Rattle.sim_base.specs.Counts.{in_flight}
 use Rattle.sim_base.specs.History.{below}
 use Rattle.sim_base.specs.Machine.{run}
-use Rattle.epochs.specs.Flight.{left}
-use Rattle.epochs.specs.Views.{job_at}
+use Rattle.units.specs.Flight.{left}
+use Rattle.epochs.specs.Jobs.{job_at}
 use Rattle.epochs.proofs.planning.jobs.Given as goal
 
 abbrev pub invariant-loop-part : goal.invariant-loop-part

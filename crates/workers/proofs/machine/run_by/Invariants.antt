@@ -1,6 +1,6 @@
 -- The run is the same, not past the limit, and did not end; in each round it comes nearer to the limit.
 use Rattle.std.proofs.Common.{◌≡◌, ◌≤◌, ◌-◌}
-use Rattle.epochs.specs.Drained.{NotEnded}
+use Rattle.units.specs.Drained.{NotEnded}
 use Rattle.workers.proofs.machine.run_by.Given as goal
 
 abbrev pub invariant-loop-stop : goal.invariant-loop-stop

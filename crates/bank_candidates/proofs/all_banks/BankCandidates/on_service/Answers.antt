@@ -1,12 +1,12 @@
 -- All candidates move past the request's place, and those of its bank are searched for again where more is new of them.
 use Rattle.std.proofs.Common.{◌≡◌, ℕ, ◌-◌, ◌<◌, eqb, arith, Bool, true, false, not, cond, ◌&&◌, None, length, get_or, set, refl, sym, ap, subst, ◌∙◌}
-use Rattle.std.proofs.lemmas.Bool.{eq-eqb, eqb-true, true≢false, false≢true}
+use Rattle.std.proofs.lemmas.Bool.{eqb-true, true≢false, false≢true}
 use Rattle.std.proofs.lemmas.List.{get_or_default, length-set, get_or-set_same}
 use Rattle.std.specs.List.{remove}
 use Rattle.sim_base.specs.Rules.{is_row}
 use Rattle.queue_columns.specs.Columns.{bank_number}
 use Rattle.bank_candidates.specs.Candidates.{asks, hits, AreFirst, NoneBlocked, access_number, access_of, access_count}
-use Rattle.bank_candidates.specs.Moves.{access_past, OnlyMoves}
+use Rattle.bank_candidates.specs.Moves.{access_past}
 use Rattle.bank_candidates.specs.Places.{access_in}
 use Rattle.bank_candidates.proofs.Blocked.{access_bank, access_write}
 use Rattle.bank_candidates.proofs.Counted.{AreCounted, counted_removed, access_below}

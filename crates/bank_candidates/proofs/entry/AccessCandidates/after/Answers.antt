@@ -1,7 +1,6 @@
 -- Each candidate is the first again.
-use Rattle.std.proofs.Common.{◌≡◌, Some, None, sym, ap, subst, ◌∙◌}
+use Rattle.std.proofs.Common.{◌≡◌, None, sym, ap, subst, ◌∙◌}
 use Rattle.bank_candidates.specs.Candidates.{asks, hits, wants, first_place}
-use Rattle.bank_candidates.specs.Places.{IsShort}
 use Rattle.bank_candidates.proofs.Searches.{none_narrower_all, none_at_start, none_everywhere}
 use Rattle.bank_candidates.proofs.OneBank.{never_hits, hits_narrower}
 use Rattle.bank_candidates.proofs.entry.AccessCandidates.after.Goals as goal

@@ -1,5 +1,5 @@
 -- The words of ACTs of the groups of the rank are raised, and those of the own bank.
-use Rattle.std.proofs.Common.{◌*◌, ◌/◌, ◌∙◌, eqb, max, Some, cond, get_or, length, refl, ap, arith, ◌+◌}
+use Rattle.std.proofs.Common.{◌*◌, ◌/◌, ◌∙◌, eqb, max, cond, get_or, length, refl, ap, arith, ◌+◌}
 use Rattle.sim_base.specs.declared.command.Command.TheVariants.{Act}
 use Rattle.sim_base.specs.declared.command.Kind.TheVariants as kind
 use Rattle.sim_base.specs.declared.command.Relation.{Relation}

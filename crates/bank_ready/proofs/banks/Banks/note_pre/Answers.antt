@@ -1,5 +1,5 @@
 -- An ACT of the own bank waits, and the words of the rank.
-use Rattle.std.proofs.Common.{◌*◌, None, length, refl, ap, arith}
+use Rattle.std.proofs.Common.{◌*◌, length, refl, ap, arith}
 use Rattle.sim_base.specs.declared.command.Command.TheVariants.{Pre}
 use Rattle.sim_base.specs.declared.command.Kind.TheVariants as kind
 use Rattle.bank_ready.specs.Words.{relation_from, rd_word, wr_word, pre_word}

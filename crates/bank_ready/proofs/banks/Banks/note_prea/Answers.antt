@@ -1,5 +1,5 @@
 -- The ACTs of the groups of the rank wait, and the words of the rank are raised.
-use Rattle.std.proofs.Common.{◌*◌, ◌/◌, length, eqb, ℕ, Option, None, cond, refl, arith}
+use Rattle.std.proofs.Common.{◌*◌, ◌/◌, length, eqb, ℕ, cond, refl, arith}
 use Rattle.sim_base.specs.declared.command.Command.TheVariants.{Prea}
 use Rattle.sim_base.specs.declared.command.Kind.TheVariants as kind
 use Rattle.sim_base.specs.declared.command.Relation.{Relation}
@@ -7,7 +7,7 @@ use Rattle.sim_base.specs.declared.command.Relation.TheVariants.{SameBank, Other
 use Rattle.bank_ready.specs.Ready.{held_until}
 use Rattle.bank_ready.specs.Words.{rd_word, wr_word, pre_word}
 use Rattle.bank_ready.proofs.Bounds.{prea_rank, prea_nothing}
-use Rattle.bank_ready.proofs.Noting.{at_distances, lifted, group-rank-word, joint-groups, left, put, put-rank}
+use Rattle.bank_ready.proofs.Noting.{at_distances, lifted, group-rank-word, joint-groups, left, put-rank}
 use Rattle.bank_ready.proofs.banks.Banks.note_prea.Goals as goal
 
 pub returns : goal.returns

@@ -1,4 +1,4 @@
-use Rattle.std.proofs.Common.{◌≡◌, ◌<◌, length, subst}
+use Rattle.std.proofs.Common.{◌≡◌, ◌<◌, [], ◌∷◌, ◌++◌, length, ap, ◌∙◌, subst}
 use Rattle.std.specs.Prelude.{flat_map}
 use Rattle.command_table.specs.Tables.{rows_up_to, rows_after}
 use Rattle.command_table.proofs.Pieces.{fewer-left, piece-more}
@@ -17,7 +17,7 @@ loop-cycle-preserved c =
     let lists = c.loop-cycle.lefts.items in
     let parts = c.in_ok-before.field-0 in
     record {
-      table = piece-more cycle c.args.self.now c.loop-cycle.pieces.items c.push.new.self.items lists parts.before.items parts.behind.items c.in_ok-push.ensures.items
+      table = piece-more cycle c.args.self.now c.loop-cycle.pieces.items c.push.new.self.items lists parts.before.items parts.behind.items (c.in_ok-push.ensures.items ∙ ap (λ piece. c.loop-cycle.pieces.items ++ piece ∷ []) c.of.ensures)
           (subst (λ lists. flat_map (λ rows. rows) parts.before.items ≡ rows_up_to cycle (flat_map (λ rows. rows) lists)) c.deref-in-Some.ensures.value c.in_ok-before.ensures.before)
           (subst (λ lists. flat_map (λ rows. rows) parts.behind.items ≡ rows_after cycle (flat_map (λ rows. rows) lists)) c.deref-in-Some.ensures.value c.in_ok-before.ensures.behind)
           c.loop-cycle.invariant.table;

@@ -1,6 +1,6 @@
 use Rattle.std.proofs.Common.{subst}
-use Rattle.epochs.specs.Views.{JobView}
-use Rattle.epochs.specs.Parts.{HasRun}
+use Rattle.epochs.specs.Jobs.{JobView}
+use Rattle.units.specs.Parts.{HasRun}
 use Rattle.epochs.proofs.job.Done.into_sent.Goals as goal
 
 pub returns : goal.returns

@@ -1,6 +1,7 @@
 use Rattle.std.proofs.Common.{◌++◌, ◌∙◌, ap, sym, subst}
 use Rattle.std.specs.Arc.{arc_value}
-use Rattle.epochs.specs.Parts.{IsJob, HasRun}
+use Rattle.epochs.specs.Jobs.{IsJob}
+use Rattle.units.specs.Parts.{HasRun}
 use Rattle.epochs.proofs.job.Job.run.Goals as goal
 
 pub run-requires : goal.run-requires

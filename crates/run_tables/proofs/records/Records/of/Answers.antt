@@ -1,8 +1,7 @@
 -- A table has few records.
-use Rattle.std.proofs.Common.{◌≡◌, ◌<◌, ◌^◌, length, ap, arith}
+use Rattle.std.proofs.Common.{◌<◌, ◌^◌, length, ap, arith}
 use Rattle.csv.specs.Records.{fields_of}
 use Rattle.rule_check.specs.Left.{left_of}
-use Rattle.rule_check.specs.Verdict.{records_of}
 use Rattle.rule_check.proofs.Left.{few_records}
 use Rattle.run_tables.proofs.Standing.{stands_at_start}
 use Rattle.run_tables.proofs.records.Records.of.Goals as goal

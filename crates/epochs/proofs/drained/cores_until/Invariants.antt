@@ -1,7 +1,0 @@
--- The run goes on up to the greatest cycle so far.
-use Rattle.epochs.specs.Parts.{StandAt}
-use Rattle.epochs.specs.Drained.{GoesOn}
-use Rattle.epochs.proofs.drained.cores_until.Given as goal
-
-abbrev pub invariant-loop-place : goal.invariant-loop-place
-invariant-loop-place l = StandAt l.machine.config l.machine.traces.items l.now l.parts → GoesOn l.machine.config l.machine.traces.items l.now l.until

@@ -1,7 +1,0 @@
--- The cores that are made stand for their parts.
-use Rattle.std.proofs.Common.{◌≡◌, length}
-use Rattle.epochs.specs.Parts.{StandAt}
-use Rattle.epochs.proofs.sim.first_cores.Given as goal
-
-abbrev pub invariant-loop-core : goal.invariant-loop-core
-invariant-loop-core l = (length l.parts.items ≡ l.core) × StandAt l.config l.traces 0 l.parts.items

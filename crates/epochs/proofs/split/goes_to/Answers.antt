@@ -1,5 +1,0 @@
-use Rattle.epochs.proofs.Splitting.{goes-none}
-use Rattle.epochs.proofs.split.goes_to.Goals as goal
-
-pub returns-in-None : goal.returns-in-None
-returns-in-None c = goes-none c.args.config.now c.args.first c.args.past c.args.message.now c.requires c.in-None.ensures.none

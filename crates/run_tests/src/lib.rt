@@ -1,0 +1,23 @@
+//! Tests of runs: of a machine from its bytes, of its workers and of their phases.
+#![tactic(auto)]
+
+#[cfg(test)]
+mod expect;
+#[cfg(test)]
+mod first_faults;
+#[cfg(test)]
+mod gates;
+#[cfg(test)]
+mod generated;
+#[cfg(test)]
+mod little_memory;
+#[cfg(test)]
+mod outcomes;
+#[cfg(test)]
+mod phases;
+#[cfg(test)]
+mod same;
+#[cfg(test)]
+mod shared_out;
+#[cfg(test)]
+mod watchers;

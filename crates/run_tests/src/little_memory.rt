@@ -1,0 +1,65 @@
+//! A small run that is refused memory: it gives fault 10, or 11 where a worker did not start, or its usual result. To be run
+//! with each allocation failing in turn; what these tests take of memory themselves counts too.
+
+use crate::expect::expect;
+use crate::outcomes::Watching;
+use fixtures::one_read::{CHANNELS, CORES};
+use fixtures::small::SMALL;
+use sim_base::command::Kind;
+use sim_base::fault::Fault;
+use simulation::runs::simulate;
+use statistics::outcome::Outcome;
+use std::alloc::Global;
+use std::sync::Wait;
+use std::thread::Threads;
+use workers::watch::Unwatched;
+
+/// Whether these are the commands of one core that reads one line: an ACT in cycle 2 and an RD in cycle 5. Where the list of them is
+/// refused memory, that is not known.
+fn has_commands(alloc: Global, outcome: &Outcome) -> bool {
+    let Ok(rows) = outcome.commands.to_vec(alloc) else {
+        return true;
+    };
+    match rows.as_slice() {
+        [act, read] => {
+            act.cycle == 2
+                && act.command.kind() == Kind::Act
+                && read.cycle == 5
+                && read.command.kind() == Kind::Rd
+        }
+        _ => false,
+    }
+}
+
+/// Whether these are its statistics over 16 cycles.
+fn has_stats(outcome: &Outcome) -> bool {
+    outcome.stats.cycles == 16
+        && outcome.stats.cores.as_slice() == CORES.as_slice()
+        && outcome.stats.channels.as_slice() == CHANNELS.as_slice()
+}
+
+/// Whether this is the outcome of that run.
+fn is_right(alloc: Global, outcome: &Outcome) -> bool {
+    has_commands(alloc, outcome) && has_stats(outcome) && outcome.last.in_flight.is_empty()
+}
+
+/// Whether a run by this number of workers gives what it should, or is refused memory, or a worker.
+fn is_right_or_refused<R: Threads + Wait + Sync>(rt: &R, alloc: Global, workers: u64) -> bool {
+    let texts: [&[u8]; 1] = [b"0 0\n"];
+    let watch = &mut Unwatched;
+    let config = SMALL.as_bytes();
+    match simulate(rt, alloc, &Watching, watch, config, &texts, 16, workers) {
+        Ok(outcome) => is_right(alloc, &outcome),
+        Err(fault) => fault == Fault::Memory || workers > 1 && fault == Fault::WorkerStart,
+    }
+}
+
+#[test]
+fn one_worker_with_little_memory(rt: HostRuntime) {
+    expect(&rt, &is_right_or_refused(&rt, rt.alloc(), 1), &true);
+}
+
+#[test]
+fn two_workers_with_little_memory(rt: HostRuntime) {
+    expect(&rt, &is_right_or_refused(&rt, rt.alloc(), 2), &true);
+}

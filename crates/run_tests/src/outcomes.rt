@@ -1,0 +1,171 @@
+//! Outcomes of runs, compared by the tables that are written of them.
+
+use crate::expect::expect_at;
+use fixtures::small::small_text;
+use fixtures::texts::texts_of;
+use reports::{write_commands, write_final, write_stats};
+use shards::task::TaskName;
+use sim_base::fault::Fault;
+use sim_base::message::Cycle;
+use simulation::runs::{simulate, simulate_plain};
+use statistics::outcome::Outcome;
+use std::alloc::{AllocError, Global};
+use std::process::Abort;
+use std::sync::Wait;
+use std::thread::Threads;
+use workers::gate::{Gate, Open};
+use workers::watch::{Unwatched, Watch};
+
+/// A gate that watches and does nothing: the units are shared out in shards, even where that is not worth it.
+pub(crate) struct Watching;
+
+impl Gate for Watching {
+    fn watches(&self) -> bool {
+        true
+    }
+
+    fn enter(&self, _worker: usize, _part: TaskName) {}
+
+    fn leave(&self, _worker: usize, _part: TaskName) {}
+}
+
+/// The bytes of an outcome's tables, one behind the other.
+pub(crate) fn tables_of(alloc: Global, outcome: &Outcome) -> Result<Vec<u8>, Fault> {
+    let mut tables = Vec::new(alloc);
+    write_commands(alloc, outcome.ranks, &outcome.commands, &mut tables)?;
+    write_stats(alloc, &outcome.stats, &mut tables)?;
+    write_final(alloc, &outcome.last, outcome.ranks, &mut tables)?;
+    Ok(tables)
+}
+
+/// What is run.
+#[derive(Clone, Copy)]
+pub(crate) struct Run<'a> {
+    pub(crate) config: &'a str,
+    pub(crate) texts: &'a [Vec<u8>],
+    pub(crate) cycles: Cycle,
+}
+
+/// The texts of a run.
+#[derive(Drop)]
+pub(crate) struct Texts {
+    pub(crate) config: String,
+    pub(crate) traces: Vec<Vec<u8>>,
+}
+
+impl Texts {
+    /// Those of the small machine with other lines for some keys and more lines at its end, and of these traces.
+    pub(crate) fn of(
+        alloc: Global,
+        changes: &[&str],
+        more: &str,
+        traces: &[&str],
+    ) -> Result<Self, AllocError> {
+        let config = small_text(alloc, changes, more)?;
+        Ok(Texts {
+            config,
+            traces: texts_of(alloc, traces)?,
+        })
+    }
+
+    /// The run up to a limit.
+    pub(crate) fn run(&self, cycles: Cycle) -> Run<'_> {
+        Run {
+            config: self.config.as_str(),
+            texts: &self.traces,
+            cycles,
+        }
+    }
+}
+
+/// The texts as slices of bytes.
+pub(crate) fn slices_of<'a>(
+    alloc: Global,
+    texts: &'a [Vec<u8>],
+) -> Result<Vec<&'a [u8]>, AllocError> {
+    texts.iter().map(|text| text.as_slice()).collect(alloc)
+}
+
+/// The tables of a run by the plain machine.
+pub(crate) fn plain_tables<R: Threads + Sync>(
+    rt: &R,
+    alloc: Global,
+    run: &Run<'_>,
+) -> Result<Vec<u8>, Fault> {
+    let bytes = run.config.as_bytes();
+    let texts = slices_of(alloc, run.texts)?;
+    let outcome = simulate_plain(rt, alloc, bytes, &texts, run.cycles, 1)?;
+    tables_of(alloc, &outcome)
+}
+
+/// The tables of a watched run by this number of workers.
+pub(crate) fn tables_watched<R: Threads + Wait + Sync, G: Gate + Sync, W: Watch>(
+    rt: &R,
+    alloc: Global,
+    gate: &G,
+    watch: &mut W,
+    run: &Run<'_>,
+    workers: u64,
+) -> Result<Vec<u8>, Fault> {
+    let bytes = run.config.as_bytes();
+    let texts = slices_of(alloc, run.texts)?;
+    let outcome = simulate(rt, alloc, gate, watch, bytes, &texts, run.cycles, workers)?;
+    tables_of(alloc, &outcome)
+}
+
+/// The tables of a run by this number of workers.
+pub(crate) fn tables_by<R: Threads + Wait + Sync, G: Gate + Sync>(
+    rt: &R,
+    alloc: Global,
+    gate: &G,
+    run: &Run<'_>,
+    workers: u64,
+) -> Result<Vec<u8>, Fault> {
+    tables_watched(rt, alloc, gate, &mut Unwatched, run, workers)
+}
+
+/// Whether a run by this number of workers has the tables of the plain machine.
+pub(crate) fn is_plain<R: Threads + Wait + Sync, G: Gate + Sync>(
+    rt: &R,
+    alloc: Global,
+    gate: &G,
+    run: &Run<'_>,
+    workers: u64,
+    plain: &[u8],
+) -> Result<bool, Fault> {
+    let tables = tables_by(rt, alloc, gate, run, workers)?;
+    Ok(tables.as_slice() == plain)
+}
+
+/// The same by each of these numbers of workers, in shards and as it is run where nothing watches.
+fn assert_plain<R: Abort + Threads + Wait + Sync>(
+    rt: &R,
+    alloc: Global,
+    run: &Run<'_>,
+    workers: &[u64],
+    plain: &[u8],
+) -> Result<(), Fault> {
+    for count in workers {
+        let in_shards = is_plain(rt, alloc, &Watching, run, *count, plain)?;
+        let unwatched = is_plain(rt, alloc, &Open, run, *count, plain)?;
+        expect_at(
+            rt,
+            &(count, run.cycles, run.config),
+            &[in_shards, unwatched],
+            &[true, true],
+        );
+    }
+    Ok(())
+}
+
+/// A run has the same tables by each of these numbers of workers as by the plain machine, in shards and as it is run where nothing
+/// watches.
+pub(crate) fn assert_same<R: Abort + Threads + Wait + Sync>(
+    rt: &R,
+    alloc: Global,
+    run: &Run<'_>,
+    workers: &[u64],
+) -> Result<(), Fault> {
+    let plain = plain_tables(rt, alloc, run)?;
+    assert_plain(rt, alloc, run, workers, &plain)
+}

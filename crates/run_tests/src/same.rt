@@ -1,0 +1,99 @@
+//! Worked rows: any number of workers gives what the plain machine gives, up to several limits, and with a link that is
+//! faster than the others, so that phases are one cycle long.
+
+use crate::outcomes::{Texts, assert_same};
+use fixtures::worked_runs::{
+    CONFLICT, DRAIN_AT_FOUR, DRAIN_AT_ONE, DRAIN_AT_TWO, DRAINED_LATE, DRAINED_LINE, DRAINED_READ,
+    DRAINED_REFRESHES, DRAINED_SLOW_CREDIT, EIGHT_CREDITS, FAST_LINK, GROUPS, HIGH, HITS,
+    NARROW_WINDOW, NOTHING, ONE_CREDIT, PLAIN, RANK_READS, RANK_REFRESHES, RANK_WRITE,
+    READ_IN_FLIGHT, REFRESH_LATE, REFRESH_OPEN, REFRESHES, Run as Row, SAME_LINE, SLOW_REQUESTS,
+    TWO_CHANNELS, TWO_CORES, WRITE,
+};
+use sim_base::fault::Fault;
+use sim_base::message::Cycle;
+use std::alloc::{AllocError, Global};
+use std::process::Abort;
+use std::sync::Wait;
+use std::test::Fail;
+use std::thread::Threads;
+
+/// The texts of a run, with one more link.
+fn texts_with(alloc: Global, row: &Row, link: &str) -> Result<Texts, AllocError> {
+    let mut more = String::from_str(alloc, row.more)?;
+    more.push_str(link)?;
+    Texts::of(alloc, row.changes, more.as_str(), row.traces)
+}
+
+/// A run up to its own limit and to two others.
+fn assert_limits<R: Abort + Threads + Wait + Sync>(
+    rt: &R,
+    alloc: Global,
+    texts: &Texts,
+    limit: Cycle,
+) -> Result<(), Fault> {
+    for cycles in [limit, 3, 16] {
+        assert_same(rt, alloc, &texts.run(cycles), &[1, 2, 7, 64])?;
+    }
+    Ok(())
+}
+
+fn assert_run<R: Abort + Threads + Wait + Sync>(
+    rt: &R,
+    alloc: Global,
+    row: &Row,
+    link: &str,
+) -> Result<(), Fault> {
+    let texts = texts_with(alloc, row, link)?;
+    assert_limits(rt, alloc, &texts, row.cycles)
+}
+
+static ROWS: [Row; 28] = [
+    READ_IN_FLIGHT,
+    HITS,
+    GROUPS,
+    HIGH,
+    CONFLICT,
+    WRITE,
+    SAME_LINE,
+    NOTHING,
+    PLAIN,
+    EIGHT_CREDITS,
+    ONE_CREDIT,
+    NARROW_WINDOW,
+    REFRESHES,
+    REFRESH_OPEN,
+    REFRESH_LATE,
+    TWO_CORES,
+    SLOW_REQUESTS,
+    TWO_CHANNELS,
+    RANK_READS,
+    RANK_WRITE,
+    RANK_REFRESHES,
+    DRAIN_AT_TWO,
+    DRAIN_AT_ONE,
+    DRAIN_AT_FOUR,
+    DRAINED_READ,
+    DRAINED_LINE,
+    DRAINED_REFRESHES,
+    DRAINED_LATE,
+];
+
+/// It has a link of its own.
+static SLOW_CREDIT: Row = DRAINED_SLOW_CREDIT;
+
+#[test]
+fn rows_as_they_are(rt: HostRuntime) -> Result<(), Fail> {
+    for row in &ROWS {
+        assert_run(&rt, rt.alloc(), row, "")?;
+    }
+    assert_run(&rt, rt.alloc(), &SLOW_CREDIT, "")?;
+    Ok(())
+}
+
+#[test]
+fn rows_with_a_fast_link(rt: HostRuntime) -> Result<(), Fail> {
+    for row in &ROWS {
+        assert_run(&rt, rt.alloc(), row, FAST_LINK)?;
+    }
+    Ok(())
+}

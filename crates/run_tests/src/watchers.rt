@@ -1,0 +1,143 @@
+//! Runs that are watched: what the watcher is told, and that its answers do not affect the outcome.
+
+use crate::expect::{expect, expect_at};
+use crate::outcomes::{Run, Texts, Watching, plain_tables, tables_watched};
+use sim_base::fault::Fault;
+use sim_base::message::Cycle;
+use std::alloc::Global;
+use std::process::Abort;
+use std::sync::Wait;
+use std::test::Fail;
+use std::thread::Threads;
+use workers::gate::{Gate, Open};
+use workers::watch::{Stage, Watch};
+
+/// A cycle, and how many entries have retired before it, of how many.
+type Told = (Cycle, Option<u128>, u128);
+
+/// Wants to be asked again after `stretch` cycles, and notes what it is told.
+#[derive(Drop)]
+struct Noting {
+    stretch: Cycle,
+    told: Vec<Told>,
+    ends: u64,
+}
+
+impl Noting {
+    fn new(alloc: Global, stretch: Cycle) -> Noting {
+        Noting {
+            stretch,
+            told: Vec::new(alloc),
+            ends: 0,
+        }
+    }
+}
+
+impl Watch for Noting {
+    fn watches(&self) -> bool {
+        true
+    }
+
+    fn next_stretch(&mut self, stage: &Stage) -> Cycle {
+        let _ = self.told.push((stage.now, stage.retired, stage.entries));
+        self.stretch
+    }
+
+    fn end(&mut self) {
+        self.ends = self.ends.wrapping_add(1);
+    }
+}
+
+/// Whether a watched run by this number of workers has these tables.
+fn is_same<R: Threads + Wait + Sync, G: Gate + Sync>(
+    rt: &R,
+    alloc: Global,
+    gate: &G,
+    run: &Run<'_>,
+    (workers, stretch): (u64, Cycle),
+    plain: &[u8],
+) -> Result<bool, Fault> {
+    let mut watch = Noting::new(alloc, stretch);
+    let tables = tables_watched(rt, alloc, gate, &mut watch, run, workers)?;
+    Ok(tables.as_slice() == plain && watch.ends == 1)
+}
+
+/// By how many workers, and how many cycles the watcher answers.
+static CASES: [(u64, Cycle); 10] = [
+    (1, 0),
+    (1, 1),
+    (1, 2),
+    (1, 7),
+    (1, Cycle::MAX),
+    (3, 0),
+    (3, 1),
+    (3, 2),
+    (3, 7),
+    (3, Cycle::MAX),
+];
+
+/// A run that is watched has the tables of the plain machine, in shards and in place, and its watcher is told once of its end.
+fn assert_same_watched<R: Abort + Threads + Wait + Sync>(
+    rt: &R,
+    alloc: Global,
+    run: &Run<'_>,
+    plain: &[u8],
+) -> Result<(), Fault> {
+    for case in &CASES {
+        let in_shards = is_same(rt, alloc, &Watching, run, *case, plain)?;
+        let in_place = is_same(rt, alloc, &Open, run, *case, plain)?;
+        expect_at(
+            rt,
+            &(case, run.config),
+            &[in_shards, in_place],
+            &[true, true],
+        );
+    }
+    Ok(())
+}
+
+/// The same of two cores and a channel, which end at a limit or drained.
+fn assert_end<R: Abort + Threads + Wait + Sync>(
+    rt: &R,
+    alloc: Global,
+    end: &str,
+) -> Result<(), Fault> {
+    let traces = ["0 0\n7 4096\n3 64 128\n", "5 64\n0 8192 64\n2 0\n"];
+    let texts = Texts::of(alloc, &["cores = 2"], end, &traces)?;
+    let run = texts.run(300);
+    let plain = plain_tables(rt, alloc, &run)?;
+    assert_same_watched(rt, alloc, &run, &plain)
+}
+
+#[test]
+fn answers_do_not_show(rt: HostRuntime) -> Result<(), Fail> {
+    for end in ["", "end = \"drained\"\n"] {
+        assert_end(&rt, rt.alloc(), end)?;
+    }
+    Ok(())
+}
+
+/// What a watcher is told of a core that reads one line, and how often of the end.
+fn told_of<R: Threads + Wait + Sync>(
+    rt: &R,
+    alloc: Global,
+    stretch: Cycle,
+    limit: Cycle,
+) -> Result<(Vec<Told>, u64), Fault> {
+    let texts = Texts::of(alloc, &[], "", &["0 0\n"])?;
+    let mut watch = Noting::new(alloc, stretch);
+    tables_watched(rt, alloc, &Open, &mut watch, &texts.run(limit), 1)?;
+    Ok((watch.told, watch.ends))
+}
+
+/// A core reads one line, whose reply comes in cycle 15, in which the entry retires. A run of 20 cycles is asked about before cycle 0, and
+/// then after 8 cycles each time; a run of no cycles is not.
+#[test]
+fn a_watcher_is_told_what_retired(rt: HostRuntime) -> Result<(), Fail> {
+    let (told, ends) = told_of(&rt, rt.alloc(), 8, 20)?;
+    let want = [(0, Some(0), 1), (8, Some(0), 1), (16, Some(1), 1)];
+    expect(&rt, &told.as_slice(), &want.as_slice());
+    let (none, end) = told_of(&rt, rt.alloc(), 8, 0)?;
+    expect(&rt, &(none.len(), ends, end), &(0, 1, 1));
+    Ok(())
+}

@@ -1,0 +1,12 @@
+pub mod Waiting
+pub mod Lowering
+pub mod Jumping
+pub mod Going
+pub mod Passing
+pub mod Sharing
+pub mod Sharded
+pub mod Posting
+pub mod Splitting
+pub mod Unloading
+pub mod Fleets
+pub mod Setting

@@ -1,0 +1,271 @@
+-- A machine that is split into shards, and joined from them.
+use Rattle.std.proofs.Common.{◌≡◌, ℕ, zero, suc, ◌+◌, ◌-◌, ◌<◌, ◌≤◌, Bool, true, false, cond, eqb, not, ◌&&◌, List, [], ◌∷◌, ◌++◌, length, replicate, take, drop, get_or, ◌^◌, length-take, length-drop, get_or-drop, get_or-take, ◌⊎◌, inl, inr, refl, sym, ap, ap₂, subst, ◌∙◌, arith}
+use Rattle.std.specs.Prelude.{filter, fold}
+use Rattle.std.specs.declared.alloc.Global.{Global}
+use Rattle.std.specs.declared.boxed.Box.{Box}
+use Rattle.std.specs.List.{AllByRecursion as Each}
+use Rattle.std.proofs.lemmas.Bool.{cases_lt, cond-false}
+use Rattle.std.proofs.lemmas.Bool.Decides.{nat_tests}
+use Rattle.std.proofs.lemmas.List.{drop-drop, length-replicate, get_or-replicate, get_or_append_left}
+use Rattle.std.proofs.lemmas.Option.{slice_get-get_or}
+use Rattle.std.proofs.Math.Seq.{get_or-append_seam}
+use Rattle.statistics.proofs.Lists.{length-push_suc}
+use Rattle.sim_base.specs.declared.config.Config.{Config}
+use Rattle.sim_base.specs.Counts.{in_flight}
+use Rattle.sim_base.specs.History.{is_unit, insert_by_age}
+use Rattle.sim_base.specs.Machine.{run}
+use Rattle.sim_base.specs.declared.message.Message.{Message}
+use Rattle.sim_base.specs.declared.message.Unit.{Unit as MachineUnit}
+use Rattle.sim_base.specs.declared.message.Unit.TheVariants.{Core, Channel}
+use Rattle.sim_base.specs.declared.trace.Entry.{Entry}
+use Rattle.sim_base.proofs.Arrived.{puts, put, by_age-puts, fold-puts}
+use Rattle.sim_base.proofs.Each.{Each-all}
+use Rattle.sim_base.proofs.Ordered.{Sorted, Each-weaker, puts-swap}
+use Rattle.span_laws.proofs.Lists.{Sorted-filter}
+use Rattle.links.specs.InFlight.{InFlight, receiver_of}
+use Rattle.links.proofs.Ages.{by_age-same}
+use Rattle.units.specs.Flight.{is_at_places, goes_among, among}
+use Rattle.shards.specs.Shards.{IsSplit, IsShard, AreShards}
+use Rattle.units.specs.Parts.{IsPart, StandAt}
+use Rattle.units.specs.Units.{unit_count, unit_at, Exists}
+use Rattle.shards.specs.Wakes.{AreSlots, IsAsleep, Waits, sleeper}
+use Rattle.units.specs.declared.part.UnitState.{UnitState}
+use Rattle.shards.specs.declared.shard.Shard.{Shard}
+use Rattle.shards.specs.declared.slot.Slot.{Slot}
+use Rattle.units.proofs.Due.{place_of_unit, at-place, place-within, unit_is}
+use Rattle.units.proofs.Filters.{filter-filter, filter-same, Each-taken}
+use Rattle.shards.proofs.Sharing.{flight-sorted}
+use Rattle.units.proofs.Standing.{seam-within}
+use Rattle.shards.proofs.Waiting.{awake-waits}
+
+-- bounds that begin with 0, never fall, and end with a number
+pub record Climbs (xs : List ℕ) (last : ℕ) : Type 0 where
+  pub some : 0 < length xs
+  pub begins : get_or xs 0 0 ≡ 0
+  pub rises : (i : ℕ) → suc i < length xs → get_or xs i 0 ≤ get_or xs (suc i) 0
+  pub ends : (i : ℕ) → suc i ≡ length xs → get_or xs i 0 ≡ last
+
+pub climbs-one : Climbs (0 ∷ []) 0
+climbs-one = record {
+  some = omega arith;
+  begins = refl;
+  rises = λ i l. absurd (omega (arith, l));
+  ends = λ i e. let z : i ≡ 0 = omega (arith, e) in ap (λ n. get_or (0 ∷ []) n 0) z;
+}
+
+pub climbs-push : (xs : List ℕ) (x y : ℕ) → Climbs xs x → x ≤ y → Climbs (xs ++ y ∷ []) y
+climbs-push xs x y h l = record {
+  some = let e = length-push_suc xs y in omega (arith, e);
+  begins = get_or_append_left xs (y ∷ []) 0 0 h.some ∙ h.begins;
+  rises = λ i m. rise i (omega (arith, m, length-push_suc xs y)) (cases_lt (suc i) (length xs));
+  ends = λ i e. let at : i ≡ length xs = omega (arith, e, length-push_suc xs y) in ap (λ n. get_or (xs ++ y ∷ []) n 0) at ∙ get_or-append_seam xs y [] 0;
+}
+  where
+    rise : (i : ℕ) → i < length xs → (suc i < length xs) ⊎ (length xs ≤ suc i) → get_or (xs ++ y ∷ []) i 0 ≤ get_or (xs ++ y ∷ []) (suc i) 0
+    rise i m (inl k) =
+        let a = get_or_append_left xs (y ∷ []) 0 i m in
+        let b = get_or_append_left xs (y ∷ []) 0 (suc i) k in
+        let c = h.rises i k in
+        omega (arith, a, b, c)
+    rise i m (inr k) =
+        let last : suc i ≡ length xs = omega (arith, m, k) in
+        let a = get_or_append_left xs (y ∷ []) 0 i m in
+        let b = h.ends i last in
+        let c = ap (λ n. get_or (xs ++ y ∷ []) n 0) last ∙ get_or-append_seam xs y [] 0 in
+        omega (arith, a, b, c, l)
+
+pub climbs-split : (s : Config) (xs : List ℕ) → Climbs xs (unit_count s) → 1 < length xs → IsSplit s xs
+climbs-split s xs h l = record { some = l; begins = h.begins; rises = h.rises; ends = h.ends }
+
+-- no bound is more than the number of units
+split-within_by : (s : Config) (bounds : List ℕ) → IsSplit s bounds → (n index : ℕ) → index + suc n ≡ length bounds → get_or bounds index 0 ≤ unit_count s
+split-within_by s bounds h zero index e = let f = h.ends index (omega (arith, e)) in omega (arith, f)
+split-within_by s bounds h (suc n) index e =
+    let f = h.rises index (omega (arith, e)) in
+    let g = split-within_by s bounds h n (suc index) (omega (arith, e)) in
+    omega (arith, f, g)
+
+pub split-within : (s : Config) (bounds : List ℕ) → IsSplit s bounds → (index : ℕ) → index < length bounds → get_or bounds index 0 ≤ unit_count s
+split-within s bounds h index l = split-within_by s bounds h (length bounds - suc index) index (omega (arith, l))
+
+stands-exists : (s : Config) (first past : ℕ) (u : MachineUnit) → past ≤ unit_count s → is_at_places s first past u ≡ true → Exists s u
+stands-exists s first past (Core core) l e = grind (arith, nat_tests)
+stands-exists s first past (Channel channel) l e = grind (arith, nat_tests)
+
+-- a message that goes to no unit goes to none at these places
+pub goes-none : (s : Config) (first past : ℕ) (m : Message) → past ≤ unit_count s → ((place : ℕ) → place < unit_count s → is_unit (receiver_of s.channels m.link) (unit_at s place) ≡ false) → false ≡ goes_among s first past m
+goes-none s first past m l h = by (goes_among s first past m) refl
+  where
+    by : (b : Bool) → goes_among s first past m ≡ b → false ≡ goes_among s first past m
+    by false e = sym e
+    by true e =
+        let u = receiver_of s.channels m.link in
+        let exists = stands-exists s first past u l e in
+        let here : is_unit u (unit_at s (place_of_unit s u)) ≡ true = subst (λ v. is_unit u v ≡ true) (sym (at-place s u exists)) (unit_is u) in
+        let bad : false ≡ true = sym (h (place_of_unit s u) (place-within s u exists)) ∙ here in
+        cc
+
+-- messages in order stay as they are when they are put in order
+pub puts-sorted : (ms : List Message) → Sorted ms → puts [] ms ≡ ms
+puts-sorted ms h = sym (by_age-puts ms) ∙ by_age-same ms h
+
+-- messages are of other links than those that do not pass a test, where it passes or fails all of a link
+apart-from : (p : Message → Bool) → ((m n : Message) → p m ≡ true → p n ≡ false → eqb n.link m.link ≡ false) → (n : Message) → p n ≡ false → (ms : List Message)
+    → Each (λ (m : Message). eqb n.link m.link ≡ false) (filter p ms)
+apart-from p h n e ms = Each-weaker (λ (m : Message). p m ≡ true) (λ (m : Message). eqb n.link m.link ≡ false) (λ m f. h m n f e) (filter p ms) (Each-taken p ms)
+
+-- those that pass can be put in first
+puts-parted : (p : Message → Bool) → ((m n : Message) → p m ≡ true → p n ≡ false → eqb n.link m.link ≡ false) → (acc ms : List Message)
+    → puts acc ms ≡ puts (puts acc (filter p ms)) (filter (λ m. not (p m)) ms)
+puts-parted p h acc [] = refl
+puts-parted p h acc (m ∷ ms) = by (p m) refl (puts-parted p h (put m acc) ms)
+  where
+    by : (b : Bool) → p m ≡ b → puts (put m acc) ms ≡ puts (puts (put m acc) (filter p ms)) (filter (λ n. not (p n)) ms)
+        → puts (put m acc) ms ≡ puts (puts acc (cond b (m ∷ filter p ms) (filter p ms))) (cond (not b) (m ∷ filter (λ n. not (p n)) ms) (filter (λ n. not (p n)) ms))
+    by true e k = k
+    by false e k = k ∙ ap (λ z. puts z (filter (λ n. not (p n)) ms)) (puts-swap acc (m ∷ []) (filter p ms) (apart-from p h m e ms, tt))
+
+goes-link : (s : Config) (a : ℕ) (m n : Message) → goes_among s 0 a m ≡ true → goes_among s 0 a n ≡ false → eqb n.link m.link ≡ false
+goes-link s a m n e f = by (eqb n.link m.link) refl
+  where
+    by : (b : Bool) → eqb n.link m.link ≡ b → eqb n.link m.link ≡ false
+    by false g = g
+    by true g =
+        let same : n.link ≡ m.link = grind (arith, nat_tests) in
+        let bad : false ≡ true = sym f ∙ ap (λ l. is_at_places s 0 a (receiver_of s.channels l)) same ∙ e in
+        cc
+
+both-first : (s : Config) (a b : ℕ) → a ≤ b → (u : MachineUnit) → (is_at_places s 0 b u && is_at_places s 0 a u) ≡ is_at_places s 0 a u
+both-first s a b l (Core core) = grind (arith, nat_tests)
+both-first s a b l (Channel channel) = grind (arith, nat_tests)
+
+both-second : (s : Config) (a b : ℕ) → a ≤ b → (u : MachineUnit) → (is_at_places s 0 b u && not (is_at_places s 0 a u)) ≡ is_at_places s a b u
+both-second s a b l (Core core) = grind (arith, nat_tests)
+both-second s a b l (Channel channel) = grind (arith, nat_tests)
+
+pub among-sorted : (s : Config) (first past : ℕ) (ms : List Message) → Sorted ms → fold insert_by_age [] (among s first past ms) ≡ among s first past ms
+among-sorted s first past ms h = fold-puts [] (among s first past ms) ∙ puts-sorted (among s first past ms) (Sorted-filter (goes_among s first past) ms h)
+
+-- what goes to the units of the next places is put to what goes to those before
+among-next : (s : Config) (a b : ℕ) (ms : List Message) → a ≤ b → Sorted ms → fold insert_by_age (among s 0 a ms) (among s a b ms) ≡ among s 0 b ms
+among-next s a b ms l h =
+    let p = goes_among s 0 a in
+    let all = among s 0 b ms in
+    let before : filter p all ≡ among s 0 a ms =
+    filter-filter p (goes_among s 0 b) ms ∙ filter-same _ _ ms (Each-all _ (λ (m : Message). both-first s a b l (receiver_of s.channels m.link)) ms) in
+    let behind : filter (λ m. not (p m)) all ≡ among s a b ms =
+    filter-filter (λ m. not (p m)) (goes_among s 0 b) ms ∙ filter-same _ _ ms (Each-all _ (λ (m : Message). both-second s a b l (receiver_of s.channels m.link)) ms) in
+    fold-puts (among s 0 a ms) (among s a b ms)
+    ∙ ap (λ z. puts z (among s a b ms)) (sym (puts-sorted (among s 0 a ms) (Sorted-filter p ms h)))
+    ∙ ap₂ (λ y z. puts (puts [] y) z) (sym before) (sym behind)
+    ∙ sym (puts-parted p (goes-link s a) [] all)
+    ∙ puts-sorted all (Sorted-filter (goes_among s 0 b) ms h)
+
+pub flight-next : (s : Config) (traces : List (List Entry)) (now a b : ℕ) → a ≤ b
+    → fold insert_by_age (among s 0 a (in_flight s traces (run s traces now))) (among s a b (in_flight s traces (run s traces now))) ≡ among s 0 b (in_flight s traces (run s traces now))
+flight-next s traces now a b l = among-next s a b (in_flight s traces (run s traces now)) l (flight-sorted s traces now)
+
+pub flight-share : (s : Config) (traces : List (List Entry)) (now first past : ℕ)
+    → fold insert_by_age [] (among s first past (in_flight s traces (run s traces now))) ≡ among s first past (in_flight s traces (run s traces now))
+flight-share s traces now first past = among-sorted s first past (in_flight s traces (run s traces now)) (flight-sorted s traces now)
+
+-- nothing goes to no units
+pub among-nothing : (s : Config) (ms : List Message) → among s 0 0 ms ≡ []
+among-nothing s [] = refl
+among-nothing s (m ∷ ms) = cond-false _ _ _ (none (receiver_of s.channels m.link)) ∙ among-nothing s ms
+  where
+    none : (u : MachineUnit) → is_at_places s 0 0 u ≡ false
+    none (Core core) = grind (arith, nat_tests)
+    none (Channel channel) = grind (arith, nat_tests)
+
+-- units that all stand at a cycle sleep, with what goes to them of the messages in flight
+pub shard-asleep : (s : Config) (traces : List (List Entry)) (first past now : ℕ) (slots : List Slot) (words : List ℕ) (links : InFlight) → now ≤ 10 ^ 12 → first + length slots ≡ past → past ≤ unit_count s
+    → ((k : ℕ) (d : Slot) → k < length slots → Waits s traces (unit_at s (first + k)) now (sleeper (get_or slots k d) now)) → words ≡ replicate (length slots) now
+    → links ≡ record { channels = s.channels; messages = fold insert_by_age [] (among s first past (in_flight s traces (run s traces now))) } → IsAsleep s traces first now slots words links
+shard-asleep s traces first past now slots words links early count within wait fill flight = record {
+  early = early;
+  within = omega (arith, count, within);
+  words_count = ap length fill ∙ length-replicate (length slots) now;
+  wait = λ k d l.
+      let word : get_or words k 0 ≡ now = ap (λ z. get_or z k 0) fill ∙ get_or-replicate (length slots) k now 0 l in
+      subst (λ w. Waits s traces (unit_at s (first + k)) now (sleeper (get_or slots k d) w)) (sym word) (wait k d l);
+  flight = flight
+      ∙ ap {B = InFlight} (λ z. record { channels = s.channels; messages = z }) (flight-share s traces now first past)
+      ∙ ap {B = InFlight} (λ n. record { channels = s.channels; messages = among s first n (in_flight s traces (run s traces now)) }) (sym count);
+}
+
+-- so many of the units at places from one on
+pub front-waits : (s : Config) (traces : List (List Entry)) (now first n : ℕ) (slots left own : List Slot) → left ≡ drop first slots → own ≡ take n left → first + n ≤ length slots
+    → ((k : ℕ) (d : Slot) → k < length slots → Waits s traces (unit_at s k) now (sleeper (get_or slots k d) now))
+    → (k : ℕ) (d : Slot) → k < length own → Waits s traces (unit_at s (first + k)) now (sleeper (get_or own k d) now)
+front-waits s traces now first n slots left own e f l h k d m =
+    let size : length own ≤ n = omega (arith, ap length f, length-take n left) in
+    let less : k < n = omega (arith, m, size) in
+    let at : get_or own k d ≡ get_or slots (first + k) d = ap (λ z. get_or z k d) (f ∙ ap (take n) e) ∙ get_or-take n (drop first slots) k d less ∙ get_or-drop first slots k d in
+    subst (λ (x : Slot). Waits s traces (unit_at s (first + k)) now (sleeper x now)) (sym at) (h (first + k) d (omega (arith, less, l)))
+
+-- a shard with its number
+abbrev pub IsMade : Config → List (List Entry) → List ℕ → ℕ → ℕ → Box Shard Global → Type 0
+IsMade s traces bounds now index b = IsShard s traces bounds index b.value × IsAsleep s traces b.value.first now b.value.slots.items b.value.words.items b.value.links
+
+-- the shards of a machine so far
+pub record AreMade (s : Config) (traces : List (List Entry)) (bounds : List ℕ) (now : ℕ) (shards : List (Box Shard Global)) : Type 0 where
+  pub each : (index : ℕ) (d : Box Shard Global) → index < length shards → IsShard s traces bounds index (get_or shards index d).value
+  pub asleep : (index : ℕ) (d : Box Shard Global) → index < length shards
+      → IsAsleep s traces (get_or shards index d).value.first now (get_or shards index d).value.slots.items (get_or shards index d).value.words.items (get_or shards index d).value.links
+
+pub made-none : (s : Config) (traces : List (List Entry)) (bounds : List ℕ) (now : ℕ) (shards : List (Box Shard Global)) → shards ≡ [] → AreMade s traces bounds now shards
+made-none s traces bounds now shards e = let f = ap length e in record { each = λ index d l. absurd (omega (arith, l, f)); asleep = λ index d l. absurd (omega (arith, l, f)) }
+
+pub made-push : (s : Config) (traces : List (List Entry)) (bounds : List ℕ) (now : ℕ) (shards : List (Box Shard Global)) (x : Box Shard Global) → AreMade s traces bounds now shards
+    → IsShard s traces bounds (length shards) x.value → IsAsleep s traces x.value.first now x.value.slots.items x.value.words.items x.value.links → AreMade s traces bounds now (shards ++ x ∷ [])
+made-push s traces bounds now shards x h is asleep = record {
+  each = λ index d l. (both index d (omega (arith, l, length-push_suc shards x)) (cases_lt index (length shards))).0;
+  asleep = λ index d l. (both index d (omega (arith, l, length-push_suc shards x)) (cases_lt index (length shards))).1;
+}
+  where
+    both : (index : ℕ) (d : Box Shard Global) → index < suc (length shards) → (index < length shards) ⊎ (length shards ≤ index) → IsMade s traces bounds now index (get_or (shards ++ x ∷ []) index d)
+    both index d l (inl m) = subst (IsMade s traces bounds now index) (sym (get_or_append_left shards (x ∷ []) d index m)) (h.each index d m, h.asleep index d m)
+    both index d l (inr m) =
+        let last : index ≡ length shards = omega (arith, l, m) in
+        let at : get_or (shards ++ x ∷ []) index d ≡ x = ap (λ n. get_or (shards ++ x ∷ []) n d) last ∙ get_or-append_seam shards x [] d in
+        subst (IsMade s traces bounds now index) (sym at) (subst (λ n. IsMade s traces bounds now n x) (sym last) (is, asleep))
+
+-- the shard after some of a machine's
+pub shard-seam : (s : Config) (traces : List (List Entry)) (bounds : List ℕ) (now : ℕ) (shards ys rest : List (Box Shard Global)) (x : Box Shard Global) → AreShards s traces bounds now shards
+    → ys ++ x ∷ rest ≡ shards → IsMade s traces bounds now (length ys) x
+shard-seam s traces bounds now shards ys rest x h e =
+    let less = seam-within shards ys rest x (length shards) e refl in
+    let at : get_or shards (length ys) x ≡ x = ap (λ z. get_or z (length ys) x) (sym e) ∙ get_or-append_seam ys x rest x in
+    subst (IsMade s traces bounds now (length ys)) at (h.each (length ys) x less, h.asleep (length ys) x less)
+
+-- a machine has a shard
+pub shards-early : (s : Config) (traces : List (List Entry)) (bounds : List ℕ) (now : ℕ) (shards : List (Box Shard Global)) → AreShards s traces bounds now shards → now ≤ 10 ^ 12
+shards-early s traces bounds now [] h = absurd (omega (arith, h.split.some, h.count))
+shards-early s traces bounds now (x ∷ xs) h = (h.asleep 0 x (omega arith)).early
+
+-- units that all stand at a cycle are asked in the next phase
+pub slots-wait : (s : Config) (traces : List (List Entry)) (now : ℕ) (parts : List UnitState) (slots : List Slot) → StandAt s traces now parts → AreSlots now parts slots
+    → (k : ℕ) (d : Slot) → k < length slots → Waits s traces (unit_at s k) now (sleeper (get_or slots k d) now)
+slots-wait s traces now parts slots h e k d l =
+    let less : k < length parts = omega (arith, l, e.count) in
+    let p = some-part parts (omega (arith, less)) in
+    let stands = subst (IsPart s traces (unit_at s k) now) (sym (e.parts_are k d p less)) (h k (get_or parts k p) (slice_get-get_or parts k p less)) in
+    awake-waits s traces (unit_at s k) now (sleeper (get_or slots k d) now) stands (e.stand k d less) refl
+  where
+    some-part : (xs : List UnitState) → 0 < length xs → UnitState
+    some-part [] l = absurd (omega (arith, l))
+    some-part (x ∷ xs) l = x
+
+-- the units of a shard are as many as its bounds say
+pub front-count : (a b : ℕ) (slots left own : List Slot) → left ≡ drop a slots → own ≡ take (b - a) left → a ≤ b → b ≤ length slots → a + length own ≡ b
+front-count a b slots left own e f l m =
+    let size = ap length e ∙ length-drop a slots in
+    let taken = ap length f ∙ length-take (b - a) left in
+    omega (arith, size, taken, l, m)
+
+-- and the others stand behind them
+pub front-rest : (a b : ℕ) (slots left rest : List Slot) → left ≡ drop a slots → rest ≡ drop (b - a) left → a ≤ b → rest ≡ drop b slots
+front-rest a b slots left rest e f l =
+    let sum : a + (b - a) ≡ b = omega (arith, l) in
+    f ∙ ap (drop (b - a)) e ∙ drop-drop (b - a) a slots ∙ ap (λ n. drop n slots) sum

@@ -1,0 +1,4 @@
+pub mod Wakes
+pub mod Rests
+pub mod Shards
+pub mod Legs

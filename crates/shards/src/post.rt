@@ -1,0 +1,122 @@
+//! Messages between shards.
+
+ghost use Rattle.std.specs.Prelude.{◌≡◌, ◌≢◌, ◌<◌, ◌≤◌, ℕ, suc, [], ◌∷◌, ◌++◌, length, slice_index_or, All, OnOk, IfOk};
+ghost use Rattle.std.specs.declared.vec.Vec.{Vec};
+ghost use Rattle.std.specs.declared.alloc.Global.{Global};
+ghost use Rattle.sim_base.specs.declared.message.Message.{Message};
+ghost use Rattle.units.specs.Flight.{among};
+ghost use Rattle.shards.specs.Shards.{IsSplit, bound};
+
+use crate::alone::receiver_place;
+use sim_base::config::Config;
+use sim_base::message::Message;
+use std::alloc::{AllocError, Global};
+use std::mem;
+
+/// The shard that has the unit at a place.
+fn shard_at(bounds: &[usize], place: usize) -> usize
+    requires some { 1 < length bounds.now }
+    requires begins { bound bounds.now 0 ≤ place }
+    requires ends { (index : ℕ) → suc index ≡ length bounds.now → place < bound bounds.now index }
+    ensures exists { suc result < length bounds.now }
+    ensures since { bound bounds.now result ≤ place }
+    ensures before { place < bound bounds.now (suc result) }
+{
+    let mut shard = 0;
+    for next in 1..bounds.len() - 1 {
+        if bounds[next] <= place {
+            shard = next;
+        }
+    }
+    shard
+}
+
+/// Puts a message behind those that go to the same shard. One that goes to no unit is left out.
+fn deal_one(
+    config: &Config,
+    bounds: &[usize],
+    message: &Message,
+    lists: &mut [Vec<Message>],
+) -> Result<(), AllocError>
+    requires split { IsSplit config.now bounds.now }
+    requires count { suc (length lists.old) ≡ length bounds.now }
+    ensures count { length lists.new ≡ length lists.old }
+    ensures each { OnOk result ((index : ℕ) (d : Vec Message Global) → index < length lists.old
+        → (slice_index_or lists.new index d).items ≡ (slice_index_or lists.old index d).items ++ among config.now (bound bounds.now index) (bound bounds.now (suc index)) (message.now ∷ [])) }
+{
+    if let Some(place) = receiver_place(config, message.link) {
+        lists[shard_at(bounds, place)].push(*message)?;
+    }
+    Ok(())
+}
+
+/// Deals messages out to lists, one for each shard, by the unit that each goes to.
+pub(crate) fn deal(
+    config: &Config,
+    bounds: &[usize],
+    sent: &[Message],
+    lists: &mut [Vec<Message>],
+) -> Result<(), AllocError>
+    requires split { IsSplit config.now bounds.now }
+    requires count { suc (length lists.old) ≡ length bounds.now }
+    requires empty { All (λ list. list.items ≡ []) lists.old }
+    ensures count { length lists.new ≡ length lists.old }
+    ensures each { OnOk result ((index : ℕ) (d : Vec Message Global) → index < length lists.new
+        → (slice_index_or lists.new index d).items ≡ among config.now (bound bounds.now index) (bound bounds.now (suc index)) sent.now) }
+{
+    for message in sent {
+        deal_one(config, bounds, message, lists)?;
+    }
+    Ok(())
+}
+
+/// Takes a list out of a row, and leaves an empty one.
+fn taken(alloc: Global, row: &mut [Vec<Message>], index: usize) -> Vec<Message>
+    requires { index < length row.old }
+    ensures count { length row.new ≡ length row.old }
+    ensures others { (k : ℕ) (d : Vec Message Global) → k ≢ index → slice_index_or row.new k d ≡ slice_index_or row.old k d }
+    ensures taken { (d : Vec Message Global) → result ≡ slice_index_or row.old index d }
+{
+    mem::replace(&mut row[index], Vec::new(alloc))
+}
+
+/// Takes the list at an index out of each row.
+fn column(
+    alloc: Global,
+    rows: &mut [Vec<Vec<Message>>],
+    index: usize,
+) -> Result<Vec<Vec<Message>>, AllocError>
+    requires { (i : ℕ) (d : Vec (Vec Message Global) Global) → i < length rows.old → index < length (slice_index_or rows.old i d).items }
+    ensures count { length rows.new ≡ length rows.old }
+    ensures widths { (i : ℕ) (d : Vec (Vec Message Global) Global) → length (slice_index_or rows.new i d).items ≡ length (slice_index_or rows.old i d).items }
+    ensures others { (i j : ℕ) (d : Vec (Vec Message Global) Global) (f : Vec Message Global) → j ≢ index
+        → slice_index_or (slice_index_or rows.new i d).items j f ≡ slice_index_or (slice_index_or rows.old i d).items j f }
+    ensures height { IfOk result (λ column. length column.items ≡ length rows.old) }
+    ensures each { IfOk result (λ column. (i : ℕ) (d : Vec (Vec Message Global) Global) (f g : Vec Message Global) → i < length rows.old
+        → slice_index_or column.items i f ≡ slice_index_or (slice_index_or rows.old i d).items index g) }
+{
+    let mut column = Vec::with_capacity(alloc, rows.len())?;
+    for row in rows.iter_mut() {
+        column.push(taken(alloc, row, index))?;
+    }
+    Ok(column)
+}
+
+/// What was sent, by receiver and then by sender, of what stands by sender and then by receiver.
+pub(crate) fn by_receiver(
+    alloc: Global,
+    rows: Vec<Vec<Vec<Message>>>,
+) -> Result<Vec<Vec<Vec<Message>>>, AllocError>
+    requires square { (i : ℕ) (d : Vec (Vec Message Global) Global) → i < length rows.items → length (slice_index_or rows.items i d).items ≡ length rows.items }
+    ensures count { IfOk result (λ columns. length columns.items ≡ length rows.items) }
+    ensures square { IfOk result (λ columns. (j : ℕ) (d : Vec (Vec Message Global) Global) → j < length rows.items → length (slice_index_or columns.items j d).items ≡ length rows.items) }
+    ensures each { IfOk result (λ columns. (i j : ℕ) (d e : Vec (Vec Message Global) Global) (f g : Vec Message Global) → i < length rows.items → j < length rows.items
+        → (slice_index_or (slice_index_or columns.items j d).items i f).items ≡ (slice_index_or (slice_index_or rows.items i e).items j g).items) }
+{
+    let mut rows = rows;
+    let mut columns = Vec::with_capacity(alloc, rows.len())?;
+    for index in 0..rows.len() {
+        columns.push(column(alloc, &mut rows, index)?)?;
+    }
+    Ok(columns)
+}

@@ -1,0 +1,285 @@
+//! The shards that a machine is split into, and joined from.
+
+ghost use Rattle.std.specs.Prelude.{◌≡◌, ◌<◌, ◌≤◌, ◌^◌, ◌+◌, ℕ, [], suc, length, take, drop, fold, slice_index_or, IfOk, OnOk};
+ghost use Rattle.std.specs.Arc.{arc_value};
+ghost use Rattle.sim_base.specs.Counts.{in_flight};
+ghost use Rattle.sim_base.specs.History.{insert_by_age};
+ghost use Rattle.sim_base.specs.Machine.{run};
+ghost use Rattle.units.specs.Flight.{among, goes_among};
+ghost use Rattle.units.specs.Parts.{StandAt};
+ghost use Rattle.shards.specs.Shards.{AreShards, IsShard, IsSplit, bound};
+ghost use Rattle.units.specs.Units.{unit_at, unit_count};
+ghost use Rattle.shards.specs.Wakes.{IsAsleep, Waits, sleeper};
+ghost use Rattle.shards.specs.declared.slot.Slot.{Slot};
+
+use crate::alone::{bring_up, receiver_place, slots_of};
+use crate::shard::Shard;
+use crate::slot::Slot;
+use links::flight::Links;
+use sim_base::config::Config;
+use sim_base::message::{Cycle, Message};
+use std::alloc::{AllocError, Global};
+use std::mem;
+use std::sync::Arc;
+use units::machine::Machine;
+use units::mail::Mail;
+use units::part::UnitState;
+use units::sim::Sim;
+
+/// How many of the units are in the first `parts` of `count` parts, which are as equal as possible.
+fn share_of(units: usize, parts: usize, count: usize) -> usize
+    ensures { result ≤ units }
+{
+    (units.saturating_mul(parts) / count.max(1)).min(units)
+}
+
+/// The place before which the first `parts` of `count` shards lie: those of cores, and then those of channels. Half of them are of cores, fewer if there
+/// are not that many cores, and more if there are few channels.
+fn place_before(config: &Config, parts: usize, count: usize) -> usize
+    requires { parts ≤ count }
+    ensures { result ≤ unit_count config.now }
+{
+    let cores = usize::from(config.cores);
+    let channels = usize::from(config.channels);
+    let of_channels = channels.min(count - cores.min(count / 2));
+    let of_cores = count - of_channels;
+    if parts <= of_cores {
+        share_of(cores, parts, of_cores)
+    } else {
+        cores + share_of(channels, parts - of_cores, of_channels)
+    }
+}
+
+/// Where each of `count` shards begins, and the number of units: a shard is of cores alone, or of channels alone, and is about as large as the next of its
+/// kind, so that those of channels, which have most to do, all have about the same amount to do.
+pub(crate) fn bounds_for(
+    alloc: Global,
+    config: &Config,
+    count: usize,
+) -> Result<Vec<usize>, AllocError>
+    requires { 0 < count }
+    ensures count { IfOk result (λ bounds. length bounds.items ≡ suc count) }
+    ensures split { IfOk result (λ bounds. IsSplit config.now bounds.items) }
+{
+    let mut bounds = Vec::new(alloc);
+    let mut last = 0;
+    bounds.push(last)?;
+    for parts in 1..count {
+        last = place_before(config, parts, count).max(last);
+        bounds.push(last)?;
+    }
+    bounds.push(usize::from(config.cores) + usize::from(config.channels))?;
+    Ok(bounds)
+}
+
+/// Whether a message goes to one of the units at places from one on and before another.
+fn goes_to(config: &Config, first: usize, past: usize, message: &Message) -> bool
+    requires { past ≤ unit_count config.now }
+    ensures { result ≡ goes_among config.now first past message.now }
+{
+    match receiver_place(config, message.link) {
+        Some(place) => first <= place && place < past,
+        None => false,
+    }
+}
+
+/// The messages that go to the units at places from one on and before another.
+fn messages_to(
+    alloc: Global,
+    config: &Config,
+    first: usize,
+    past: usize,
+    messages: &[Message],
+) -> Result<Vec<Message>, AllocError>
+    requires { past ≤ unit_count config.now }
+    ensures { IfOk result (λ own. own.items ≡ among config.now first past messages.now) }
+{
+    messages
+        .iter()
+        .copied()
+        .filter(|message| goes_to(config, first, past, message))
+        .collect(alloc)
+}
+
+/// Links that hold the messages that go to the units at places from one on and before another.
+fn links_to(
+    alloc: Global,
+    config: &Config,
+    first: usize,
+    past: usize,
+    messages: &[Message],
+) -> Result<Links, AllocError>
+    requires { past ≤ unit_count config.now }
+    ensures { IfOk result (λ links. links ≡ record { channels = config.now.channels; messages = fold insert_by_age [] (among config.now first past messages.now) }) }
+{
+    let mut links = Links::start(alloc, config)?;
+    links.accept(&mut messages_to(alloc, config, first, past, messages)?)?;
+    Ok(links)
+}
+
+/// The shard with a number, of units that all stand at a cycle, with what goes to them of the messages in flight.
+fn shard_of(
+    alloc: Global,
+    machine: &Arc<Machine>,
+    bounds: &[usize],
+    index: usize,
+    slots: Vec<Slot>,
+    now: Cycle,
+    messages: &[Message],
+) -> Result<Box<Shard>, AllocError>
+    requires split { IsSplit (arc_value machine.now).config bounds.now }
+    requires exists { suc index < length bounds.now }
+    requires count { bound bounds.now index + length slots.items ≡ bound bounds.now (suc index) }
+    requires early { now ≤ 10 ^ 12 }
+    requires wait { (k : ℕ) (d : Slot) → k < length slots.items → Waits (arc_value machine.now).config (arc_value machine.now).traces.items (unit_at (arc_value machine.now).config (bound bounds.now index + k)) now (sleeper (slice_index_or slots.items k d) now) }
+    requires flight { messages.now ≡ in_flight (arc_value machine.now).config (arc_value machine.now).traces.items (run (arc_value machine.now).config (arc_value machine.now).traces.items now) }
+    ensures shard { IfOk result (λ shard. IsShard (arc_value machine.now).config (arc_value machine.now).traces.items bounds.now index shard.value) }
+    ensures asleep { IfOk result (λ shard. IsAsleep (arc_value machine.now).config (arc_value machine.now).traces.items shard.value.first now shard.value.slots.items shard.value.words.items shard.value.links) }
+{
+    let first = bounds[index];
+    let words = vec![in alloc; now; slots.len()]?;
+    let links = links_to(alloc, &machine.config, first, bounds[index + 1], messages)?;
+    let shard = Shard {
+        machine: machine.clone()?,
+        bounds: Vec::from_slice(alloc, bounds)?,
+        first,
+        slots,
+        words,
+        links,
+        mail: Mail::new(alloc),
+    };
+    Ok(Box::new(alloc, shard)?)
+}
+
+/// Takes `count` units from the front of a list.
+fn take_front(slots: &mut Vec<Slot>, count: usize) -> Result<Vec<Slot>, AllocError>
+    requires { count ≤ length slots.old.items }
+    ensures front { IfOk result (λ front. front.items ≡ take count slots.old.items) }
+    ensures rest { OnOk result (slots.new.items ≡ drop count slots.old.items) }
+{
+    let rest = slots.split_off(count)?;
+    Ok(mem::replace(slots, rest))
+}
+
+/// The shards of a machine whose units all stand at a cycle, with these messages in flight.
+fn shards_from(
+    alloc: Global,
+    machine: &Arc<Machine>,
+    bounds: &[usize],
+    slots: Vec<Slot>,
+    now: Cycle,
+    messages: &[Message],
+) -> Result<Vec<Box<Shard>>, AllocError>
+    requires split { IsSplit (arc_value machine.now).config bounds.now }
+    requires count { length slots.items ≡ unit_count (arc_value machine.now).config }
+    requires early { now ≤ 10 ^ 12 }
+    requires wait { (k : ℕ) (d : Slot) → k < length slots.items → Waits (arc_value machine.now).config (arc_value machine.now).traces.items (unit_at (arc_value machine.now).config k) now (sleeper (slice_index_or slots.items k d) now) }
+    requires flight { messages.now ≡ in_flight (arc_value machine.now).config (arc_value machine.now).traces.items (run (arc_value machine.now).config (arc_value machine.now).traces.items now) }
+    ensures { IfOk result (λ shards. AreShards (arc_value machine.now).config (arc_value machine.now).traces.items bounds.now now shards.items) }
+{
+    let mut left = slots;
+    let count = bounds.len() - 1;
+    let mut shards = Vec::with_capacity(alloc, count)?;
+    for index in 0..count {
+        let own = take_front(&mut left, bounds[index + 1] - bounds[index])?;
+        shards.push(shard_of(alloc, machine, bounds, index, own, now, messages)?)?;
+    }
+    Ok(shards)
+}
+
+/// The shards of a simulator, each with the units of its places and with what is in flight to them.
+pub(crate) fn shards_of(
+    alloc: Global,
+    sim: Sim,
+    bounds: &[usize],
+) -> Result<Vec<Box<Shard>>, AllocError>
+    requires { IsSplit sim.machine bounds.now }
+    ensures { IfOk result (λ shards. AreShards sim.machine sim.traces bounds.now sim.now shards.items) }
+{
+    let Sim {
+        machine,
+        now,
+        parts,
+        links,
+        ..
+    } = sim;
+    let messages = links.messages(alloc)?;
+    let slots = slots_of(alloc, parts, now)?;
+    shards_from(alloc, &machine, bounds, slots, now, &messages)
+}
+
+/// Puts the units of a shard, where the machine stands, behind those of a list, and what is in flight to them into links.
+fn join_shard(
+    alloc: Global,
+    machine: &Machine,
+    shard: Box<Shard>,
+    now: Cycle,
+    parts: &mut Vec<UnitState>,
+    links: &mut Links,
+) -> Result<(), AllocError>
+    requires asleep { IsAsleep machine.now.config machine.now.traces.items (length parts.old.items) now shard.value.slots.items shard.value.words.items shard.value.links }
+    requires stand { StandAt machine.now.config machine.now.traces.items now parts.old.items }
+    requires links { links.old ≡ record { channels = machine.now.config.channels; messages = among machine.now.config 0 (length parts.old.items) (in_flight machine.now.config machine.now.traces.items (run machine.now.config machine.now.traces.items now)) } }
+    ensures count { OnOk result (length parts.new.items ≡ length parts.old.items + length shard.value.slots.items) }
+    ensures stand { OnOk result (StandAt machine.now.config machine.now.traces.items now parts.new.items) }
+    ensures links { OnOk result (links.new ≡ record { channels = machine.now.config.channels; messages = among machine.now.config 0 (length parts.old.items + length shard.value.slots.items) (in_flight machine.now.config machine.now.traces.items (run machine.now.config machine.now.traces.items now)) }) }
+{
+    let Shard {
+        slots,
+        words,
+        links: own,
+        mut mail,
+        ..
+    } = Box::into_inner(shard);
+    bring_up(machine, &mut mail, slots, &words, now, parts)?;
+    links.accept(&mut own.messages(alloc)?)?;
+    Ok(())
+}
+
+/// Puts the units of all shards, where the machine stands, into an empty list, and what is in flight to them into empty links.
+fn join_all(
+    alloc: Global,
+    machine: &Machine,
+    bounds: &[usize],
+    shards: Vec<Box<Shard>>,
+    now: Cycle,
+    parts: &mut Vec<UnitState>,
+    links: &mut Links,
+) -> Result<(), AllocError>
+    requires shards { AreShards machine.now.config machine.now.traces.items bounds.now now shards.items }
+    requires none { parts.old.items ≡ [] }
+    requires empty { links.old ≡ record { channels = machine.now.config.channels; messages = [] } }
+    ensures count { OnOk result (length parts.new.items ≡ unit_count machine.now.config) }
+    ensures stand { OnOk result (StandAt machine.now.config machine.now.traces.items now parts.new.items) }
+    ensures links { OnOk result (links.new ≡ record { channels = machine.now.config.channels; messages = in_flight machine.now.config machine.now.traces.items (run machine.now.config machine.now.traces.items now) }) }
+{
+    for shard in shards {
+        join_shard(alloc, machine, shard, now, parts, links)?;
+    }
+    Ok(())
+}
+
+/// The simulator that shards were split from, at the cycle where they stand.
+pub(crate) fn joined(
+    alloc: Global,
+    machine: Arc<Machine>,
+    bounds: &[usize],
+    shards: Vec<Box<Shard>>,
+    now: Cycle,
+    phase: u64,
+) -> Result<Sim, AllocError>
+    requires shards { AreShards (arc_value machine).config (arc_value machine).traces.items bounds.now now shards.items }
+    requires counted { phase ≤ now }
+    ensures { IfOk result (λ sim. sim ≡ record { machine = (arc_value machine).config; traces = (arc_value machine).traces.items; now = now; phase = phase }) }
+{
+    let mut parts = Vec::with_capacity(alloc, bounds[bounds.len() - 1])?;
+    let mut links = Links::start(alloc, &machine.config)?;
+    join_all(alloc, &machine, bounds, shards, now, &mut parts, &mut links)?;
+    Ok(Sim {
+        machine,
+        now,
+        phase,
+        parts,
+        links,
+    })
+}

@@ -1,0 +1,175 @@
+-- The messages in flight at the end of a phase: those that were left at its beginning, and what all units sent in it.
+use Rattle.std.proofs.Common.{◌≡◌, ℕ, zero, suc, ◌+◌, ◌-◌, ◌<◌, ◌≤◌, true, false, eqb, ltb, not, List, [], ◌∷◌, ◌++◌, length, drop, refl, sym, ap, ap₂, subst, ◌∙◌, append_assoc, append-nil, add-suc, add-zero, arith}
+use Rattle.std.specs.Prelude.{filter, flat_map, fold}
+use Rattle.std.specs.List.{AllByRecursion as Each}
+use Rattle.std.proofs.lemmas.Bool.Decides.{nat_tests}
+use Rattle.std.proofs.lemmas.List.Sums.{fold-append}
+use Rattle.sim_base.specs.declared.config.Config.{Config}
+use Rattle.sim_base.specs.Counts.{in_flight}
+use Rattle.sim_base.specs.History.{below, insert_by_age, by_age, messages, messages_of_core, messages_of_channel}
+use Rattle.sim_base.specs.Locality.{TravelsFor}
+use Rattle.sim_base.specs.Machine.{run}
+use Rattle.sim_base.specs.declared.message.Message.{Message}
+use Rattle.sim_base.specs.declared.message.Unit.{Unit as MachineUnit}
+use Rattle.sim_base.specs.declared.message.Unit.TheVariants.{Core, Channel}
+use Rattle.sim_base.specs.declared.trace.Entry.{Entry}
+use Rattle.sim_base.proofs.Arrived.{puts, by_age-puts, fold-puts}
+use Rattle.sim_base.proofs.Below.{flat_map_below_more, flat_map_below_same}
+use Rattle.sim_base.proofs.Each.{Each-all, Each-flat_map_below}
+use Rattle.sim_base.proofs.Grows.{SentBy, links_differ, of_core-by, of_channel-by}
+use Rattle.sim_base.proofs.Ordered.{Apart, Sorted, Each-weaker, puts-swap, puts-append, Sorted-puts, filter-puts, filter-by_age}
+use Rattle.sim_base.proofs.Spans.{length-run}
+use Rattle.units.specs.Flight.{fresh}
+use Rattle.units.specs.Parts.{sent_of, late}
+use Rattle.units.specs.Units.{unit_at, unit_count, Exists}
+use Rattle.units.proofs.Due.{place-at, place_of_unit, exists-at}
+use Rattle.units.proofs.Filters.{filter-filter, filter-same, filter-all, implied}
+use Rattle.units.proofs.Standing.{core-at_place, channel-at_place}
+use Rattle.units.proofs.Travelling.{Goes, sent-goes, late-added}
+
+drop-append : {X : Type 0} (xs ys : List X) → drop (length xs) (xs ++ ys) ≡ ys
+drop-append [] ys = refl
+drop-append (x ∷ xs) ys = drop-append xs ys
+
+-- what a unit sent in a span is what is fresh of it
+pub fresh-is : (s : Config) (traces : List (List Entry)) (from until place : ℕ) (ms : List Message)
+    → sent_of s traces until (unit_at s place) ≡ sent_of s traces from (unit_at s place) ++ ms → fresh s traces from until place ≡ ms
+unfolding fresh
+fresh-is s traces from until place ms e =
+    let old = sent_of s traces from (unit_at s place) in
+    ap (drop (length old)) e ∙ drop-append old ms
+
+fresh-grows : (s : Config) (traces : List (List Entry)) (from until place : ℕ) → place < unit_count s → from ≤ until → TravelsFor s (until - from)
+    → sent_of s traces until (unit_at s place) ≡ sent_of s traces from (unit_at s place) ++ fresh s traces from until place
+fresh-grows s traces from until place l k t =
+    let a = late-added s traces from until (unit_at s place) (exists-at s place l) k t in
+    a.are ∙ ap (λ z. sent_of s traces from (unit_at s place) ++ z) (sym (fresh-is s traces from until place a.more a.are))
+
+pub fresh-late : (s : Config) (traces : List (List Entry)) (from until place : ℕ) → place < unit_count s → from ≤ until → TravelsFor s (until - from)
+    → Each (λ m. until ≤ m.arrival) (fresh s traces from until place)
+fresh-late s traces from until place l k t =
+    let a = late-added s traces from until (unit_at s place) (exists-at s place l) k t in
+    subst (Each (λ m. until ≤ m.arrival)) (sym (fresh-is s traces from until place a.more a.are)) a.each
+
+pub flat-split : {X : Type 0} (f : ℕ → List X) (c k : ℕ) → flat_map f (below (c + k)) ≡ flat_map f (below c) ++ flat_map (λ i. f (c + i)) (below k)
+flat-split f c zero = ap (λ n. flat_map f (below n)) (add-zero c) ∙ sym (append-nil (flat_map f (below c)))
+flat-split f c (suc k) =
+    ap (λ n. flat_map f (below n)) (add-suc c k)
+    ∙ flat_map_below_more f (c + k)
+    ∙ ap (λ z. z ++ f (c + k)) (flat-split f c k)
+    ∙ append_assoc (flat_map f (below c)) _ (f (c + k))
+    ∙ ap (λ z. flat_map f (below c) ++ z) (sym (flat_map_below_more (λ i. f (c + i)) k))
+
+-- all that is sent, unit by unit
+pub all-sent : (s : Config) (traces : List (List Entry)) (n : ℕ) → flat_map (λ i. sent_of s traces n (unit_at s i)) (below (unit_count s)) ≡ messages s traces (run s traces n)
+unfolding messages
+all-sent s traces n =
+    flat-split (λ i. sent_of s traces n (unit_at s i)) s.cores s.channels
+    ∙ ap₂ (λ x y. x ++ y)
+    (flat_map_below_same _ (messages_of_core s traces (run s traces n)) s.cores (λ i l. ap (sent_of s traces n) (core-at_place s i l)))
+    (flat_map_below_same _ (messages_of_channel s (run s traces n)) s.channels (λ i l. ap (sent_of s traces n) (channel-at_place s (s.cores + i) i refl)))
+
+sent-by : (s : Config) (traces : List (List Entry)) (n : ℕ) (u : MachineUnit) → Exists s u → SentBy s u (sent_of s traces n u)
+sent-by s traces n (Core core) l = of_core-by s traces (run s traces n) core
+sent-by s traces n (Channel channel) l = of_channel-by s (run s traces n) channel l
+
+Each-behind : {X : Type 0} (P : X → Type 0) (xs ys : List X) → Each P (xs ++ ys) → Each P ys
+Each-behind P [] ys h = h
+Each-behind P (x ∷ xs) ys h = Each-behind P xs ys h.1
+
+-- each goes to a unit
+pub fresh-goes : (s : Config) (traces : List (List Entry)) (from until place : ℕ) → place < unit_count s → from ≤ until → TravelsFor s (until - from) → Each (Goes s) (fresh s traces from until place)
+fresh-goes s traces from until place l k t =
+    let u = unit_at s place in
+    Each-behind (Goes s) (sent_of s traces from u) (fresh s traces from until place)
+    (subst (Each (Goes s)) (fresh-grows s traces from until place l k t) (sent-goes s traces until u (exists-at s place l)))
+
+fresh-by : (s : Config) (traces : List (List Entry)) (from until place : ℕ) → place < unit_count s → from ≤ until → TravelsFor s (until - from)
+    → SentBy s (unit_at s place) (fresh s traces from until place)
+fresh-by s traces from until place l k t =
+    let u = unit_at s place in
+    Each-behind _ (sent_of s traces from u) (fresh s traces from until place)
+    (subst (SentBy s u) (fresh-grows s traces from until place l k t) (sent-by s traces until u (exists-at s place l)))
+
+apart : (s : Config) (a b : MachineUnit) → (a ≡ b → ⊥) → (xs ys : List Message) → SentBy s a xs → SentBy s b ys → Apart xs ys
+apart s a b h xs ys j k =
+    Each-weaker _ (λ (x : Message). Each (λ (y : Message). eqb x.link y.link ≡ false) ys)
+    (λ x e. Each-weaker _ (λ (y : Message). eqb x.link y.link ≡ false) (λ y f. links_differ s a b h x.link y.link e f) ys k) xs j
+
+places-differ : (s : Config) (i j : ℕ) → i < j → unit_at s i ≡ unit_at s j → ⊥
+places-differ s i j l e =
+    let f : i ≡ j = sym (place-at s i) ∙ ap (place_of_unit s) e ∙ place-at s j in
+    omega (arith, f, l)
+
+-- what units send can be put in before or after what they sent
+grow : (s : Config) (f g : ℕ → List Message) (acc : List Message) (n : ℕ)
+    → ((i : ℕ) → i < n → SentBy s (unit_at s i) (f i)) → ((i : ℕ) → i < n → SentBy s (unit_at s i) (g i))
+    → puts acc (flat_map (λ i. f i ++ g i) (below n)) ≡ puts (puts acc (flat_map f (below n))) (flat_map g (below n))
+grow s f g acc zero hf hg = refl
+grow s f g acc (suc n) hf hg =
+    let old = flat_map f (below n) in
+    let new = flat_map g (below n) in
+    let far : Apart new (f n) =
+    Each-flat_map_below _ g n (λ i l. apart s (unit_at s i) (unit_at s n) (places-differ s i n l) (g i) (f n) (hg i (omega arith)) (hf n (omega arith))) in
+    ap (puts acc) (flat_map_below_more (λ i. f i ++ g i) n)
+    ∙ puts-append acc (flat_map (λ i. f i ++ g i) (below n)) (f n ++ g n)
+    ∙ puts-append _ (f n) (g n)
+    ∙ ap (λ z. puts (puts z (f n)) (g n)) (grow s f g acc n (λ i l. hf i (omega arith)) (λ i l. hg i (omega arith)))
+    ∙ ap (λ z. puts z (g n)) (puts-swap (puts acc old) new (f n) far)
+    ∙ sym (puts-append (puts (puts acc old) (f n)) new (g n))
+    ∙ ap₂ (λ y z. puts y z) (sym (puts-append acc old (f n)) ∙ ap (puts acc) (sym (flat_map_below_more f n))) (sym (flat_map_below_more g n))
+
+-- all messages of a run, with those that are sent in a span put in last
+all-grow : (s : Config) (traces : List (List Entry)) (from until : ℕ) → from ≤ until → TravelsFor s (until - from)
+    → by_age (messages s traces (run s traces until)) ≡ puts (by_age (messages s traces (run s traces from))) (flat_map (fresh s traces from until) (below (unit_count s)))
+all-grow s traces from until k t =
+    let n = unit_count s in
+    by_age-puts (messages s traces (run s traces until))
+    ∙ ap (puts []) (sym (all-sent s traces until) ∙ flat_map_below_same _ (λ i. sent_of s traces from (unit_at s i) ++ fresh s traces from until i) n (λ i l. fresh-grows s traces from until i l k t))
+    ∙ grow s (λ i. sent_of s traces from (unit_at s i)) (fresh s traces from until) [] n
+    (λ i l. sent-by s traces from (unit_at s i) (exists-at s i l)) (λ i l. fresh-by s traces from until i l k t)
+    ∙ ap (λ z. puts z (flat_map (fresh s traces from until) (below n))) (ap (puts []) (all-sent s traces from) ∙ sym (by_age-puts (messages s traces (run s traces from))))
+
+flight-late : (s : Config) (traces : List (List Entry)) (n : ℕ) → in_flight s traces (run s traces n) ≡ late n (by_age (messages s traces (run s traces n)))
+unfolding in_flight
+flight-late s traces n =
+    ap (λ i. by_age (filter (λ m. not (ltb m.arrival i)) (messages s traces (run s traces n)))) (length-run s traces n)
+    ∙ sym (filter-by_age (λ m. not (ltb m.arrival n)) (messages s traces (run s traces n)))
+
+later : (a from until : ℕ) → from ≤ until → not (ltb a until) ≡ true → not (ltb a from) ≡ true
+later a from until l e = grind (arith, nat_tests)
+
+since : (a until : ℕ) → until ≤ a → not (ltb a until) ≡ true
+since a until l = grind (arith, nat_tests)
+
+late-late : (from until : ℕ) → from ≤ until → (ms : List Message) → late until (late from ms) ≡ late until ms
+late-late from until l ms =
+    filter-filter (λ m. not (ltb m.arrival until)) (λ m. not (ltb m.arrival from)) ms
+    ∙ filter-same _ _ ms (Each-all _ (λ m. implied (not (ltb m.arrival from)) (not (ltb m.arrival until)) (later m.arrival from until l)) ms)
+
+pub join-flight : (s : Config) (traces : List (List Entry)) (from until : ℕ) → from ≤ until → TravelsFor s (until - from)
+    → fold insert_by_age (late until (in_flight s traces (run s traces from))) (flat_map (fresh s traces from until) (below (unit_count s))) ≡ in_flight s traces (run s traces until)
+join-flight s traces from until k t =
+    let n = unit_count s in
+    let old = by_age (messages s traces (run s traces from)) in
+    let new = flat_map (fresh s traces from until) (below n) in
+    let p = λ (m : Message). not (ltb m.arrival until) in
+    let all : Each (λ m. p m ≡ true) new =
+    Each-flat_map_below (λ (m : Message). p m ≡ true) (fresh s traces from until) n
+    (λ i l. Each-weaker (λ (m : Message). until ≤ m.arrival) (λ (m : Message). p m ≡ true) (λ m h. since m.arrival until h) _ (fresh-late s traces from until i l k t)) in
+    fold-puts (late until (in_flight s traces (run s traces from))) new
+    ∙ ap (λ z. puts (late until z) new) (flight-late s traces from)
+    ∙ ap (λ z. puts z new) (late-late from until k old)
+    ∙ ap (puts (late until old)) (sym (filter-all p new all))
+    ∙ sym (filter-puts p old new (subst Sorted (sym (by_age-puts (messages s traces (run s traces from)))) (Sorted-puts [] (messages s traces (run s traces from)) tt)))
+    ∙ ap (late until) (sym (all-grow s traces from until k t))
+    ∙ sym (flight-late s traces until)
+
+-- the links when one more unit's messages are put in
+pub fresh-more : (s : Config) (traces : List (List Entry)) (from until place : ℕ) (acc ms : List Message)
+    → sent_of s traces until (unit_at s place) ≡ sent_of s traces from (unit_at s place) ++ ms
+    → fold insert_by_age (fold insert_by_age acc (flat_map (fresh s traces from until) (below place))) ms ≡ fold insert_by_age acc (flat_map (fresh s traces from until) (below (suc place)))
+fresh-more s traces from until place acc ms e =
+    let old = flat_map (fresh s traces from until) (below place) in
+    sym (fold-append insert_by_age acc old ms)
+    ∙ ap (fold insert_by_age acc) (ap (λ z. old ++ z) (sym (fresh-is s traces from until place ms e)) ∙ sym (flat_map_below_more (fresh s traces from until) place))

@@ -1,0 +1,141 @@
+-- When a run is over, as its units and links show it, and how long it is surely not.
+use Rattle.std.proofs.Common.{◌≡◌, ℕ, suc, ◌+◌, ◌-◌, ◌*◌, ◌/◌, ◌%◌, ◌<◌, ◌≤◌, Bool, true, false, min, max, List, [], length, get_or, Some, ◌⊎◌, inl, inr, refl, sym, ap, subst, ◌∙◌, arith}
+use Rattle.std.specs.Prelude.{Any}
+use Rattle.std.proofs.lemmas.Bool.{cases_lt}
+use Rattle.std.proofs.lemmas.Grind.{div_ceil_times}
+use Rattle.std.proofs.lemmas.Nat.{mul-le}
+use Rattle.std.proofs.lemmas.Option.{slice_get-get_or}
+use Rattle.sim_base.specs.declared.config.Config.{Config}
+use Rattle.sim_base.specs.Counts.{in_flight}
+use Rattle.sim_base.specs.History.{trace_of, retired_before}
+use Rattle.sim_base.specs.Machine.{run, is_over}
+use Rattle.sim_base.specs.declared.message.Message.{Message}
+use Rattle.sim_base.specs.declared.trace.Entry.{Entry}
+use Rattle.statistics.specs.Cores.{core_stats}
+use Rattle.statistics.specs.declared.cores.CoreStats.{CoreStats}
+use Rattle.sim_base.specs.declared.command.IssuedCommand.{IssuedCommand}
+use Rattle.channel_step.specs.declared.channel.Channel.{Channel}
+use Rattle.core_window.specs.declared.core_unit.Core.{Core}
+use Rattle.core_window.specs.Views.{CoreView}
+use Rattle.core_window.specs.CoreViews.{view_of}
+use Rattle.span_laws.specs.Channels.{IsChannelAt}
+use Rattle.span_laws.specs.Cores.{IsCoreAt, core_steps_of}
+use Rattle.span_laws.proofs.Over.{over-is_seen}
+use Rattle.span_laws.proofs.Lasting.{lasts-for_trace, lasts-for_flight}
+use Rattle.units.specs.Units.{unit_at}
+use Rattle.units.specs.Parts.{IsPart, StandAt}
+use Rattle.units.specs.Drained.{HasFinished, AllFinished, GoesOn}
+use Rattle.units.specs.declared.part.UnitState.{UnitState}
+use Rattle.units.specs.declared.part.UnitState.TheVariants as part
+use Rattle.units.proofs.Standing.{core-at_place, channel-at_place}
+
+-- the number of a core at a place
+pub record IsCorePlace (s : Config) (traces : List (List Entry)) (now place : ℕ) (c : Core) : Type 0 where
+  pub below : place < s.cores
+  pub stands : IsCoreAt s traces place now (view_of c)
+
+pub core-place : (s : Config) (traces : List (List Entry)) (now place : ℕ) (c : Core) → IsPart s traces (unit_at s place) now (part.Core c) → IsCorePlace s traces now place c
+core-place s traces now place c h = go (cases_lt place s.cores)
+  where
+    go : (place < s.cores) ⊎ (s.cores ≤ place) → IsCorePlace s traces now place c
+    go (inl l) = record { below = l; stands = subst (λ u. IsPart s traces u now (part.Core c)) (core-at_place s place l) h }
+    go (inr l) =
+        let e : place ≡ s.cores + (place - s.cores) = omega arith in
+        let wrong : ⊥ = subst (λ u. IsPart s traces u now (part.Core c)) (channel-at_place s place (place - s.cores) e) h in
+        absurd wrong
+
+-- the number of a channel at a place
+pub record IsChannelPlace (s : Config) (traces : List (List Entry)) (now place : ℕ) (c : Channel) : Type 0 where
+  pub channel : ℕ
+  pub is : place ≡ s.cores + channel
+  pub stands : IsChannelAt s traces channel now c
+
+pub channel-place : (s : Config) (traces : List (List Entry)) (now place : ℕ) (c : Channel) (rows : List IssuedCommand) → IsPart s traces (unit_at s place) now (part.Channel c rows)
+    → IsChannelPlace s traces now place c
+channel-place s traces now place c rows h = go (cases_lt place s.cores)
+  where
+    go : (place < s.cores) ⊎ (s.cores ≤ place) → IsChannelPlace s traces now place c
+    go (inl l) = let wrong : ⊥ = subst (λ u. IsPart s traces u now (part.Channel c rows)) (core-at_place s place l) h in absurd wrong
+    go (inr l) =
+        let e : place ≡ s.cores + (place - s.cores) = omega arith in
+        record { channel = place - s.cores; is = e; stands = (subst (λ u. IsPart s traces u now (part.Channel c rows)) (channel-at_place s place (place - s.cores) e) h).0 }
+
+-- what a core counted as retired
+pub core-retired : (s : Config) (traces : List (List Entry)) (core now : ℕ) (view : CoreView) → IsCoreAt s traces core now view
+    → view.stats.retired ≡ retired_before (core_steps_of s traces now core)
+unfolding core_stats
+core-retired s traces core now view h = ap (λ (x : CoreStats). x.retired) h.stats
+
+-- where all have finished and nothing is in flight the run is over
+pub over-from_units : (s : Config) (traces : List (List Entry)) (now : ℕ) → in_flight s traces (run s traces now) ≡ [] → AllFinished s traces now → is_over s traces (run s traces now) ≡ true
+over-from_units s traces now none all =
+    (over-is_seen s traces now).1 (
+      λ core l. subst (HasFinished s traces now) (core-at_place s core l) (all core (omega arith)),
+      none,
+      λ channel l. subst (HasFinished s traces now) (channel-at_place s (s.cores + channel) channel refl) (all (s.cores + channel) (omega arith)),
+    )
+
+-- and only there
+pub units-from_over : (s : Config) (traces : List (List Entry)) (now : ℕ) → is_over s traces (run s traces now) ≡ true → AllFinished s traces now
+units-from_over s traces now over place l = go (cases_lt place s.cores)
+  where
+    go : (place < s.cores) ⊎ (s.cores ≤ place) → HasFinished s traces now (unit_at s place)
+    go (inl k) = subst (HasFinished s traces now) (sym (core-at_place s place k)) (((over-is_seen s traces now).0 over).0 place k)
+    go (inr k) =
+        let e : place ≡ s.cores + (place - s.cores) = omega arith in
+        subst (HasFinished s traces now) (sym (channel-at_place s place (place - s.cores) e)) (((over-is_seen s traces now).0 over).2 (place - s.cores) (omega arith))
+
+pub flight-from_over : (s : Config) (traces : List (List Entry)) (now : ℕ) → is_over s traces (run s traces now) ≡ true → in_flight s traces (run s traces now) ≡ []
+flight-from_over s traces now over = ((over-is_seen s traces now).0 over).1
+
+pub same-answer : (a b : Bool) → (a ≡ true → b ≡ true) → (b ≡ true → a ≡ true) → a ≡ b
+same-answer true b f g = sym (f refl)
+same-answer false true f g = g refl
+same-answer false false f g = refl
+
+-- a run goes on where it goes on up to one cycle and up to another
+pub goes_on-max : (s : Config) (traces : List (List Entry)) (from a b : ℕ) → GoesOn s traces from a → GoesOn s traces from b → GoesOn s traces from (max a b)
+goes_on-max s traces from a b h k t l m = go (cases_lt t a)
+  where
+    go : (t < a) ⊎ (a ≤ t) → is_over s traces (run s traces t) ≡ false
+    go (inl n) = h t l n
+    go (inr n) = k t l (omega arith)
+
+pub goes_on-less : (s : Config) (traces : List (List Entry)) (from a b : ℕ) → a ≤ b → GoesOn s traces from b → GoesOn s traces from a
+goes_on-less s traces from a b le h t l m = h t l (omega arith)
+
+pub goes_on-none : (s : Config) (traces : List (List Entry)) (from : ℕ) → GoesOn s traces from from
+goes_on-none s traces from t l m = absurd (omega arith)
+
+pub goes_on-one : (s : Config) (traces : List (List Entry)) (from : ℕ) → is_over s traces (run s traces from) ≡ false → GoesOn s traces from (from + 1)
+goes_on-one s traces from h t l m = let e : from ≡ t = omega arith in subst (λ i. is_over s traces (run s traces i) ≡ false) e h
+
+-- fewer steps than those that some work takes leave some of it
+work-left : (left width k : ℕ) → 0 < width → k < left / width + min 1 (left % width) → width * k < left
+work-left left width k some l =
+    let up = div_ceil_times left width some in
+    let n = left / width + min 1 (left % width) in
+    let more : suc k * width ≤ n * width = mul-le (suc k) width n width (omega arith) (omega arith) in
+    let e : suc k * width ≡ width * k + width = grind arith in
+    omega (arith, up.1, more, e)
+
+pub core-goes_on : (s : Config) (traces : List (List Entry)) (now core : ℕ) (c : Core) (until : ℕ) → IsCorePlace s traces now core c → 0 < s.width
+    → let left = length (trace_of traces core) - c.stats.retired in
+    until ≤ now + (left / s.width + min 1 (left % s.width)) → GoesOn s traces now until
+core-goes_on s traces now core c until h some l t m k =
+    let left = length (trace_of traces core) - c.stats.retired in
+    let before : t - now < left / s.width + min 1 (left % s.width) = omega arith in
+    let short = work-left left s.width (t - now) some before in
+    let same = core-retired s traces core now (view_of c) h.stands in
+    lasts-for_trace s traces now t core h.below m (omega (arith, short, same))
+
+pub flight-goes_on : (s : Config) (traces : List (List Entry)) (now arrival until : ℕ) (ms : List Message) → Any (λ m. m.arrival ≡ arrival) ms → ms ≡ in_flight s traces (run s traces now)
+    → until ≤ arrival + 1 → GoesOn s traces now until
+flight-goes_on s traces now arrival until ms some e l t m k =
+    let there : t ≤ some.1.arrival = omega (arith, some.4) in
+    lasts-for_flight s traces now t m (subst (Any (λ (x : Message). t ≤ x.arrival)) e (some.0, some.1, some.2, some.3, there))
+
+-- the unit at a place of those that stand for their parts
+pub stands-there : (s : Config) (traces : List (List Entry)) (now : ℕ) (parts : List UnitState) (place : ℕ) (p : UnitState) → StandAt s traces now parts → place < length parts
+    → p ≡ get_or parts place p → IsPart s traces (unit_at s place) now p
+stands-there s traces now parts place p h l e = h place p (slice_get-get_or parts place p l ∙ ap Some (sym e))

@@ -1,0 +1,13 @@
+pub mod Running
+pub mod Standing
+pub mod Filters
+pub mod Travelling
+pub mod Due
+pub mod Joining
+pub mod Counted
+pub mod Tabled
+pub mod Ended
+pub mod Lasting
+pub mod Resting
+pub mod Arriving
+pub mod Quieting

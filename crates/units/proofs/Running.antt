@@ -1,0 +1,64 @@
+-- A unit that is run over a span.
+use Rattle.std.proofs.Common.{◌≡◌, ℕ, List, ◌++◌, sym, ap, subst, ◌∙◌}
+use Rattle.sim_base.specs.declared.config.Config.{Config}
+use Rattle.sim_base.specs.Machine.{run}
+use Rattle.sim_base.specs.declared.message.Message.{Message}
+use Rattle.sim_base.specs.declared.message.Unit.{Unit as MachineUnit}
+use Rattle.sim_base.specs.declared.message.Unit.TheVariants as unit
+use Rattle.sim_base.specs.declared.trace.Entry.{Entry}
+use Rattle.sim_base.specs.declared.command.IssuedCommand.{IssuedCommand}
+use Rattle.sim_base.proofs.Spans.{length-run}
+use Rattle.statistics.proofs.Replies.{length-steps_of_core}
+use Rattle.channel_step.specs.Runs.{CanRun}
+use Rattle.channel_step.specs.declared.channel.Channel.{Channel}
+use Rattle.core_window.specs.CoreViews.{view_of}
+use Rattle.core_window.specs.Fit.{MayRun, Runs, RunsOnto}
+use Rattle.core_window.specs.declared.core_unit.Core.{Core}
+use Rattle.span_laws.specs.Channels.{Gives}
+use Rattle.span_laws.proofs.ChannelsOn.{channels-may_run, channels-go_on}
+use Rattle.span_laws.proofs.CoresOn.{cores-may_run, cores-go_on}
+use Rattle.units.specs.Parts.{IsReadyFor, HasRunOnto}
+use Rattle.units.specs.declared.part.UnitState.TheVariants as part
+
+pub core-at : (s : Config) (traces : List (List Entry)) (unit : MachineUnit) (c : Core) (inbox : List Message) (from until : ℕ)
+    → IsReadyFor s traces unit (part.Core c) inbox from until → c.cycle ≡ from
+core-at s traces (unit.Core core) c inbox from until h = h.stands.now ∙ length-steps_of_core core (run s traces from) ∙ length-run s traces from
+core-at s traces (unit.Channel channel) c inbox from until h = absurd h.stands
+
+pub core-may_run : (s : Config) (traces : List (List Entry)) (unit : MachineUnit) (c : Core) (inbox : List Message) (from until : ℕ)
+    → IsReadyFor s traces unit (part.Core c) inbox from until → MayRun (view_of c) from until inbox
+core-may_run s traces (unit.Core core) c inbox from until h =
+    subst (MayRun (view_of c) from until) (sym h.mail) (cores-may_run s traces from until core (view_of c) h.exists h.order h.stands)
+core-may_run s traces (unit.Channel channel) c inbox from until h = absurd h.stands
+
+pub core-has_run : (s : Config) (traces : List (List Entry)) (unit : MachineUnit) (c d : Core) (inbox held holds : List Message) (from until : ℕ)
+    → IsReadyFor s traces unit (part.Core c) inbox from until → RunsOnto (view_of c) from until inbox (view_of d) held holds
+    → HasRunOnto s traces unit from until (part.Core d) held holds
+core-has_run s traces (unit.Core core) c d inbox held holds from until h runs =
+    let goes = cores-go_on s traces from until core (view_of c) (view_of d) runs.sent h.exists h.order h.stands
+    (subst (λ mail. Runs (view_of c) from until mail (view_of d) runs.sent) h.mail runs.runs) in
+    record { messages = runs.sent; behind = runs.behind; ran = record { exists = h.exists; stands = goes.0; sent = goes.1 } }
+core-has_run s traces (unit.Channel channel) c d inbox held holds from until h runs = absurd h.stands
+
+pub channel-can_run : (s : Config) (traces : List (List Entry)) (unit : MachineUnit) (c : Channel) (rows : List IssuedCommand) (inbox : List Message) (from until : ℕ)
+    → IsReadyFor s traces unit (part.Channel c rows) inbox from until → CanRun c inbox from until
+channel-can_run s traces (unit.Channel channel) c rows inbox from until h =
+    subst (λ mail. CanRun c mail from until) (sym h.mail) (channels-may_run s traces from until channel c h.exists h.order h.stands.0)
+channel-can_run s traces (unit.Core core) c rows inbox from until h = absurd h.stands
+
+pub channel-has_run : (s : Config) (traces : List (List Entry)) (unit : MachineUnit) (c d : Channel) (rows more : List IssuedCommand) (inbox held holds : List Message) (from until : ℕ)
+    → IsReadyFor s traces unit (part.Channel c rows) inbox from until → Gives c inbox from until d rows more held holds
+    → HasRunOnto s traces unit from until (part.Channel d more) held holds
+channel-has_run s traces (unit.Channel channel) c d rows more inbox held holds from until h gives =
+    let goes = channels-go_on s traces from until channel c d rows more held holds h.exists h.order h.stands.0
+    (subst (λ mail. Gives c mail from until d rows more held holds) h.mail gives) in
+    record {
+      messages = goes.sent;
+      behind = goes.messages_behind;
+      ran = record {
+        exists = h.exists;
+        stands = (goes.stands, goes.commands_behind ∙ ap (λ x. x ++ goes.issued) h.stands.1 ∙ sym goes.commands_are);
+        sent = goes.messages_are;
+      };
+    }
+channel-has_run s traces (unit.Core core) c d rows more inbox held holds from until h gives = absurd h.stands

@@ -1,0 +1,112 @@
+-- Units in their order, each of which stands for its part of a run.
+use Rattle.std.proofs.Common.{◌≡◌, ℕ, zero, suc, ◌+◌, ◌-◌, ◌<◌, ltb, true, false, List, [], ◌∷◌, ◌++◌, length, get_or, Some, ◌⊎◌, inl, inr, refl, sym, ap, subst, ◌∙◌, zero-add, add-one, arith}
+use Rattle.std.specs.Prelude.{slice_get, map}
+use Rattle.std.proofs.lemmas.List.{length-map, length-append, append-nil}
+use Rattle.std.proofs.lemmas.List.FromFn.{get_or-map-range_with_len, map-range_with_len_more, length-range_with_len}
+use Rattle.std.proofs.lemmas.Option.{get_or_from_slice_get, slice_get-get_or}
+use Rattle.std.proofs.Math.Seq.{get_or-append_seam}
+use Rattle.std.proofs.lemmas.Bool.{cond-true, cond-false}
+use Rattle.std.proofs.lemmas.Bool.Decides.{nat_tests}
+use Rattle.sim_base.specs.declared.config.Config.{Config}
+use Rattle.sim_base.specs.declared.command.IssuedCommand.{IssuedCommand}
+use Rattle.sim_base.specs.declared.message.Unit.TheVariants as unit
+use Rattle.sim_base.specs.declared.trace.Entry.{Entry}
+use Rattle.sim_base.specs.History.{below, trace_of, issued_commands, steps_of_channel}
+use Rattle.sim_base.specs.Machine.{run}
+use Rattle.laws.specs.Commands.{history_of}
+use Rattle.channel_step.specs.Channels.{StandsFor as ChannelStandsFor}
+use Rattle.channel_step.specs.declared.channel.Channel.{Channel}
+use Rattle.core_window.specs.CoreViews.{view_of}
+use Rattle.core_window.specs.Stands.{StandsFor as CoreStandsFor}
+use Rattle.core_window.specs.declared.core_unit.Core.{Core}
+use Rattle.span_laws.proofs.ChannelsOn.{channels-start}
+use Rattle.span_laws.proofs.CoresOn.{cores-start}
+use Rattle.units.specs.Units.{unit_at}
+use Rattle.units.specs.Parts.{IsPart, StandAt}
+use Rattle.units.specs.declared.part.UnitState.{UnitState}
+use Rattle.units.specs.declared.part.UnitState.TheVariants as part
+
+pub get-push : {X : Type 0} (xs : List X) (x : X) (i : ℕ) (y : X) → slice_get (xs ++ x ∷ []) i ≡ Some y → (slice_get xs i ≡ Some y) ⊎ ((i ≡ length xs) × (x ≡ y))
+get-push [] x zero y e = inr (refl, cc)
+get-push [] x (suc i) y e = cc
+get-push (z ∷ xs) x zero y e = inl e
+get-push (z ∷ xs) x (suc i) y e = step (get-push xs x i y e)
+  where
+    step : (slice_get xs i ≡ Some y) ⊎ ((i ≡ length xs) × (x ≡ y)) → (slice_get (z ∷ xs) (suc i) ≡ Some y) ⊎ ((suc i ≡ length (z ∷ xs)) × (x ≡ y))
+    step (inl f) = inl f
+    step (inr f) = inr (ap suc f.0, f.1)
+
+-- an element of a list is the same, whatever stands for one that is not there
+pub same-default : {X : Type 0} (xs : List X) (i : ℕ) (d e : X) → i < length xs → get_or xs i d ≡ get_or xs i e
+same-default xs i d e l = sym (get_or_from_slice_get xs i (get_or xs i d) e (slice_get-get_or xs i d l))
+
+pub stand-none : (s : Config) (traces : List (List Entry)) (now : ℕ) → StandAt s traces now []
+stand-none s traces now place p e = cc
+
+pub stand-push : (s : Config) (traces : List (List Entry)) (now : ℕ) (parts : List UnitState) (p : UnitState) → StandAt s traces now parts
+    → IsPart s traces (unit_at s (length parts)) now p → StandAt s traces now (parts ++ p ∷ [])
+stand-push s traces now parts p h k place q e = by_case (get-push parts p place q e)
+  where
+    by_case : (slice_get parts place ≡ Some q) ⊎ ((place ≡ length parts) × (p ≡ q)) → IsPart s traces (unit_at s place) now q
+    by_case (inl f) = h place q f
+    by_case (inr f) = subst (IsPart s traces (unit_at s place) now) f.1 (subst (λ i. IsPart s traces (unit_at s i) now p) (sym f.0) k)
+
+pub core-at_place : (s : Config) (place : ℕ) → place < s.cores → unit_at s place ≡ unit.Core place
+core-at_place s place l = let e : ltb place s.cores ≡ true = grind (arith, nat_tests) in cond-true _ _ _ e
+
+pub channel-at_place : (s : Config) (place channel : ℕ) → place ≡ s.cores + channel → unit_at s place ≡ unit.Channel channel
+channel-at_place s place channel f =
+    let e : ltb place s.cores ≡ false = grind (arith, nat_tests) in
+    let g : place - s.cores ≡ channel = omega arith in
+    cond-false _ _ _ e ∙ ap unit.Channel g
+
+pub first-core : (s : Config) (traces : List (List Entry)) (parts : List UnitState) (core : ℕ) (c : Core) → StandAt s traces 0 parts → length parts ≡ core → core < s.cores
+    → CoreStandsFor s core (trace_of traces core) [] [] (view_of c) → StandAt s traces 0 (parts ++ part.Core c ∷ [])
+first-core s traces parts core c h e l k =
+    stand-push s traces 0 parts (part.Core c) h
+    (subst (λ i. IsPart s traces (unit_at s i) 0 (part.Core c)) (sym e)
+    (subst (λ u. IsPart s traces u 0 (part.Core c)) (sym (core-at_place s core l)) (cores-start s traces core (view_of c) k)))
+
+history-none : (s : Config) (traces : List (List Entry)) (channel : ℕ) → history_of s traces 0 channel ≡ []
+unfolding run steps_of_channel issued_commands
+history-none s traces channel = refl
+
+pub first-channel : (s : Config) (traces : List (List Entry)) (parts : List UnitState) (channel : ℕ) (c : Channel) (rows : List IssuedCommand) → StandAt s traces 0 parts
+    → length parts ≡ s.cores + channel → ChannelStandsFor c s channel [] [] → rows ≡ [] → StandAt s traces 0 (parts ++ part.Channel c rows ∷ [])
+first-channel s traces parts channel c rows h e k none =
+    stand-push s traces 0 parts (part.Channel c rows) h
+    (subst (λ u. IsPart s traces u 0 (part.Channel c rows)) (sym (channel-at_place s (length parts) channel e))
+    (channels-start s traces channel c k, none ∙ sym (history-none s traces channel)))
+
+-- the elements that come before one are fewer than all
+pub seam-within : {X : Type 0} (xs ys rest : List X) (x : X) (n : ℕ) → ys ++ x ∷ rest ≡ xs → length xs ≡ n → length ys < n
+seam-within xs ys rest x n e f = let g = sym (length-append ys (x ∷ rest)) ∙ ap length e ∙ f in omega (arith, g)
+
+get-seam : {X : Type 0} (ys rest : List X) (x : X) → slice_get (ys ++ x ∷ rest) (length ys) ≡ Some x
+get-seam [] rest x = refl
+get-seam (y ∷ ys) rest x = get-seam ys rest x
+
+-- the unit that comes after some stands for its part
+pub stand-seam : (s : Config) (traces : List (List Entry)) (now : ℕ) (parts ys rest : List UnitState) (p : UnitState) → StandAt s traces now parts
+    → ys ++ p ∷ rest ≡ parts → IsPart s traces (unit_at s (length ys)) now p
+stand-seam s traces now parts ys rest p h e = h (length ys) p (ap (λ z. slice_get z (length ys)) (sym e) ∙ get-seam ys rest p)
+
+pub length-places : {X : Type 0} (f : ℕ → X) (n : ℕ) → length (map f (below n)) ≡ n
+length-places f n = length-map (below n) f ∙ length-range_with_len 0 n
+
+pub places-more : {X : Type 0} (f : ℕ → X) (n : ℕ) → map f (below n) ++ f n ∷ [] ≡ map f (below (suc n))
+places-more f n = sym (map-range_with_len_more f 0 n n (zero-add n)) ∙ ap (λ i. map f (below i)) (add-one n)
+
+pub nothing_left : {X : Type 0} (xs : List X) → length xs ≡ 0 → xs ≡ []
+nothing_left [] h = refl
+nothing_left (x ∷ xs) h = absurd (omega arith)
+
+-- a list that is gone through is what was gone through
+pub all-yielded : {X : Type 0} (ys rest xs : List X) → ys ++ rest ≡ xs → length rest ≡ 0 → ys ≡ xs
+all-yielded ys rest xs e h = sym (append-nil ys) ∙ ap (λ z. ys ++ z) (sym (nothing_left rest h)) ∙ e
+
+-- the element after some of a list that has one for each place
+pub seam-is : {X : Type 0} (f : ℕ → X) (n : ℕ) (ys rest : List X) (x : X) → ys ++ x ∷ rest ≡ map f (below n) → x ≡ f (length ys)
+seam-is f n ys rest x e =
+    let l = seam-within (map f (below n)) ys rest x n e (length-places f n) in
+    sym (get_or-append_seam ys x rest x) ∙ ap (λ z. get_or z (length ys) x) e ∙ get_or-map-range_with_len f 0 n (length ys) (length ys) x l (zero-add (length ys))

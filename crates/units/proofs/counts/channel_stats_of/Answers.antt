@@ -1,0 +1,10 @@
+use Rattle.std.proofs.Common.{subst, ◌∙◌}
+use Rattle.sim_base.specs.declared.message.Unit.TheVariants as unit
+use Rattle.span_laws.proofs.ChannelsOn.{channels-end_alike}
+use Rattle.units.specs.Parts.{IsPart}
+use Rattle.units.proofs.counts.channel_stats_of.Goals as goal
+
+pub returns-in-Channel : goal.returns-in-Channel
+returns-in-Channel c s traces channel now h =
+    let stands = subst (IsPart s traces (unit.Channel channel) now) c.in-Channel.is h in
+    c.stats.ensures s channel _ _ stands.0 ∙ (channels-end_alike s traces now channel).0

@@ -1,0 +1,10 @@
+use Rattle.std.proofs.Common.{subst, ◌∙◌}
+use Rattle.sim_base.specs.declared.message.Unit.TheVariants as unit
+use Rattle.span_laws.proofs.CoresOn.{cores-end_alike}
+use Rattle.units.specs.Parts.{IsPart}
+use Rattle.units.proofs.counts.core_stats_of.Goals as goal
+
+pub returns-in-Core : goal.returns-in-Core
+returns-in-Core c s traces core now h =
+    let stands = subst (IsPart s traces (unit.Core core) now) c.in-Core.is h in
+    c.stats.ensures ∙ stands.stats ∙ (cores-end_alike s traces now core).0

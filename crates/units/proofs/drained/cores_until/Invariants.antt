@@ -1,0 +1,7 @@
+-- The run goes on up to the greatest cycle so far.
+use Rattle.units.specs.Parts.{StandAt}
+use Rattle.units.specs.Drained.{GoesOn}
+use Rattle.units.proofs.drained.cores_until.Given as goal
+
+abbrev pub invariant-loop-place : goal.invariant-loop-place
+invariant-loop-place l = StandAt l.machine.config l.machine.traces.items l.now l.parts → GoesOn l.machine.config l.machine.traces.items l.now l.until

@@ -1,0 +1,41 @@
+use Rattle.std.proofs.Common.{◌≡◌, length, sym, ap, subst, ◌∙◌}
+use Rattle.std.proofs.lemmas.Bool.{eqb-true, eq-eqb}
+use Rattle.sim_base.specs.Final.{queue_left}
+use Rattle.sim_base.specs.History.{trace_of, retired_before}
+use Rattle.laws.specs.Commands.{channel_steps_of}
+use Rattle.span_laws.specs.Cores.{core_steps_of}
+use Rattle.span_laws.specs.Mail.{mail_before}
+use Rattle.sim_base.specs.declared.message.Unit.TheVariants as unit
+use Rattle.units.specs.Units.{unit_at}
+use Rattle.units.specs.Parts.{IsPart}
+use Rattle.units.specs.Drained.{HasFinished}
+use Rattle.units.proofs.Standing.{core-at_place, channel-at_place, nothing_left}
+use Rattle.units.proofs.Lasting.{core-place, channel-place, core-retired}
+use Rattle.core_window.specs.CoreViews.{view_of}
+use Rattle.units.proofs.drained.has_finished.Goals as goal
+
+pub returns-in-Core : goal.returns-in-Core
+returns-in-Core c now h =
+    let s = c.args.machine.now.config in
+    let traces = c.args.machine.now.traces.items in
+    let place = c.args.place in
+    let at = core-place s traces now place c.in-Core.core (subst (IsPart s traces (unit_at s place) now) c.in-Core.is h) in
+    let retired : c.stats.result.retired ≡ retired_before (core_steps_of s traces now place) =
+    ap (λ x. x.retired) c.stats.ensures ∙ core-retired s traces place now (view_of c.in-Core.core) at.stands in
+    let whole : c.trace_len.result ≡ length (trace_of traces place) = c.trace_len.ensures in (
+      λ e. subst (HasFinished s traces now) (sym (core-at_place s place at.below)) (sym retired ∙ eqb-true _ _ e ∙ whole),
+      λ f. eq-eqb _ _ (retired ∙ subst (HasFinished s traces now) (core-at_place s place at.below) f ∙ sym whole),
+    )
+
+pub returns-in-Channel : goal.returns-in-Channel
+unfolding queue_left
+returns-in-Channel c now h =
+    let s = c.args.machine.now.config in
+    let traces = c.args.machine.now.traces.items in
+    let place = c.args.place in
+    let at = channel-place s traces now place c.in-Channel.channel c.in-Channel.field-1 (subst (IsPart s traces (unit_at s place) now) c.in-Channel.is h) in
+    let is = channel-at_place s place at.channel at.is in
+    let queue = c.requests.ensures s at.channel (channel_steps_of s traces now at.channel) (mail_before s traces now (unit.Channel at.channel) now) at.stands in (
+      λ e. subst (HasFinished s traces now) (sym is) (sym queue ∙ nothing_left c.requests.result.now (eqb-true _ _ (sym c.is_empty.ensures ∙ e))),
+      λ f. c.is_empty.ensures ∙ eq-eqb _ _ (ap length (queue ∙ subst (HasFinished s traces now) is f)),
+    )

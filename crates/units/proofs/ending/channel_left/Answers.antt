@@ -1,0 +1,19 @@
+use Rattle.std.proofs.Common.{subst, ◌∙◌}
+use Rattle.sim_base.specs.declared.message.Unit.TheVariants as unit
+use Rattle.laws.specs.Commands.{channel_steps_of}
+use Rattle.span_laws.specs.Mail.{mail_before}
+use Rattle.units.specs.Parts.{IsPart}
+use Rattle.units.proofs.Ended.{left_of, channel_left_is}
+use Rattle.units.proofs.ending.channel_left.Goals as goal
+
+pub returns : goal.returns
+returns c =
+    let s = c.args.machine.now.config in
+    let traces = c.args.machine.now.traces.items in
+    let now = c.args.now in
+    let number = c.args.number in
+    let stands = subst (IsPart s traces (unit.Channel number) now) c.in-Channel.is c.requires.stands in
+    left_of (c.in_ok-all_due-in-Channel.ensures {u = tt}) (c.in_ok-open_rows-in-Channel.ensures {u = tt})
+    (c.in_ok-to_vec-in-Channel.ensures.items_if_clones_equal (λ x y e. e)
+    ∙ c.requests.ensures s number (channel_steps_of s traces now number) (mail_before s traces now (unit.Channel number) now) stands.0)
+    ∙ channel_left_is s traces number now

@@ -1,0 +1,17 @@
+use Rattle.std.proofs.Common.{ap₂, subst, ◌∙◌}
+use Rattle.sim_base.specs.declared.message.Unit.TheVariants as unit
+use Rattle.statistics.specs.Values.{LastCore}
+use Rattle.statistics.specs.declared.cores.CoreStats.{CoreStats}
+use Rattle.core_window.specs.CoreViews.{view_of}
+use Rattle.units.specs.Parts.{IsPart}
+use Rattle.units.proofs.Ended.{core_left_is}
+use Rattle.units.proofs.ending.core_left.Goals as goal
+
+pub returns : goal.returns
+returns c =
+    let s = c.args.machine.now.config in
+    let traces = c.args.machine.now.traces.items in
+    let stands = subst (IsPart s traces (unit.Core c.args.core) c.args.now) c.in-Core.is c.requires.stands in
+    ap₂ {C = LastCore} (λ (x : CoreStats) credits. record { issued = x.issued; retired = x.retired; credits = credits }) c.stats-stats.ensures
+    (c.in_ok-to_vec-in-Core.ensures.items_if_clones_equal (λ x y e. e) ∙ c.credits.ensures)
+    ∙ core_left_is s traces c.args.core c.args.now (view_of c.in-Core.core) stands

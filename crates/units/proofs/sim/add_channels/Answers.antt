@@ -1,0 +1,16 @@
+use Rattle.std.proofs.Common.{length, sym, ap, subst, ◌∙◌, arith}
+use Rattle.std.proofs.lemmas.List.{length_push}
+use Rattle.units.specs.Parts.{StandAt}
+use Rattle.units.proofs.Standing.{first-channel}
+use Rattle.units.proofs.sim.add_channels.Goals as goal
+
+pub loop-number-preserved : goal.loop-number-preserved
+loop-number-preserved c =
+    let l = c.loop-number in
+    let s = c.args.config.now in
+    let items = c.in_ok-push.ensures.items in
+    let count = ap length items ∙ length_push _ _ in (
+      omega (arith, count, l.invariant.0),
+      λ traces h. subst (StandAt s traces 0) (sym items)
+          (first-channel s traces l.parts.items l.number c.in_ok-channel.channel c.new.result (l.invariant.1 traces h) l.invariant.0 (c.in_ok-channel.ensures {u = tt}) c.new.ensures),
+    )

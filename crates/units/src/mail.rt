@@ -1,0 +1,25 @@
+//! Lists of messages that are reused.
+
+ghost use Rattle.std.specs.Prelude.{◌≡◌, []};
+
+use sim_base::message::Message;
+use std::alloc::Global;
+
+/// Lists that each phase reuses together with their room: what arrives at a unit, and what is sent.
+#[derive(Drop)]
+pub struct Mail {
+    pub inbox: Vec<Message>,
+    pub sent: Vec<Message>,
+}
+
+impl Mail {
+    /// Lists that hold nothing, and have no room.
+    pub fn new(alloc: Global) -> Mail
+        ensures { (result.inbox.items ≡ []) × (result.sent.items ≡ []) }
+    {
+        Mail {
+            inbox: Vec::new(alloc),
+            sent: Vec::new(alloc),
+        }
+    }
+}
