@@ -8,8 +8,8 @@ use statistics::stats::Stats;
 use std::process::Abort;
 use std::test::Fail;
 
-#[test]
-fn joins_stretches_of_a_channel(rt: HostRuntime) {
+// A channel's stretches, joined, and what they are to give. The last is one idle cycle, 16 times.
+fn joined_channel() -> (ChannelStats, ChannelStats) {
     let opening = ChannelStats {
         act: 1,
         queued: 5,
@@ -38,15 +38,11 @@ fn joins_stretches_of_a_channel(rt: HostRuntime) {
         idle: 23,
         ..ChannelStats::new()
     };
-    expect(
-        &rt,
-        &opening.joined(serving).joined(idling.times(16)),
-        &whole,
-    );
+    (opening.joined(serving).joined(idling.times(16)), whole)
 }
 
-#[test]
-fn adds_cycles_and_commands(rt: HostRuntime) {
+// A channel's statistics after some cycles and commands, and what they are to be.
+fn added_channel() -> (ChannelStats, ChannelStats) {
     let mut run = ChannelStats {
         draining: Some(1),
         ..ChannelStats::new()
@@ -67,11 +63,11 @@ fn adds_cycles_and_commands(rt: HostRuntime) {
         draining: Some(4),
         ..ChannelStats::new()
     };
-    expect(&rt, &run, &whole);
+    (run, whole)
 }
 
-#[test]
-fn joins_stretches_of_a_core(rt: HostRuntime) {
+// A core's stretches, joined, and what they are to give. The last is one cycle, 15 times.
+fn joined_core() -> (CoreStats, CoreStats) {
     let first = CoreStats {
         issued: 2,
         retired: 1,
@@ -107,7 +103,19 @@ fn joins_stretches_of_a_core(rt: HostRuntime) {
         finish: Some(20),
         ..CoreStats::new()
     };
-    expect(&rt, &first.joined(second).joined(ended.times(15)), &whole);
+    (first.joined(second).joined(ended.times(15)), whole)
+}
+
+#[test]
+fn counts_of_stretches(rt: HostRuntime) {
+    let (joined, wanted_joined) = joined_channel();
+    let (added, wanted_added) = added_channel();
+    let (core, wanted_core) = joined_core();
+    expect(
+        &rt,
+        &(joined, added, core),
+        &(wanted_joined, wanted_added, wanted_core),
+    );
 }
 
 fn assert_parts(rt: &impl Abort, stats: &Stats, cores: &[CoreStats], channels: &[ChannelStats]) {

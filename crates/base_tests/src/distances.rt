@@ -64,15 +64,8 @@ static BETWEEN_RANKS: [Case; 4] = [
     (Kind::Act, Kind::Act, Relation::OtherRank, None),
 ];
 
-#[test]
-fn distances_of_commands(rt: HostRuntime) -> Result<(), Fail> {
-    assert_distances(&rt, rt.alloc(), &[], &IN_A_RANK)?;
-    assert_distances(&rt, rt.alloc(), &[TWO_RANKS], &BETWEEN_RANKS)?;
-    Ok(())
-}
-
-#[test]
-fn precharge_of_a_rank_speaks_of_each_bank(rt: HostRuntime) {
+// A precharge of a whole rank speaks of each of its banks.
+fn assert_rank_precharged(rt: &impl Abort) {
     let source = Source { core: 0, entry: 0 };
     let bank = BankId {
         rank: 0,
@@ -87,8 +80,16 @@ fn precharge_of_a_rank_speaks_of_each_bank(rt: HostRuntime) {
     let own = relation(act, Command::Prea { rank: 0 });
     let other = relation(act, Command::Prea { rank: 1 });
     expect(
-        &rt,
+        rt,
         &(own, other),
         &(Relation::SameBank, Relation::OtherRank),
     );
+}
+
+#[test]
+fn distances_of_commands(rt: HostRuntime) -> Result<(), Fail> {
+    assert_distances(&rt, rt.alloc(), &[], &IN_A_RANK)?;
+    assert_distances(&rt, rt.alloc(), &[TWO_RANKS], &BETWEEN_RANKS)?;
+    assert_rank_precharged(&rt);
+    Ok(())
 }

@@ -3,7 +3,6 @@
 use crate::expect::expect;
 use sim_base::fault::{Fault, LineCause, MergeFault};
 use sim_base::key::Key;
-use sim_base::message::Unit;
 use std::alloc::{AllocError, Global};
 use std::process::Abort;
 use std::test::Fail;
@@ -64,10 +63,7 @@ static FAULTS: [(Fault, &str); 22] = [
     (Fault::Read, "fault 13: read"),
     (Fault::CommandLine, "fault 14: command line"),
     (Fault::CheckRow(7), "fault 15: check row 7"),
-    (
-        Fault::Merge(MergeFault::Missing(Unit::Core(1))),
-        "fault 16: merge 1",
-    ),
+    (Fault::Merge(MergeFault::Missing(1)), "fault 16: merge 1"),
     (Fault::Merge(MergeFault::Double(1)), "fault 16: merge 2"),
     (Fault::Merge(MergeFault::Stranger(1)), "fault 16: merge 3"),
     (Fault::Merge(MergeFault::Memory), "fault 16: merge 4"),

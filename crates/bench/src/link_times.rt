@@ -18,7 +18,7 @@ const MANY: u64 = 3_473;
 /// Prints the time of a call of each kind.
 fn show_times(rt: &impl Print, times: Times) -> Result<()> {
     show_share(rt, times.accept, times.arrived, "ns a message, accept")?;
-    show_share(rt, times.take_due, UNITS * MANY, "ns a call, take_due")?;
+    show_share(rt, times.take_due, UNITS * MANY, "ns a call, take_due_into")?;
     show_share(rt, times.next_arrival, MANY, "ns a call, next_arrival")?;
     show_share(
         rt,

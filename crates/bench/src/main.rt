@@ -2,15 +2,10 @@
 //! took; otherwise it does little, and what it prints does not depend on the machine.
 #![tactic(auto)]
 
-mod channel_times;
 mod clock;
-mod core_times;
-mod lane_times;
 mod link_times;
-mod machines;
 mod trace_times;
 
-use crate::channel_times::machine::{LONG_QUEUE, SHORT_QUEUE};
 use crate::clock::Effort;
 use anyhow::Result;
 use std::alloc::Global;
@@ -20,11 +15,8 @@ use std::rt::{Clock, Files};
 use std::thread::Threads;
 
 const USAGE: &str = "\
-usage: bench lanes [time]
-       bench trace FILE [time]
+usage: bench trace FILE [time]
        bench links [time]
-       bench core [time|span]
-       bench channel [time|short|long]
        bench all FILE";
 
 /// The status where the words name no measurement.
@@ -33,34 +25,19 @@ const UNKNOWN_WORDS: u8 = 2;
 /// What is measured.
 #[derive(Clone, Copy)]
 enum Measurement {
-    Lanes(Effort),
     /// Of a file.
     Trace(Effort),
     Links(Effort),
-    /// Over this number of lines.
-    Core(u64),
-    Channel(Effort),
-    ChannelShort,
-    ChannelLong,
     /// A little of each.
     All,
 }
 
 /// Of each measurement its word, the word that asks for much, or none, and what it is.
-static MEASUREMENTS: [(&'static str, &'static str, Measurement); 13] = [
-    ("lanes", "", Measurement::Lanes(Effort::Little)),
-    ("lanes", "time", Measurement::Lanes(Effort::Timed)),
+static MEASUREMENTS: [(&'static str, &'static str, Measurement); 4] = [
     ("trace", "", Measurement::Trace(Effort::Little)),
     ("trace", "time", Measurement::Trace(Effort::Timed)),
     ("links", "", Measurement::Links(Effort::Little)),
     ("links", "time", Measurement::Links(Effort::Timed)),
-    ("core", "", Measurement::Core(core_times::FEW)),
-    ("core", "time", Measurement::Core(core_times::MANY)),
-    ("core", "span", Measurement::Core(core_times::MOST)),
-    ("channel", "", Measurement::Channel(Effort::Little)),
-    ("channel", "time", Measurement::Channel(Effort::Timed)),
-    ("channel", "short", Measurement::ChannelShort),
-    ("channel", "long", Measurement::ChannelLong),
 ];
 
 /// The word at a place, empty where there are fewer.
@@ -90,11 +67,8 @@ fn show_all<R: Alloc + Clock + Files + Print + Threads + Sync>(
     alloc: Global,
     path: &str,
 ) -> Result<()> {
-    lane_times::show(rt, Effort::Little)?;
     trace_times::show(rt, alloc, path, Effort::Little)?;
-    link_times::show(rt, alloc, Effort::Little)?;
-    core_times::show(rt, alloc, core_times::FEW)?;
-    channel_times::show_each(rt, alloc, Effort::Little)
+    link_times::show(rt, alloc, Effort::Little)
 }
 
 fn measure<R: Alloc + Clock + Files + Print + Threads + Sync>(
@@ -104,13 +78,8 @@ fn measure<R: Alloc + Clock + Files + Print + Threads + Sync>(
     path: &str,
 ) -> Result<()> {
     match measurement {
-        Measurement::Lanes(effort) => lane_times::show(rt, effort),
         Measurement::Trace(effort) => trace_times::show(rt, alloc, path, effort),
         Measurement::Links(effort) => link_times::show(rt, alloc, effort),
-        Measurement::Core(lines) => core_times::show(rt, alloc, lines),
-        Measurement::Channel(effort) => channel_times::show_each(rt, alloc, effort),
-        Measurement::ChannelShort => channel_times::show(rt, alloc, &SHORT_QUEUE, Effort::Timed),
-        Measurement::ChannelLong => channel_times::show(rt, alloc, &LONG_QUEUE, Effort::Timed),
         Measurement::All => show_all(rt, alloc, path),
     }
 }

@@ -24,7 +24,7 @@ use Rattle.sim_base.specs.declared.message.Request.{Request}
 use Rattle.statistics.proofs.ChannelSteps.{issued_now, issued_commands-push}
 use Rattle.channel_step.specs.Past.{requests_of, IsOther, Differ}
 use Rattle.channel_step.specs.Channels.{StandsFor}
-use Rattle.channel_step.specs.Runs.{CanRun, StandsAt}
+use Rattle.channel_step.specs.Runs.{CanRun}
 use Rattle.channel_feed.specs.Done.{IsDone}
 use Rattle.channel_step.specs.declared.channel.Channel.{Channel}
 use Rattle.channel_feed.specs.declared.done.ChannelDone.{ChannelDone}
@@ -269,10 +269,6 @@ pub kept-can_run : (c : Channel) (s : Config) (number now : ℕ) (firsts : List 
     → IsFit s number (channel_steps_of now commands) mail inbox now until → CanRun c inbox now until
 kept-can_run c s number now firsts commands mail inbox until h f =
     record { s = s; channel = number; steps = channel_steps_of now commands; mail = mail; stands = h.stands; at = length-channel_steps_of now commands; fit = f }
-
-pub kept-stands_at : (c : Channel) (s : Config) (number now : ℕ) (firsts : List ℕ) (commands : List IssuedCommand) (mail : List Message) → IsKept c s number now firsts commands mail → StandsAt c now
-kept-stands_at c s number now firsts commands mail h =
-    record { s = s; channel = number; steps = channel_steps_of now commands; mail = mail; stands = h.stands; at = length-channel_steps_of now commands }
 
 -- the test of the room
 pub room-test : (waits inbox room : ℕ) → waits ≤ room → leb inbox (room - waits) ≡ leb (waits + inbox) room

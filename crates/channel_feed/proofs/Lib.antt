@@ -3,4 +3,3 @@ pub mod Comes
 pub mod Replaying
 pub mod Keeping
 pub mod Feeding
-pub mod Skipping

@@ -4,7 +4,6 @@
 --     has_room fed inbox, fits fed inbox until      there is room for messages; they and a span fit it
 --     IsAskedMore old new inbox      what messages ask for is asked for
 --     MayRun fed inbox until      messages are fit for a span, and asked for
---     MaySkipTo fed until      it may move on to a cycle
 --     IsOfPast fed s channel steps mail      it is that channel, with that past
 --     IsFedDone s channel from steps mail inbox until done      what comes back from a run
 --     IsReplayed fed done      what comes back from a run over all cycles so far
@@ -19,7 +18,7 @@ use Rattle.sim_base.specs.declared.message.Message.{Message}
 use Rattle.sim_base.specs.declared.message.Request.{Request}
 use Rattle.channel_step.specs.Channels.{StandsFor}
 use Rattle.channel_feed.specs.declared.done.ChannelDone.{ChannelDone}
-use Rattle.channel_step.specs.Fit.{queue_room, IsFit, IsIdle}
+use Rattle.channel_step.specs.Fit.{queue_room, IsFit}
 use Rattle.channel_step.specs.Past.{requests_of}
 use Rattle.channel_feed.specs.Done.{IsDone}
 use Rattle.channel_feed.specs.Fits.{may_come_all, firsts_after_all}
@@ -67,13 +66,6 @@ pub record MayRun (fed : FedChannel) (inbox : List Message) (until : ℕ) : Type
   pub asked : Each (IsAsked fed.firsts.items) (requests_of inbox)
   pub from_now : fed.cycle ≤ until
   pub in_time : until ≤ 2 ^ 62
-
--- It may move on to a cycle without looking at those before it: it stands there or before it, and issues nothing until then, if
--- nothing arrives.
-pub record MaySkipTo (fed : FedChannel) (until : ℕ) : Type 0 where
-  pub from_now : fed.cycle ≤ until
-  pub in_time : until ≤ 2 ^ 62
-  pub idle : IsIdle fed.config fed.number (steps_fed fed) (mail_fed fed) (until - fed.cycle)
 
 -- it is the channel with this number, of a machine with this configuration, with this past
 pub record IsOfPast (fed : FedChannel) (s : Config) (channel : ℕ) (steps : List (Option Command)) (mail : List Message) : Type 0 where

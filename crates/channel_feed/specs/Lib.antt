@@ -2,5 +2,4 @@ pub mod Done
 pub mod Rows
 pub mod Fits
 pub mod Kept
-pub mod Skips
 pub mod Fed

@@ -2,7 +2,6 @@
 
 ghost use Rattle.std.specs.Prelude.{◌≡◌};
 ghost use Rattle.channel_step.specs.Fit.{queue_room};
-ghost use Rattle.channel_feed.specs.Skips.{may_skip};
 ghost use Rattle.channel_feed.specs.Kept.{IsKept, IsKept-prop};
 
 use crate::done::{ChannelDone, run_alone};
@@ -19,7 +18,7 @@ use std::alloc::{AllocError, Global};
 const LAST_CYCLE: Cycle = 1 << 62;
 
 /// A channel with what the test of its messages needs. It keeps all commands and messages of its past, so that it is for tests
-/// and benchmarks alone.
+/// alone.
 #[derive(Drop)]
 pub struct FedChannel {
     channel: Channel,
@@ -42,12 +41,10 @@ pub struct FedChannelDone {
 }
 
 impl FedChannel {
-    ghost use Rattle.std.specs.Prelude.{◌≡◌, ◌+◌, ◌-◌, ◌<◌, ◌≤◌, ◌↔◌, ◌++◌, [], false, None, is_some, replicate, IfOk, IfErr, IsOk, IfSome};
-    ghost use Rattle.sim_base.specs.Scheduling.{choice};
-    ghost use Rattle.fr_fcfs.specs.Cycles.{IsFirstCycle};
+    ghost use Rattle.std.specs.Prelude.{◌≡◌, ◌↔◌, Err, [], false, is_some, IfOk, IfSome};
     ghost use Rattle.statistics.specs.Channels.{channel_stats};
     ghost use Rattle.channel_feed.specs.declared.fault.FeedFault.TheVariants.{Unfit};
-    ghost use Rattle.channel_feed.specs.Fed.{steps_fed, mail_fed, has_room, fits, IsAskedMore, MayRun, MaySkipTo, IsOfPast, IsFedDone, IsReplayed};
+    ghost use Rattle.channel_feed.specs.Fed.{steps_fed, mail_fed, has_room, fits, IsAskedMore, MayRun, IsOfPast, IsFedDone, IsReplayed};
 
     /// The channel with a number, of a machine with this configuration, before the first cycle. Where the machine has no such
     /// channel, no message fits it. The only error is out of memory.
@@ -89,46 +86,6 @@ impl FedChannel {
         ensures { result ≡ channel_stats self.now.config self.now.number (steps_fed self.now) (mail_fed self.now) }
     {
         self.channel.stats()
-    }
-
-    /// The first cycle from now on in which the channel issues a command, if nothing arrives; None where there is none.
-    pub fn next_act(&mut self) -> Option<Cycle>
-        ensures same { self.new ≡ self.old }
-        ensures first { IsFirstCycle (λ cycle. is_some (choice self.old.config self.old.number (steps_fed self.old ++ replicate (cycle - self.old.cycle) None) (mail_fed self.old))) self.old.cycle result }
-    {
-        self.channel.next_act(self.cycle)
-    }
-
-    /// Moves the channel on to the cycle `until`, without looking at the cycles before it. It is `Unfit`, and the channel is gone,
-    /// where the channel already stands after that cycle or issues a command before it, or the cycle is above 2^62.
-    pub fn skip(self, until: Cycle) -> Result<FedChannel, FeedFault>
-        ensures done { IfOk result (λ fed. IsOfPast fed self.config self.number (steps_fed self ++ replicate (until - self.cycle) None) (mail_fed self)) }
-        ensures fits { IsOk result ↔ MaySkipTo self until }
-        ensures unfit { IfErr result (λ e. e ≡ Unfit) }
-    {
-        let FedChannel {
-            mut channel,
-            config,
-            number,
-            cycle,
-            firsts,
-            commands,
-            mail,
-        } = self;
-        let next = channel.next_act(cycle);
-        if !may_skip(next, cycle, until) {
-            return Err(FeedFault::Unfit);
-        }
-        channel.skip(until);
-        Ok(FedChannel {
-            channel,
-            config,
-            number,
-            cycle: until,
-            firsts,
-            commands,
-            mail,
-        })
     }
 
     /// Whether there is room for these messages besides the requests that wait.
@@ -245,15 +202,4 @@ fn queue_room(config: &Config) -> usize
 {
     let credits = config.read_credits as usize + config.write_credits as usize;
     usize::from(config.cores) * credits
-}
-
-/// Whether a channel that issues its next command in this cycle, if it ever does, may skip the cycles from one on to another.
-fn may_skip(next: Option<Cycle>, from: Cycle, until: Cycle) -> bool
-    ensures { result ≡ may_skip next from until }
-{
-    let is_idle = match next {
-        Some(next) => until <= next,
-        None => true,
-    };
-    from <= until && until <= LAST_CYCLE && is_idle
 }

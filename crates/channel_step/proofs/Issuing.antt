@@ -307,10 +307,6 @@ seen-counted c s channel steps mail now seen o hit h at e =
     ∙ ap₂ (λ x y. channel_joined c.stats (cycle_with_hit c.config (length c.marked_queue.queue.requests) x y o hit)) refreshing (drain_decided-drains c s channel steps mail h)
     ∙ ap (λ x. channel_joined c.stats (cycle_with_hit x (length c.marked_queue.queue.requests) (is_some (lowest_due s history (length steps))) c.marked_queue.queue.drain_decided o hit)) h.made_for.config_is
 
--- the same channel
-pub cycle-same : (c d : Channel) (s : Config) (channel : ℕ) (steps : List (Option Command)) (mail : List Message) → c ≡ d → IsInCycle d s channel steps mail → IsInCycle c s channel steps mail
-cycle-same c d s channel steps mail e h = subst (λ x. IsInCycle x s channel steps mail) (sym e) h
-
 -- whether the data that it moves is a row hit
 pub leaves-hit : (c : Channel) (s : Config) (channel : ℕ) (steps : List (Option Command)) (mail : List Message) (chosen : Choice) → IsInCycle c s channel steps mail
     → IsFor c.marked_queue.queue.requests chosen → moves_hit (issued_commands channel steps) (Some chosen.command) ≡ moves_unmarked c.marked_queue chosen.slot

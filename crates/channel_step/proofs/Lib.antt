@@ -17,6 +17,5 @@ pub mod Dues
 pub mod Entries
 pub mod Skipping
 pub mod Going
-pub mod Alone
 pub mod Draining
 pub mod Links

@@ -3,10 +3,9 @@ use Rattle.std.proofs.Common.{◌≡◌, ℕ, zero, suc, ◌+◌, ◌≤◌, Boo
 use Rattle.std.specs.Prelude.{count_by}
 use Rattle.std.proofs.Math.Seq.{take-length}
 use Rattle.std.proofs.lemmas.List.{append_assoc}
-use Rattle.sim_base.proofs.Added.{channel_messages-push}
 use Rattle.sim_base.proofs.Same.{AgreeUpTo, sooner, choice-same}
 use Rattle.sim_base.specs.declared.config.Config.{Config}
-use Rattle.sim_base.specs.History.{issued_commands, messages_at, channel_messages}
+use Rattle.sim_base.specs.History.{issued_commands}
 use Rattle.sim_base.specs.Machine.{channel_run}
 use Rattle.sim_base.specs.Scheduling.{queued_requests, queue_in, writes_in, drains_with, drains_before, drains, candidates, lowest_due, choice_between, choice}
 use Rattle.sim_base.specs.declared.command.Command.{Command}
@@ -110,8 +109,3 @@ pub issued-after : (channel : ℕ) (steps : List (Option Command)) (o : Option C
     → issued_commands channel steps ≡ old ++ new → issued_commands channel (steps ++ o ∷ []) ≡ old ++ (new ++ issued_now channel (length steps) o)
 issued-after channel steps o old new e =
     issued_commands-push channel steps o ∙ ap (λ x. x ++ issued_now channel (length steps) o) e ∙ append_assoc old new (issued_now channel (length steps) o)
-
-pub messages-after : (s : Config) (channel : ℕ) (steps : List (Option Command)) (o : Option Command) (old new : List Message)
-    → channel_messages s channel steps ≡ old ++ new → channel_messages s channel (steps ++ o ∷ []) ≡ old ++ (new ++ messages_at s channel (length steps) o)
-messages-after s channel steps o old new e =
-    channel_messages-push s channel steps o ∙ ap (λ x. x ++ messages_at s channel (length steps) o) e ∙ append_assoc old new (messages_at s channel (length steps) o)

@@ -4,7 +4,6 @@ use Rattle.std.specs.Prelude.{count_by, take_while}
 use Rattle.std.specs.List.{All, AllByRecursion as Each, cons_option}
 use Rattle.std.proofs.lemmas.List.{append_assoc, take-append-drop, length-append, take_at}
 use Rattle.std.proofs.lemmas.List.Folds.{length-prefix_len}
-use Rattle.std.proofs.lemmas.List.Sums.{prefix_len-le-length}
 use Rattle.sim_base.proofs.Same.{queue-same}
 use Rattle.sim_base.specs.declared.config.Config.{Config}
 use Rattle.sim_base.specs.Counts.{queue_length}
@@ -37,9 +36,6 @@ use Rattle.channel_step.proofs.Fits.{due_count, fit-arrives, fit-later}
 
 pub due_count-is : (inbox : List Message) (now : ℕ) → length (take_while (λ (m : Message). eqb m.arrival now) inbox) ≡ due_count inbox now
 due_count-is inbox now = length-prefix_len (λ (m : Message). eqb m.arrival now) inbox
-
-pub due_count-le : (inbox : List Message) (now : ℕ) → due_count inbox now ≤ length inbox
-due_count-le inbox now = prefix_len-le-length (λ (m : Message). eqb m.arrival now) inbox
 
 -- each message has its request
 pub length-requests : (s : Config) (channel : ℕ) (mail : List Message) → Each (CarriesRequest s channel) mail → length (requests_of mail) ≡ length mail

@@ -7,7 +7,6 @@
 --     CanRun c inbox from until      a channel stands for a past after which messages are fit for a span
 --     CanStep c inbox now      they are fit for a span that begins with this cycle
 --     StandsAt c from      a channel stands for some past at a cycle
---     CanSkip c until      it stands for some past, and is idle before a cycle
 use Rattle.std.specs.Prelude.{◌≡◌, ℕ, ◌-◌, ◌<◌, ◌≤◌, List, [], ◌∷◌, ◌++◌, length, take, drop, Option}
 use Rattle.std.specs.List.{cons_option}
 use Rattle.sim_base.specs.declared.config.Config.{Config}
@@ -16,7 +15,7 @@ use Rattle.sim_base.specs.Machine.{channel_run}
 use Rattle.sim_base.specs.declared.command.Command.{Command}
 use Rattle.sim_base.specs.declared.command.IssuedCommand.{IssuedCommand}
 use Rattle.sim_base.specs.declared.message.Message.{Message}
-use Rattle.channel_step.specs.Fit.{IsFit, IsIdle}
+use Rattle.channel_step.specs.Fit.{IsFit}
 use Rattle.channel_step.specs.Channels.{StandsFor}
 use Rattle.channel_step.specs.declared.channel.Channel.{Channel}
 
@@ -82,14 +81,3 @@ pub record StandsAt (c : Channel) (from : ℕ) : Type 0 where
   pub mail : List Message
   pub stands : StandsFor c s channel steps mail
   pub at : length steps ≡ from
-
--- A channel stands for a past that ends before this cycle or with it, and issues nothing in the cycles between, if nothing
--- arrives in them.
-pub record CanSkip (c : Channel) (until : ℕ) : Type 0 where
-  pub s : Config
-  pub channel : ℕ
-  pub steps : List (Option Command)
-  pub mail : List Message
-  pub stands : StandsFor c s channel steps mail
-  pub not_past : length steps ≤ until
-  pub idle : IsIdle s channel steps mail (until - length steps)

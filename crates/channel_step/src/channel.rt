@@ -20,8 +20,8 @@ ghost use Rattle.statistics.specs.Channels.{channel_stats, channel_joined, Chann
 ghost use Rattle.channel_step.specs.Counted.{cycle_with_hit};
 ghost use Rattle.channel_step.specs.declared.ahead.Ahead.TheVariants.{Unknown, Known};
 ghost use Rattle.channel_step.specs.Channels.{CandidatesStand, StandsFor, IsAhead, IsFound, HasRank, HasBank, IsInCycle, IsInSomeCycle, IsChosen, IsNextBefore, CountsDrains, seen_of, passed};
-ghost use Rattle.channel_step.specs.Fit.{queue_room, IsFit, IsIdle};
-ghost use Rattle.channel_step.specs.Runs.{CanStep, CanRun, CanSkip, HasAdvanced, IsDone, StandsAt, first_arrival};
+ghost use Rattle.channel_step.specs.Fit.{queue_room, IsFit};
+ghost use Rattle.channel_step.specs.Runs.{CanStep, CanRun, HasAdvanced, IsDone, StandsAt, first_arrival};
 
 use crate::ahead::Ahead;
 use crate::counting::{Seen, drained};
@@ -299,21 +299,6 @@ impl Channel {
         }
         if due < until {
             self.pass(true, until);
-        }
-    }
-
-    /// Moves on to the cycle `until`, at most 2^62, where nothing arrives and nothing is issued before that. A channel that stands
-    /// there already is left as it is. It takes no memory, and no more time than one cycle, however many are skipped.
-    pub fn skip(&mut self, until: Cycle)
-        requires idle { CanSkip self.old until }
-        requires until { until ≤ 2 ^ 62 }
-        ensures { (s : Config) (channel : ℕ) (steps : List (Option Command)) (mail : List Message)
-            → StandsFor self.old s channel steps mail → IsIdle s channel steps mail (until - length steps)
-            → StandsFor self.new s channel (steps ++ replicate (until - length steps) None) mail }
-    {
-        if self.cycle < until {
-            self.decide_drain();
-            self.wait(until);
         }
     }
 

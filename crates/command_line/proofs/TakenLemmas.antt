@@ -99,8 +99,8 @@ run_gives : (words : List Text) → level_passes run_leaf [] nothing_held words 
 run_gives words pass =
     let rules = run_leaf.rules in
     let rows = rows_after rules [] words in
-    let fit : AreFit rules = ((refl, refl), ((refl, refl), ((refl, refl), ((refl, refl), ((refl, refl), ((refl, refl), tt)))))) in
-    let level = level-gives run_leaf words fit (refl, (refl, (refl, (refl, (refl, (refl, tt)))))) pass in
+    let fit : AreFit rules = ((refl, refl), ((refl, refl), ((refl, refl), ((refl, refl), ((refl, refl), ((refl, refl), ((refl, refl), tt))))))) in
+    let level = level-gives run_leaf words fit (refl, (refl, (refl, (refl, (refl, (refl, (refl, tt))))))) pass in
     let needs : (is_given (codes "config") rows && (is_given (codes "cycles") rows && (is_given (codes "workers") rows
     && (is_given (codes "out") rows && (is_given (codes "trace") rows && true))))) ≡ true = level.1 in
     let from_cycles = both _ _ (both _ _ needs).1 in

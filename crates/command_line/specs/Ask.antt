@@ -5,7 +5,7 @@
 --     IsCallForHelp words, IsCallForVersion words      they call for help, or for the version
 --     IsAskedBy words ask      they ask for this
 --     GivesAll command      each argument that the command needs is there
---     HasBadAddress command      a `map` of something that is not a number
+--     HasBadWord command      a `map` of something that is not a number, or a `run` whose `--share` is no word that it knows
 --     IsAnswerTo words result      an answer to words that the command line takes
 use Rattle.std.specs.Prelude.{◌≡◌, ◌≢◌, ◌⊎◌, ℕ, ◌<◌, ◌^◌, ⊤, Bool, true, false, List, [], ◌∷◌, map, codes, Option, Some, None, Result, Ok, Err, IsSome, IsErr}
 use Rattle.std.specs.Str.Parse.{IsNumeral, digits_value, without_leading_plus}
@@ -18,6 +18,8 @@ use Rattle.command_line.specs.CommandLine.{program_app}
 use Rattle.sim_base.specs.TraceText.{number_of}
 use Rattle.command_line.specs.declared.words.Ask.{Ask}
 use Rattle.command_line.specs.declared.words.Ask.TheVariants.{Run, Check, Map, Show, Page, Help, Version}
+use Rattle.command_line.specs.declared.words.Share.{Share}
+use Rattle.command_line.specs.declared.words.Share.TheVariants.{Auto, Always}
 
 -- the command line takes the words
 unfoldable pub is_taken : List Text → Bool
@@ -54,6 +56,12 @@ abbrev pub IsAddress : Option Text → ℕ → Type 0
 IsAddress None n = ⊥
 IsAddress (Some text) n = number_of text ≡ Ok n
 
+-- when workers share a machine out, as the word of `--share` says; without it `Auto`
+abbrev pub IsShare : Option Text → Share → Type 0
+IsShare None share = share ≡ Auto
+IsShare (Some word) Auto = word ≡ codes "auto"
+IsShare (Some word) Always = word ≡ codes "always"
+
 -- whether a flag is set, as its text says
 pub record IsFlag (o : Option Text) (set : Bool) : Type 0 where
   pub none : o ≡ None → set ≡ false
@@ -61,10 +69,11 @@ pub record IsFlag (o : Option Text) (set : Bool) : Type 0 where
   pub unset_by : o ≡ Some (codes "false") → set ≡ false
 
 -- a run with these values
-pub record IsRun (rows : List Row) (config : Text) (cycles workers : ℕ) (out : Text) (traces : List Text) : Type 0 where
+pub record IsRun (rows : List Row) (config : Text) (cycles workers : ℕ) (share : Share) (out : Text) (traces : List Text) : Type 0 where
   pub config_is : first_of (codes "config") rows ≡ Some config
   pub cycles_is : IsCount (one_of (codes "cycles") rows) cycles
   pub workers_is : IsCount (one_of (codes "workers") rows) workers
+  pub share_is : IsShare (first_of (codes "share") rows) share
   pub out_is : first_of (codes "out") rows ≡ Some out
   pub traces_is : all_of (codes "trace") rows ≡ Some traces
 
@@ -92,8 +101,8 @@ pub record IsPage (rows : List Row) (dir file : Text) (from cycles : ℕ) : Type
 
 -- the command of this name, with these rows, is what is asked for
 abbrev pub IsCommand : Text → List Row → Ask → Type 0
-IsCommand name rows (Run config cycles workers out traces) =
-    (name ≡ codes "run") × IsRun rows config.now cycles workers out.now (map (λ t. t.now) traces.items)
+IsCommand name rows (Run config cycles workers share out traces) =
+    (name ≡ codes "run") × IsRun rows config.now cycles workers share out.now (map (λ t. t.now) traces.items)
 IsCommand name rows (Check config commands) = (name ≡ codes "check") × IsCheck rows config.now commands.now
 IsCommand name rows (Map config address) = (name ≡ codes "map") × IsMap rows config.now address
 IsCommand name rows (Show dir all) = (name ≡ codes "show") × IsShow rows dir.now all
@@ -153,7 +162,7 @@ abbrev pub IsNoneOrCount : Option Text → Type 0
 IsNoneOrCount None = ⊤
 IsNoneOrCount (Some text) = IsCountText (Some text)
 
--- each argument of a run is there
+-- each argument that a run needs is there
 pub record GivesRun (rows : List Row) : Type 0 where
   pub config : IsSome (first_of (codes "config") rows)
   pub cycles : IsCountText (one_of (codes "cycles") rows)
@@ -187,10 +196,17 @@ abbrev pub IsNoAddress : Option Text → Type 0
 IsNoAddress None = ⊥
 IsNoAddress (Some text) = IsErr (number_of text)
 
--- the command is a `map` of something that is not a number
-abbrev pub HasBadAddress : Option (Text × List Row) → Type 0
-HasBadAddress None = ⊥
-HasBadAddress (Some command) = (command.0 ≡ codes "map") × IsNoAddress (first_of (codes "address") command.1)
+-- the word of `--share` is there, and says nothing
+abbrev pub IsNoShare : Option Text → Type 0
+IsNoShare None = ⊥
+IsNoShare (Some word) = (word ≢ codes "auto") × (word ≢ codes "always")
+
+-- the command is a `map` of something that is not a number, or a `run` whose `--share` is no word that it knows
+abbrev pub HasBadWord : Option (Text × List Row) → Type 0
+HasBadWord None = ⊥
+HasBadWord (Some command) =
+    ((command.0 ≡ codes "map") × IsNoAddress (first_of (codes "address") command.1))
+    ⊎ ((command.0 ≡ codes "run") × IsNoShare (first_of (codes "share") command.1))
 
 -- each argument that the command needs is there
 abbrev pub GivesAll : Option (Text × List Row) → Type 0
@@ -200,10 +216,10 @@ GivesAll (Some command) =
     ⊎ ((command.0 ≡ codes "map") × GivesMap command.1) ⊎ ((command.0 ≡ codes "show") × GivesShow command.1)
     ⊎ ((command.0 ≡ codes "page") × GivesPage command.1)
 
--- why a command is refused that has each argument: out of memory, or an address that is no number
+-- why a command is refused that has each argument: out of memory, or a word that means nothing
 abbrev pub IsCommandFault : Option (Text × List Row) → Fault → Type 0
 IsCommandFault command Memory = ⊤
-IsCommandFault command CommandLine = HasBadAddress command
+IsCommandFault command CommandLine = HasBadWord command
 IsCommandFault command _ = ⊥
 
 -- an answer to words that the command line takes: a command, or the refusal of one that has each argument

@@ -1,5 +1,5 @@
 -- The command line, as `clap` sees it.
---     text_rule id, texts_rule id, option_rule id, number_rule id, count_rule id, flag_rule id      one argument
+--     text_rule id, texts_rule id, option_rule id, number_rule id, word_rule id, count_rule id, flag_rule id      one argument
 --     run_app, check_app, map_app, show_app, page_app      one command
 --     program_app      the whole
 use Rattle.std.specs.Prelude.{true, codes, Some, List, [], ◌∷◌, fold}
@@ -23,9 +23,13 @@ option_rule id = record (text_rule id) { long = Some id }
 abbrev pub number_rule : Text → Rule
 number_rule id = record (option_rule id) { parser = Some (Unsigned 0 18446744073709551615) }
 
+-- an option that takes a word and may be left out
+abbrev pub word_rule : Text → Rule
+word_rule id = record (new_rule id) { long = Some id; value_names = 1 }
+
 -- an option that takes a number of 64 bits and may be left out
 abbrev pub count_rule : Text → Rule
-count_rule id = record (new_rule id) { long = Some id; value_names = 1; parser = Some (Unsigned 0 18446744073709551615) }
+count_rule id = record (word_rule id) { parser = Some (Unsigned 0 18446744073709551615) }
 
 -- an option that takes nothing
 abbrev pub flag_rule : Text → Rule
@@ -39,11 +43,11 @@ config_rule = text_rule (codes "config")
 abbrev pub command_app : Text → List Rule → App
 command_app name rules = fold with_rule (new_app name) rules
 
--- `run CONFIG --cycles N --workers N --out DIR TRACE...`
+-- `run CONFIG --cycles N --workers N [--share WHEN] --out DIR TRACE...`
 abbrev pub run_app : App
 run_app = command_app (codes "run") (
-    config_rule ∷ number_rule (codes "cycles") ∷ number_rule (codes "workers") ∷ option_rule (codes "out")
-    ∷ texts_rule (codes "trace") ∷ [])
+    config_rule ∷ number_rule (codes "cycles") ∷ number_rule (codes "workers") ∷ word_rule (codes "share")
+    ∷ option_rule (codes "out") ∷ texts_rule (codes "trace") ∷ [])
 
 -- `check CONFIG COMMANDS`
 abbrev pub check_app : App

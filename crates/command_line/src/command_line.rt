@@ -2,7 +2,7 @@
 
 ghost use Rattle.std.specs.Prelude.{◌≡◌, IfOk, false};
 ghost use Rattle.clap.specs.Words.{app_of, new_app, rule_of};
-ghost use Rattle.command_line.specs.CommandLine.{text_rule, config_rule, option_rule, number_rule, count_rule, texts_rule, flag_rule, run_app, check_app, map_app, show_app, page_app, program_app};
+ghost use Rattle.command_line.specs.CommandLine.{text_rule, config_rule, option_rule, number_rule, word_rule, count_rule, texts_rule, flag_rule, run_app, check_app, map_app, show_app, page_app, program_app};
 
 use clap::{Arg, ArgAction, Command, value_parser};
 use std::alloc::{AllocError, Global};
@@ -60,16 +60,20 @@ fn number_arg<'a>(alloc: Global, id: &'a str, name: &'a str, help: &'a str) -> A
     option_arg(alloc, id, name, help).value_parser(value_parser!(u64))
 }
 
+// An option that takes a word and may be left out.
+fn word_arg<'a>(alloc: Global, id: &'a str, name: &'a str, help: &'a str) -> Arg<'a>
+    ensures rule { rule_of result ≡ word_rule id.entry.now }
+    ensures own { result.global ≡ false }
+{
+    Arg::new(alloc, id).long(id).value_name(name).help(help)
+}
+
 // An option that takes a number and may be left out.
 fn count_arg<'a>(alloc: Global, id: &'a str, name: &'a str, help: &'a str) -> Arg<'a>
     ensures rule { rule_of result ≡ count_rule id.entry.now }
     ensures own { result.global ≡ false }
 {
-    Arg::new(alloc, id)
-        .long(id)
-        .value_name(name)
-        .value_parser(value_parser!(u64))
-        .help(help)
+    word_arg(alloc, id, name, help).value_parser(value_parser!(u64))
 }
 
 // An option that takes nothing.
@@ -97,12 +101,18 @@ fn command<'a>(alloc: Global, name: &'a str, about: &'a str, example: &'a str) -
     Command::new(alloc, name).about(about).after_help(example)
 }
 
-// `run CONFIG --cycles N --workers N --out DIR TRACE...`
+// `run CONFIG --cycles N --workers N [--share WHEN] --out DIR TRACE...`
 fn run_command<'a>(alloc: Global) -> Result<Command<'a>, AllocError>
     ensures { IfOk result (λ c. app_of c ≡ run_app) }
 {
     let cycles = number_arg(alloc, "cycles", "N", "How many cycles to simulate, at most");
     let workers = number_arg(alloc, "workers", "N", "How many threads work, 1 to 64");
+    let share = word_arg(
+        alloc,
+        "share",
+        "WHEN",
+        "When they share a machine out, auto or always [default: auto]",
+    );
     let out = option_arg(
         alloc,
         "out",
@@ -119,6 +129,7 @@ fn run_command<'a>(alloc: Global) -> Result<Command<'a>, AllocError>
     .arg(config_arg(alloc))?
     .arg(cycles)?
     .arg(workers)?
+    .arg(share)?
     .arg(out)?
     .arg(traces)
 }

@@ -3,7 +3,7 @@
 ghost use Rattle.std.specs.Prelude.{◌≡◌, ◌⊎◌, true, Some, None, Ok, IfOk, IfErr, IsOk, IsErr, map, codes};
 ghost use Rattle.clap.specs.Words.{all_of, first_of, found_of, kind_of, one_of, rows_of, subcommand_rows_of};
 ghost use Rattle.sim_base.specs.TraceText.{number_of};
-ghost use Rattle.command_line.specs.Ask.{is_taken, IsCallForHelp, IsCallForVersion, IsCount, IsCountText, IsCountOr, IsNoneOrCount, IsFlag, IsNoAddress, IsCommand, IsCommandOf, IsCommandFault, IsShown, IsHelpUnlessMemory, IsVersionUnlessMemory, IsNoHelp, IsAskedBy, IsAnswerTo, IsWordsFault, GivesRun, GivesCheck, GivesMap, GivesShow, GivesPage, GivesAll};
+ghost use Rattle.command_line.specs.Ask.{is_taken, IsCallForHelp, IsCallForVersion, IsCount, IsCountText, IsCountOr, IsNoneOrCount, IsFlag, IsShare, IsNoShare, IsNoAddress, IsCommand, IsCommandOf, IsCommandFault, IsShown, IsHelpUnlessMemory, IsVersionUnlessMemory, IsNoHelp, IsAskedBy, IsAnswerTo, IsWordsFault, GivesRun, GivesCheck, GivesMap, GivesShow, GivesPage, GivesAll};
 
 use crate::command_line::program;
 use clap::error::{Error, ErrorKind};
@@ -13,14 +13,24 @@ use refusal::reason::Reason;
 use sim_base::fault::Fault;
 use std::alloc::{AllocError, Global};
 
+/// When the workers of a run share a machine out.
+#[derive(Clone, Copy, PartialEq, Eq, Debug)]
+pub enum Share {
+    /// Where that is worth its cost.
+    Auto,
+    /// Always, from the first cycle on.
+    Always,
+}
+
 /// What a command line asks for.
 #[derive(Debug, Drop)]
 pub enum Ask<'a> {
-    /// `run CONFIG --cycles N --workers N --out DIR TRACE...`: simulates the traces.
+    /// `run CONFIG --cycles N --workers N [--share auto|always] --out DIR TRACE...`: simulates the traces.
     Run {
         config: &'a str,
         cycles: u64,
         workers: u64,
+        share: Share,
         out: &'a str,
         traces: Vec<&'a str>,
     },
@@ -103,15 +113,39 @@ fn texts_of<'a>(alloc: Global, found: &ArgMatches<'a>, id: &str) -> Result<Vec<&
     }
 }
 
+// When workers share a machine out, by its word.
+fn share_named(word: &str) -> Result<Share, Fault>
+    ensures named { IfOk result (IsShare (Some word.now)) }
+    ensures refused { IfErr result (λ e. (e ≡ Fault.CommandLine) × IsNoShare (Some word.now)) }
+{
+    match word {
+        "auto" => Ok(Share::Auto),
+        "always" => Ok(Share::Always),
+        _ => Err(Fault::CommandLine),
+    }
+}
+
+// When workers share a machine out.
+fn share_of(found: &ArgMatches<'_>) -> Result<Share, Fault>
+    ensures given { IfOk result (IsShare (first_of (codes "share") (rows_of (found_of found.now)))) }
+    ensures refused { IfErr result (λ e. (e ≡ Fault.CommandLine) × IsNoShare (first_of (codes "share") (rows_of (found_of found.now)))) }
+{
+    match found.get_str("share") {
+        Some(word) => share_named(word),
+        None => Ok(Share::Auto),
+    }
+}
+
 fn run_ask<'a>(alloc: Global, found: &ArgMatches<'a>) -> Result<Ask<'a>, Fault>
     ensures asked { IfOk result (IsCommand (codes "run") (rows_of (found_of found.now))) }
-    ensures refused { GivesRun (rows_of (found_of found.now)) → IfErr result (λ e. e ≡ Fault.Memory) }
+    ensures refused { GivesRun (rows_of (found_of found.now)) → IfErr result (λ e. e ≡ Fault.CommandLine → IsNoShare (first_of (codes "share") (rows_of (found_of found.now)))) }
     ensures fault { IfErr result (λ e. IsWordsFault e) }
 {
     Ok(Ask::Run {
         config: text_of(found, "config")?,
         cycles: count_of(found, "cycles")?,
         workers: count_of(found, "workers")?,
+        share: share_of(found)?,
         out: text_of(found, "out")?,
         traces: texts_of(alloc, found, "trace")?,
     })
@@ -190,15 +224,18 @@ fn ask_of<'a>(alloc: Global, matches: &ArgMatches<'a>) -> Result<Ask<'a>, Fault>
     }
 }
 
-// What explains an address that is not a number.
-fn explain_address(alloc: Global, matches: &ArgMatches<'_>) -> Result<String, AllocError> {
-    match matches.subcommand() {
-        Some((_, found)) => match found.get_str("address") {
-            Some(text) => format!(in alloc;
-                "'{text}' is no ADDRESS: a decimal number, or a hexadecimal one after 0x, at most 18446744073709551615\n"
-            ),
-            None => Ok(String::new(alloc)),
-        },
+// What explains a word that means nothing where it stands: an address, or when workers share.
+fn explain_word(alloc: Global, matches: &ArgMatches<'_>) -> Result<String, AllocError> {
+    let Some((_, found)) = matches.subcommand() else {
+        return Ok(String::new(alloc));
+    };
+    if let Some(text) = found.get_str("address") {
+        return format!(in alloc;
+            "'{text}' is no ADDRESS: a decimal number, or a hexadecimal one after 0x, at most 18446744073709551615\n"
+        );
+    }
+    match found.get_str("share") {
+        Some(text) => format!(in alloc; "'{text}' is no WHEN of --share: auto or always\n"),
         None => Ok(String::new(alloc)),
     }
 }
@@ -213,7 +250,7 @@ fn command_of<'a>(alloc: Global, matches: &ArgMatches<'a>) -> Result<Ask<'a>, Re
         Ok(ask) => Ok(ask),
         Err(Fault::CommandLine) => Err(Reason::explained(
             Fault::CommandLine,
-            explain_address(alloc, matches),
+            explain_word(alloc, matches),
         )),
         Err(fault) => Err(Reason::from(fault)),
     }
@@ -236,8 +273,8 @@ fn help_of<'a>(alloc: Global, error: Error) -> Result<Ask<'a>, Reason>
 ///
 /// # Errors
 ///
-/// `Fault::CommandLine` where the words are no command of `Ask`, or the address of a `map` is no number, and
-/// `Fault::Memory`.
+/// `Fault::CommandLine` where the words are no command of `Ask`, the address of a `map` is no number, or the word of `--share` is neither
+/// `auto` nor `always`, and `Fault::Memory`.
 pub fn read_words<'a>(alloc: Global, words: &'a [&'a str]) -> Result<Ask<'a>, Reason>
     ensures asked { IfOk result (IsAskedBy (map (λ w. w.now) words.entry.now)) }
     ensures answered { is_taken (map (λ w. w.now) words.entry.now) ≡ true → IsAnswerTo (map (λ w. w.now) words.entry.now) result }

@@ -1,5 +1,5 @@
 -- A run of Plain entries goes through the window of a core by its width.
-use Rattle.std.proofs.Common.{◌≡◌, ℕ, zero, suc, ◌+◌, ◌-◌, ◌*◌, ◌<◌, ◌≤◌, ◌⊎◌, min, Bool, true, false, ◌&&◌, eqb, ltb, List, [], ◌∷◌, length, None, refl, sym, subst, inl, inr, arith, ⊎_elim}
+use Rattle.std.proofs.Common.{◌≡◌, ℕ, zero, suc, ◌+◌, ◌-◌, ◌*◌, ◌<◌, ◌≤◌, ◌⊎◌, min, Bool, true, false, ◌&&◌, eqb, ltb, List, length, None, refl, sym, subst, inl, inr, arith, ⊎_elim}
 use Rattle.std.specs.Prelude.{slice_get}
 use Rattle.std.proofs.Math.Nat.{mul-le-mul_right, mul-le-mul_left}
 use Rattle.std.proofs.lemmas.Bool.{cases_lt, ne_eqb, eq-eqb}
@@ -27,22 +27,6 @@ more_times k n w l =
     let e : suc k * w ≡ k * w + w = grind arith in
     let h : suc k * w ≤ n * w = mul-le-mul_right w (omega arith) in
     omega arith
-
--- no Read waits, and as many entries wait to retire as may in a cycle
-pub flow-free : (width window issued retired n : ℕ) → retired + width ≤ issued → issued ≤ retired + window → IsFlow width window issued retired [] width n
-flow-free width window issued retired n l room = record { retires = λ k b. omega arith; room = λ k b. omega arith }
-
--- the first Read that waits is far behind
-pub flow-behind : (width window issued retired n : ℕ) (read : OutstandingRead) (others : List OutstandingRead) → retired + n * width ≤ read.entry → issued ≤ retired + window
-    → IsFlow width window issued retired (read ∷ others) width n
-flow-behind width window issued retired n read others l room =
-    record { retires = λ k b. let h = more_times k n width b in omega arith; room = λ k b. omega arith }
-
--- the first Read that waits is the next to retire
-pub flow-held : (width window issued retired n : ℕ) (read : OutstandingRead) (others : List OutstandingRead) → read.entry ≤ retired → issued + n * width ≤ retired + window
-    → IsFlow width window issued retired (read ∷ others) 0 n
-flow-held width window issued retired n read others l room =
-    record { retires = λ k b. omega arith; room = λ k b. let h = more_times k n width b in omega arith }
 
 -- what lets a core issue its width of Plain entries in a cycle
 record IsPlain (s : Config) (trace : List Entry) (issued retired : ℕ) (outstanding : List OutstandingRead) (r one two : ℕ) : Type 0 where

@@ -12,7 +12,6 @@ pub mod Running
 pub mod Stretching
 pub mod Flowing
 pub mod Starting
-pub mod Fitting
 pub mod Resting
 pub mod Silent
 pub mod Sticking

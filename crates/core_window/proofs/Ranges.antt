@@ -1,5 +1,5 @@
 -- Numbers in a core_step, and what is found among them.
-use Rattle.std.proofs.Common.{◌≡◌, ℕ, zero, suc, ◌+◌, ◌<◌, ◌≤◌, Bool, true, false, cond, [], ◌∷◌, ◌++◌, length, Option, Some, None, refl, sym, ap, ap₂, ◌∙◌, add-zero, zero-add, arith}
+use Rattle.std.proofs.Common.{◌≡◌, ℕ, zero, suc, ◌+◌, ◌<◌, Bool, true, false, cond, [], ◌∷◌, ◌++◌, Option, Some, None, refl, sym, ap, ap₂, ◌∙◌, add-zero, zero-add, arith}
 use Rattle.std.specs.Option.{option_to_list}
 use Rattle.std.specs.List.{filter_map, prefix_len, range_with_len, cons_option}
 use Rattle.std.proofs.lemmas.List.Elements.{filter_map-append}
@@ -34,14 +34,6 @@ pub filter_map_range-none : {X : Type 0} (f : ℕ → Option X) (a n : ℕ) → 
 filter_map_range-none f a zero h = refl
 filter_map_range-none f a (suc n) h =
     filter_map_range-more f a n ∙ ap₂ (λ x y. x ++ option_to_list y) (filter_map_range-none f a n (λ k l. h k (omega arith))) (h n (omega arith))
-
-pub length-filter_map_range : {X : Type 0} (f : ℕ → Option X) (a n : ℕ) → length (filter_map f (range_with_len a n)) ≤ n
-length-filter_map_range {X = X} f a zero = omega arith
-length-filter_map_range {X = X} f a (suc n) = by (length-filter_map_range f (a + 1) n) (f a)
-  where
-    by : length (filter_map f (range_with_len (a + 1) n)) ≤ n → (o : Option X) → length (cons_option o (filter_map f (range_with_len (a + 1) n))) ≤ suc n
-    by h None = omega arith
-    by h (Some x) = omega arith
 
 -- so many pass, and the next does not
 pub prefix_len_range : (p : ℕ → Bool) (a n m : ℕ) → m < n → ((k : ℕ) → k < m → p (a + k) ≡ true) → p (a + m) ≡ false → prefix_len p (range_with_len a n) ≡ m

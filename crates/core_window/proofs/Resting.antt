@@ -1,8 +1,7 @@
 -- A core that does nothing in a cycle does nothing in those after it, while no message comes.
-use Rattle.std.proofs.Common.{◌≡◌, ℕ, zero, suc, ◌+◌, ◌-◌, ◌^◌, ◌<◌, List, [], ◌∷◌, ◌++◌, length, Option, None, refl, sym, ap, ap₂, subst, ◌∙◌, inl, append_assoc, arith, ⊎_elim}
+use Rattle.std.proofs.Common.{◌≡◌, ℕ, zero, suc, ◌+◌, ◌-◌, ◌<◌, List, [], ◌∷◌, ◌++◌, length, Option, None, refl, sym, ap, ap₂, subst, ◌∙◌, inl, append_assoc, arith}
 use Rattle.std.specs.Prelude.{replicate}
 use Rattle.std.proofs.lemmas.List.{append-nil}
-use Rattle.std.proofs.lemmas.Bool.{cases_lt}
 use Rattle.sim_base.specs.declared.config.Config.{Config}
 use Rattle.sim_base.specs.History.{issued_before, retired_before}
 use Rattle.sim_base.specs.Machine.{core_run}
@@ -12,23 +11,21 @@ use Rattle.sim_base.specs.declared.message.Message.{Message}
 use Rattle.sim_base.specs.declared.trace.Entry.{Entry}
 use Rattle.sim_base.specs.declared.trace.Stop.{Stop}
 use Rattle.cpu_trace.specs.declared.entries.MemoryEntry.{MemoryEntry}
-use Rattle.statistics.specs.Cores.{core_joined, core_times, CoreFits}
+use Rattle.statistics.specs.Cores.{core_joined, core_times}
 use Rattle.statistics.specs.declared.cores.CoreStats.{CoreStats}
 use Rattle.core_window.specs.Inside.{StandsAt, IsStanding, IsLike, Does}
-use Rattle.core_window.specs.Rests.{idle_step, Rests, IsFirstAct, IsAtRest, MayRest, MaySkip}
+use Rattle.core_window.specs.Rests.{idle_step, Rests, IsFirstAct, IsAtRest, MayRest}
 use Rattle.core_window.proofs.Stretching.{steady-none, steady-more, none_issues, idle-like}
 use Rattle.core_window.proofs.Working.{like-self, issued_of, retired_of}
 use Rattle.core_window.proofs.Retiring.{retires-by}
 use Rattle.core_window.specs.Causes.{first_undone}
 use Rattle.core_window.specs.Outstanding.{outstanding_reads}
 use Rattle.core_window.specs.declared.outstanding.OutstandingRead.{OutstandingRead}
-use Rattle.sim_base.proofs.Ordered.{Each-weaker}
-use Rattle.std.specs.List.{AllByRecursion as Each}
 use Rattle.core_window.specs.Stands.{StandsFor}
 use Rattle.core_window.specs.OneCycle.{IsWork, cycle_counts}
 use Rattle.core_window.specs.Views.{CoreView}
-use Rattle.core_window.proofs.Stepping.{step-stands, past-fits}
-use Rattle.core_window.proofs.Running.{stands-at, stands-for, length-core_run}
+use Rattle.core_window.proofs.Stepping.{step-stands}
+use Rattle.core_window.proofs.Running.{stands-at}
 
 -- what is counted in a cycle in which a core does nothing
 abbrev pub idle_counts : Stop → ℕ → CoreStats
@@ -137,39 +134,3 @@ retires-first s core trace steps mail a from at width done h =
           let none : retires s trace steps mail ≡ 0 = ap (λ (r : CoreStep). r.retired) idle in
           omega (arith, f4.0, f4.1, none, retires-by s core trace steps mail h.past);
     }
-
-length-rested : (s : Config) (core : ℕ) (trace : List Entry) (steps : List CoreStep) (mail : List Message) (n : ℕ) → Rests s core trace steps mail n → length (steps ++ replicate n idle_step) ≡ length steps + n
-length-rested s core trace steps mail n h = ap length (sym h) ∙ length-core_run s core trace steps mail n
-
-rested : (s : Config) (core : ℕ) (trace : List Entry) (steps : List CoreStep) (mail : List Message) (v : CoreView) (n : ℕ) → Each (λ (m : Message). m.arrival < length steps) mail
-    → StandsAt s core trace (steps ++ replicate n idle_step) mail v × Rests s core trace steps mail n → StandsFor s core trace (steps ++ replicate n idle_step) mail v × Rests s core trace steps mail n
-rested s core trace steps mail v n before d =
-    let len = length-rested s core trace steps mail n d.1 in (
-      stands-for s core trace (steps ++ replicate n idle_step) mail v d.0
-          (Each-weaker (λ (m : Message). m.arrival < length steps) (λ m. m.arrival < length (steps ++ replicate n idle_step)) (λ m k. omega arith) mail before),
-      d.1,
-    )
-
--- a core that skips
-pub skipped : (a : CoreView) (until : ℕ) (core_step : CoreStep) (why : Stop) (memory : Option MemoryEntry) → MaySkip a until → Does a core_step why memory
-    → (s : Config) (core : ℕ) (trace : List Entry) (steps : List CoreStep) (mail : List Message) → StandsFor s core trace steps mail a
-    → StandsFor s core trace (steps ++ replicate (until - a.now) idle_step) mail (idle_view a why (until - a.now)) × Rests s core trace steps mail (until - a.now)
-unfolding core_run
-skipped a until core_step why memory may cycle_work s core trace steps mail h =
-    ⊎_elim
-    (λ less. let m = may.may in
-    let e : core_step ≡ idle_step = sym (does_step m.s m.core m.trace m.steps m.mail a core_step why memory cycle_work m.stands) ∙ may.rests less in
-    rested s core trace steps mail (idle_view a why (until - a.now)) (until - a.now) h.before
-    (idle-stands s core trace steps mail a why memory (subst (λ r. Does a r why memory) e cycle_work) (stands-at s core trace steps mail a h) (until - a.now)))
-    (λ most. let z : until - a.now ≡ 0 = omega arith in
-    subst (λ n. StandsFor s core trace (steps ++ replicate n idle_step) mail (idle_view a why n) × Rests s core trace steps mail n) (sym z)
-    (rested s core trace steps mail (idle_view a why 0) 0 h.before (idle-none s core trace steps mail a why (stands-at s core trace steps mail a h), sym (append-nil steps))))
-    (cases_lt a.now until)
-
--- its counts fit
-pub skip-fits : (a : CoreView) (until : ℕ) (core_step : CoreStep) (why : Stop) (memory : Option MemoryEntry) → MaySkip a until → Does a core_step why memory → until < 2 ^ 62
-    → CoreFits (core_joined a.stats (core_times (until - a.now) (idle_counts why a.now)))
-skip-fits a until core_step why memory may cycle_work early =
-    let m = may.may in
-    let d = (skipped a until core_step why memory may cycle_work m.s m.core m.trace m.steps m.mail m.stands).0 in
-    subst CoreFits (sym d.stats) (past-fits m.s m.core m.trace (m.steps ++ replicate (until - a.now) idle_step) m.mail d.past d.past.fits (omega (arith, d.now, may.since)))

@@ -134,23 +134,6 @@ steady-fits a (suc n) core_step why i h l len early =
     subst CoreFits (steady-more a.stats core_step why n (a.stats.retired + n * core_step.retired) (length a.trace) (a.now + n) (last-unfinished a n core_step why h))
     (step-fits i.s i.core i.trace steps i.mail v core_step why None st (h.works n (omega arith) i.s i.core i.trace steps i.mail st) len (omega arith))
 
--- the counts of the cycles alone fit
-pub times-fits : (a b : CoreStats) → CoreFits (core_joined a b) → CoreFits b
-times-fits a b h =
-    record {
-      issued = omega (arith, h.issued);
-      retired = omega (arith, h.retired);
-      reads = omega (arith, h.reads);
-      writes = omega (arith, h.writes);
-      replies = omega (arith, h.replies);
-      read_latency = omega (arith, h.read_latency);
-      stop_end = omega (arith, h.stop_end);
-      stop_width = omega (arith, h.stop_width);
-      stop_window = omega (arith, h.stop_window);
-      stop_memory = omega (arith, h.stop_memory);
-      stop_credit = omega (arith, h.stop_credit);
-    }
-
 pub idle-like : (a : CoreView) (why : Stop) (n : ℕ) → IsLike a (steady_view a idle_step why n)
 idle-like a why n = record { config = refl; entries = refl; outstanding = refl; credits = refl; issued = omega arith; retired = omega arith }
 
@@ -253,7 +236,3 @@ quiet-all a b until x q l m = record { later = omega arith; until_then = q.until
 pub ok-map : {T E : Type 0} (r : Result T E) (P Q : Type 0) → (P → Q) → OnOk r P → OnOk r Q
 ok-map (Ok x) P Q f p = f p
 ok-map (Err e) P Q f p = p
-
-pub goes-standing : (a b : CoreView) (until : ℕ) (x y : List Message) → GoesOn until a x b y → IsStanding a → IsStanding b
-goes-standing a b until x y h i =
-    record { s = i.s; core = i.core; trace = i.trace; steps = core_run i.s i.core i.trace i.steps i.mail (b.now - a.now); mail = i.mail; stands = (h.advances.sends i.s i.core i.trace i.steps i.mail i.stands).0 }

@@ -2,9 +2,8 @@
 --     is_read_at trace entry      the entry of this number is a Read
 --     is_answered mail entry      a reply to it is among these messages
 --     outstanding_reads trace steps mail      the Reads that were issued and have no reply, in order, each with its cycle
---     is_outstanding outstanding entry      the Read with this number is among those that wait
 --     IsByNumber outstanding      these Reads are in the order of their numbers, each of which is there once
-use Rattle.std.specs.Prelude.{ℕ, ◌<◌, Bool, false, not, ◌&&◌, List, [], ◌∷◌, ◌==◌, slice_get, Option, Some, None, if◌then◌else◌}
+use Rattle.std.specs.Prelude.{ℕ, ◌<◌, Bool, false, not, ◌&&◌, List, [], ◌∷◌, slice_get, Option, Some, None, if◌then◌else◌}
 use Rattle.std.specs.List.{AllByRecursion as Each, filter_map, list_any}
 use Rattle.sim_base.specs.Counts.{is_read, issue_cycle}
 use Rattle.sim_base.specs.History.{below, issued_before}
@@ -35,10 +34,6 @@ outstanding_read trace steps mail entry =
 -- the Reads that were issued and have no reply, in order
 unfoldable pub outstanding_reads : List Entry → List CoreStep → List Message → List OutstandingRead
 outstanding_reads trace steps mail = filter_map (outstanding_read trace steps mail) (below (issued_before steps))
-
--- the Read with this number is among those that wait
-abbrev pub is_outstanding : List OutstandingRead → ℕ → Bool
-is_outstanding outstanding entry = list_any (λ read. read.entry == entry) outstanding
 
 -- these Reads are in the order of their numbers, each of which is there once
 abbrev pub IsByNumber : List OutstandingRead → Type 0

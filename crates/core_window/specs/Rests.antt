@@ -2,8 +2,8 @@
 --     idle_step      what a core does then
 --     Rests s core trace steps mail n      it does nothing in n cycles in which no message comes
 --     IsNextAct s core trace steps mail cycle      the first cycle in which it acts, where no message comes
---     MayRest view, MaySkip view until      a core that stands for some steps and messages, and does nothing up to a cycle
-use Rattle.std.specs.Prelude.{◌≡◌, ℕ, ◌+◌, ◌-◌, ◌<◌, ◌≤◌, List, ◌++◌, length, replicate, Option, Some, None}
+--     MayRest view      a core that stands for some steps and messages
+use Rattle.std.specs.Prelude.{◌≡◌, ℕ, ◌+◌, ◌-◌, ◌≤◌, List, ◌++◌, length, replicate, Option, Some, None}
 use Rattle.sim_base.specs.declared.config.Config.{Config}
 use Rattle.sim_base.specs.Machine.{core_run}
 use Rattle.sim_base.specs.Windows.{step}
@@ -45,9 +45,3 @@ pub record MayRest (view : CoreView) : Type 0 where
   pub steps : List CoreStep
   pub mail : List Message
   pub stands : StandsFor s core trace steps mail view
-
--- and does nothing in the next cycle, if that is before this one
-pub record MaySkip (view : CoreView) (until : ℕ) : Type 0 where
-  pub may : MayRest view
-  pub since : view.now ≤ until
-  pub rests : view.now < until → (step may.s may.core may.trace may.steps may.mail).0 ≡ idle_step

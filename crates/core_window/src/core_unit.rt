@@ -1,6 +1,6 @@
 //! A core.
 
-ghost use Rattle.std.specs.Prelude.{[], IsTrue, ◌↔◌, ◌∷◌, ◌++◌, ◌/◌, ◌%◌, find, if◌then◌else◌, ◌≡◌, ◌==◌, ◌^◌, ◌+◌, ◌-◌, ◌*◌, ◌≤◌, ◌<◌, ℕ, Some, List, length, replicate, slice_get, min, OnOk, IfOk};
+ghost use Rattle.std.specs.Prelude.{[], IsTrue, ◌↔◌, ◌∷◌, ◌++◌, ◌/◌, ◌%◌, find, if◌then◌else◌, ◌≡◌, ◌==◌, ◌^◌, ◌+◌, ◌-◌, ◌*◌, ◌≤◌, ◌<◌, ℕ, Some, List, length, slice_get, min, OnOk, IfOk};
 ghost use Rattle.sim_base.specs.declared.history.CoreStep.{CoreStep};
 ghost use Rattle.sim_base.specs.declared.message.Message.{Message};
 ghost use Rattle.sim_base.specs.declared.config.Config.{Config};
@@ -14,19 +14,19 @@ ghost use Rattle.core_window.specs.OneCycle.{lacks_by, IsSeen, credits_of_kind, 
 ghost use Rattle.core_window.specs.Fit.{IsDue, MayRun, RunsOnto};
 ghost use Rattle.core_window.specs.Stands.{StandsFor};
 ghost use Rattle.core_window.specs.Inside.{IsStanding, IsReceiving, StandsAt, Advances, GoesOn, GoesQuietly, Does};
-ghost use Rattle.core_window.specs.Rests.{Rests, IsNextAct, MayRest, MaySkip, idle_step};
+ghost use Rattle.core_window.specs.Rests.{IsNextAct, MayRest, idle_step};
 ghost use Rattle.core_window.specs.Silence.{IsSilentUntil};
 ghost use Rattle.core_window.specs.Steady.{steady_view, IsSteady};
 ghost use Rattle.core_window.specs.Replies.{MayTakeReply, after_reply};
-ghost use Rattle.core_window.specs.Outstanding.{is_outstanding, IsByNumber};
+ghost use Rattle.core_window.specs.Outstanding.{IsByNumber};
 ghost use Rattle.core_window.specs.declared.outstanding.OutstandingRead.{OutstandingRead};
 
-use crate::counts::{count_cycle, count_cycles, cycle_counts};
+use crate::counts::{count_cycle, count_cycles};
 use crate::flow::{Flow, WindowNumbers, cycles_within, flow_of};
 use crate::issue::{Ahead, entry_issued, issue_of, look_ahead, most_issued, next_two};
 use crate::issue_effects::{send, spend, wait_for};
 use crate::outstanding::OutstandingRead;
-use crate::receive::{add_credit_at, channel_of, count_reply, is_outstanding, take_read};
+use crate::receive::{add_credit_at, channel_of, count_reply, take_read};
 use crate::retire::{cause_where_full, is_next_done, is_stuck, retire_count};
 use address_map::digits::Digits;
 use cpu_trace::entries::MemoryEntry;
@@ -455,7 +455,7 @@ impl Core {
 
     /// The first cycle from `from`, where the core stands, in which it retires or issues an entry, while no message comes; none,
     /// where it never does.
-    pub fn next_act(&self, from: Cycle) -> Option<Cycle>
+    fn next_act(&self, from: Cycle) -> Option<Cycle>
         requires at { self.now.cycle ≡ from }
         requires stands { MayRest (view_of self.now) }
         ensures { (s : Config) (core : ℕ) (trace : List Entry) (steps : List CoreStep) (mail : List Message)
@@ -499,52 +499,12 @@ impl Core {
         }
     }
 
-    /// Goes on up to a cycle, at most the one in which the core acts next, with no message before it.
-    pub fn skip(&mut self, until: Cycle)
-        requires stands { MaySkip (view_of self.old) until }
-        requires early { until < 2 ^ 62 }
-        ensures { (s : Config) (core : ℕ) (trace : List Entry) (steps : List CoreStep) (mail : List Message)
-            → StandsFor s core trace steps mail (view_of self.old)
-            → StandsFor s core trace (steps ++ replicate (until - self.old.cycle) idle_step) mail (view_of self.new)
-            × Rests s core trace steps mail (until - self.old.cycle) }
-    {
-        let cycle_work = self.cycle_work();
-        let idle = cycle_counts(
-            CoreStep {
-                retired: 0,
-                issued: 0,
-            },
-            cycle_work.why,
-            None,
-            0,
-            0,
-            self.cycle,
-        );
-        self.stats = self.stats.joined(idle.times(until - self.cycle));
-        self.cycle = until;
-    }
-
-    /// The cycle where the core stands: all before it are done.
-    pub fn now(&self) -> Cycle
-        ensures { result ≡ (view_of self.now).now }
-    {
-        let Core { cycle, .. } = self;
-        *cycle
-    }
-
     /// What statistics count of the cycles before the one where the core stands.
     pub fn stats(&self) -> CoreStats
         ensures { result ≡ (view_of self.now).stats }
     {
         let Core { stats, .. } = self;
         *stats
-    }
-
-    /// Whether the Read with this number was issued and has no reply yet: which replies may come to it, for callers that test its messages.
-    pub fn is_awaited(&self, entry: u64) -> bool
-        ensures { result ≡ is_outstanding (view_of self.now).outstanding entry }
-    {
-        is_outstanding(&self.outstanding, entry)
     }
 
     /// The credits that the core holds for each channel, by number.

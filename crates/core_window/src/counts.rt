@@ -1,83 +1,15 @@
 //! What a core counts in a cycle.
 
-ghost use Rattle.std.specs.Prelude.{◌≡◌, ◌+◌, ◌<◌, ◌^◌};
-ghost use Rattle.sim_base.specs.Counts.{is_stop};
-ghost use Rattle.statistics.specs.Counts.{one_if};
+ghost use Rattle.std.specs.Prelude.{◌≡◌};
 ghost use Rattle.statistics.specs.Cores.{core_joined, core_times, CoreFits};
 ghost use Rattle.core_window.specs.Steady.{steady_counts, with_stop, with_memory};
-ghost use Rattle.core_window.specs.OneCycle.{cycle_counts, is_read_among, is_write_among};
+ghost use Rattle.core_window.specs.OneCycle.{cycle_counts};
 
 use cpu_trace::entries::MemoryEntry;
 use sim_base::history::CoreStep;
 use sim_base::message::Cycle;
 use sim_base::trace::{Entry, Stop};
 use statistics::cores::CoreStats;
-
-fn one_if_stop(cause: Stop, why: Stop) -> u64
-    ensures { result ≡ one_if (is_stop cause why) }
-{
-    match (cause, why) {
-        (Stop::End, Stop::End) => 1,
-        (Stop::Width, Stop::Width) => 1,
-        (Stop::Window, Stop::Window) => 1,
-        (Stop::Memory, Stop::Memory) => 1,
-        (Stop::Credit, Stop::Credit) => 1,
-        _ => 0,
-    }
-}
-
-fn read_count(memory: Option<MemoryEntry>) -> u64
-    ensures { result ≡ one_if (is_read_among memory) }
-{
-    match memory {
-        Some(next) => match next.entry {
-            Entry::Read(_) => 1,
-            Entry::Write(_) | Entry::Plain => 0,
-        },
-        None => 0,
-    }
-}
-
-fn write_count(memory: Option<MemoryEntry>) -> u64
-    ensures { result ≡ one_if (is_write_among memory) }
-{
-    match memory {
-        Some(next) => match next.entry {
-            Entry::Write(_) => 1,
-            Entry::Read(_) | Entry::Plain => 0,
-        },
-        None => 0,
-    }
-}
-
-/// What statistics count in a cycle, except for replies. `before` entries of the trace, whose length is `len`, were retired before it.
-pub fn cycle_counts(
-    core_step: CoreStep,
-    why: Stop,
-    memory: Option<MemoryEntry>,
-    before: u64,
-    len: u64,
-    now: Cycle,
-) -> CoreStats
-    requires { before + core_step.retired < 2 ^ 64 }
-    ensures { result ≡ cycle_counts core_step why memory before len now }
-{
-    let is_finish = before < len && len <= before + u64::from(core_step.retired);
-    CoreStats {
-        issued: u64::from(core_step.issued),
-        retired: u64::from(core_step.retired),
-        reads: read_count(memory),
-        writes: write_count(memory),
-        replies: 0,
-        read_latency: 0,
-        stop_end: one_if_stop(Stop::End, why),
-        stop_width: one_if_stop(Stop::Width, why),
-        stop_window: one_if_stop(Stop::Window, why),
-        stop_memory: one_if_stop(Stop::Memory, why),
-        stop_credit: one_if_stop(Stop::Credit, why),
-        finish: if is_finish { Some(now) } else { None },
-    }
-}
 
 /// Counts `cycles` more cycles in which a core stops for this cause.
 fn count_stop(stats: &mut CoreStats, why: Stop, cycles: u64)

@@ -2,7 +2,7 @@
 
 ghost use Rattle.std.specs.Prelude.{◌≡◌, ◌+◌, ◌-◌, ◌/◌, ◌%◌, ◌<◌, ◌^◌, ◌==◌, not, filter, find, position, length, slice_get, ℕ, Some, if◌then◌else◌};
 ghost use Rattle.core_window.specs.OneCycle.{more_credit, less_credit, credits_of_kind};
-ghost use Rattle.core_window.specs.Outstanding.{is_outstanding, IsByNumber};
+ghost use Rattle.core_window.specs.Outstanding.{IsByNumber};
 ghost use Rattle.core_window.specs.declared.outstanding.OutstandingRead.{OutstandingRead};
 ghost use Rattle.statistics.specs.declared.final_state.Credits.{Credits};
 
@@ -17,13 +17,6 @@ fn place_of_read(outstanding: &[OutstandingRead], entry: u64) -> Option<usize>
     ensures { result ≡ position (λ read. read.entry == entry) outstanding.now }
 {
     outstanding.iter().position(|read| read.entry == entry)
-}
-
-/// Whether the Read with this number waits.
-pub fn is_outstanding(outstanding: &[OutstandingRead], entry: u64) -> bool
-    ensures { result ≡ is_outstanding outstanding.now entry }
-{
-    outstanding.iter().any(|read| read.entry == entry)
 }
 
 /// Takes out the Read with this number, if it waits.

@@ -6,7 +6,6 @@
 --     Moment items v      at one moment the queue held these, and the rule held
 --     PutView      what a contract sees of the seat that puts
 --     BlankView      what a contract sees of a board that has no name yet
---     WasFront taken task, WasEmpty taken      what a seat that takes finds
 --     no_table      the name of no board
 use Rattle.std.specs.Prelude.{◌≡◌, ℕ, ◌+◌, List, [], ◌∷◌}
 use mathlib.Core.Option.{some}
@@ -53,14 +52,6 @@ pub record BlankView : Type 0 where
 -- what was put, and what came home
 abbrev pub put_view : {X : Type 0} → List X → List X → PutView X
 put_view put home = record { put = put; home = home }
-
--- a seat that had taken these found a task in front
-abbrev pub WasFront : {X : Type 0} → List X → X → Type 0
-WasFront {X} taken task = (rest : List X) × Moment (task ∷ rest) (view_of 0 [] taken)
-
--- a seat that had taken these found the board empty
-abbrev pub WasEmpty : {X : Type 0} → List X → Type 0
-WasEmpty {X} taken = Moment {X = X} [] (view_of 0 [] taken)
 
 -- the name of no board
 abbrev pub no_table : TableId

@@ -3,10 +3,10 @@
 ghost use Rattle.std.specs.Prelude.{◌≡◌, ◌≤◌, [], length, map, IfOk, OnOk, IsPermutation, vec_len, true};
 ghost use Rattle.crew.specs.Rule.{put_view};
 
-use crate::hall::Hall;
 use crate::load::Load;
 use crate::rule::Room;
 use crate::seats::{Board, PutSeat, TakeSeat};
+use crate::shared::Shared;
 use crate::work::{DoneOf, Work};
 use std::alloc::{AllocError, Global};
 use std::sync::Wait;
@@ -26,7 +26,7 @@ pub struct Crew<'a, T: Drop, D: DoneOf<T> + Drop, W: Work<T, D>, B: Room, R: Wai
     rt: &'a R,
     alloc: Global,
     work: &'a W,
-    hall: &'a Hall<T, D, B>,
+    shared: &'a Shared<T, D, B>,
     put: PutSeat<T, B>,
     take: TakeSeat<T, B>,
     ready: bool,
@@ -34,23 +34,23 @@ pub struct Crew<'a, T: Drop, D: DoneOf<T> + Drop, W: Work<T, D>, B: Room, R: Wai
 }
 
 impl<'a, T: Drop, D: DoneOf<T> + Drop, W: Work<T, D>, B: Room, R: Wait> Crew<'a, T, D, W, B, R> {
-    /// A crew in this hall, by the seat that puts there.
+    /// A crew that shares this, by the seat that puts there.
     pub(crate) fn new(
         rt: &'a R,
         alloc: Global,
         work: &'a W,
-        hall: &'a Hall<T, D, B>,
+        shared: &'a Shared<T, D, B>,
         seat: PutSeat<T, B>,
     ) -> Crew<'a, T, D, W, B, R>
         requires { seat ≡ put_view [] [] }
     {
         let mut put = seat;
-        let take = hall.board.deal(&mut put);
+        let take = shared.board.deal(&mut put);
         Crew {
             rt,
             alloc,
             work,
-            hall,
+            shared,
             put,
             take,
             ready: true,
@@ -66,7 +66,7 @@ impl<'a, T: Drop, D: DoneOf<T> + Drop, W: Work<T, D>, B: Room, R: Wait> Phases<T
         if !self.ready {
             return Err(AllocError);
         }
-        if tasks.len() <= 1 || tasks.len() > self.hall.board.room() {
+        if tasks.len() <= 1 || tasks.len() > self.shared.board.room() {
             return run_all(self.alloc, self.work, tasks);
         }
         self.ready = false;
@@ -74,7 +74,7 @@ impl<'a, T: Drop, D: DoneOf<T> + Drop, W: Work<T, D>, B: Room, R: Wait> Phases<T
             self.rt,
             self.alloc,
             self.work,
-            self.hall,
+            self.shared,
             &mut self.put,
             &mut self.take,
             tasks,
@@ -138,7 +138,7 @@ fn unload<T: Drop, D: DoneOf<T> + Drop, B: Room>(
 // Loads come home, until all that was put has come home.
 fn gather<T: Drop, D: DoneOf<T> + Drop, B: Room, R: Wait>(
     rt: &R,
-    hall: &Hall<T, D, B>,
+    shared: &Shared<T, D, B>,
     seat: &mut PutSeat<T, B>,
     dones: &mut Vec<D>,
     put: usize,
@@ -149,13 +149,13 @@ fn gather<T: Drop, D: DoneOf<T> + Drop, B: Room, R: Wait>(
     ensures whole { OnOk result (IsPermutation seat.old.put (map D.task dones.new.items)) }
 {
     for _ in rt.forever() {
-        if hall.board.missing(seat, put, dones.len()) == 0 {
+        if shared.board.missing(seat, put, dones.len()) == 0 {
             return Ok(());
         }
-        let seen = hall.home.rings();
-        match hall.homes.pop(rt) {
-            Some(parcel) => unload(&hall.board, seat, dones, parcel?)?,
-            None => hall.home.wait_past(rt, hall.patience, seen),
+        let seen = shared.home.rings();
+        match shared.homes.pop(rt) {
+            Some(parcel) => unload(&shared.board, seat, dones, parcel?)?,
+            None => shared.home.wait_past(rt, shared.patience, seen),
         }
     }
     unreachable!()
@@ -166,25 +166,25 @@ fn phase<T: Drop, D: DoneOf<T> + Drop, W: Work<T, D>, B: Room, R: Wait>(
     rt: &R,
     alloc: Global,
     work: &W,
-    hall: &Hall<T, D, B>,
+    shared: &Shared<T, D, B>,
     put: &mut PutSeat<T, B>,
     take: &mut TakeSeat<T, B>,
     tasks: Vec<T>,
 ) -> Result<Vec<D>, AllocError>
-    requires room { vec_len tasks ≤ hall.now.board }
+    requires room { vec_len tasks ≤ shared.now.board }
     requires put { put.old ≡ put_view [] [] }
     requires take { take.old ≡ [] }
     ensures next { OnOk result ((put.new ≡ put_view [] []) × (take.new ≡ [])) }
     ensures each { IfOk result (λ dones. IsPermutation tasks.items (map D.task dones.items)) }
 {
     let count = tasks.len();
-    hall.begin();
-    put_all(rt, &hall.board, put, tasks);
-    hall.work.ring();
+    shared.begin();
+    put_all(rt, &shared.board, put, tasks);
+    shared.work.ring();
     let mut dones = Vec::new(alloc);
-    let mine = hall.claim(rt, alloc, work, 0, take)?;
-    unload(&hall.board, put, &mut dones, mine)?;
-    gather(rt, hall, put, &mut dones, count)?;
-    hall.board.clear(put);
+    let mine = shared.claim(rt, alloc, work, 0, take)?;
+    unload(&shared.board, put, &mut dones, mine)?;
+    gather(rt, shared, put, &mut dones, count)?;
+    shared.board.clear(put);
     Ok(dones)
 }

@@ -3,10 +3,10 @@
 
 pub mod bell;
 pub mod caller;
-mod hall;
 mod load;
 pub mod open;
 pub mod rule;
 pub mod run;
 pub mod seats;
+mod shared;
 pub mod work;

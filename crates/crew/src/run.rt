@@ -5,10 +5,10 @@ ghost use Rattle.crew.specs.Rule.{put_view};
 
 use crate::bell::Patience;
 use crate::caller::{Crew, Phases};
-use crate::hall::Hall;
 use crate::open::Blank;
 use crate::rule::Room;
 use crate::seats::PutSeat;
+use crate::shared::Shared;
 use crate::work::{DoneOf, Work};
 use std::alloc::{AllocError, Global};
 use std::marker::Brand;
@@ -26,13 +26,13 @@ pub enum Refused {
 }
 
 /// Phases, one after another, by whoever runs their tasks.
-pub trait Course<T, D: DoneOf<T>, E> {
-    /// Where it leads.
-    ghost leads: { Self → E → Type 0 };
+pub trait PhasedRun<T, D: DoneOf<T>, E> {
+    /// What it gives.
+    ghost gives: { Self → E → Type 0 };
 
     /// Runs the phases. The only error is out of memory.
     fn run<P: Phases<T, D>>(self, alloc: Global, crew: &mut P) -> Result<E, AllocError>
-        ensures { IfOk result (leads self) };
+        ensures { IfOk result (gives self) };
 }
 
 // Starts this number of threads, which are numbered from 1 on.
@@ -49,7 +49,7 @@ fn start<
     rt: &'e R,
     alloc: Global,
     work: &'e W,
-    hall: &'e Hall<T, D, B>,
+    shared: &'e Shared<T, D, B>,
     seat: &mut PutSeat<T, B>,
     workers: usize,
 ) -> Result<(), Refused>
@@ -57,11 +57,11 @@ fn start<
     ensures refused { IfErr result (λ e. e ≡ Refused.Start → 2 ≤ workers) }
 {
     for worker in 1..workers {
-        let theirs = hall.board.deal(seat);
+        let theirs = shared.board.deal(seat);
         let thread = scope.spawn(
             move ||
                 requires { theirs ≡ [] }
-            { hall.serve(rt, alloc, work, worker, theirs) },
+            { shared.serve(rt, alloc, work, worker, theirs) },
         );
         if thread.is_err() {
             return Err(Refused::Start);
@@ -70,8 +70,8 @@ fn start<
     Ok(())
 }
 
-// Starts the threads, and runs the course with them.
-fn sail<
+// Starts the threads, and runs the phases with them.
+fn run_started<
     's,
     'e: 's,
     T: Drop + Send,
@@ -80,31 +80,31 @@ fn sail<
     B: Room + Send + Sync,
     R: Threads + Wait + Sync,
     E: Drop,
-    C: Course<T, D, E> + Drop,
+    C: PhasedRun<T, D, E> + Drop,
 >(
     scope: &'s Scope<'s, &'e ()>,
     rt: &'e R,
     alloc: Global,
     work: &'e W,
-    hall: &'e Hall<T, D, B>,
+    shared: &'e Shared<T, D, B>,
     seat: PutSeat<T, B>,
     workers: usize,
-    course: C,
+    phased: C,
 ) -> Result<E, Refused>
     requires { seat ≡ put_view [] [] }
-    ensures end { IfOk result (C.leads course) }
+    ensures end { IfOk result (C.gives phased) }
     ensures refused { IfErr result (λ e. e ≡ Refused.Start → 2 ≤ workers) }
 {
     let mut seat = seat;
-    start(scope, rt, alloc, work, hall, &mut seat, workers)?;
-    let mut crew = Crew::new(rt, alloc, work, hall, seat);
-    match course.run(alloc, &mut crew) {
+    start(scope, rt, alloc, work, shared, &mut seat, workers)?;
+    let mut crew = Crew::new(rt, alloc, work, shared, seat);
+    match phased.run(alloc, &mut crew) {
         Ok(end) => Ok(end),
         Err(AllocError) => Err(Refused::Memory),
     }
 }
 
-// The same, and then closes the hall, however it ended.
+// The same, and then tells the threads that it is over, however it ended.
 fn crewed<
     T: Drop + Send,
     D: DoneOf<T> + Drop + Send,
@@ -112,18 +112,18 @@ fn crewed<
     B: Room + Send + Sync,
     R: Threads + Wait + Sync,
     E: Drop,
-    C: Course<T, D, E> + Drop,
+    C: PhasedRun<T, D, E> + Drop,
 >(
     rt: &R,
     alloc: Global,
     work: &W,
-    hall: &Hall<T, D, B>,
+    shared: &Shared<T, D, B>,
     seat: PutSeat<T, B>,
     workers: usize,
-    course: C,
+    phased: C,
 ) -> Result<E, Refused>
     requires { seat ≡ put_view [] [] }
-    ensures end { IfOk result (C.leads course) }
+    ensures end { IfOk result (C.gives phased) }
     ensures refused { IfErr result (λ e. e ≡ Refused.Start → 2 ≤ workers) }
 {
     thread::scope(
@@ -131,11 +131,11 @@ fn crewed<
         rt,
         |scope| -> Result<E, Refused>
             requires { seat ≡ put_view [] [] }
-            ensures end { IfOk result (C.leads course) }
+            ensures end { IfOk result (C.gives phased) }
             ensures refused { IfErr result (λ e. e ≡ Refused.Start → 2 ≤ workers) }
         {
-            let end = sail(scope, rt, alloc, work, hall, seat, workers, course);
-            hall.close();
+            let end = run_started(scope, rt, alloc, work, shared, seat, workers, phased);
+            shared.close();
             end
         },
     )
@@ -149,7 +149,7 @@ fn named<
     B: Room + Send + Sync,
     R: Threads + Wait + Sync,
     E: Drop,
-    C: Course<T, D, E> + Drop,
+    C: PhasedRun<T, D, E> + Drop,
 >(
     rt: &R,
     alloc: Global,
@@ -157,20 +157,20 @@ fn named<
     blank: Blank<T>,
     workers: usize,
     patience: Patience,
-    course: C,
+    phased: C,
 ) -> Result<E, Refused>
     requires { blank.name ≡ B.table }
-    ensures end { IfOk result (C.leads course) }
+    ensures end { IfOk result (C.gives phased) }
     ensures refused { IfErr result (λ e. e ≡ Refused.Start → 2 ≤ workers) }
 {
     let (board, seat) = blank.named::<B>();
-    let Ok(hall) = Hall::<T, D, B>::new(alloc, board, workers, patience) else {
+    let Ok(shared) = Shared::<T, D, B>::new(alloc, board, workers, patience) else {
         return Err(Refused::Memory);
     };
-    crewed(rt, alloc, work, &hall, seat, workers, course)
+    crewed(rt, alloc, work, &shared, seat, workers, phased)
 }
 
-/// Runs a course with a number of workers: the caller, and threads that are started once. All have ended when this returns, even
+/// Runs what goes phase by phase with a number of workers: the caller, and threads that are started once. All have ended when this returns, even
 /// where it is refused. Phases of more than `room` tasks are run by the caller alone.
 pub fn with_crew<
     T: Drop + Send,
@@ -178,7 +178,7 @@ pub fn with_crew<
     W: Work<T, D> + Sync,
     R: Threads + Wait + Sync,
     E: Drop,
-    C: Course<T, D, E> + Drop,
+    C: PhasedRun<T, D, E> + Drop,
 >(
     rt: &R,
     alloc: Global,
@@ -186,14 +186,14 @@ pub fn with_crew<
     room: usize,
     workers: usize,
     patience: Patience,
-    course: C,
+    phased: C,
 ) -> Result<E, Refused>
     requires { 0 < room }
-    ensures end { IfOk result (C.leads course) }
+    ensures end { IfOk result (C.gives phased) }
     ensures refused { IfErr result (λ e. e ≡ Refused.Start → 2 ≤ workers) }
 {
     let Ok(blank) = Blank::open(alloc, room) else {
         return Err(Refused::Memory);
     };
-    named::<T, D, W, Brand, R, E, C>(rt, alloc, work, blank, workers, patience, course)
+    named::<T, D, W, Brand, R, E, C>(rt, alloc, work, blank, workers, patience, phased)
 }

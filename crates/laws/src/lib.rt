@@ -4,5 +4,6 @@
 
 pub mod commands;
 pub mod credits;
+pub mod drains;
 pub mod messages;
 pub mod refreshes;

@@ -1,7 +1,7 @@
 -- What is taken out of two rings that stand one behind the other, and the first of what stands in them.
-use Rattle.std.proofs.Common.{ℕ, ◌+◌, ◌<◌, ◌≤◌, ◌≡◌, Bool, true, false, ltb, min, get_or, set, length, List, [], ◌∷◌, Option, Some, refl, sym, ap, ◌∙◌, arith}
+use Rattle.std.proofs.Common.{ℕ, ◌+◌, ◌<◌, ◌≤◌, ◌≡◌, Bool, true, false, min, get_or, set, length, List, [], ◌∷◌, Option, Some, refl, sym, ap, ◌∙◌, arith}
 use Rattle.std.specs.Prelude.{filter, fold, slice_get}
-use Rattle.std.specs.Option.{option_map, option_map_or}
+use Rattle.std.specs.Option.{option_map}
 use Rattle.std.proofs.lemmas.Bool.Decides.{nat_tests}
 use Rattle.std.proofs.lemmas.List.{length-set, get_or-set_other}
 use Rattle.circular_buffer.specs.Buffer.{Buffer}
@@ -11,10 +11,6 @@ use Rattle.sim_base.proofs.Arrived.{by_age-puts, fold-puts}
 use Rattle.links.specs.Rings.{contents, lesser_of}
 use Rattle.links.proofs.Merging.{merge_first, merge_second}
 use Rattle.links.proofs.Room.{items_at, taken_out}
-
--- the first message arrives before a cycle
-abbrev pub is_first_before : ℕ → List Message → Bool
-is_first_before until ms = option_map_or (λ m. ltb m.arrival until) (slice_get ms 0) false
 
 fold_from_none : (ms : List Message) → by_age ms ≡ ms → fold insert_by_age [] ms ≡ ms
 fold_from_none ms h = fold-puts [] ms ∙ sym (by_age-puts ms) ∙ h

@@ -1,8 +1,8 @@
 -- Rings with room for those of some messages that go to them.
-use Rattle.std.proofs.Common.{ℕ, zero, suc, ◌+◌, ◌<◌, ◌≤◌, ◌≡◌, Bool, true, false, cond, eqb, List, [], ◌∷◌, ◌++◌, length, get_or, set, take, drop, refl, sym, ap, ◌∙◌, subst, inl, inr, ◌⊎◌, arith}
+use Rattle.std.proofs.Common.{ℕ, zero, suc, ◌+◌, ◌<◌, ◌≤◌, ◌≡◌, Bool, true, false, cond, eqb, List, [], ◌∷◌, length, get_or, set, drop, refl, sym, ap, ◌∙◌, subst, inl, inr, ◌⊎◌, arith}
 use Rattle.std.proofs.lemmas.Bool.{cases_lt, eqb-true, eq-eqb, false≢true}
 use Rattle.std.proofs.lemmas.List.{drop_more, get_or-set_same, get_or-set_other}
-use Rattle.std.proofs.lemmas.List.Sums.{sum_by-cons, sum_by_more, count_by-le-length}
+use Rattle.std.proofs.lemmas.List.Sums.{sum_by-cons, count_by-le-length}
 use Rattle.circular_buffer.specs.Buffer.{Buffer, buffer}
 use Rattle.sim_base.specs.declared.message.Message.{Message}
 use Rattle.links.specs.Rings.{ring_to, goes_to, count_to, HasRoom, HaveRoom, CanTakeUp, Grows}
@@ -84,21 +84,6 @@ room_there ch j i x d rings ms h l e at =
     ap (λ n. get_or rings n (buffer [] 0)) (sym e) ∙ any_default i d rings (subst (λ n. n < length rings) (sym e) has.exists) ∙ sym at in
     let room = subst (λ ring. length ring.items + count_to ch (ring_to ch m) (m ∷ drop (j + 1) ms) ≤ ring.capacity) here has.room in
     omega (arith, one, room)
-
--- one message is counted more
-pub counts_more : (ch n i j : ℕ) (x : Message) (ms : List Message) (old new : List ℕ) → j < length ms → i ≡ ring_to ch (get_or ms j x) → get_or old n 0 ≡ count_to ch n (take j ms)
-    → get_or new n 0 ≡ get_or old n 0 + cond (eqb i n) 1 0 → get_or new n 0 ≡ count_to ch n (take (j + 1) ms)
-counts_more ch n i j x ms old new l e h k =
-    k
-    ∙ ap (λ c. c + cond (eqb i n) 1 0) h
-    ∙ ap (λ q. count_to ch n (take j ms) + cond (eqb q n) 1 0) e
-    ∙ sym (sum_by_more (λ y. cond (goes_to ch n y) 1 0) ms j x l)
-
-pub get_or-push_zero : (n : ℕ) (xs : List ℕ) → get_or (xs ++ 0 ∷ []) n 0 ≡ get_or xs n 0
-get_or-push_zero zero [] = refl
-get_or-push_zero (suc n) [] = refl
-get_or-push_zero zero (x ∷ xs) = refl
-get_or-push_zero (suc n) (x ∷ xs) = get_or-push_zero n xs
 
 pub one_more : (number n v : ℕ) (xs : List ℕ) → number < length xs → v ≡ get_or xs number 0 + 1 → get_or (set xs number v) n 0 ≡ get_or xs n 0 + cond (eqb number n) 1 0
 one_more number n v xs l h = by (eqb number n) refl

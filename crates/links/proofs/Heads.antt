@@ -1,6 +1,7 @@
 -- The heads of lists by age, up to a cycle.
 use Rattle.std.proofs.Common.{ℕ, suc, zero, ◌+◌, ◌<◌, ◌≤◌, ◌≡◌, Bool, true, false, ◌&&◌, ltb, eqb, cond, get_or, length, take, drop, List, [], ◌∷◌, ◌++◌, append-nil, refl, sym, ap, ap₂, ◌∙◌, subst, inl, inr, ◌⊎◌, arith}
-use Rattle.std.specs.Prelude.{filter, fold}
+use Rattle.std.specs.Prelude.{filter, fold, slice_get}
+use Rattle.std.specs.Option.{option_map_or}
 use Rattle.std.specs.List.{take_while, prefix_len, AllByRecursion as Each}
 use Rattle.std.proofs.lemmas.Bool.{lt-ltb, eqb-true}
 use Rattle.std.proofs.lemmas.List.{take-append-le}
@@ -10,74 +11,70 @@ use Rattle.std.proofs.lemmas.Bool.Decides.{nat_tests}
 use Rattle.sim_base.specs.History.{is_before, insert_by_age, by_age}
 use Rattle.sim_base.specs.declared.message.Message.{Message}
 use Rattle.sim_base.proofs.Ordered.{Sorted}
-use Rattle.links.specs.InFlight.{arrives_within}
-use Rattle.links.specs.Rings.{arrives_outside}
+use Rattle.links.specs.InFlight.{arrives_before}
+use Rattle.links.specs.Rings.{arrives_later}
 use Rattle.links.proofs.Ages.{in_order-Sorted, by_age-same}
-use Rattle.links.proofs.Both.{is_first_before}
 use Rattle.links.proofs.Merging.{Merges, Merges-second, Merges-first, Merges-end, one_less, append_one, drop_past}
-use Rattle.links.proofs.Steps.{head_true, head_false, head_due, none_due}
+use Rattle.links.proofs.Steps.{head_true, head_false, head_due}
 
 -- what stands before the first message that does not arrive before a cycle
 abbrev pub head_of : ℕ → List Message → List Message
-head_of until ms = take_while (λ m. ltb m.arrival until) ms
+head_of until ms = take_while (arrives_before until) ms
 
 too_late : (a b : ℕ) → b ≤ a → ltb a b ≡ false
 too_late a b l = grind (arith, nat_tests)
-
-in_time : (a b : ℕ) → ltb a b ≡ false → b ≤ a
-in_time a b e = grind (arith, nat_tests)
 
 pub length_head : (until : ℕ) (zs : List Message) → length (head_of until zs) ≤ length zs
 length_head until [] = omega arith
 length_head until (z ∷ zs) = by (ltb z.arrival until) refl (length_head until zs)
   where
     by : (b : Bool) → ltb z.arrival until ≡ b → length (head_of until zs) ≤ length zs → length (head_of until (z ∷ zs)) ≤ length (z ∷ zs)
-    by true e rest = rw (head_true (λ m. ltb m.arrival until) z zs e) (omega (arith, rest))
-    by false e rest = rw (head_false (λ m. ltb m.arrival until) z zs e) (omega arith)
+    by true e rest = rw (head_true (arrives_before until) z zs e) (omega (arith, rest))
+    by false e rest = rw (head_false (arrives_before until) z zs e) (omega arith)
 
 -- a message of the list that arrives before the cycle stands in the head, where all before it do
 pub at_head : (until i : ℕ) (zs : List Message) (d : Message) → i ≤ length (head_of until zs) → i < length zs → ltb (get_or zs i d).arrival until ≡ true
     → (i < length (head_of until zs)) × (get_or (head_of until zs) i d ≡ get_or zs i d)
 at_head until i [] d l k h = absurd (omega arith)
-at_head until zero (z ∷ zs) d l k h = rw (head_true (λ m. ltb m.arrival until) z zs h) (omega arith, refl)
+at_head until zero (z ∷ zs) d l k h = rw (head_true (arrives_before until) z zs h) (omega arith, refl)
 at_head until (suc i) (z ∷ zs) d l k h = by (ltb z.arrival until) refl (at_head until i zs d)
   where
     by : (b : Bool) → ltb z.arrival until ≡ b
         → (i ≤ length (head_of until zs) → i < length zs → ltb (get_or zs i d).arrival until ≡ true → (i < length (head_of until zs)) × (get_or (head_of until zs) i d ≡ get_or zs i d))
         → (suc i < length (head_of until (z ∷ zs))) × (get_or (head_of until (z ∷ zs)) (suc i) d ≡ get_or zs i d)
     by true e rest =
-        let long = ap length (head_true (λ m. ltb m.arrival until) z zs e) in
+        let long = ap length (head_true (arrives_before until) z zs e) in
         let at = rest (omega (arith, l, long)) (omega (arith, k)) h in
-        rw (head_true (λ m. ltb m.arrival until) z zs e) (omega (arith, at.0), at.1)
-    by false e rest = absurd (omega (arith, l, ap length (head_false (λ m. ltb m.arrival until) z zs e)))
+        rw (head_true (arrives_before until) z zs e) (omega (arith, at.0), at.1)
+    by false e rest = absurd (omega (arith, l, ap length (head_false (arrives_before until) z zs e)))
 
 -- the head ends before the first message that does not
 pub head_ends : (until i : ℕ) (zs : List Message) → i ≤ length (head_of until zs) → ((d : Message) → i < length zs → until ≤ (get_or zs i d).arrival) → i ≡ length (head_of until zs)
 head_ends until i [] l h = omega (arith, l)
-head_ends until zero (z ∷ zs) l h = rw (head_false (λ m. ltb m.arrival until) z zs (too_late z.arrival until (h z (omega arith)))) refl
+head_ends until zero (z ∷ zs) l h = rw (head_false (arrives_before until) z zs (too_late z.arrival until (h z (omega arith)))) refl
 head_ends until (suc i) (z ∷ zs) l h = by (ltb z.arrival until) refl (λ k. head_ends until i zs k (λ d j. h d (omega (arith, j))))
   where
     by : (b : Bool) → ltb z.arrival until ≡ b → (i ≤ length (head_of until zs) → i ≡ length (head_of until zs)) → suc i ≡ length (head_of until (z ∷ zs))
     by true e rest =
-        let long = ap length (head_true (λ m. ltb m.arrival until) z zs e) in
+        let long = ap length (head_true (arrives_before until) z zs e) in
         omega (arith, rest (omega (arith, l, long)), long)
-    by false e rest = absurd (omega (arith, l, ap length (head_false (λ m. ltb m.arrival until) z zs e)))
+    by false e rest = absurd (omega (arith, l, ap length (head_false (arrives_before until) z zs e)))
 
 Each-head : (P : Message → Type 0) (until : ℕ) (zs : List Message) → Each P zs → Each P (head_of until zs)
 Each-head P until [] h = tt
 Each-head P until (z ∷ zs) h = by (ltb z.arrival until) refl (Each-head P until zs h.1)
   where
     by : (b : Bool) → ltb z.arrival until ≡ b → Each P (head_of until zs) → Each P (head_of until (z ∷ zs))
-    by true e rest = rw (head_true (λ m. ltb m.arrival until) z zs e) (h.0, rest)
-    by false e rest = rw (head_false (λ m. ltb m.arrival until) z zs e) tt
+    by true e rest = rw (head_true (arrives_before until) z zs e) (h.0, rest)
+    by false e rest = rw (head_false (arrives_before until) z zs e) tt
 
 Sorted-head : (until : ℕ) (zs : List Message) → Sorted zs → Sorted (head_of until zs)
 Sorted-head until [] h = tt
 Sorted-head until (z ∷ zs) h = by (ltb z.arrival until) refl (Sorted-head until zs h.1)
   where
     by : (b : Bool) → ltb z.arrival until ≡ b → Sorted (head_of until zs) → Sorted (head_of until (z ∷ zs))
-    by true e rest = rw (head_true (λ m. ltb m.arrival until) z zs e) (Each-head (λ (y : Message). is_before y z ≡ false) until zs h.0, rest)
-    by false e rest = rw (head_false (λ m. ltb m.arrival until) z zs e) tt
+    by true e rest = rw (head_true (arrives_before until) z zs e) (Each-head (λ (y : Message). is_before y z ≡ false) until zs h.0, rest)
+    by false e rest = rw (head_false (arrives_before until) z zs e) tt
 
 pub head_in_order : (until : ℕ) (zs : List Message) → by_age zs ≡ zs → by_age (head_of until zs) ≡ head_of until zs
 head_in_order until zs h = by_age-same (head_of until zs) (Sorted-head until zs (in_order-Sorted zs h))
@@ -128,11 +125,9 @@ merged_all i j xs ys done m h = Merges-end i j xs ys done m (none_left (length x
     none_left p q (inl e) = grind (arith, nat_tests)
     none_left p q (inr e) = grind (arith, nat_tests)
 
--- where no message arrives before a span, the head is what arrives within it, and the rest what does not
-pub head_is_due : (from until : ℕ) (ms : List Message) → by_age ms ≡ ms → is_first_before from ms ≡ false
-    → (head_of until ms ≡ filter (arrives_within from until) ms) × (drop (length (head_of until ms)) ms ≡ filter (arrives_outside from until) ms)
-head_is_due from until [] s h = (refl, refl)
-head_is_due from until (m ∷ ms) s h = head_due from until m.arrival (m ∷ ms) s refl (in_time m.arrival from h)
+-- the first message arrives before a cycle
+abbrev pub is_first_before : ℕ → List Message → Bool
+is_first_before until ms = option_map_or (arrives_before until) (slice_get ms 0) false
 
 -- the head of two lists, one behind the other, which ends in the first
 pub head_alone : (until k : ℕ) (xs ys zs : List Message) → xs ++ ys ≡ zs → k ≡ prefix_len (λ (m : Message). ltb m.arrival until) xs → (k ≡ length xs → is_first_before until ys ≡ false)
@@ -157,22 +152,18 @@ head_alone until k xs ys zs e h last =
     ends : prefix_len early (xs ++ ys) ≡ prefix_len early xs
     ends = prefix_len-append early xs ys ∙ by (eqb (prefix_len early xs) (length xs)) refl
 
--- where no message of the head arrives before a span, the head is what arrives within it, and the rest what does not
-pub due_by_head : (from until : ℕ) (ms head : List Message) → by_age ms ≡ ms → head ≡ head_of until ms → is_first_before from head ≡ false
-    → (head ≡ filter (arrives_within from until) ms) × (drop (length head) ms ≡ filter (arrives_outside from until) ms)
-due_by_head from until ms head s e h =
-    let due = due ms s (subst (λ z. is_first_before from z ≡ false) e h) in
+-- the head is what arrives before the cycle, and the rest what arrives later
+pub due_by_head : (until : ℕ) (ms head : List Message) → by_age ms ≡ ms → head ≡ head_of until ms
+    → (head ≡ filter (arrives_before until) ms) × (drop (length head) ms ≡ filter (arrives_later until) ms)
+due_by_head until ms head s e =
+    let due = head_due until ms s in
     (e ∙ due.0, ap (λ z. drop (length z) ms) e ∙ due.1)
-  where
-    due : (ms : List Message) → by_age ms ≡ ms → is_first_before from (head_of until ms) ≡ false
-        → (head_of until ms ≡ filter (arrives_within from until) ms) × (drop (length (head_of until ms)) ms ≡ filter (arrives_outside from until) ms)
-    due [] s h = (refl, refl)
-    due (m ∷ ms) s h = by (ltb m.arrival until) refl
-      where
-        by : (b : Bool) → ltb m.arrival until ≡ b
-            → (head_of until (m ∷ ms) ≡ filter (arrives_within from until) (m ∷ ms)) × (drop (length (head_of until (m ∷ ms))) (m ∷ ms) ≡ filter (arrives_outside from until) (m ∷ ms))
-        by true e = head_is_due from until (m ∷ ms) s (subst (λ z. is_first_before from z ≡ false) (head_true (λ m. ltb m.arrival until) m ms e) h)
-        by false e =
-            let none = none_due from until m.arrival (m ∷ ms) s refl (in_time m.arrival until e) in
-            let head = head_false (λ m. ltb m.arrival until) m ms e in
-            (head ∙ sym none.0, ap (λ z. drop (length z) (m ∷ ms)) head ∙ sym none.1)
+
+-- what stands behind as many messages of a ring as arrive before the cycle arrives later, also when the ring is read again
+pub behind_due : (until count : ℕ) (ms xs ys : List Message) → by_age ms ≡ ms → ms ≡ xs → ms ≡ ys → count ≡ length (filter (arrives_before until) xs)
+    → (count ≤ length ys) × (drop count ys ≡ filter (arrives_later until) ys)
+behind_due until count ms xs ys s e f h =
+    let due = head_due until ms s in
+    let long : count ≡ length (head_of until ms) = h ∙ ap (λ z. length (filter (arrives_before until) z)) (sym e) ∙ ap length (sym due.0) in
+    subst (λ z. (count ≤ length z) × (drop count z ≡ filter (arrives_later until) z)) f
+    (omega (arith, long, length_head until ms), ap (λ n. drop n ms) long ∙ due.1)

@@ -8,4 +8,5 @@ pub mod Counted
 pub mod Next
 pub mod Merging
 pub mod Heads
+pub mod Due
 pub mod Shortest

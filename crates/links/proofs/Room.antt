@@ -18,9 +18,6 @@ use Rattle.links.proofs.Held.{by_age-joined, AreRings-put, ring_is, IsRing-nil}
 abbrev no_ring : Buffer Message
 no_ring = buffer [] 0
 
-pub Grows-refl : (rings : List (Buffer Message)) → Grows rings rings
-Grows-refl rings = record { messages = refl; rings = λ ch first h. h; room = λ n more h. h }
-
 pub Grows-trans : (a b c : List (Buffer Message)) → Grows a b → Grows b c → Grows a c
 Grows-trans a b c h k = record {
   messages = k.messages ∙ h.messages;
@@ -94,9 +91,6 @@ Grows-set i b d rings l e k = record {
     any_default zero (r ∷ rings) l = refl
     any_default (suc i) (r ∷ rings) l = any_default i rings (omega arith)
 
-pub HasRoom-made : (i more : ℕ) (b : Buffer Message) (rings : List (Buffer Message)) → i < length rings → length b.items + more ≤ b.capacity → HasRoom (set rings i b) i more
-HasRoom-made i more b rings l h = record { exists = omega (arith, length-set rings i b); room = rw (get_or-set_same rings i b no_ring l) h }
-
 pub HaveRoom-grows : (ch more : ℕ) (ms : List Message) (a b : List (Buffer Message)) → Grows a b → HaveRoom ch a more ms → HaveRoom ch b more ms
 HaveRoom-grows ch more ms a b h k = Each-weaker _ (λ (m : Message). HasRoom b (ring_to ch m) more) (λ m r. h.room (ring_to ch m) more r) ms k
 
@@ -111,11 +105,6 @@ any_default (suc i) d (r ∷ rings) l = any_default i d rings (omega arith)
 -- what stands in a ring
 pub items_at : (i : ℕ) (d : Buffer Message) (rings : List (Buffer Message)) → i < length rings → d ≡ get_or rings i d → get_or (contents rings) i [] ≡ d.items
 items_at i d rings l e = get_or-map (λ ring. ring.items) rings i no_ring ∙ ap (λ ring. ring.items) (any_default i d rings l ∙ sym e)
-
-pub items_past : (i : ℕ) (rings : List (Buffer Message)) → length rings ≤ i → get_or (contents rings) i [] ≡ []
-items_past i [] l = refl
-items_past zero (r ∷ rings) l = absurd (omega arith)
-items_past (suc i) (r ∷ rings) l = items_past i rings (omega arith)
 
 pub set_past : (i : ℕ) (ms : List Message) (rings : List (Buffer Message)) → length rings ≤ i → set (contents rings) i ms ≡ contents rings
 set_past i ms [] l = refl

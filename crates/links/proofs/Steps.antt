@@ -1,7 +1,7 @@
 -- The steps of the loops over one ring.
-use Rattle.std.proofs.Common.{ℕ, suc, zero, ◌+◌, ◌-◌, ◌<◌, ◌≤◌, ◌≡◌, Bool, true, false, not, ltb, cond, get_or, set, length, take, drop, List, [], ◌∷◌, ◌++◌, append_assoc, Some, None, refl, sym, ap, ◌∙◌, subst, arith}
+use Rattle.std.proofs.Common.{ℕ, suc, zero, ◌+◌, ◌-◌, ◌<◌, ◌≤◌, ◌≡◌, Bool, true, false, not, ltb, get_or, set, length, drop, List, [], ◌∷◌, ◌++◌, Some, refl, sym, ap, ◌∙◌, subst, arith}
 use Rattle.std.specs.Prelude.{filter, insert, slice_get}
-use Rattle.std.specs.Option.{option_map, option_map_or}
+use Rattle.std.specs.Option.{option_map_or}
 use Rattle.std.specs.List.{take_while, AllByRecursion as Each}
 use Rattle.std.proofs.lemmas.Bool.{cond-true, cond-false}
 use Rattle.std.proofs.lemmas.List.{get_or-set_other, set-set}
@@ -12,8 +12,8 @@ use Rattle.sim_base.specs.History.{is_before, insert_by_age, by_age}
 use Rattle.sim_base.specs.declared.message.Message.{Message}
 use Rattle.sim_base.proofs.Arrived.{put, fold-puts}
 use Rattle.sim_base.proofs.Ordered.{Each-weaker, Sorted}
-use Rattle.links.specs.InFlight.{arrives_within}
-use Rattle.links.specs.Rings.{arrives_outside}
+use Rattle.links.specs.InFlight.{arrives_before}
+use Rattle.links.specs.Rings.{arrives_later}
 use Rattle.links.proofs.Ages.{in_order-Sorted}
 
 -- ---- putting a message in, from the back
@@ -171,122 +171,48 @@ head_false p x xs e = take_while-cons p x xs ∙ cond-false _ _ _ e
 not_sooner : (m y : Message) → is_before y m ≡ false → m.arrival ≤ y.arrival
 not_sooner m y h = grind (arith, nat_tests)
 
-outside_late : (from until : ℕ) (m : Message) → until ≤ m.arrival → arrives_within from until m ≡ false
-outside_late from until m h = grind (arith, nat_tests)
+too_late : (a b : ℕ) → b ≤ a → ltb a b ≡ false
+too_late a b l = grind (arith, nat_tests)
 
--- what arrives too late for a span
-late : (from until : ℕ) (ms : List Message) → Each (λ (y : Message). until ≤ y.arrival) ms → (filter (arrives_within from until) ms ≡ []) × (filter (arrives_outside from until) ms ≡ ms)
-late from until [] h = (refl, refl)
-late from until (m ∷ ms) h =
-    let no : arrives_within from until m ≡ false = outside_late from until m h.0 in
-    let rest = late from until ms h.1 in
+past : (a b : ℕ) → ltb a b ≡ false → b ≤ a
+past a b e = grind (arith, nat_tests)
+
+-- where all arrive later than a cycle
+late : (until : ℕ) (ms : List Message) → Each (λ (y : Message). until ≤ y.arrival) ms → (filter (arrives_before until) ms ≡ []) × (filter (arrives_later until) ms ≡ ms)
+late until [] h = (refl, refl)
+late until (m ∷ ms) h =
+    let no : arrives_before until m ≡ false = too_late m.arrival until h.0 in
+    let rest = late until ms h.1 in
     (cond-false _ _ _ no ∙ rest.0, cond-true _ _ _ (ap not no) ∙ ap (λ x. m ∷ x) rest.1)
 
 all_late : (until : ℕ) (m : Message) (ms : List Message) → Sorted (m ∷ ms) → until ≤ m.arrival → Each (λ (y : Message). until ≤ y.arrival) (m ∷ ms)
 all_late until m ms s l = (l, Each-weaker _ (λ (y : Message). until ≤ y.arrival) (λ y h. omega (arith, not_sooner m y h)) ms s.0)
 
-filter_cut : (from until i : ℕ) (ms : List Message) → Sorted ms → ((d : Message) → i < length ms → until ≤ (get_or ms i d).arrival)
-    → filter (arrives_within from until) (take i ms) ≡ filter (arrives_within from until) ms
-filter_cut from until zero [] s h = refl
-filter_cut from until (suc i) [] s h = refl
-filter_cut from until zero (m ∷ ms) s h = sym (late from until (m ∷ ms) (all_late until m ms s (h m (omega arith)))).0
-filter_cut from until (suc i) (m ∷ ms) s h =
-    ap (λ x. cond (arrives_within from until m) (m ∷ x) x) (filter_cut from until i ms s.1 (λ d l. h d (omega arith)))
-
--- all that is due stands before the first that arrives too late
-pub copied_all : (from until i : ℕ) (ms : List Message) → by_age ms ≡ ms → ((d : Message) → i < length ms → until ≤ (get_or ms i d).arrival)
-    → filter (arrives_within from until) (take i ms) ≡ filter (arrives_within from until) ms
-copied_all from until i ms s h = filter_cut from until i ms (in_order-Sorted ms s) h
-
-pub filter_more : (p : Message → Bool) (i : ℕ) (m : Message) (ms : List Message) → i < length ms → get_or ms i m ≡ m
-    → filter p (take (i + 1) ms) ≡ cond (p m) (filter p (take i ms) ++ m ∷ []) (filter p (take i ms))
-filter_more p i m ms l e = ap (λ k. filter p (take k ms)) one ∙ by_case i ms l e
-  where
-    one : i + 1 ≡ suc i
-    one = omega arith
-
-    by_case : (i : ℕ) (ms : List Message) → i < length ms → get_or ms i m ≡ m → filter p (take (suc i) ms) ≡ cond (p m) (filter p (take i ms) ++ m ∷ []) (filter p (take i ms))
-    by_case i [] l e = absurd (omega arith)
-    by_case zero (x ∷ xs) l e = ap (λ y. cond (p y) (y ∷ []) []) e
-    by_case (suc i) (x ∷ xs) l e =
-        ap (λ z. cond (p x) (x ∷ z) z) (by_case i xs (omega arith) e) ∙ through (p x) (p m)
-      where
-        through : (a b : Bool) → cond a (x ∷ cond b (filter p (take i xs) ++ m ∷ []) (filter p (take i xs))) (cond b (filter p (take i xs) ++ m ∷ []) (filter p (take i xs)))
-            ≡ cond b (cond a (x ∷ filter p (take i xs)) (filter p (take i xs)) ++ m ∷ []) (cond a (x ∷ filter p (take i xs)) (filter p (take i xs)))
-        through true true = refl
-        through true false = refl
-        through false true = refl
-        through false false = refl
-
--- nothing stands in a ring with no first message
-pub empty_where_no_first : (ms : List Message) → option_map (λ (m : Message). m.arrival) (slice_get ms 0) ≡ None → ms ≡ []
-empty_where_no_first [] h = refl
-empty_where_no_first (m ∷ ms) h = cc
-
--- where the first message arrives too late, nothing is due
-pub none_due : (from until first : ℕ) (ms : List Message) → by_age ms ≡ ms → option_map (λ (m : Message). m.arrival) (slice_get ms 0) ≡ Some first → until ≤ first
-    → (filter (arrives_within from until) ms ≡ []) × (filter (arrives_outside from until) ms ≡ ms)
-none_due from until first [] s h l = (refl, refl)
-none_due from until first (m ∷ ms) s h l = let e : m.arrival ≡ first = cc in late from until (m ∷ ms) (all_late until m ms (in_order-Sorted (m ∷ ms) s) (omega arith))
-
-is_within : (from until : ℕ) (m : Message) → from ≤ m.arrival → ltb m.arrival until ≡ true → arrives_within from until m ≡ true
-is_within from until m h e = grind (arith, nat_tests)
-
-past : (until : ℕ) (m : Message) → ltb m.arrival until ≡ false → until ≤ m.arrival
-past until m e = grind (arith, nat_tests)
-
--- where no message arrives too early, those that are due stand at the head
-due_at_head : (from until : ℕ) (ms : List Message) → Sorted ms → Each (λ (y : Message). from ≤ y.arrival) ms
-    → (take_while (λ m. ltb m.arrival until) ms ≡ filter (arrives_within from until) ms)
-    × (drop (length (take_while (λ m. ltb m.arrival until) ms)) ms ≡ filter (arrives_outside from until) ms)
-due_at_head from until [] s h = (refl, refl)
-due_at_head from until (m ∷ ms) s h = by (ltb m.arrival until) refl (due_at_head from until ms s.1 h.1)
+due_at_head : (until : ℕ) (ms : List Message) → Sorted ms
+    → (take_while (arrives_before until) ms ≡ filter (arrives_before until) ms)
+    × (drop (length (take_while (arrives_before until) ms)) ms ≡ filter (arrives_later until) ms)
+due_at_head until [] s = (refl, refl)
+due_at_head until (m ∷ ms) s = by (ltb m.arrival until) refl (due_at_head until ms s.1)
   where
     by : (b : Bool) → ltb m.arrival until ≡ b
-        → (take_while (λ m. ltb m.arrival until) ms ≡ filter (arrives_within from until) ms)
-        × (drop (length (take_while (λ m. ltb m.arrival until) ms)) ms ≡ filter (arrives_outside from until) ms)
-        → (take_while (λ m. ltb m.arrival until) (m ∷ ms) ≡ filter (arrives_within from until) (m ∷ ms))
-        × (drop (length (take_while (λ m. ltb m.arrival until) (m ∷ ms))) (m ∷ ms) ≡ filter (arrives_outside from until) (m ∷ ms))
+        → (take_while (arrives_before until) ms ≡ filter (arrives_before until) ms)
+        × (drop (length (take_while (arrives_before until) ms)) ms ≡ filter (arrives_later until) ms)
+        → (take_while (arrives_before until) (m ∷ ms) ≡ filter (arrives_before until) (m ∷ ms))
+        × (drop (length (take_while (arrives_before until) (m ∷ ms))) (m ∷ ms) ≡ filter (arrives_later until) (m ∷ ms))
     by true e rest =
-        let yes : arrives_within from until m ≡ true = is_within from until m h.0 e in
-        let head = head_true (λ m. ltb m.arrival until) m ms e in (
-          head ∙ ap (λ z. m ∷ z) rest.0 ∙ sym (cond-true _ _ _ yes),
-          ap (λ z. drop (length z) (m ∷ ms)) head ∙ rest.1 ∙ sym (cond-false _ _ _ (ap not yes)),
+        let head = head_true (arrives_before until) m ms e in (
+          head ∙ ap (λ z. m ∷ z) rest.0 ∙ sym (cond-true _ _ _ e),
+          ap (λ z. drop (length z) (m ∷ ms)) head ∙ rest.1 ∙ sym (cond-false _ _ _ (ap not e)),
         )
     by false e rest =
-        let none = late from until (m ∷ ms) (all_late until m ms s (past until m e)) in
-        let head = head_false (λ m. ltb m.arrival until) m ms e in (
+        let none = late until (m ∷ ms) (all_late until m ms s (past m.arrival until e)) in
+        let head = head_false (arrives_before until) m ms e in (
           head ∙ sym none.0,
           ap (λ z. drop (length z) (m ∷ ms)) head ∙ sym none.1,
         )
 
-pub head_due : (from until first : ℕ) (ms : List Message) → by_age ms ≡ ms → option_map (λ (m : Message). m.arrival) (slice_get ms 0) ≡ Some first → from ≤ first
-    → (take_while (λ m. ltb m.arrival until) ms ≡ filter (arrives_within from until) ms)
-    × (drop (length (take_while (λ m. ltb m.arrival until) ms)) ms ≡ filter (arrives_outside from until) ms)
-head_due from until first [] s h l = (refl, refl)
-head_due from until first (m ∷ ms) s h l =
-    let e : m.arrival ≡ first = cc in
-    let sorted = in_order-Sorted (m ∷ ms) s in
-    due_at_head from until (m ∷ ms) sorted (all_late from m ms sorted (omega arith))
-
--- ---- turning a ring over
-pub passed_over : (p : Message → Bool) (i : ℕ) (xs : List Message) → i < length xs
-    → drop 1 (drop i xs ++ filter p (take i xs)) ++ filter p (take 1 (drop i xs ++ filter p (take i xs))) ≡ drop (i + 1) xs ++ filter p (take (i + 1) xs)
-passed_over p i xs l = by_case i xs l (filter p (take i xs)) ∙ ap (λ z. drop (i + 1) xs ++ z) (rest i xs l)
-  where
-    by_case : (i : ℕ) (xs : List Message) → i < length xs → (done : List Message)
-        → drop 1 (drop i xs ++ done) ++ filter p (take 1 (drop i xs ++ done)) ≡ drop (i + 1) xs ++ (done ++ filter p (take 1 (drop i xs)))
-    by_case i [] l done = absurd (omega arith)
-    by_case zero (x ∷ xs) l done = append_assoc xs done (filter p (x ∷ []))
-    by_case (suc i) (x ∷ xs) l done = let e : suc i + 1 ≡ suc (i + 1) = omega arith in by_case i xs (omega arith) done ∙ ap (λ k. drop k (x ∷ xs) ++ (done ++ filter p (take 1 (drop i xs)))) (sym e)
-
-    rest : (i : ℕ) (xs : List Message) → i < length xs → filter p (take i xs) ++ filter p (take 1 (drop i xs)) ≡ filter p (take (i + 1) xs)
-    rest i [] l = absurd (omega arith)
-    rest zero (x ∷ xs) l = refl
-    rest (suc i) (x ∷ xs) l =
-        let e : suc i + 1 ≡ suc (i + 1) = omega arith in
-        through (p x) (filter p (take i xs)) (filter p (take 1 (drop i xs))) ∙ ap (λ z. cond (p x) (x ∷ z) z) (rest i xs (omega arith)) ∙ ap (λ k. filter p (take k (x ∷ xs))) (sym e)
-      where
-        through : (b : Bool) (ys zs : List Message) → cond b (x ∷ ys) ys ++ zs ≡ cond b (x ∷ (ys ++ zs)) (ys ++ zs)
-        through true ys zs = refl
-        through false ys zs = refl
+-- what arrives before a cycle stands at the head, and all behind it arrives later
+pub head_due : (until : ℕ) (ms : List Message) → by_age ms ≡ ms
+    → (take_while (arrives_before until) ms ≡ filter (arrives_before until) ms)
+    × (drop (length (take_while (arrives_before until) ms)) ms ≡ filter (arrives_later until) ms)
+head_due until ms s = due_at_head until ms (in_order-Sorted ms s)

@@ -8,8 +8,9 @@
 --     AreRings channels first rings      each ring holds messages that go to it, by age
 --     sooner_of least ms      the lesser of a cycle and of the first arrival
 --     lesser_of first second      the lesser of two cycles
---     due_of_both from until rings number      what arrives within a span in a ring and in the one behind it, by age
---     without_due from until rings number, without_due_of_both from until rings number      the rings without what arrives within a span
+--     arrives_later until m      a message does not arrive before a cycle
+--     due_of_both until rings number      what arrives before a cycle in a ring and in the one behind it, by age
+--     without_due until rings number, without_due_of_both until rings number      the rings without what arrives before a cycle
 --     HasRoom rings number more      a ring has room for this many further messages
 --     count_to channels number ms      how many of some messages go to a ring
 --     CanTakeUp channels rings ms      each ring has room for those of some messages that go to it
@@ -22,7 +23,7 @@ use Rattle.sim_base.specs.History.{by_age, insert_by_age}
 use Rattle.sim_base.specs.declared.message.Message.{Message}
 use Rattle.sim_base.specs.declared.message.Unit.{Unit as MachineUnit}
 use Rattle.sim_base.specs.declared.message.Unit.TheVariants.{Core, Channel}
-use Rattle.links.specs.InFlight.{arrives_within}
+use Rattle.links.specs.InFlight.{arrives_before}
 
 -- the number of the ring of a link's messages; of those to a core, replies are on links with the remainder 1, credits with 2
 abbrev pub ring_of : ℕ → ℕ → ℕ
@@ -97,9 +98,9 @@ pub record Grows (old new : List (Buffer Message)) : Type 0 where
   pub rings : (channels first : ℕ) → AreRings channels first (contents old) → AreRings channels first (contents new)
   pub room : (number more : ℕ) → HasRoom old number more → HasRoom new number more
 
--- a message does not arrive within a span
-abbrev pub arrives_outside : ℕ → ℕ → Message → Bool
-arrives_outside from until m = not (arrives_within from until m)
+-- a message does not arrive before a cycle
+abbrev pub arrives_later : ℕ → Message → Bool
+arrives_later until m = not (arrives_before until m)
 
 -- the lesser of two cycles; if there is only one of them, that one
 abbrev pub lesser_of : Option ℕ → Option ℕ → Option ℕ
@@ -107,16 +108,15 @@ lesser_of None second = second
 lesser_of (Some a) None = Some a
 lesser_of (Some a) (Some b) = Some (min a b)
 
--- what arrives within a span in a ring and in the one behind it, by age
-abbrev pub due_of_both : ℕ → ℕ → List (List Message) → ℕ → List Message
-due_of_both from until rings number =
-    fold insert_by_age (filter (arrives_within from until) (ring_at rings number)) (filter (arrives_within from until) (ring_at rings (number + 1)))
+-- what arrives before a cycle in a ring and in the one behind it, by age
+abbrev pub due_of_both : ℕ → List (List Message) → ℕ → List Message
+due_of_both until rings number =
+    fold insert_by_age (filter (arrives_before until) (ring_at rings number)) (filter (arrives_before until) (ring_at rings (number + 1)))
 
--- the rings without what arrives within a span in one of them
-abbrev pub without_due : ℕ → ℕ → List (List Message) → ℕ → List (List Message)
-without_due from until rings number = slice_set rings number (filter (arrives_outside from until) (ring_at rings number))
+-- the rings without what arrives before a cycle in one of them
+abbrev pub without_due : ℕ → List (List Message) → ℕ → List (List Message)
+without_due until rings number = slice_set rings number (filter (arrives_later until) (ring_at rings number))
 
 -- and without that in the one behind it
-abbrev pub without_due_of_both : ℕ → ℕ → List (List Message) → ℕ → List (List Message)
-without_due_of_both from until rings number =
-    slice_set (without_due from until rings number) (number + 1) (filter (arrives_outside from until) (ring_at rings (number + 1)))
+abbrev pub without_due_of_both : ℕ → List (List Message) → ℕ → List (List Message)
+without_due_of_both until rings number = slice_set (without_due until rings number) (number + 1) (filter (arrives_later until) (ring_at rings (number + 1)))

@@ -5,16 +5,14 @@ ghost use Rattle.std.specs.List.{list_all};
 ghost use Rattle.std.specs.List.Sorted.{IsPermutation};
 ghost use Rattle.std.specs.Option.{option_map};
 ghost use Rattle.sim_base.specs.History.{is_unit, insert_by_age, by_age};
-ghost use Rattle.links.specs.InFlight.{receiver_of, arrives_within, is_due};
+ghost use Rattle.links.specs.InFlight.{receiver_of, arrives_before, is_due_before};
 ghost use Rattle.links.specs.Rings.{ring_of, ring_if_any, contents, joined, ring_at, sooner_of, lesser_of, due_of_both, without_due, without_due_of_both, AreRings, HasRoom, HaveRoom, AreNumbers, count_to, CanTakeUp, Grows};
 
-use crate::merge::{copy_heads, merged, messages_of};
-use crate::rings::{
-    Ring, copy_due, drop_first, drop_within, first_arrival, make_room, put_by_age, take_due,
-};
+use crate::merge::{copy_heads, messages_of};
+use crate::rings::{Ring, drop_first, first_arrival, make_room, put_by_age, take_before};
 use circular_buffer::HeapCircularBuffer;
 use sim_base::config::Config;
-use sim_base::message::{Cycle, Inbox, LinkId, Message, Unit};
+use sim_base::message::{Cycle, LinkId, Message, Unit};
 use std::alloc::{AllocError, Global};
 use std::marker::Model;
 
@@ -317,95 +315,55 @@ fn sort_by_arrival(alloc: Global, messages: &mut [Message]) -> Result<(), AllocE
     messages.sort_by_key(alloc, |message| message.arrival)
 }
 
-/// Takes what arrives within a span out of a ring, into an empty list. Where memory is refused, the rings stay as they were.
+/// Takes what arrives before a cycle out of a ring, into an empty list. Where memory is refused, the rings stay as they were.
 #[inline(always)]
 fn take_from(
     rings: &mut Vec<Ring>,
     number: usize,
-    from: Cycle,
     until: Cycle,
     inbox: &mut Vec<Message>,
 ) -> Result<(), AllocError>
     requires empty { inbox.old.items ≡ [] }
     requires in_order { by_age (ring_at (contents rings.old.items) number) ≡ ring_at (contents rings.old.items) number }
-    ensures taken { OnOk result (inbox.new.items ≡ filter (arrives_within from until) (ring_at (contents rings.old.items) number)) }
-    ensures rest { OnOk result (contents rings.new.items ≡ without_due from until (contents rings.old.items) number) }
+    ensures taken { OnOk result (inbox.new.items ≡ filter (arrives_before until) (ring_at (contents rings.old.items) number)) }
+    ensures rest { OnOk result (contents rings.new.items ≡ without_due until (contents rings.old.items) number) }
     ensures err { OnErr result (contents rings.new.items ≡ contents rings.old.items) }
 {
     if number >= rings.len() {
         return Ok(());
     }
-    take_due(&mut rings[number], from, until, inbox)?;
+    take_before(&mut rings[number], until, inbox)?;
     Ok(())
 }
 
-/// Takes what arrives within a span out of two rings that stand one behind the other, into an empty list, by age, where a
-/// message may arrive before the span. Where memory is refused, the rings stay as they were.
-#[cold]
-#[inline(never)]
-fn take_merged(
-    alloc: Global,
-    rings: &mut Vec<Ring>,
-    number: usize,
-    from: Cycle,
-    until: Cycle,
-    inbox: &mut Vec<Message>,
-) -> Result<(), AllocError>
-    requires small { number + 1 < 2 ^ 64 }
-    requires exist { number + 1 < length rings.old.items }
-    requires empty { inbox.old.items ≡ [] }
-    requires first { by_age (ring_at (contents rings.old.items) number) ≡ ring_at (contents rings.old.items) number }
-    requires second { by_age (ring_at (contents rings.old.items) (number + 1)) ≡ ring_at (contents rings.old.items) (number + 1) }
-    ensures taken { OnOk result (inbox.new.items ≡ due_of_both from until (contents rings.old.items) number) }
-    ensures rest { OnOk result (contents rings.new.items ≡ without_due_of_both from until (contents rings.old.items) number) }
-    ensures err { OnErr result (contents rings.new.items ≡ contents rings.old.items) }
-{
-    copy_due(&rings[number], from, until, inbox)?;
-    let mut second = Vec::new(alloc);
-    copy_due(&rings[number + 1], from, until, &mut second)?;
-    let all = merged(alloc, inbox, &second)?;
-    *inbox = all;
-    drop_within(&mut rings[number], from, until);
-    drop_within(&mut rings[number + 1], from, until);
-    Ok(())
-}
-
-/// Takes what arrives within a span out of two rings that stand one behind the other, into an empty list, by age; does nothing, where
-/// a message arrives before the span. Says whether it did. Where memory is refused, the rings stay as they were.
+/// Takes what arrives before a cycle out of two rings that stand one behind the other, into an empty list, by age. Where memory is
+/// refused, the rings stay as they were.
 fn take_heads(
     rings: &mut Vec<Ring>,
     number: usize,
-    from: Cycle,
     until: Cycle,
     inbox: &mut Vec<Message>,
-) -> Result<bool, AllocError>
+) -> Result<(), AllocError>
     requires small { number + 1 < 2 ^ 64 }
     requires exist { number + 1 < length rings.old.items }
     requires empty { inbox.old.items ≡ [] }
     requires first { by_age (ring_at (contents rings.old.items) number) ≡ ring_at (contents rings.old.items) number }
     requires second { by_age (ring_at (contents rings.old.items) (number + 1)) ≡ ring_at (contents rings.old.items) (number + 1) }
-    ensures taken { IfOk result (λ did. did ≡ true → inbox.new.items ≡ due_of_both from until (contents rings.old.items) number) }
-    ensures rest { IfOk result (λ did. did ≡ true → contents rings.new.items ≡ without_due_of_both from until (contents rings.old.items) number) }
-    ensures not { IfOk result (λ did. did ≡ false → inbox.new.items ≡ []) }
-    ensures same { IfOk result (λ did. did ≡ false → rings.new.items ≡ rings.old.items) }
+    ensures taken { OnOk result (inbox.new.items ≡ due_of_both until (contents rings.old.items) number) }
+    ensures rest { OnOk result (contents rings.new.items ≡ without_due_of_both until (contents rings.old.items) number) }
     ensures err { OnErr result (contents rings.new.items ≡ contents rings.old.items) }
 {
-    let copied = copy_heads(&rings[number], &rings[number + 1], from, until, inbox)?;
-    let Some((first, second)) = copied else {
-        return Ok(false);
-    };
+    let (first, second) = copy_heads(&rings[number], &rings[number + 1], until, inbox)?;
     drop_first(&mut rings[number], first);
     drop_first(&mut rings[number + 1], second);
-    Ok(true)
+    Ok(())
 }
 
-/// Takes what arrives within a span out of two rings that stand one behind the other, into an empty list, by age. Where memory is
+/// Takes what arrives before a cycle out of a ring and the one behind it, where they exist, into an empty list, by age. Where memory is
 /// refused, the rings stay as they were.
 fn take_from_both(
-    alloc: Global,
     rings: &mut Vec<Ring>,
     number: usize,
-    from: Cycle,
     until: Cycle,
     inbox: &mut Vec<Message>,
 ) -> Result<(), AllocError>
@@ -413,17 +371,14 @@ fn take_from_both(
     requires empty { inbox.old.items ≡ [] }
     requires first { by_age (ring_at (contents rings.old.items) number) ≡ ring_at (contents rings.old.items) number }
     requires second { by_age (ring_at (contents rings.old.items) (number + 1)) ≡ ring_at (contents rings.old.items) (number + 1) }
-    ensures taken { OnOk result (inbox.new.items ≡ due_of_both from until (contents rings.old.items) number) }
-    ensures rest { OnOk result (contents rings.new.items ≡ without_due_of_both from until (contents rings.old.items) number) }
+    ensures taken { OnOk result (inbox.new.items ≡ due_of_both until (contents rings.old.items) number) }
+    ensures rest { OnOk result (contents rings.new.items ≡ without_due_of_both until (contents rings.old.items) number) }
     ensures err { OnErr result (contents rings.new.items ≡ contents rings.old.items) }
 {
     if number + 1 >= rings.len() {
-        return take_from(rings, number, from, until, inbox);
+        return take_from(rings, number, until, inbox);
     }
-    if take_heads(rings, number, from, until, inbox)? {
-        return Ok(());
-    }
-    take_merged(alloc, rings, number, from, until, inbox)
+    take_heads(rings, number, until, inbox)
 }
 
 /// When the first message in a ring arrives; none, where there is no such ring.
@@ -513,19 +468,19 @@ impl Links {
         Ok(())
     }
 
-    /// Takes out the messages to a unit that arrive from `from` on and before `until`, by age, into an empty list. Where
-    /// memory is refused, the links stay as they were.
+    /// Takes out the messages to a unit that arrive before the cycle `until`, by age, into an empty list. Nothing in flight is overdue, so
+    /// for a unit that is taken from `now` to `until` they are those that arrive in this span. The only error is out of memory, and
+    /// the links then stay as they were.
     pub fn take_due_into(
         &mut self,
         unit: Unit,
-        from: Cycle,
         until: Cycle,
         inbox: &mut Vec<Message>,
     ) -> Result<(), AllocError>
         requires { inbox.old.items ≡ [] }
-        ensures ok { OnOk result (inbox.new.items ≡ filter (is_due self.old.channels unit from until) self.old.messages) }
+        ensures ok { OnOk result (inbox.new.items ≡ filter (is_due_before self.old.channels unit until) self.old.messages) }
         ensures by_age { OnOk result (by_age inbox.new.items ≡ inbox.new.items) }
-        ensures rest { OnOk result (self.new ≡ record self.old { messages = filter (λ m. not (is_due self.old.channels unit from until m)) self.old.messages }) }
+        ensures rest { OnOk result (self.new ≡ record self.old { messages = filter (λ m. not (is_due_before self.old.channels unit until m)) self.old.messages }) }
         ensures err { OnErr result (self.new ≡ self.old) }
     {
         let Some(number) = ring_of_unit(self.channels, unit) else {
@@ -533,33 +488,14 @@ impl Links {
         };
         match unit {
             Unit::Channel(_) => {
-                take_from(&mut self.rings, number, from, until, inbox)?;
+                take_from(&mut self.rings, number, until, inbox)?;
                 Ok(())
             }
             Unit::Core(_) => {
-                take_from_both(self.alloc, &mut self.rings, number, from, until, inbox)?;
+                take_from_both(&mut self.rings, number, until, inbox)?;
                 Ok(())
             }
         }
-    }
-
-    /// Takes out the messages to a unit that arrive from `from` on and before `until`, by age, into a new list, where `take_due_into` fills
-    /// one of the caller's. It is for tests. Where memory is refused, the links stay as they were.
-    pub fn take_due(
-        &mut self,
-        alloc: Global,
-        unit: Unit,
-        from: Cycle,
-        until: Cycle,
-    ) -> Result<Inbox, AllocError>
-        ensures ok { IfOk result (λ inbox. inbox.items ≡ filter (is_due self.old.channels unit from until) self.old.messages) }
-        ensures by_age { IfOk result (λ inbox. by_age inbox.items ≡ inbox.items) }
-        ensures rest { OnOk result (self.new ≡ record self.old { messages = filter (λ m. not (is_due self.old.channels unit from until m)) self.old.messages }) }
-        ensures err { OnErr result (self.new ≡ self.old) }
-    {
-        let mut inbox = Vec::new(alloc);
-        self.take_due_into(unit, from, until, &mut inbox)?;
-        Ok(inbox)
     }
 
     /// Copies of all messages in flight, by age.

@@ -1,14 +1,12 @@
 //! Messages of several rings, merged by age.
 
-ghost use Rattle.std.specs.Prelude.{◌≡◌, ◌≤◌, ◌&&◌, nat_lt, [], length, drop, filter, fold, IfSome, IsNone, IfOk, OnOk};
+ghost use Rattle.std.specs.Prelude.{◌≡◌, ◌&&◌, nat_lt, [], length, filter, fold, IfOk, OnOk};
 ghost use Rattle.std.specs.List.{AllByRecursion};
 ghost use Rattle.sim_base.specs.History.{insert_by_age, by_age};
-ghost use Rattle.links.specs.InFlight.{arrives_within};
-ghost use Rattle.links.specs.Rings.{arrives_outside, contents, joined};
+ghost use Rattle.links.specs.InFlight.{arrives_before};
+ghost use Rattle.links.specs.Rings.{contents, joined};
 
-use crate::rings::{
-    Ring, append_all, begins_before, copy_both_before, head_before, is_first_before,
-};
+use crate::rings::{Ring, append_all, copy_both_before, head_before};
 use sim_base::message::{Cycle, Message};
 use std::alloc::{AllocError, Global};
 
@@ -61,60 +59,50 @@ pub fn merged(
     Ok(all)
 }
 
-/// Copies what arrives within a span out of two rings into an empty list, by age, wherever it lies, and says how many messages they are of
-/// each ring, all at its head; does nothing, where a message arrives before the span.
+/// Copies what arrives before a cycle out of two rings into an empty list, by age, also where it goes on at the beginning of a ring's
+/// block, and says how many messages they are of each ring.
 #[cold]
 #[inline(never)]
-fn copy_anywhere(
+fn copy_wrapped(
     first: &Ring,
     second: &Ring,
-    from: Cycle,
     until: Cycle,
     inbox: &mut Vec<Message>,
-) -> Result<Option<(usize, usize)>, AllocError>
+) -> Result<(usize, usize), AllocError>
     requires empty { inbox.old.items ≡ [] }
     requires first { by_age first.now.items ≡ first.now.items }
     requires second { by_age second.now.items ≡ second.now.items }
-    ensures first { IfOk result (λ copied. IfSome copied (λ counts. (counts.0 ≤ length first.now.items) × (drop counts.0 first.now.items ≡ filter (arrives_outside from until) first.now.items))) }
-    ensures second { IfOk result (λ copied. IfSome copied (λ counts. (counts.1 ≤ length second.now.items) × (drop counts.1 second.now.items ≡ filter (arrives_outside from until) second.now.items))) }
-    ensures copied { IfOk result (λ copied. IfSome copied (λ _. inbox.new.items ≡ fold insert_by_age (filter (arrives_within from until) first.now.items) (filter (arrives_within from until) second.now.items))) }
-    ensures not { IfOk result (λ copied. IsNone copied → inbox.new.items ≡ []) }
+    ensures first { IfOk result (λ counts. counts.0 ≡ length (filter (arrives_before until) first.now.items)) }
+    ensures second { IfOk result (λ counts. counts.1 ≡ length (filter (arrives_before until) second.now.items)) }
+    ensures copied { OnOk result (inbox.new.items ≡ fold insert_by_age (filter (arrives_before until) first.now.items) (filter (arrives_before until) second.now.items)) }
 {
-    if is_first_before(first, from) || is_first_before(second, from) {
-        return Ok(None);
-    }
     inbox.reserve(first.len() + second.len())?;
-    Ok(Some(copy_both_before(first, second, until, inbox)))
+    Ok(copy_both_before(first, second, until, inbox))
 }
 
-/// Copies what arrives within a span out of two rings into an empty list, by age, and says how many messages they are of each ring, all
-/// at its head; does nothing, where a message arrives before the span.
+/// Copies what arrives before a cycle out of two rings into an empty list, by age, and says how many messages they are of each ring, all
+/// at its head.
 pub fn copy_heads(
     first: &Ring,
     second: &Ring,
-    from: Cycle,
     until: Cycle,
     inbox: &mut Vec<Message>,
-) -> Result<Option<(usize, usize)>, AllocError>
+) -> Result<(usize, usize), AllocError>
     requires empty { inbox.old.items ≡ [] }
     requires first { by_age first.now.items ≡ first.now.items }
     requires second { by_age second.now.items ≡ second.now.items }
-    ensures first { IfOk result (λ copied. IfSome copied (λ counts. (counts.0 ≤ length first.now.items) × (drop counts.0 first.now.items ≡ filter (arrives_outside from until) first.now.items))) }
-    ensures second { IfOk result (λ copied. IfSome copied (λ counts. (counts.1 ≤ length second.now.items) × (drop counts.1 second.now.items ≡ filter (arrives_outside from until) second.now.items))) }
-    ensures copied { IfOk result (λ copied. IfSome copied (λ _. inbox.new.items ≡ fold insert_by_age (filter (arrives_within from until) first.now.items) (filter (arrives_within from until) second.now.items))) }
-    ensures not { IfOk result (λ copied. IsNone copied → inbox.new.items ≡ []) }
+    ensures first { IfOk result (λ counts. counts.0 ≡ length (filter (arrives_before until) first.now.items)) }
+    ensures second { IfOk result (λ counts. counts.1 ≡ length (filter (arrives_before until) second.now.items)) }
+    ensures copied { OnOk result (inbox.new.items ≡ fold insert_by_age (filter (arrives_before until) first.now.items) (filter (arrives_before until) second.now.items)) }
 {
     let Some(a) = head_before(first, until) else {
-        return copy_anywhere(first, second, from, until, inbox);
+        return copy_wrapped(first, second, until, inbox);
     };
     let Some(b) = head_before(second, until) else {
-        return copy_anywhere(first, second, from, until, inbox);
+        return copy_wrapped(first, second, until, inbox);
     };
-    if begins_before(a, from) || begins_before(b, from) {
-        return Ok(None);
-    }
     merge_into(inbox, a, b)?;
-    Ok(Some((a.len(), b.len())))
+    Ok((a.len(), b.len()))
 }
 
 /// What stands in several rings, by age.

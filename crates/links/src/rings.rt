@@ -1,12 +1,12 @@
 //! Rings of messages, each by age.
 
-ghost use Rattle.std.specs.Prelude.{◌≡◌, ◌+◌, ◌<◌, ◌≤◌, [], ◌++◌, length, fold, take, take_while, drop, filter, slice_get, slice_index_or, slice_set, nat_lt, ◌-◌, ◌^◌, true, false, IfSome, IsNone, OnOk, OnErr, ◌∷◌, vec_len, vec_capacity};
+ghost use Rattle.std.specs.Prelude.{◌≡◌, ◌+◌, ◌<◌, ◌≤◌, [], ◌++◌, length, fold, take_while, drop, filter, slice_get, slice_index_or, slice_set, ◌-◌, ◌^◌, true, false, IfSome, IsNone, OnOk, OnErr, ◌∷◌, vec_len, vec_capacity};
 ghost use Rattle.std.specs.List.{prefix_len};
 ghost use Rattle.std.specs.Option.{option_map, option_map_or};
 ghost use Rattle.sim_base.specs.History.{is_before, insert_by_age, by_age};
 ghost use Rattle.sim_base.specs.declared.message.Message.{Message};
-ghost use Rattle.links.specs.InFlight.{arrives_within};
-ghost use Rattle.links.specs.Rings.{arrives_outside};
+ghost use Rattle.links.specs.InFlight.{arrives_before};
+ghost use Rattle.links.specs.Rings.{arrives_later};
 
 use circular_buffer::HeapCircularBuffer;
 use sim_base::message::{Cycle, Message};
@@ -103,24 +103,11 @@ pub fn put_by_age(ring: &mut Ring, message: &Message)
     }
 }
 
-fn is_within(from: Cycle, until: Cycle, message: &Message) -> bool
-    ensures { result ≡ arrives_within from until message.now }
-{
-    from <= message.arrival && message.arrival < until
-}
-
 /// When the first message arrives.
 pub fn first_arrival(ring: &Ring) -> Option<Cycle>
     ensures { result ≡ option_map (λ m. m.arrival) (slice_get ring.now.items 0) }
 {
     ring.front().map(|message| message.arrival)
-}
-
-/// Whether the first message arrives before a cycle.
-pub fn is_first_before(ring: &Ring, until: Cycle) -> bool
-    ensures { result ≡ option_map_or (λ m. nat_lt m.arrival until) (slice_get ring.now.items 0) false }
-{
-    ring.front().is_some_and(|message| message.arrival < until)
 }
 
 /// The message in a place, where it arrives before a cycle.
@@ -140,73 +127,6 @@ fn arrived_at(ring: &Ring, place: usize, until: Cycle) -> Option<&Message>
     }
 }
 
-/// Copies what arrives within a span.
-pub fn copy_due(
-    ring: &Ring,
-    from: Cycle,
-    until: Cycle,
-    inbox: &mut Vec<Message>,
-) -> Result<(), AllocError>
-    requires empty { inbox.old.items ≡ [] }
-    requires in_order { by_age ring.now.items ≡ ring.now.items }
-    ensures { OnOk result (inbox.new.items ≡ filter (arrives_within from until) ring.now.items) }
-{
-    let mut place = 0;
-    while let Some(message) = arrived_at(ring, place, until) {
-        if from <= message.arrival {
-            inbox.push(*message)?;
-        }
-        place += 1;
-    }
-    Ok(())
-}
-
-/// Moves the first message to the back, or takes it out, where it arrives within a span.
-fn pass_over(ring: &mut Ring, from: Cycle, until: Cycle)
-    requires { length ring.old.items ≤ ring.old.capacity }
-    ensures items { ring.new.items ≡ drop 1 ring.old.items ++ filter (arrives_outside from until) (take 1 ring.old.items) }
-    ensures within { length ring.new.items ≤ ring.new.capacity }
-    ensures capacity { ring.new.capacity ≡ ring.old.capacity }
-{
-    match ring.pop_front() {
-        Some(message) if !is_within(from, until, &message) => {
-            ring.push_back(message);
-        }
-        _ => {}
-    }
-}
-
-/// Takes out what arrives within a span, wherever it stands.
-pub fn drop_within(ring: &mut Ring, from: Cycle, until: Cycle)
-    ensures items { ring.new.items ≡ filter (arrives_outside from until) ring.old.items }
-    ensures capacity { ring.new.capacity ≡ ring.old.capacity }
-{
-    for _ in 0..ring.len() {
-        pass_over(ring, from, until);
-    }
-}
-
-/// Takes out what arrives within a span, into an empty list, where a message may arrive before the span. Where memory is refused,
-/// the ring stays as it was.
-#[cold]
-#[inline(never)]
-fn take_within(
-    ring: &mut Ring,
-    from: Cycle,
-    until: Cycle,
-    inbox: &mut Vec<Message>,
-) -> Result<(), AllocError>
-    requires empty { inbox.old.items ≡ [] }
-    requires in_order { by_age ring.old.items ≡ ring.old.items }
-    ensures taken { OnOk result (inbox.new.items ≡ filter (arrives_within from until) ring.old.items) }
-    ensures rest { OnOk result (ring.new.items ≡ filter (arrives_outside from until) ring.old.items) }
-    ensures err { OnErr result (ring.new.items ≡ ring.old.items) }
-{
-    copy_due(ring, from, until, inbox)?;
-    drop_within(ring, from, until);
-    Ok(())
-}
-
 /// Puts a message at the end of a list, which has room for it. With the test, which always passes, the compiler sees that the list need
 /// not grow.
 fn append(list: &mut Vec<Message>, message: &Message)
@@ -224,10 +144,10 @@ fn append(list: &mut Vec<Message>, message: &Message)
 /// Copies the messages of a ring from a place on that arrive before a cycle to the end of a list, which has room for all of them, and
 /// says how many arrive before it in all.
 fn copy_before(ring: &Ring, start: usize, until: Cycle, inbox: &mut Vec<Message>) -> usize
-    requires within { start ≤ length (take_while (λ m. nat_lt m.arrival until) ring.now.items) }
+    requires within { start ≤ length (take_while (arrives_before until) ring.now.items) }
     requires room { vec_len inbox.old + (length ring.now.items - start) ≤ vec_capacity inbox.old }
-    ensures count { result ≡ length (take_while (λ m. nat_lt m.arrival until) ring.now.items) }
-    ensures copied { inbox.new.items ≡ inbox.old.items ++ drop start (take_while (λ m. nat_lt m.arrival until) ring.now.items) }
+    ensures count { result ≡ length (take_while (arrives_before until) ring.now.items) }
+    ensures copied { inbox.new.items ≡ inbox.old.items ++ drop start (take_while (arrives_before until) ring.now.items) }
     ensures len { vec_len inbox.new + start ≤ vec_len inbox.old + length ring.now.items }
     ensures capacity { vec_capacity inbox.old ≤ vec_capacity inbox.new }
 {
@@ -249,7 +169,7 @@ pub fn drop_first(ring: &mut Ring, count: usize)
 
 /// How many messages at the head of a list arrive before a cycle.
 fn count_before(messages: &[Message], until: Cycle) -> usize
-    ensures count { result ≡ prefix_len (λ m. nat_lt m.arrival until) messages.now }
+    ensures count { result ≡ prefix_len (arrives_before until) messages.now }
     ensures within { result ≤ length messages.now }
 {
     messages
@@ -259,8 +179,8 @@ fn count_before(messages: &[Message], until: Cycle) -> usize
 }
 
 /// Whether the first message of a list arrives before a cycle.
-pub fn begins_before(messages: &[Message], until: Cycle) -> bool
-    ensures { result ≡ option_map_or (λ m. nat_lt m.arrival until) (slice_get messages.now 0) false }
+fn begins_before(messages: &[Message], until: Cycle) -> bool
+    ensures { result ≡ option_map_or (arrives_before until) (slice_get messages.now 0) false }
 {
     messages
         .first()
@@ -270,7 +190,7 @@ pub fn begins_before(messages: &[Message], until: Cycle) -> bool
 /// The messages at the head of a ring that arrive before a cycle, where they lie side by side; none, where they go on at the
 /// beginning of its block.
 pub fn head_before(ring: &Ring, until: Cycle) -> Option<&[Message]>
-    ensures { IfSome result (λ head. head.now ≡ take_while (λ m. nat_lt m.arrival until) ring.now.items) }
+    ensures { IfSome result (λ head. head.now ≡ take_while (arrives_before until) ring.now.items) }
 {
     let (front, back) = ring.as_slices();
     let count = count_before(front, until);
@@ -292,16 +212,40 @@ pub fn append_all(list: &mut Vec<Message>, messages: &[Message])
     }
 }
 
-/// Takes out the messages at the head of a ring that arrive before a cycle, into an empty list. Where memory is refused, the ring
-/// stays as it was.
-fn take_before(ring: &mut Ring, until: Cycle, inbox: &mut Vec<Message>) -> Result<(), AllocError>
+/// Takes out the messages at the head of a ring that arrive before a cycle, into an empty list, also where they go on at the beginning of
+/// its block. Where memory is refused, the ring stays as it was.
+#[cold]
+#[inline(never)]
+fn take_wrapped(ring: &mut Ring, until: Cycle, inbox: &mut Vec<Message>) -> Result<(), AllocError>
     requires { inbox.old.items ≡ [] }
-    ensures taken { OnOk result (inbox.new.items ≡ take_while (λ m. nat_lt m.arrival until) ring.old.items) }
-    ensures rest { OnOk result (ring.new.items ≡ drop (length (take_while (λ m. nat_lt m.arrival until) ring.old.items)) ring.old.items) }
+    ensures taken { OnOk result (inbox.new.items ≡ take_while (arrives_before until) ring.old.items) }
+    ensures rest { OnOk result (ring.new.items ≡ drop (length (take_while (arrives_before until) ring.old.items)) ring.old.items) }
     ensures err { OnErr result (ring.new.items ≡ ring.old.items) }
 {
     inbox.reserve(ring.len())?;
     let count = copy_before(ring, 0, until, inbox);
+    drop_first(ring, count);
+    Ok(())
+}
+
+/// Takes out what arrives before a cycle, into an empty list. Where memory is refused, the ring stays as it was.
+pub fn take_before(
+    ring: &mut Ring,
+    until: Cycle,
+    inbox: &mut Vec<Message>,
+) -> Result<(), AllocError>
+    requires empty { inbox.old.items ≡ [] }
+    requires in_order { by_age ring.old.items ≡ ring.old.items }
+    ensures taken { OnOk result (inbox.new.items ≡ filter (arrives_before until) ring.old.items) }
+    ensures rest { OnOk result (ring.new.items ≡ filter (arrives_later until) ring.old.items) }
+    ensures err { OnErr result (ring.new.items ≡ ring.old.items) }
+{
+    let Some(head) = head_before(ring, until) else {
+        return take_wrapped(ring, until, inbox);
+    };
+    let count = head.len();
+    inbox.reserve(count)?;
+    append_all(inbox, head);
     drop_first(ring, count);
     Ok(())
 }
@@ -317,9 +261,9 @@ pub fn copy_both_before(
     requires empty { inbox.old.items ≡ [] }
     requires room { vec_len inbox.old + (length first.now.items + length second.now.items) ≤ vec_capacity inbox.old }
     requires in_order { by_age second.now.items ≡ second.now.items }
-    ensures first { result.0 ≡ length (take_while (λ m. nat_lt m.arrival until) first.now.items) }
-    ensures second { result.1 ≡ length (take_while (λ m. nat_lt m.arrival until) second.now.items) }
-    ensures copied { inbox.new.items ≡ fold insert_by_age (take_while (λ m. nat_lt m.arrival until) first.now.items) (take_while (λ m. nat_lt m.arrival until) second.now.items) }
+    ensures first { result.0 ≡ length (take_while (arrives_before until) first.now.items) }
+    ensures second { result.1 ≡ length (take_while (arrives_before until) second.now.items) }
+    ensures copied { inbox.new.items ≡ fold insert_by_age (take_while (arrives_before until) first.now.items) (take_while (arrives_before until) second.now.items) }
 {
     let (mut i, mut j) = (0, 0);
     while let (Some(a), Some(b)) = (arrived_at(first, i, until), arrived_at(second, j, until)) {
@@ -334,56 +278,4 @@ pub fn copy_both_before(
     let of_first = copy_before(first, i, until, inbox);
     let of_second = copy_before(second, j, until, inbox);
     (of_first, of_second)
-}
-
-/// Takes out what arrives within a span, into an empty list, wherever it lies. Where memory is refused, the ring stays as it was.
-#[cold]
-#[inline(never)]
-fn take_anywhere(
-    ring: &mut Ring,
-    from: Cycle,
-    until: Cycle,
-    inbox: &mut Vec<Message>,
-) -> Result<(), AllocError>
-    requires empty { inbox.old.items ≡ [] }
-    requires in_order { by_age ring.old.items ≡ ring.old.items }
-    ensures taken { OnOk result (inbox.new.items ≡ filter (arrives_within from until) ring.old.items) }
-    ensures rest { OnOk result (ring.new.items ≡ filter (arrives_outside from until) ring.old.items) }
-    ensures err { OnErr result (ring.new.items ≡ ring.old.items) }
-{
-    let Some(first) = first_arrival(ring) else {
-        return Ok(());
-    };
-    if first < from {
-        return take_within(ring, from, until, inbox);
-    }
-    if first < until {
-        take_before(ring, until, inbox)?;
-    }
-    Ok(())
-}
-
-/// Takes out what arrives within a span, into an empty list. Where memory is refused, the ring stays as it was.
-pub fn take_due(
-    ring: &mut Ring,
-    from: Cycle,
-    until: Cycle,
-    inbox: &mut Vec<Message>,
-) -> Result<(), AllocError>
-    requires empty { inbox.old.items ≡ [] }
-    requires in_order { by_age ring.old.items ≡ ring.old.items }
-    ensures taken { OnOk result (inbox.new.items ≡ filter (arrives_within from until) ring.old.items) }
-    ensures rest { OnOk result (ring.new.items ≡ filter (arrives_outside from until) ring.old.items) }
-    ensures err { OnErr result (ring.new.items ≡ ring.old.items) }
-{
-    let count = match head_before(ring, until) {
-        Some(head) if !begins_before(head, from) => {
-            inbox.reserve(head.len())?;
-            append_all(inbox, head);
-            head.len()
-        }
-        _ => return take_anywhere(ring, from, until, inbox),
-    };
-    drop_first(ring, count);
-    Ok(())
 }

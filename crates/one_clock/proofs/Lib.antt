@@ -4,4 +4,4 @@ pub mod Runs
 pub mod Counted
 pub mod Joined
 pub mod Ended
-pub mod Lawful
+pub mod Rising

@@ -8,10 +8,6 @@ ghost use Rattle.sim_base.specs.Sends.{sends};
 ghost use Rattle.sim_base.specs.Counts.{in_flight};
 ghost use Rattle.plain_steps.specs.Plain.{core_view, channel_view, channel_step_of, is_late};
 ghost use Rattle.statistics.specs.Runs.{stats_of_core, stats_of_channel, last_of_core, last_of_channel, outcome_of};
-ghost use Rattle.laws.specs.Credits.{CreditsAreNeverOverspent, CreditsComeBackOnce, QueuesAreBounded};
-ghost use Rattle.laws.specs.Refreshes.{RefreshesAreInTime};
-ghost use Rattle.laws.specs.Tables.{IsOrdered, IsLegalTable, IsRefreshedTable};
-ghost use Rattle.one_clock.specs.Kept.{SharesDataBus, IsRefreshedInTime, QueuesFit};
 ghost use Rattle.one_clock.specs.Steps.{core_step_of};
 ghost use Rattle.one_clock.specs.Held.{HoldsRun, IsCycleOf};
 
@@ -639,7 +635,11 @@ impl Machine {
     }
 }
 
-fn run_machine(
+/// Runs the one-clock machine, cycle by cycle, and gives the commands that all channels issue, by cycle and then by channel,
+/// the statistics of the run and the state in which it ends. The run has as many cycles as the limit, or, where the
+/// configuration ends it drained, as many as it takes until all is retired, served and delivered. There is one trace for each
+/// core, and the limit is at most 10^12 cycles. The only error is out of memory.
+pub fn run_plain(
     alloc: Global,
     s: &Config,
     traces: &[Trace],
@@ -647,7 +647,7 @@ fn run_machine(
 ) -> Result<Outcome, AllocError>
     requires one_trace_a_core { length traces.now ≡ s.now.cores }
     requires limit { cycles ≤ 10 ^ 12 }
-    ensures { IfOk result (λ o. o ≡ outcome_of s.now traces.now (cycles_run s.now traces.now cycles)) }
+    ensures outcome { IfOk result (λ o. o ≡ outcome_of s.now traces.now (cycles_run s.now traces.now cycles)) }
 {
     let gaps = GapTable::of(s);
     let mut machine = Machine::start(alloc, s, traces)?;
@@ -658,37 +658,4 @@ fn run_machine(
         machine.advance(alloc, s, &gaps, traces, cycle)?;
     }
     machine.outcome(alloc, s, traces, cycles)
-}
-
-/// Runs the one-clock machine, cycle by cycle, and gives the commands that all channels issue, by cycle and then by channel,
-/// the statistics of the run and the state in which it ends. The run has as many cycles as the limit, or, where the
-/// configuration ends it drained, as many as it takes until all is retired, served and delivered. There is one trace for each
-/// core, and the limit is at most 10^12 cycles. The only error is out of memory.
-///
-/// The commands are in order, and each keeps the timing rules over those of its channel before it. No cycle of a channel's
-/// data bus belongs to two of them. Where ranks are refreshed, the n-th REF of each stands at cycle `n * nREFI` plus the slack,
-/// or earlier, if the run lasts that long, and no command comes while one is overdue. No core sends a channel more requests of a kind than the credits that it held
-/// and those that came back allow, and no more come back than were spent; so no channel's queue is ever longer than
-/// `cores * (read_credits + write_credits)`.
-pub fn run_plain(
-    alloc: Global,
-    s: &Config,
-    traces: &[Trace],
-    cycles: u64,
-) -> Result<Outcome, AllocError>
-    requires one_trace_a_core { length traces.now ≡ s.now.cores }
-    requires limit { cycles ≤ 10 ^ 12 }
-    ensures outcome { IfOk result (λ o. o ≡ outcome_of s.now traces.now (cycles_run s.now traces.now cycles)) }
-    ensures ordered { IfOk result (λ o. IsOrdered o.commands) }
-    ensures legal { IfOk result (λ o. IsLegalTable s.now o.commands) }
-    ensures data_bus { IfOk result (λ o. SharesDataBus s.now o.commands) }
-    ensures refreshed { IfOk result (λ o. IsRefreshedTable s.now o.commands) }
-    ensures refreshed_in_time { IfOk result (λ o. IsRefreshedInTime s.now o.stats.cycles o.commands) }
-    ensures in_time { RefreshesAreInTime s.now traces.now (cycles_run s.now traces.now cycles) }
-    ensures queues { IfOk result (λ o. QueuesFit s.now o.stats.channels) }
-    ensures spent { CreditsAreNeverOverspent s.now traces.now (cycles_run s.now traces.now cycles) }
-    ensures back { CreditsComeBackOnce s.now traces.now (cycles_run s.now traces.now cycles) }
-    ensures bounded { QueuesAreBounded s.now traces.now (cycles_run s.now traces.now cycles) }
-{
-    run_machine(alloc, s, traces, cycles)
 }

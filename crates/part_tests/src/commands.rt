@@ -5,7 +5,7 @@ ghost use Rattle.command_table.specs.Tables.{IsRising};
 
 use crate::expect::expect;
 use command_table::list::CommandList;
-use command_table::table::{CommandTable, Rows};
+use command_table::table::CommandTable;
 use fixtures::lists::list_of_two;
 use sim_base::command::{Command, IssuedCommand, Source};
 use sim_base::place::BankId;
@@ -76,70 +76,34 @@ fn table_of(
     Ok(CommandTable::of(vec![in alloc; first, second]?))
 }
 
-// Three commands, or fewer where there are fewer.
-type Three = [Option<IssuedCommand>; 3];
-
-// The commands in the first three places.
-fn three_of(list: &CommandList) -> Three {
-    [list.get(0), list.get(1), list.get(2)]
-}
-
-static KEPT: Three = [Some(ACT), Some(RD), None];
-
-static BOTH: [IssuedCommand; 2] = [ACT, RD];
-
-// Asserts how many commands a list has, and whether it is empty; those of two commands, and all of them.
-fn assert_kept(rt: &impl Abort, alloc: Global, list: &CommandList) -> Result<(), AllocError> {
-    let rows = list.to_vec(alloc)?;
-    expect(
-        rt,
-        &(
-            (list.len(), list.is_empty()),
-            three_of(list),
-            rows.as_slice(),
-        ),
-        &((2, false), KEPT, BOTH.as_slice()),
-    );
-    Ok(())
-}
+/// The commands of two lists by cycle; of one cycle, the command of the first list comes first.
+static ALL: [IssuedCommand; 4] = [ACT, PRE, REF, RD];
 
 fn size_of_none(alloc: Global) -> (usize, bool) {
     let none = CommandList::new(alloc);
     (none.len(), none.is_empty())
 }
 
-#[test]
-fn keeps_commands(rt: HostRuntime) -> Result<(), Fail> {
-    expect(&rt, &size_of_none(rt.alloc()), &(0, true));
-    let list = list_of_two(rt.alloc(), ACT, RD)?;
-    Ok(assert_kept(&rt, rt.alloc(), &list)?)
-}
-
-// The next three commands.
-fn next_three(rows: &mut Rows<'_>) -> Three {
-    [rows.next(), rows.next(), rows.next()]
-}
-
-fn table_of_two(alloc: Global) -> Result<CommandTable, AllocError> {
-    let first = list_of_two(alloc, ACT, RD)?;
-    let second = list_of_two(alloc, PRE, REF)?;
-    table_of(alloc, first, second)
-}
-
-// The commands of two lists by cycle, three and three; of one cycle, the command of the first list comes first.
-const BY_CYCLE: (Three, Three) = ([Some(ACT), Some(PRE), Some(REF)], [Some(RD), None, None]);
-
-static ALL: [IssuedCommand; 4] = [ACT, PRE, REF, RD];
-
-fn assert_by_cycle(rt: &impl Abort, alloc: Global, table: &CommandTable) -> Result<(), AllocError> {
-    let mut rows = table.rows(alloc)?;
-    let read = (next_three(&mut rows), next_three(&mut rows));
-    let want = BY_CYCLE;
-    expect(rt, &read, &want);
+/// A list has two commands, and a list with nothing none.
+fn assert_kept(rt: &impl Abort, alloc: Global, list: &CommandList) -> Result<(), AllocError> {
+    let rows = list.to_vec(alloc)?;
+    expect(
+        rt,
+        &(
+            (list.len(), list.is_empty(), size_of_none(alloc)),
+            (list.get(1), list.get(2)),
+            rows.as_slice(),
+        ),
+        &(
+            (2, false, (0, true)),
+            (Some(RD), None),
+            [ACT, RD].as_slice(),
+        ),
+    );
     Ok(())
 }
 
-// Asserts all commands of a table.
+/// Asserts all commands of a table, and that it gives them one after the other.
 fn assert_all(
     rt: &impl Abort,
     alloc: Global,
@@ -147,25 +111,15 @@ fn assert_all(
     want: &[IssuedCommand],
 ) -> Result<(), AllocError> {
     let all = table.to_vec(alloc)?;
-    expect(rt, &all.as_slice(), &want);
+    let mut rows = table.rows(alloc)?;
+    let first = [rows.next(), rows.next()];
+    expect(
+        rt,
+        &(all.as_slice(), first),
+        &(want, [want.first().copied(), want.get(1).copied()]),
+    );
     Ok(())
 }
-
-fn assert_merged(rt: &impl Abort, alloc: Global, table: &CommandTable) -> Result<(), AllocError> {
-    assert_by_cycle(rt, alloc, table)?;
-    assert_all(rt, alloc, table, &ALL)
-}
-
-#[test]
-fn reads_two_lists_by_cycle(rt: HostRuntime) -> Result<(), Fail> {
-    let table = table_of_two(rt.alloc())?;
-    Ok(assert_merged(&rt, rt.alloc(), &table)?)
-}
-
-// Two commands of one cycle.
-const REF_TOO: IssuedCommand = IssuedCommand { cycle: 3, ..REF };
-
-static OF_A_CYCLE: [IssuedCommand; 2] = [PRE, REF_TOO];
 
 fn table_of_rows(
     alloc: Global,
@@ -177,8 +131,18 @@ fn table_of_rows(
     CommandTable::of_rows(alloc, &[first, second])
 }
 
+/// Two commands of one cycle.
+const REF_TOO: IssuedCommand = IssuedCommand { cycle: 3, ..REF };
+
 #[test]
-fn reads_a_table_of_rows(rt: HostRuntime) -> Result<(), Fail> {
-    let table = table_of_rows(rt.alloc(), PRE, REF_TOO)?;
-    Ok(assert_all(&rt, rt.alloc(), &table, &OF_A_CYCLE)?)
+fn keeps_commands_by_cycle(rt: HostRuntime) -> Result<(), Fail> {
+    let alloc = rt.alloc();
+    let first = list_of_two(alloc, ACT, RD)?;
+    assert_kept(&rt, alloc, &first)?;
+    let second = list_of_two(alloc, PRE, REF)?;
+    let table = table_of(alloc, first, second)?;
+    assert_all(&rt, alloc, &table, &ALL)?;
+    let table = table_of_rows(alloc, PRE, REF_TOO)?;
+    assert_all(&rt, alloc, &table, &[PRE, REF_TOO])?;
+    Ok(())
 }

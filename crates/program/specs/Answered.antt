@@ -181,7 +181,7 @@ pub record IsHelpAnswer (text : List ℕ) (status : ℕ) (old new : Seen) : Type
 
 -- what is asked has been done
 abbrev pub IsAnswer : Ask → ℕ → Seen → Seen → Type 0
-IsAnswer (Run config cycles workers out traces) status old new =
+IsAnswer (Run config cycles workers share out traces) status old new =
     IsRunAnswer config.now cycles workers out.now (map (λ t. t.now) traces.items) status old new
 IsAnswer (Check config commands) status old new = IsCheckAnswer config.now commands.now status old new
 IsAnswer (Map config address) status old new = IsMapAnswer config.now address status old new
@@ -192,7 +192,7 @@ IsAnswer (Version text) status old new = IsHelpAnswer (string_bytes text) status
 
 -- what is left where it has not been done: nothing was touched, or a run is left undone after its outcome was there, or a page
 abbrev pub IsLeft : Refusal → Ask → Seen → Seen → Type 0
-IsLeft refusal (Run config cycles workers out traces) old new =
+IsLeft refusal (Run config cycles workers share out traces) old new =
     IsUnfinished refusal config.now cycles workers out.now (map (λ t. t.now) traces.items) old.held new.held old.opened new.opened
 IsLeft refusal (Page dir file from cycles) old new = IsPageLeft refusal file.now old new
 IsLeft refusal _ old new = LeavesAll refusal old.held new.held old.opened new.opened

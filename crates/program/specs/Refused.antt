@@ -24,7 +24,7 @@ use Rattle.reports.specs.Stats.{stats_header, stats_rows}
 use Rattle.sim_base.specs.declared.command.IssuedCommand.{IssuedCommand}
 use Rattle.simulation.specs.Runs.{input_of, IsRefusal}
 use Rattle.statistics.specs.Values.{RunStats}
-use Rattle.command_line.specs.Ask.{is_taken, command_of, IsCallForHelp, IsCallForVersion, HasBadAddress, IsAskedBy}
+use Rattle.command_line.specs.Ask.{is_taken, command_of, IsCallForHelp, IsCallForVersion, HasBadWord, IsAskedBy}
 use Rattle.whole_files.specs.Files.{Held}
 use Rattle.whole_files.specs.Tables.{path_in, stats_name, commands_name}
 use Rattle.program.specs.Pages.{AreTablesIn}
@@ -35,11 +35,11 @@ use Rattle.command_line.specs.declared.words.Ask.TheVariants.{Run, Check, Map, S
 pub record HasNoAsk (words : List Text) : Type 0 where
   pub no_help : ¬ (IsCallForHelp words)
   pub no_version : ¬ (IsCallForVersion words)
-  pub no_command : is_taken words ≡ true → HasBadAddress (command_of words)
+  pub no_command : is_taken words ≡ true → HasBadWord (command_of words)
 
 -- the files that are read, in their order
 abbrev pub named : Ask → List (List ℕ)
-named (Run config cycles workers out traces) = config.now ∷ map (λ t. t.now) traces.items
+named (Run config cycles workers share out traces) = config.now ∷ map (λ t. t.now) traces.items
 named (Check config commands) = config.now ∷ commands.now ∷ []
 named (Map config address) = config.now ∷ []
 named (Show dir all) = path_in dir.now stats_name ∷ []
@@ -134,7 +134,7 @@ IsRightPage _ = ⊥
 
 -- what is wrong with the texts of the files that are read
 abbrev pub IsFaultIn : Ask → List (List ℕ) → Fault → Type 0
-IsFaultIn (Run config cycles workers out traces) = IsRunFault cycles workers
+IsFaultIn (Run config cycles workers share out traces) = IsRunFault cycles workers
 IsFaultIn (Check config commands) = IsTableFault
 IsFaultIn (Map config address) = IsMapFault
 IsFaultIn (Show dir all) = IsShowFault
@@ -144,7 +144,7 @@ IsFaultIn (Version text) = λ _ _. ⊥
 
 -- nothing is
 abbrev pub IsRight : Ask → List (List ℕ) → Type 0
-IsRight (Run config cycles workers out traces) = IsRightRun cycles workers
+IsRight (Run config cycles workers share out traces) = IsRightRun cycles workers
 IsRight (Check config commands) = IsRightTable
 IsRight (Map config address) = IsRightMap
 IsRight (Show dir all) = IsRightShow

@@ -26,6 +26,7 @@ use std::alloc::{AllocError, Global};
 use std::sync::Wait;
 use std::thread::Threads;
 use workers::gate::Open;
+use workers::sharing::Workers;
 use workers::watch::Watch;
 
 /// A configuration.
@@ -131,11 +132,11 @@ pub(crate) fn outcome_of<R: Threads + Wait + Sync, W: Watch>(
     alloc: Global,
     input: &Input<'_>,
     cycles: Cycle,
-    workers: u64,
+    workers: Workers,
 ) -> Result<Outcome, Reason>
-    ensures run { IfOk result (IsRunOf input.now.document.now (map (λ t. t.now) input.now.texts.now) cycles workers) }
+    ensures run { IfOk result (IsRunOf input.now.document.now (map (λ t. t.now) input.now.texts.now) cycles workers.count) }
     ensures legal { IfOk result (IsJudgedLegal input.now.document.now) }
-    ensures refused { IfErr result (IsRefusal input.now.document.now (map (λ t. t.now) input.now.texts.now) cycles workers) }
+    ensures refused { IfErr result (IsRefusal input.now.document.now (map (λ t. t.now) input.now.texts.now) cycles workers.count) }
 {
     let Input {
         document,
@@ -149,7 +150,7 @@ pub(crate) fn outcome_of<R: Threads + Wait + Sync, W: Watch>(
         Ok(run) => Ok(run),
         Err(fault) => Err(Reason::explained(
             fault,
-            explain_run(alloc, fault, input, cycles, workers),
+            explain_run(alloc, fault, input, cycles, workers.count),
         )),
     }
 }

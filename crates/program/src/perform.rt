@@ -6,6 +6,7 @@ ghost use Rattle.whole_files.specs.Files.{SameFiles, AreHeld, IsReadFault};
 ghost use Rattle.program.specs.Told.{IsTold};
 ghost use Rattle.program.specs.Refused.{IsRunFault, IsRightRun, IsTableFault, IsRightTable, IsMapFault, IsRightMap, IsShowFault, IsRightShow, IsFilesFault, IsReady, IsInputFault, IsAnswerFault, IsAskFault, IsFaultOf};
 ghost use Rattle.refusal.specs.Refusals.{fault_of};
+ghost use Rattle.refusal.specs.Streams.{has_refused, stream_of};
 ghost use Rattle.whole_files.specs.Tables.{parts, path_in, stats_name};
 ghost use Rattle.program.specs.Answered.{seen, IsOutcome, IsRunDone, IsUnfinished, IsVerdict, verdict_line, verdict_status, IsChecked, IsPlace, rank_words, place_line, IsMapped, IsStatsOf, IsShown, IsAnswer, IsLeft, IsAnswered, IsRefusedBy, IsRefused};
 
@@ -14,8 +15,9 @@ use crate::host::Host;
 use crate::pages::perform_page;
 use crate::shared::SharedText;
 use address_map::place_of;
-use command_line::words::{Ask, read_words};
+use command_line::words::{Ask, Share, read_words};
 use page::window::Window;
+use refusal::error_stream::ErrorStream;
 use refusal::lines::write_lines;
 use refusal::reason::Reason;
 use refusal::refusal::Refusal;
@@ -34,6 +36,7 @@ use std::thread::Threads;
 use whole_files::files::FileSet;
 use whole_files::moves::path_of;
 use whole_files::tables::write_tables;
+use workers::sharing::{Sharing, Workers};
 use workers::watch::Watch;
 
 // Sends a text down a stream.
@@ -126,12 +129,12 @@ fn run_files<R: Threads + Wait + Sync, W: Watch, F: FileSet>(
     files: &mut F,
     config: &str,
     cycles: Cycle,
-    workers: u64,
+    workers: Workers,
     traces: &[&str],
 ) -> Result<Outcome, Reason>
-    ensures outcome { IfOk result (λ run. F.tells → IsOutcome config.now cycles workers (map (λ t. t.now) traces.now) (F.held files.old) run) }
-    ensures ready { OnOk result (IsReady F.tells (F.held files.old) (config.now ∷ map (λ t. t.now) traces.now) (IsRightRun cycles workers)) }
-    ensures fault { IfErr result (IsInputFault F.tells (F.held files.old) (config.now ∷ map (λ t. t.now) traces.now) (IsRunFault cycles workers)) }
+    ensures outcome { IfOk result (λ run. F.tells → IsOutcome config.now cycles workers.count (map (λ t. t.now) traces.now) (F.held files.old) run) }
+    ensures ready { OnOk result (IsReady F.tells (F.held files.old) (config.now ∷ map (λ t. t.now) traces.now) (IsRightRun cycles workers.count)) }
+    ensures fault { IfErr result (IsInputFault F.tells (F.held files.old) (config.now ∷ map (λ t. t.now) traces.now) (IsRunFault cycles workers.count)) }
     ensures same { F.tells → SameFiles (F.held files.old) (F.held files.new) }
     ensures unopened { F.tells → F.opened files.new ≡ F.opened files.old }
 {
@@ -147,24 +150,39 @@ fn run_files<R: Threads + Wait + Sync, W: Watch, F: FileSet>(
     outcome_of(host, alloc, &input, cycles, workers)
 }
 
-// `run CONFIG --cycles N --workers N --out DIR TRACE...`: nothing is opened before the run is over.
+// When the words say that workers share a machine out.
+fn sharing_of(share: Share) -> Sharing {
+    match share {
+        Share::Auto => Sharing::default(),
+        Share::Always => Sharing::always(),
+    }
+}
+
+// `run CONFIG --cycles N --workers N [--share auto|always] --out DIR TRACE...`: nothing is opened before the run is over.
 fn perform_run<R: Threads + Wait + Sync, W: Watch, F: FileSet>(
     host: &mut Host<'_, R, W>,
     alloc: Global,
     files: &mut F,
     config: &str,
     cycles: Cycle,
-    workers: u64,
+    workers: Workers,
     out: &str,
     traces: &[&str],
 ) -> Result<(), Refusal>
-    ensures done { OnOk result (F.tells → IsRunDone config.now cycles workers out.now (map (λ t. t.now) traces.now) (F.held files.old) (F.held files.new)) }
+    ensures done { OnOk result (F.tells → IsRunDone config.now cycles workers.count out.now (map (λ t. t.now) traces.now) (F.held files.old) (F.held files.new)) }
     ensures noted { OnOk result (F.tells → F.opened files.new ≡ F.opened files.old ++ parts out.now) }
-    ensures refused { IfErr result (λ e. F.tells → IsUnfinished e config.now cycles workers out.now (map (λ t. t.now) traces.now) (F.held files.old) (F.held files.new) (F.opened files.old) (F.opened files.new)) }
-    ensures fault { IfErr result (λ e. IsAnswerFault F.tells (F.held files.old) (config.now ∷ map (λ t. t.now) traces.now) (IsRunFault cycles workers) (IsRightRun cycles workers) (fault_of e)) }
+    ensures refused { IfErr result (λ e. F.tells → IsUnfinished e config.now cycles workers.count out.now (map (λ t. t.now) traces.now) (F.held files.old) (F.held files.new) (F.opened files.old) (F.opened files.new)) }
+    ensures fault { IfErr result (λ e. IsAnswerFault F.tells (F.held files.old) (config.now ∷ map (λ t. t.now) traces.now) (IsRunFault cycles workers.count) (IsRightRun cycles workers.count) (fault_of e)) }
 {
     let run = run_files(host, alloc, files, config, cycles, workers, traces)?;
-    write_tables(host.threads, alloc, workers as usize, files, out, &run)
+    write_tables(
+        host.threads,
+        alloc,
+        workers.count as usize,
+        files,
+        out,
+        &run,
+    )
 }
 
 // The place of an address, and how many ranks there are.
@@ -346,10 +364,15 @@ fn answer<R: Threads + Wait + Sync, W: Watch, F: FileSet, P: Write>(
             config,
             cycles,
             workers,
+            share,
             out,
             traces,
         } => {
-            perform_run(host, alloc, files, config, *cycles, *workers, out, traces)?;
+            let workers = Workers {
+                count: *workers,
+                sharing: sharing_of(*share),
+            };
+            perform_run(host, alloc, files, config, *cycles, workers, out, traces)?;
             Ok(DONE)
         }
         Ask::Check { config, commands } => {
@@ -403,10 +426,11 @@ fn answer_words<R: Threads + Wait + Sync, W: Watch, F: FileSet, P: Write>(
 /// Does what the words ask for, the first of which is the program's name, and returns the status: 0 done, 1 a table that breaks
 /// a rule, 2 refused. A run's workers are threads of the host, and the host's watcher is told how far the run is.
 ///
-/// A refusal is one line on `errors`, `fault N: ...`, and a second one where the tables in the folder are of two runs; where the
-/// stream refuses, it has a beginning of these lines. The fault is the first in this order: the words, the files that they name,
-/// what stands in these (the configuration, and then as `simulate` and `check` say), and what cannot be written. Memory may be
-/// refused at any time.
+/// A refusal is one line on `errors`, `fault N: ...`, and a second one where the tables in the folder are of two runs, with lines that
+/// explain it after them. It is told whole, unless the stream refuses (`ErrorStream::has_refused`): then the stream has a beginning of
+/// it. The fault is the first in this order: the words, the files that they name, what stands in these (the configuration, and then
+/// as `simulate` and `check` say), and what cannot be written. Memory may be refused at any time. With another status, nothing is
+/// told.
 ///
 /// Promises about files are made only where the set of files tells what it holds. A run whose status is 0 has put the tables of its
 /// outcome into the folder. Where it is 2, either the run had no outcome, and nothing was opened; or the places of the
@@ -418,13 +442,13 @@ pub fn perform<R: Threads + Wait + Sync, W: Watch, F: FileSet, P: Write, E: Writ
     words: &[&str],
     files: &mut F,
     output: &mut P,
-    errors: &mut E,
+    errors: &mut ErrorStream<E>,
 ) -> u8
     ensures status { result ≤ 2 }
     ensures answered { result ≢ 2 → F.tells → IsAnswered (map (λ w. w.now) words.now) result (seen (F.held files.old) (F.opened files.old) (P.contents output.old)) (seen (F.held files.new) (F.opened files.new) (P.contents output.new)) }
     ensures refused { result ≡ 2 → F.tells → IsRefused (map (λ w. w.now) words.now) (seen (F.held files.old) (F.opened files.old) (P.contents output.old)) (seen (F.held files.new) (F.opened files.new) (P.contents output.new)) }
-    ensures told { result ≡ 2 → IsTold F.tells (map (λ w. w.now) words.now) (seen (F.held files.old) (F.opened files.old) (P.contents output.old)) (seen (F.held files.new) (F.opened files.new) (P.contents output.new)) (E.contents errors.old) (E.contents errors.new) }
-    ensures silent { result ≢ 2 → E.contents errors.new ≡ E.contents errors.old }
+    ensures told { result ≡ 2 → IsTold F.tells (map (λ w. w.now) words.now) (seen (F.held files.old) (F.opened files.old) (P.contents output.old)) (seen (F.held files.new) (F.opened files.new) (P.contents output.new)) (has_refused errors.new) (E.contents (stream_of errors.old)) (E.contents (stream_of errors.new)) }
+    ensures silent { result ≢ 2 → errors.new ≡ errors.old }
 {
     match answer_words(host, alloc, words, files, output) {
         Ok(status) => status,

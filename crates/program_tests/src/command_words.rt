@@ -1,7 +1,7 @@
 //! Words of each command, calls for help, and words that form no command.
 
 use crate::expect::expect_at;
-use command_line::words::{Ask, read_words};
+use command_line::words::{Ask, Share, read_words};
 use sim_base::fault::Fault;
 use std::test::Fail;
 
@@ -19,16 +19,34 @@ const RUN: &[&str] = &[
     "t1",
 ];
 
-fn is_run(ask: &Ask<'_>) -> bool {
+const RUN_SHARED: &[&str] = &[
+    "dramsim",
+    "run",
+    "c.toml",
+    "--cycles",
+    "16",
+    "--workers",
+    "2",
+    "--share",
+    "always",
+    "--out",
+    "tables",
+    "t0",
+    "t1",
+];
+
+fn is_run(ask: &Ask<'_>, wanted: Share) -> bool {
     match ask {
         Ask::Run {
             config,
             cycles,
             workers,
+            share,
             out,
             traces,
         } => {
             (*config, *cycles, *workers, *out) == ("c.toml", 16, 2, "tables")
+                && *share == wanted
                 && traces.as_slice() == ["t0", "t1"].as_slice()
         }
         _ => false,
@@ -101,6 +119,7 @@ fn is_version(ask: &Ask<'_>) -> bool {
 #[derive(Clone, Copy)]
 enum Want {
     Run,
+    RunShared,
     Check,
     Map,
     Show,
@@ -113,7 +132,8 @@ enum Want {
 
 fn is_right(ask: &Ask<'_>, want: Want) -> bool {
     match want {
-        Want::Run => is_run(ask),
+        Want::Run => is_run(ask, Share::Auto),
+        Want::RunShared => is_run(ask, Share::Always),
         Want::Check => is_check(ask),
         Want::Map => is_map(ask),
         Want::Show => is_show(ask, false),
@@ -125,8 +145,9 @@ fn is_right(ask: &Ask<'_>, want: Want) -> bool {
     }
 }
 
-static WORDS: [(&[&str], Want); 11] = [
+static WORDS: [(&[&str], Want); 12] = [
     (RUN, Want::Run),
+    (RUN_SHARED, Want::RunShared),
     (CHECK, Want::Check),
     (MAP, Want::Map),
     (SHOW, Want::Show),

@@ -1,10 +1,9 @@
 //! Tables that cannot be written or be given their places: what stood there still stands there, or the tables are torn and all there.
 
 use crate::expect::expect_at;
-use crate::files_in_memory::{Failure, MemoryFiles};
+use crate::files_in_memory::{Failure, MemoryFiles, files_with};
 use crate::program_runs::{assert_text, files_by, said_to_run};
 use fixtures::worked_runs::ONE_READ;
-use std::alloc::{AllocError, Global};
 use std::process::Abort;
 use std::sync::Wait;
 use std::test::Fail;
@@ -20,14 +19,12 @@ static TABLES: [(&str, &str); 3] = [
 ];
 
 // A folder with the tables of an earlier run, of which one was left under the name under which it was written.
-fn old_folder(alloc: Global) -> Result<MemoryFiles, AllocError> {
-    let mut files = MemoryFiles::new(alloc);
-    for (table, _) in &TABLES {
-        files.add(alloc, table, OLD)?;
-    }
-    files.add(alloc, "d/stats.csv.part", OLD)?;
-    Ok(files)
-}
+static OLD_FILES: [(&str, &str); 4] = [
+    ("d/commands.csv", OLD),
+    ("d/stats.csv", OLD),
+    ("d/final.csv", OLD),
+    ("d/stats.csv.part", OLD),
+];
 
 // What stands under a path: nothing, an earlier table, the new one, or a part of it.
 fn standing(files: &MemoryFiles, path: &str, new: &str) -> &'static str {
@@ -69,7 +66,7 @@ fn assert_refused<R: Abort + Threads + Wait + Sync + AllocGlobal>(
     left: Left<'_>,
 ) -> Result<(), Fail> {
     let good = files_by(rt, &ONE_READ, 1)?;
-    let mut files = old_folder(rt.alloc())?;
+    let mut files = files_with(rt.alloc(), &OLD_FILES)?;
     files.failing = Some(*case);
     let said = said_to_run(rt, &mut files, &ONE_READ, "--cycles 16 --workers 1")?;
     said.assert_is(rt, case.1, (2, "", told));
@@ -140,7 +137,7 @@ static NEW: [(&str, &str); 3] = [("new", "nothing"), ("new", "nothing"), ("new",
 #[test]
 fn replaces_old_tables(rt: HostRuntime) -> Result<(), Fail> {
     let good = files_by(&rt, &ONE_READ, 1)?;
-    let mut files = old_folder(rt.alloc())?;
+    let mut files = files_with(rt.alloc(), &OLD_FILES)?;
     let said = said_to_run(&rt, &mut files, &ONE_READ, "--cycles 16 --workers 1")?;
     said.assert_is(&rt, "old tables", (0, "", ""));
     assert_left(&rt, "old tables", &files, &good, &NEW);

@@ -131,3 +131,12 @@ impl FileSet for MemoryFiles {
         }
     }
 }
+
+// Files in memory that hold these texts.
+pub(crate) fn files_with(alloc: Global, texts: &[(&str, &str)]) -> Result<MemoryFiles, AllocError> {
+    let mut files = MemoryFiles::new(alloc);
+    for (path, text) in texts {
+        files.add(alloc, path, text)?;
+    }
+    Ok(files)
+}

@@ -18,6 +18,8 @@ mod program_runs;
 #[cfg(test)]
 mod refusals;
 #[cfg(test)]
+mod refusing_streams;
+#[cfg(test)]
 mod shows;
 #[cfg(test)]
 mod table_lines;

@@ -1,10 +1,9 @@
 //! Pages of a run, through the whole program over files in memory.
 
 use crate::expect::expect_at;
-use crate::files_in_memory::{Failure, MemoryFiles};
-use crate::program_runs::{HEADER, assert_text, said_to};
+use crate::files_in_memory::{Failure, files_with};
+use crate::program_runs::{assert_text, said_to};
 use fixtures::one_read::STATS;
-use std::alloc::{AllocError, Global};
 use std::process::Abort;
 use std::sync::Wait;
 use std::test::Fail;
@@ -12,28 +11,33 @@ use std::thread::Threads;
 
 const OLD: &str = "an earlier page\n";
 
-// An ACT in cycle 2 and an RD in cycle 5, of a run of 16 cycles; and one command more behind it.
-const COMMANDS: &str = "2,0,ACT,0,0,0,,0,0\n5,0,RD,0,0,0,0,0,0\n";
+// An ACT in cycle 2 and an RD in cycle 5, of a run of 16 cycles.
+const COMMANDS: &str = "cycle,channel,command,group,bank,row,column,core,entry
+2,0,ACT,0,0,0,,0,0
+5,0,RD,0,0,0,0,0,0
+";
 
-const LATE: &str = "16,0,PREA,,,,,,\n";
+const NO_HEADER: &str = "2,0,ACT,0,0,0,,0,0\n5,0,RD,0,0,0,0,0,0\n";
+
+// The same commands, and one behind the end of the run.
+const LATE: &str = "cycle,channel,command,group,bank,row,column,core,entry
+2,0,ACT,0,0,0,,0,0
+5,0,RD,0,0,0,0,0,0
+16,0,PREA,,,,,,
+";
 
 // A folder for each case: a run; one whose statistics are cut; one whose commands have no header; one with a command behind its end.
-fn folders(alloc: Global) -> Result<MemoryFiles, AllocError> {
-    let mut files = MemoryFiles::new(alloc);
-    let commands = format!(in alloc; "{HEADER}{COMMANDS}")?;
-    let late = format!(in alloc; "{HEADER}{COMMANDS}{LATE}")?;
-    for dir in ["out", "bad", "late"] {
-        let path = format!(in alloc; "{dir}/stats.csv")?;
-        files.add(alloc, path.as_str(), STATS)?;
-    }
-    files.add(alloc, "cut/stats.csv", "scope,id,name,value\n")?;
-    files.add(alloc, "out/commands.csv", commands.as_str())?;
-    files.add(alloc, "cut/commands.csv", commands.as_str())?;
-    files.add(alloc, "bad/commands.csv", COMMANDS)?;
-    files.add(alloc, "late/commands.csv", late.as_str())?;
-    files.add(alloc, "p.html", OLD)?;
-    Ok(files)
-}
+static FILES: [(&str, &str); 9] = [
+    ("out/stats.csv", STATS),
+    ("out/commands.csv", COMMANDS),
+    ("cut/stats.csv", "scope,id,name,value\n"),
+    ("cut/commands.csv", COMMANDS),
+    ("bad/stats.csv", STATS),
+    ("bad/commands.csv", NO_HEADER),
+    ("late/stats.csv", STATS),
+    ("late/commands.csv", LATE),
+    ("p.html", OLD),
+];
 
 // Asserts that a text has others in it.
 fn assert_has(rt: &impl Abort, words: &str, text: &str, parts: &[&str]) {
@@ -63,15 +67,25 @@ static PAGES: [(&str, &[&str]); 3] = [
     ),
 ];
 
+// Asserts that a page is drawn, and what it says.
+fn assert_drawn<R: Abort + Threads + Wait + Sync + AllocGlobal>(
+    rt: &R,
+    words: &str,
+    parts: &[&str],
+) -> Result<(), Fail> {
+    let mut files = files_with(rt.alloc(), &FILES)?;
+    let said = said_to(rt, &mut files, words)?;
+    said.assert_is(rt, words, (0, "", ""));
+    assert_text(rt, words, files.opened.as_str(), "p.html.part ");
+    assert_has(rt, words, files.text_at("p.html").unwrap_or(""), parts);
+    expect_at(rt, &words, &files.text_at("p.html.part"), &None);
+    Ok(())
+}
+
 #[test]
 fn draws_a_run(rt: HostRuntime) -> Result<(), Fail> {
     for (words, parts) in &PAGES {
-        let mut files = folders(rt.alloc())?;
-        let said = said_to(&rt, &mut files, words)?;
-        said.assert_is(&rt, words, (0, "", ""));
-        assert_text(&rt, words, files.opened.as_str(), "p.html.part ");
-        assert_has(&rt, words, files.text_at("p.html").unwrap_or(""), parts);
-        expect_at(&rt, words, &files.text_at("p.html.part"), &None);
+        assert_drawn(&rt, words, parts)?;
     }
     Ok(())
 }
@@ -144,7 +158,7 @@ fn assert_refused<R: Abort + Threads + Wait + Sync + AllocGlobal>(
     case: &Case,
 ) -> Result<(), Fail> {
     let (words, failing, told, opened) = *case;
-    let mut files = folders(rt.alloc())?;
+    let mut files = files_with(rt.alloc(), &FILES)?;
     files.failing = failing;
     let said = said_to(rt, &mut files, words)?;
     said.assert_is(rt, words, (2, "", told));

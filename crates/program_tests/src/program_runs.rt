@@ -6,6 +6,7 @@ use fixtures::small::small_text;
 use fixtures::worked_runs::Run;
 use program::host::Host;
 use program::perform::perform;
+use refusal::error_stream::ErrorStream;
 use std::alloc::{AllocError, Global};
 use std::process::Abort;
 use std::sync::Wait;
@@ -21,12 +22,16 @@ pub(crate) const HEADER: &str = "cycle,channel,command,group,bank,row,column,cor
 pub(crate) struct Said {
     status: u8,
     output: Vec<u8>,
-    errors: Vec<u8>,
+    errors: ErrorStream<Vec<u8>>,
 }
 
 impl Said {
     fn all(&self) -> (u8, &str, &str) {
-        (self.status, text_of(&self.output), text_of(&self.errors))
+        (
+            self.status,
+            text_of(&self.output),
+            text_of(self.errors.stream()),
+        )
     }
 
     /// Asserts the status, what is printed and what is told of errors, in a case with a name.
@@ -53,7 +58,7 @@ pub(crate) fn said_to<R: Threads + Wait + Sync + AllocGlobal>(
     let alloc = rt.alloc();
     let words: Vec<&str> = line.split(' ').collect(alloc)?;
     let mut output = Vec::new(alloc);
-    let mut errors = Vec::new(alloc);
+    let mut errors = ErrorStream::new(Vec::new(alloc));
     let mut host = Host {
         threads: rt,
         watch: &mut Unwatched,
@@ -77,6 +82,20 @@ pub(crate) fn add_machine(
     files.add(alloc, "c.toml", config.as_str())
 }
 
+/// Adds the trace of a core, and its name to a line of words.
+fn add_trace(
+    alloc: Global,
+    files: &mut MemoryFiles,
+    core: usize,
+    trace: &str,
+    line: &mut String,
+) -> Result<(), AllocError> {
+    let name = format!(in alloc; "t{core}")?;
+    line.push_str(" ")?;
+    line.push_str(name.as_str())?;
+    files.add(alloc, name.as_str(), trace)
+}
+
 /// Adds traces, and their names to a line of words.
 fn add_traces(
     alloc: Global,
@@ -84,10 +103,8 @@ fn add_traces(
     traces: &[&str],
     line: &mut String,
 ) -> Result<(), AllocError> {
-    for (core, trace) in traces.iter().enumerate() {
-        let name = format!(in alloc; " t{core}")?;
-        line.push_str(name.as_str())?;
-        files.add(alloc, name.as_str().trim_start(), trace)?;
+    for core in 0..traces.len() {
+        add_trace(alloc, files, core, traces[core], line)?;
     }
     Ok(())
 }
@@ -106,20 +123,23 @@ pub(crate) fn said_to_run<R: Threads + Wait + Sync + AllocGlobal>(
     said_to(rt, files, line.as_str())
 }
 
-/// Asserts that a run by this number of workers succeeds and says nothing.
+/// Asserts that a run by this number of workers, which always share the machine out, succeeds and says nothing.
 fn assert_quiet<R: Abort + Threads + Wait + Sync + AllocGlobal>(
     rt: &R,
     files: &mut MemoryFiles,
     run: &Run,
     workers: u64,
 ) -> Result<(), Fail> {
-    let words = format!(in rt.alloc(); "--cycles {} --workers {workers}", run.cycles)?;
+    let words = format!(in rt.alloc();
+        "--cycles {} --workers {workers} --share always",
+        run.cycles
+    )?;
     let said = said_to_run(rt, files, run, words.as_str())?;
     said.assert_is(rt, run.name, (0, "", ""));
     Ok(())
 }
 
-/// The files of a run by this number of workers, which succeeds and says nothing.
+/// The files of such a run.
 pub(crate) fn files_by<R: Abort + Threads + Wait + Sync + AllocGlobal>(
     rt: &R,
     run: &Run,

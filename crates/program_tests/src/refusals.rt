@@ -67,7 +67,11 @@ const BAD_ADDRESS: &str = "fault 14: command line
 '8k' is no ADDRESS: a decimal number, or a hexadecimal one after 0x, at most 18446744073709551615
 ";
 
-static REFUSED: [Refused<'static>; 14] = [
+const BAD_SHARE: &str = "fault 14: command line
+'never' is no WHEN of --share: auto or always
+";
+
+static REFUSED: [Refused<'static>; 15] = [
     (
         Run {
             name: "no TOML",
@@ -180,6 +184,14 @@ static REFUSED: [Refused<'static>; 14] = [
         },
         "--cycles ten --workers 1",
         NO_LIMIT,
+    ),
+    (
+        Run {
+            name: "shared at no time",
+            ..ONE_READ
+        },
+        "--cycles 64 --workers 2 --share never",
+        BAD_SHARE,
     ),
     (
         Run {

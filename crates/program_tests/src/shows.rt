@@ -1,6 +1,6 @@
 //! Screens of a run's tables, through the whole program.
 
-use crate::files_in_memory::MemoryFiles;
+use crate::files_in_memory::files_with;
 use crate::program_runs::said_to;
 use fixtures::one_read::STATS;
 use std::test::Fail;
@@ -34,30 +34,35 @@ Usage: dramsim show [OPTIONS] <DIR>
 For more information, try '--help'.
 ";
 
+static FILES: [(&str, &str); 2] = [
+    ("out/stats.csv", STATS),
+    ("cut/stats.csv", "scope,id,name,value\n"),
+];
+
+// Words, and what the program says to them: its status, what it prints, and what it tells of errors.
+static SHOWN: [(&str, (u8, &str, &str)); 7] = [
+    ("dramsim show out", (0, SCREEN, "")),
+    ("dramsim show out --all", (0, SCREEN, "")),
+    ("dramsim show --all out", (0, SCREEN, "")),
+    ("dramsim show none", (2, "", "fault 13: read\n")),
+    (
+        "dramsim show cut",
+        (
+            2,
+            "",
+            "fault 15: check row 1\ncut/stats.csv: row 1 is missing\n",
+        ),
+    ),
+    ("dramsim show", (2, "", NO_FOLDER)),
+    ("dramsim show out cut", (2, "", TWO_FOLDERS)),
+];
+
 #[test]
 fn shows_a_run(rt: HostRuntime) -> Result<(), Fail> {
-    let alloc = rt.alloc();
-    let mut files = MemoryFiles::new(alloc);
-    files.add(alloc, "out/stats.csv", STATS)?;
-    files.add(alloc, "cut/stats.csv", "scope,id,name,value\n")?;
-    for (words, want) in [
-        ("dramsim show out", (0, SCREEN, "")),
-        ("dramsim show out --all", (0, SCREEN, "")),
-        ("dramsim show --all out", (0, SCREEN, "")),
-        ("dramsim show none", (2, "", "fault 13: read\n")),
-        (
-            "dramsim show cut",
-            (
-                2,
-                "",
-                "fault 15: check row 1\ncut/stats.csv: row 1 is missing\n",
-            ),
-        ),
-        ("dramsim show", (2, "", NO_FOLDER)),
-        ("dramsim show out cut", (2, "", TWO_FOLDERS)),
-    ] {
+    let mut files = files_with(rt.alloc(), &FILES)?;
+    for (words, want) in &SHOWN {
         let said = said_to(&rt, &mut files, words)?;
-        said.assert_is(&rt, words, want);
+        said.assert_is(&rt, words, *want);
     }
     Ok(())
 }

@@ -2,11 +2,14 @@
 
 ghost use Rattle.std.specs.Prelude.{◌≡◌, ◌≢◌, map, option_map, string_bytes, Some};
 ghost use Rattle.std.specs.BTreeMap.{get_by_text};
-ghost use Rattle.program.specs.Answered.{seen, IsAnswered, IsRefused};
+ghost use Rattle.program.specs.Answered.{seen, IsAnswered};
+ghost use Rattle.program.specs.Told.{IsTold};
+ghost use Rattle.refusal.specs.Streams.{has_refused, stream_of};
 
 use fixtures::small::SMALL;
 use program::host::Host;
 use program::perform::perform;
+use refusal::error_stream::ErrorStream;
 use refusal::reason::Reason;
 use sim_base::fault::Fault;
 use std::alloc::{AllocError, Global};
@@ -94,10 +97,10 @@ fn perform_told<R: Threads + Wait + Sync>(
     words: &[&str],
     files: &mut ToldFiles,
     output: &mut Vec<u8>,
-    errors: &mut Vec<u8>,
+    errors: &mut ErrorStream<Vec<u8>>,
 ) -> u8
     ensures answered { result ≢ 2 → IsAnswered (map (λ w. w.now) words.now) result (seen (⟦<ToldFiles as FileSet>⟧.held files.old) (⟦<ToldFiles as FileSet>⟧.opened files.old) (Some output.old.items)) (seen (⟦<ToldFiles as FileSet>⟧.held files.new) (⟦<ToldFiles as FileSet>⟧.opened files.new) (Some output.new.items)) }
-    ensures refused { result ≡ 2 → IsRefused (map (λ w. w.now) words.now) (seen (⟦<ToldFiles as FileSet>⟧.held files.old) (⟦<ToldFiles as FileSet>⟧.opened files.old) (Some output.old.items)) (seen (⟦<ToldFiles as FileSet>⟧.held files.new) (⟦<ToldFiles as FileSet>⟧.opened files.new) (Some output.new.items)) }
+    ensures told { result ≡ 2 → IsTold (Unit {0}) (map (λ w. w.now) words.now) (seen (⟦<ToldFiles as FileSet>⟧.held files.old) (⟦<ToldFiles as FileSet>⟧.opened files.old) (Some output.old.items)) (seen (⟦<ToldFiles as FileSet>⟧.held files.new) (⟦<ToldFiles as FileSet>⟧.opened files.new) (Some output.new.items)) (has_refused errors.new) (Some (stream_of errors.old).items) (Some (stream_of errors.new).items) }
 {
     let mut host = Host {
         threads: rt,
@@ -137,7 +140,7 @@ fn tells_of_a_run(rt: HostRuntime) -> Result<(), Fail> {
     let alloc = rt.alloc();
     let mut files = files_of(alloc, &[("c.toml", SMALL), ("t0", "0 0\n")])?;
     let mut output = Vec::new(alloc);
-    let mut errors = Vec::new(alloc);
+    let mut errors = ErrorStream::new(Vec::new(alloc));
     let status = perform_told(&rt, alloc, &RUN, &mut files, &mut output, &mut errors);
     assert_eq!(rt; status, 0);
     assert_eq!(rt; files.files.len(), 5);

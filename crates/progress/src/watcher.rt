@@ -20,17 +20,17 @@ const STANDS: u128 = 500;
 
 /// When a run began, when it was looked at last, how far it went since, and when the line was drawn.
 #[derive(Clone, Copy)]
-struct Course {
+struct Progress {
     begun: Instant,
     looked: Instant,
     stretch: Cycle,
     drawn: Option<Instant>,
 }
 
-impl Course {
+impl Progress {
     // A run that begins.
-    fn begun(now: Instant) -> Course {
-        Course {
+    fn begun(now: Instant) -> Progress {
+        Progress {
             begun: now,
             looked: now,
             stretch: FIRST_STRETCH,
@@ -39,9 +39,9 @@ impl Course {
     }
 
     // The same run, looked at again.
-    fn looked_at(self, now: Instant) -> Course {
+    fn looked_at(self, now: Instant) -> Progress {
         let stretch = next_stretch(self.stretch, now.duration_since(self.looked));
-        Course {
+        Progress {
             looked: now,
             stretch,
             ..self
@@ -65,21 +65,21 @@ pub struct ProgressLine<'a, C: Clock, E: Write> {
     clock: &'a C,
     errors: E,
     watches: bool,
-    course: Option<Course>,
+    progress: Option<Progress>,
 }
 
 impl<'a, C: Clock, E: Write> ProgressLine<'a, C, E> {
     /// A line on this stream, by this clock. If the stream is not a terminal, no run is watched.
     pub fn new(alloc: Global, clock: &'a C, errors: E, is_terminal: bool) -> Self
         ensures watches { result.watches ≡ is_terminal }
-        ensures begun { result.course ≡ None }
+        ensures begun { result.progress ≡ None }
     {
         ProgressLine {
             alloc,
             clock,
             errors,
             watches: is_terminal,
-            course: None,
+            progress: None,
         }
     }
 
@@ -106,25 +106,25 @@ impl<'a, C: Clock, E: Write> Watch for ProgressLine<'a, C, E> {
         let Ok(now) = Instant::now(self.clock) else {
             return Cycle::MAX;
         };
-        let mut course = match self.course {
-            Some(course) => course.looked_at(now),
-            None => Course::begun(now),
+        let mut progress = match self.progress {
+            Some(progress) => progress.looked_at(now),
+            None => Progress::begun(now),
         };
-        if course.is_due() {
-            course.drawn = Some(now);
-            let figures = Figures::of(*stage, now.duration_since(course.begun));
+        if progress.is_due() {
+            progress.drawn = Some(now);
+            let figures = Figures::of(*stage, now.duration_since(progress.begun));
             let _ = self.draw_figures(figures);
         }
-        self.course = Some(course);
-        course.stretch
+        self.progress = Some(progress);
+        progress.stretch
     }
 
     fn end(&mut self) {
-        let is_drawn = match self.course {
-            Some(course) => course.drawn.is_some(),
+        let is_drawn = match self.progress {
+            Some(progress) => progress.drawn.is_some(),
             None => false,
         };
-        self.course = None;
+        self.progress = None;
         if is_drawn {
             let _ = self.draw("");
             let _ = self.errors.write_all(b"\r");

@@ -2,8 +2,9 @@
 --     fault_line fault      the line of a fault, without its end
 --     refusal_text refusal, refusal_lines refusal      the lines of a refusal, without the last one's end and with it
 --     TakesUntil old new text rest, AppendsBeginning old new text      how far a stream took a text
---     IsExplained old new lines      how far it took lines, and what explains them
-use Rattle.std.specs.Prelude.{◌≡◌, ℕ, List, ◌++◌, codes, decimal, Option}
+--     IsExplainedWhole old new lines      it took lines, and what explains them
+--     IsExplained has_refused old new lines      it took them whole unless it has refused, and otherwise a beginning
+use Rattle.std.specs.Prelude.{◌≡◌, ℕ, Bool, false, List, ◌++◌, codes, decimal, Option}
 use Rattle.std.specs.Io.KnownBytes.{Appends}
 use Rattle.sim_base.specs.Faults.{merge_number}
 use Rattle.sim_base.specs.Keys.{key_name}
@@ -61,7 +62,13 @@ pub record AppendsBeginning (old new : Option (List ℕ)) (text : List ℕ) : Ty
   pub rest : List ℕ
   pub taken : TakesUntil old new text rest
 
--- a stream took lines followed by what explains them, or a beginning of that
-pub record IsExplained (old new : Option (List ℕ)) (lines : List ℕ) : Type 0 where
+-- a stream took lines and what explains them
+pub record IsExplainedWhole (old new : Option (List ℕ)) (lines : List ℕ) : Type 0 where
+  pub more : List ℕ
+  pub took : Appends old new (lines ++ more)
+
+-- A stream took lines and what explains them, or a beginning of that where it has refused.
+pub record IsExplained (has_refused : Bool) (old new : Option (List ℕ)) (lines : List ℕ) : Type 0 where
   pub more : List ℕ
   pub begun : AppendsBeginning old new (lines ++ more)
+  pub whole : has_refused ≡ false → Appends old new (lines ++ more)

@@ -1,6 +1,8 @@
 //! Why the program refuses, the lines that tell it, and the statuses that it ends with.
 #![tactic(auto)]
 
+pub mod error_stream;
+mod line_buffer;
 pub mod lines;
 pub mod reason;
 pub mod refusal;

@@ -1,5 +1,15 @@
+pub mod Canonical
+pub mod CommandsBack
+pub mod Exact
 pub mod FourFields
-pub mod InlineTexts
 pub mod Numbered
+pub mod ReadRows
+pub mod Refused
 pub mod RisingRows
+pub mod RunStats
 pub mod Standing
+pub mod StatsBack
+pub mod StatsUnits
+pub mod Units
+pub mod Wider
+pub mod Written

@@ -1,10 +1,12 @@
--- What is left of a table that is read.
+-- What is left of a table that is read, and where a table is wrong.
 --     Left      the number of the first record that is left, and the records
 --     left_from found first rest      the records that are left, of which one was read
 --     Stands reader first found row      what a reader keeps
 --     IsTableFault fault      why a table may be refused
+--     IsFirstWrong IsTable records row      the first record that no table has there
+--     IsRefusedFor IsTable records fault      a table is refused for its first wrong record, or for memory
 use Rattle.std.specs.Borrow.{Bor}
-use Rattle.std.specs.Prelude.{◌≡◌, ℕ, ◌+◌, ◌<◌, ◌^◌, Bool, true, false, List, [], ◌∷◌, length, ⊤}
+use Rattle.std.specs.Prelude.{◌≡◌, ◌≢◌, ℕ, ◌+◌, ◌<◌, ◌^◌, Bool, true, false, List, [], ◌∷◌, length, take, ⊤}
 use Rattle.csv.specs.declared.reader.Reader.{Reader}
 use Rattle.sim_base.specs.declared.fault.Fault.{Fault}
 use Rattle.sim_base.specs.declared.fault.Fault.TheVariants.{CheckRow, Memory}
@@ -30,3 +32,17 @@ abbrev pub IsTableFault : Fault → Type 0
 IsTableFault (CheckRow row) = ⊤
 IsTableFault Memory = ⊤
 IsTableFault _ = ⊥
+
+-- The first record at fault, counted from 0: there is a table that begins with the records before it, and none that goes on as they do, with this
+-- record, or, where it is missing, with the end.
+pub record IsFirstWrong (IsTable : List (List (List ℕ)) → Type 0) (records : List (List (List ℕ))) (row : ℕ) : Type 0 where
+  pub table : List (List (List ℕ))
+  pub is_table : IsTable table
+  pub agrees : take row table ≡ take row records
+  pub differs : (other : List (List (List ℕ))) → IsTable other → take (row + 1) other ≢ take (row + 1) records
+
+-- a table is refused for its first record at fault, or for memory
+abbrev pub IsRefusedFor : (List (List (List ℕ)) → Type 0) → List (List (List ℕ)) → Fault → Type 0
+IsRefusedFor IsTable records (CheckRow row) = IsFirstWrong IsTable records row
+IsRefusedFor IsTable records Memory = ⊤
+IsRefusedFor IsTable records _ = ⊥

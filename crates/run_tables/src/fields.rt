@@ -1,6 +1,7 @@
 //! The fields of a record.
 
 ghost use Rattle.std.specs.Prelude.{◌≡◌, ◌↔◌, IsTrue};
+ghost use Rattle.std.specs.Str.{bytes_eq};
 ghost use Rattle.csv.specs.Records.{fields_of};
 ghost use Rattle.rule_check.specs.Fields.{text_at};
 
@@ -19,7 +20,8 @@ pub(crate) fn text_at(fields: &ByteRecord, k: usize) -> &[u8]
 
 /// Whether a field is this text.
 pub(crate) fn is_at(fields: &ByteRecord, k: usize, text: &[u8]) -> bool
-    ensures { IsTrue result ↔ (text_at (fields_of fields.now) k ≡ text.now) }
+    ensures value { result ≡ bytes_eq (text_at (fields_of fields.now) k) text.now }
+    ensures same { IsTrue result ↔ (text_at (fields_of fields.now) k ≡ text.now) }
 {
     text_at(fields, k) == text
 }

@@ -4,6 +4,7 @@
 mod commands;
 mod fields;
 mod numbers;
+pub mod read_back;
 mod records;
 mod stats;
 

@@ -1,34 +1,37 @@
 //! Numbers in the fields of a table.
 
-ghost use Rattle.std.specs.Prelude.{◌≡◌, ◌+◌, ◌-◌, ◌*◌, ◌<◌, ◌≤◌, ◌&&◌, min, fold, decimal, Some, IfOk, IfSome};
+ghost use Rattle.std.specs.Prelude.{◌≡◌, ◌+◌, ◌-◌, ◌*◌, ◌<◌, ◌≤◌, ◌&&◌, min, fold, IsTrue, IfSome};
 ghost use Rattle.std.specs.Char.{is_ascii_digit};
-ghost use Rattle.std.specs.Fmt.InlineText.{inline_text};
 ghost use Rattle.std.specs.List.{list_all};
 ghost use Rattle.rule_check.specs.Numbers.{number_limit, capped_digit, is_number, number_below};
-
-use std::fmt::{self, InlineText, Write};
+ghost use Rattle.run_tables.specs.Numbers.{has_leading_zero, wide_value, number_written};
 
 /// Each number of a table of commands is below this one.
 pub(crate) const NUMBER_LIMIT: u64 = 1 << 62;
 
-/// The most digits of a number of 128 bits.
-const MOST_DIGITS: usize = 39;
-
-fn written(number: u128) -> Result<InlineText<MOST_DIGITS>, fmt::Error>
-    ensures { IfOk result (λ text. inline_text text ≡ decimal number) }
+fn has_leading_zero(text: &[u8]) -> bool
+    ensures { result ≡ has_leading_zero text.now }
 {
-    let mut text = InlineText::new();
-    write!(text, "{number}")?;
-    Ok(text)
+    text.len() > 1 && text[0] == b'0'
 }
 
-/// The number that a field writes, with no leading zero.
-pub(crate) fn number_in(text: &[u8]) -> Option<u128>
-    ensures { IfSome result (λ n. text.now ≡ decimal n) }
+// The number that digits write, if it has 128 bits.
+fn wide_value(digits: &[u8]) -> Option<u128>
+    requires { IsTrue (is_number digits.now) }
+    ensures { result ≡ wide_value digits.now }
 {
-    let number = str::from_utf8(text).ok()?.parse::<u128>().ok()?;
-    if written(number).ok()?.as_str().as_bytes() == text {
-        Some(number)
+    match str::from_utf8(digits) {
+        Ok(digits) => digits.parse().ok(),
+        Err(_) => None,
+    }
+}
+
+/// The number that a field writes, with no leading zero, if it has 128 bits.
+pub(crate) fn number_in(text: &[u8]) -> Option<u128>
+    ensures { result ≡ number_written text.now }
+{
+    if is_number(text) && !has_leading_zero(text) {
+        wide_value(text)
     } else {
         None
     }

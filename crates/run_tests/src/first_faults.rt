@@ -2,11 +2,12 @@
 //! with workers and by the plain one.
 
 use crate::expect::expect_at;
-use crate::outcomes::{Texts, slices_of};
+use crate::outcomes::{Texts, always, slices_of};
+use reference::runs::simulate_plain;
 use sim_base::fault::{Fault, LineCause};
 use sim_base::key::Key;
 use sim_base::message::Cycle;
-use simulation::runs::{simulate, simulate_plain};
+use simulation::runs::simulate;
 use std::alloc::{AllocError, Global};
 use std::sync::Wait;
 use std::test::Fail;
@@ -37,7 +38,8 @@ fn refused<R: Threads + Wait + Sync>(
     let (bytes, cycles) = (run.config.as_bytes(), run.cycles);
     let texts = slices_of(alloc, run.texts)?;
     let watch = &mut Unwatched;
-    let by_workers = simulate(rt, alloc, &Open, watch, bytes, &texts, cycles, case.workers).err();
+    let workers = always(case.workers);
+    let by_workers = simulate(rt, alloc, &Open, watch, bytes, &texts, cycles, workers).err();
     let plain = simulate_plain(rt, alloc, bytes, &texts, cycles, case.workers).err();
     Ok([by_workers, plain])
 }

@@ -1,11 +1,12 @@
 //! Runs whose workers pass a gate, which shows that several of them are at work at once.
 //!
-//! No gate waits forever. A phase has two parts for each worker, or as many as there are units, and no worker takes a part while it holds another; so a
-//! part that is held is held by one worker, and the others take all other parts.
+//! The runs are made as the program makes them, by workers that share each machine out. No gate waits forever. A phase has two jobs for each
+//! worker, or as many as there are units, and no worker takes a job while it holds another; so a job that is held is held by one worker, and the
+//! others take all other jobs.
 
-use crate::expect::{expect, expect_at};
-use crate::outcomes::{Run, Texts, is_plain, plain_tables, tables_by};
-use shards::task::TaskName;
+use crate::expect::expect_at;
+use crate::outcomes::{Run, Texts, always, auto, is_plain, plain_tables, tables_by};
+use shards::job::JobName;
 use sim_base::fault::Fault;
 use sim_base::message::Cycle;
 use std::alloc::{AllocError, Global};
@@ -16,8 +17,9 @@ use std::test::Fail;
 use std::thread;
 use std::thread::Threads;
 use workers::gate::Gate;
+use workers::sharing::Workers;
 
-/// How often a part that is held looks whether it may go on, where something is wrong.
+/// How often a job that is held looks whether it may go on, where something is wrong.
 const TURNS: u64 = 20_000_000;
 
 /// The phases of two cores that read a line each, of the same row. The requests are sent in cycle 0 and come in 2, where the row is opened.
@@ -34,19 +36,19 @@ static SPANS: [(Cycle, Cycle); 8] = [
     (20, 22),
 ];
 
-/// Holds each part that enters until as many of its phase have entered as there are workers, or parts.
+/// Holds each job that enters until as many of its phase have entered as there are workers, or jobs.
 #[derive(Drop)]
 struct Meeting {
-    /// How many parts each phase has.
-    parts: usize,
+    /// How many jobs each phase has.
+    jobs: usize,
     /// How many of them are run at the same time.
     workers: u64,
-    /// How many parts of each phase have entered.
+    /// How many jobs of each phase have entered.
     come: Vec<AtomicU64>,
-    /// How often each part was entered, and left, phase by phase.
+    /// How often each job was entered, and left, phase by phase.
     entered: Vec<AtomicU64>,
     left: Vec<AtomicU64>,
-    /// Parts of no such phase, and parts that were held forever.
+    /// Jobs of no such phase, and jobs that were held forever.
     faults: AtomicU64,
 }
 
@@ -69,10 +71,10 @@ fn are_one(counts: &[AtomicU64]) -> bool {
 }
 
 /// The number of a phase, if it is one of the expected ones, with its cycles.
-fn phase_of(part: TaskName) -> Option<usize> {
-    let phase = usize::try_from(part.phase).ok()?;
+fn phase_of(job: JobName) -> Option<usize> {
+    let phase = usize::try_from(job.phase).ok()?;
     let (from, until) = *SPANS.get(phase)?;
-    if part.from == from && part.until == until {
+    if job.from == from && job.until == until {
         Some(phase)
     } else {
         None
@@ -80,14 +82,14 @@ fn phase_of(part: TaskName) -> Option<usize> {
 }
 
 impl Meeting {
-    /// A gate for phases of `parts` parts each, which are run by `workers` workers at the same time.
-    fn new(alloc: Global, workers: u64, parts: usize) -> Result<Self, AllocError> {
-        let count = parts.saturating_mul(SPANS.len());
+    /// A gate for phases of `jobs` jobs each, which are run by `workers` workers at the same time.
+    fn new(alloc: Global, workers: u64, jobs: usize) -> Result<Self, AllocError> {
+        let count = jobs.saturating_mul(SPANS.len());
         let come = zeros(alloc, SPANS.len())?;
         let entered = zeros(alloc, count)?;
         Ok(Meeting {
-            parts,
-            workers: workers.min(parts as u64),
+            jobs,
+            workers: workers.min(jobs as u64),
             come,
             entered,
             left: zeros(alloc, count)?,
@@ -95,25 +97,25 @@ impl Meeting {
         })
     }
 
-    /// The place of a part, if it is one of the expected ones.
-    fn place_of(&self, part: TaskName) -> Option<usize> {
-        let phase = phase_of(part)?;
-        if part.shard >= self.parts {
+    /// The place of a job, if it is one of the expected ones.
+    fn place_of(&self, job: JobName) -> Option<usize> {
+        let phase = phase_of(job)?;
+        if job.shard >= self.jobs {
             return None;
         }
-        phase.checked_mul(self.parts)?.checked_add(part.shard)
+        phase.checked_mul(self.jobs)?.checked_add(job.shard)
     }
 
     fn faults(&self) -> u64 {
         self.faults.load(Ordering::SeqCst)
     }
 
-    /// Whether each part of each phase was entered once and left once.
+    /// Whether each job of each phase was entered once and left once.
     fn is_whole(&self) -> bool {
         are_one(&self.entered) && are_one(&self.left)
     }
 
-    /// Whether all parts of a phase come.
+    /// Whether all jobs of a phase come.
     fn is_met(&self, come: &AtomicU64) -> bool {
         for _ in 0..TURNS {
             if come.load(Ordering::SeqCst) >= self.workers {
@@ -124,18 +126,18 @@ impl Meeting {
         false
     }
 
-    /// Whether a part, if it is one of the expected ones, goes on.
-    fn enters(&self, part: TaskName) -> Option<bool> {
-        let come = self.come.get(phase_of(part)?)?;
-        let place = self.entered.get(self.place_of(part)?)?;
+    /// Whether a job, if it is one of the expected ones, goes on.
+    fn enters(&self, job: JobName) -> Option<bool> {
+        let come = self.come.get(phase_of(job)?)?;
+        let place = self.entered.get(self.place_of(job)?)?;
         place.fetch_add(1, Ordering::SeqCst);
         come.fetch_add(1, Ordering::SeqCst);
         Some(self.is_met(come))
     }
 
-    /// Whether a part is one of those, and has left.
-    fn leaves(&self, part: TaskName) -> Option<bool> {
-        let place = self.left.get(self.place_of(part)?)?;
+    /// Whether a job is one of those, and has left.
+    fn leaves(&self, job: JobName) -> Option<bool> {
+        let place = self.left.get(self.place_of(job)?)?;
         place.fetch_add(1, Ordering::SeqCst);
         Some(true)
     }
@@ -148,30 +150,26 @@ impl Meeting {
 }
 
 impl Gate for Meeting {
-    fn watches(&self) -> bool {
-        true
+    fn enter(&self, _worker: usize, job: JobName) {
+        self.note(self.enters(job));
     }
 
-    fn enter(&self, _worker: usize, part: TaskName) {
-        self.note(self.enters(part));
-    }
-
-    fn leave(&self, _worker: usize, part: TaskName) {
-        self.note(self.leaves(part));
+    fn leave(&self, _worker: usize, job: JobName) {
+        self.note(self.leaves(job));
     }
 }
 
-/// What a gate saw of a run with these numbers of workers, and of parts in each phase: whether the tables are the plain machine's, the faults,
-/// and whether each part was run once.
+/// What a gate saw of a run with these numbers of workers, and of jobs in each phase: whether the tables are the plain machine's, the faults,
+/// and whether each job was run once.
 fn met_by<R: Threads + Wait + Sync>(
     rt: &R,
     alloc: Global,
     run: &Run<'_>,
-    (workers, parts): (u64, usize),
+    (workers, jobs): (u64, usize),
     plain: &[u8],
 ) -> Result<(bool, u64, bool), Fault> {
-    let gate = Meeting::new(alloc, workers, parts)?;
-    let same = is_plain(rt, alloc, &gate, run, workers, plain)?;
+    let gate = Meeting::new(alloc, workers, jobs)?;
+    let same = is_plain(rt, alloc, &gate, run, always(workers), plain)?;
     Ok((same, gate.faults(), gate.is_whole()))
 }
 
@@ -181,14 +179,14 @@ fn assert_meetings<R: Abort + Threads + Wait + Sync>(
     run: &Run<'_>,
 ) -> Result<(), Fail> {
     let plain = plain_tables(rt, alloc, run)?;
-    for case in [(1, 1), (2, 3), (3, 3), (7, 3)] {
+    for case in [(2, 3), (3, 3), (7, 3)] {
         let saw = met_by(rt, alloc, run, case, &plain)?;
-        expect_at(rt, &("workers and parts", case), &saw, &(true, 0, true));
+        expect_at(rt, &("workers and jobs", case), &saw, &(true, 0, true));
     }
     Ok(())
 }
 
-/// In each phase all workers are at work at once, or as many as there are units: two cores and a channel. Each part is run
+/// In each phase all workers are at work at once, or as many as there are units: two cores and a channel. Each job is run
 /// once.
 #[test]
 fn workers_meet_in_every_phase(rt: HostRuntime) -> Result<(), Fail> {
@@ -196,20 +194,20 @@ fn workers_meet_in_every_phase(rt: HostRuntime) -> Result<(), Fail> {
     assert_meetings(&rt, rt.alloc(), &texts.run(32))
 }
 
-/// Holds the first part of phase 0 until `others` other parts of that phase have left.
+/// Holds the first job of phase 0 until `others` other jobs of that phase have left.
 #[derive(Drop)]
-pub(crate) struct Holding {
+struct Holding {
     others: u64,
     entered: AtomicU64,
     left: AtomicU64,
     released: AtomicU64,
 }
 
-/// How often the parts of phase 0 were entered and left, and whether the first was released.
-pub(crate) type Held = (u64, u64, u64);
+/// How often the jobs of phase 0 were entered and left, and whether the first was released.
+type Held = (u64, u64, u64);
 
 impl Holding {
-    pub(crate) fn new(others: u64) -> Self {
+    fn new(others: u64) -> Self {
         Holding {
             others,
             entered: AtomicU64::new(0),
@@ -218,7 +216,7 @@ impl Holding {
         }
     }
 
-    pub(crate) fn seen(&self) -> Held {
+    fn seen(&self) -> Held {
         (
             self.entered.load(Ordering::SeqCst),
             self.left.load(Ordering::SeqCst),
@@ -228,12 +226,8 @@ impl Holding {
 }
 
 impl Gate for Holding {
-    fn watches(&self) -> bool {
-        true
-    }
-
-    fn enter(&self, _worker: usize, part: TaskName) {
-        if part.phase != 0 || self.entered.fetch_add(1, Ordering::SeqCst) != 0 {
+    fn enter(&self, _worker: usize, job: JobName) {
+        if job.phase != 0 || self.entered.fetch_add(1, Ordering::SeqCst) != 0 {
             return;
         }
         for _ in 0..TURNS {
@@ -245,23 +239,23 @@ impl Gate for Holding {
         }
     }
 
-    fn leave(&self, _worker: usize, part: TaskName) {
-        if part.phase == 0 {
+    fn leave(&self, _worker: usize, job: JobName) {
+        if job.phase == 0 {
             self.left.fetch_add(1, Ordering::SeqCst);
         }
     }
 }
 
-/// What a gate saw that held the first part of a run, whose tables are the plain machine's.
+/// What a gate saw that held the first job of a run, whose tables are the plain machine's.
 fn held<R: Abort + Threads + Wait + Sync>(
     rt: &R,
     alloc: Global,
     run: &Run<'_>,
-    (workers, parts): (u64, u64),
+    (workers, jobs): (u64, u64),
     plain: &[u8],
 ) -> Result<Held, Fault> {
-    let gate = Holding::new(parts.saturating_sub(1));
-    let same = is_plain(rt, alloc, &gate, run, workers, plain)?;
+    let gate = Holding::new(jobs.saturating_sub(1));
+    let same = is_plain(rt, alloc, &gate, run, always(workers), plain)?;
     expect_at(rt, &("workers", workers), &same, &true);
     Ok(gate.seen())
 }
@@ -273,14 +267,14 @@ fn assert_held<R: Abort + Threads + Wait + Sync>(
     run: &Run<'_>,
 ) -> Result<(), Fail> {
     let plain = plain_tables(rt, alloc, run)?;
-    for (workers, parts) in [(1, 1), (2, 4), (3, 6), (6, 6)] {
-        let saw = held(rt, alloc, run, (workers, parts), &plain)?;
-        expect_at(rt, &("workers", workers), &saw, &(parts, parts, 1));
+    for (workers, jobs) in [(2, 4), (3, 6), (6, 6)] {
+        let saw = held(rt, alloc, run, (workers, jobs), &plain)?;
+        expect_at(rt, &("workers", workers), &saw, &(jobs, jobs, 1));
     }
     Ok(())
 }
 
-/// While one of several workers holds its part, the others run theirs. There are four cores and two channels.
+/// While one of several workers holds its job, the others run theirs. There are four cores and two channels.
 #[test]
 fn no_worker_waits_for_another_part(rt: HostRuntime) -> Result<(), Fail> {
     let texts = Texts::of(
@@ -292,48 +286,62 @@ fn no_worker_waits_for_another_part(rt: HostRuntime) -> Result<(), Fail> {
     assert_held(&rt, rt.alloc(), &texts.run(32))
 }
 
-/// Counts the parts, and does not watch: the machine is run as it is where nothing watches.
+/// Counts the jobs.
 #[derive(Drop)]
-struct Counting {
-    parts: AtomicU64,
+pub(crate) struct Counting {
+    jobs: AtomicU64,
+}
+
+impl Counting {
+    pub(crate) fn new() -> Self {
+        Counting {
+            jobs: AtomicU64::new(0),
+        }
+    }
+
+    pub(crate) fn jobs(&self) -> u64 {
+        self.jobs.load(Ordering::SeqCst)
+    }
 }
 
 impl Gate for Counting {
-    fn watches(&self) -> bool {
-        false
+    fn enter(&self, _worker: usize, _job: JobName) {
+        self.jobs.fetch_add(1, Ordering::SeqCst);
     }
 
-    fn enter(&self, _worker: usize, _part: TaskName) {
-        self.parts.fetch_add(1, Ordering::SeqCst);
-    }
-
-    fn leave(&self, _worker: usize, _part: TaskName) {}
+    fn leave(&self, _worker: usize, _job: JobName) {}
 }
 
 /// Four lines, which a core asks for in its first two cycles.
 const FOUR_LINES: &str = "0 0\n0 64\n0 128\n0 192\n";
 
-/// Whether two workers share the units of a machine out where nothing watches. The requests are on their way for 5,000 cycles.
+/// Whether these workers share the units of a machine out. The requests are on their way for 5,000 cycles.
 fn is_shared_out<R: Threads + Wait + Sync>(
     rt: &R,
     alloc: Global,
     cores: &str,
     traces: &[&str],
+    workers: Workers,
 ) -> Result<bool, Fault> {
     let changes = [cores, "channels = 2", "request_latency = 5000"];
     let texts = Texts::of(alloc, &changes, "", traces)?;
-    let gate = Counting {
-        parts: AtomicU64::new(0),
-    };
-    tables_by(rt, alloc, &gate, &texts.run(6_000), 2)?;
-    Ok(gate.parts.load(Ordering::SeqCst) > 0)
+    let gate = Counting::new();
+    tables_by(rt, alloc, &gate, &texts.run(6_000), workers)?;
+    Ok(gate.jobs() > 0)
 }
 
-/// All requests of 24 cores are in flight for a long time, so the units are shared out. Where there are few units, the caller runs them.
+/// All requests of 24 cores are in flight for a long time, so the units are shared out. Where there are few units, or one worker, the caller
+/// runs them, unless several workers always share.
 #[test]
 fn a_large_machine_is_shared_out(rt: HostRuntime) -> Result<(), Fail> {
-    let large = is_shared_out(&rt, rt.alloc(), "cores = 24", &[FOUR_LINES; 24])?;
-    let small = is_shared_out(&rt, rt.alloc(), "cores = 14", &[FOUR_LINES; 14])?;
-    expect(&rt, &(large, small), &(true, false));
+    for (workers, want) in [
+        (auto(2), (true, false)),
+        (always(2), (true, true)),
+        (always(1), (false, false)),
+    ] {
+        let large = is_shared_out(&rt, rt.alloc(), "cores = 24", &[FOUR_LINES; 24], workers)?;
+        let small = is_shared_out(&rt, rt.alloc(), "cores = 14", &[FOUR_LINES; 14], workers)?;
+        expect_at(&rt, &workers, &(large, small), &want);
+    }
     Ok(())
 }

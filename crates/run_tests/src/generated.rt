@@ -1,6 +1,8 @@
 //! Machines and traces that are made up by seeds: three workers give what the plain machine gives.
 
-use crate::outcomes::{Run, Texts, assert_same};
+use crate::expect::expect_at;
+use crate::gates::Counting;
+use crate::outcomes::{Run, Texts, always, assert_same, auto, is_plain, plain_tables};
 use fixtures::generated::made_up;
 use sim_base::fault::Fault;
 use std::alloc::Global;
@@ -8,6 +10,7 @@ use std::process::Abort;
 use std::sync::Wait;
 use std::test::Fail;
 use std::thread::Threads;
+use workers::sharing::{Sharing, Workers};
 
 /// Compares the runs of the machine of a seed.
 fn assert_seed<R: Abort + Threads + Wait + Sync>(
@@ -21,7 +24,7 @@ fn assert_seed<R: Abort + Threads + Wait + Sync>(
         texts: &made.traces,
         cycles: made.limit,
     };
-    assert_same(rt, alloc, &run, &[3])
+    assert_same(rt, alloc, &run, &[auto(3), always(3)])
 }
 
 #[test]
@@ -49,18 +52,39 @@ pub(crate) static TRACES: [&str; 24] = [
 fn a_large_machine_does_not_show_its_workers(rt: HostRuntime) -> Result<(), Fail> {
     let changes = ["cores = 24", "channels = 2"];
     let texts = Texts::of(rt.alloc(), &changes, "", &TRACES)?;
-    let same = assert_same(&rt, rt.alloc(), &texts.run(400), &[1, 2, 3, 7]);
+    let workers = [auto(1), auto(2), always(2), always(3), always(7)];
+    let same = assert_same(&rt, rt.alloc(), &texts.run(400), &workers);
     drop(texts);
     Ok(same?)
 }
 
-/// The requests of the same machine are on their way for 5,000 cycles: 56 of them at least, from cycle 50 on. So the caller, who runs it
+/// A run has the tables of the plain machine where workers share the machine out from the second lap on, in cycle 64.
+fn assert_shared_later<R: Abort + Threads + Wait + Sync>(
+    rt: &R,
+    alloc: Global,
+    run: &Run<'_>,
+) -> Result<(), Fault> {
+    let plain = plain_tables(rt, alloc, run)?;
+    let sharing = Sharing {
+        first_lap: 64,
+        ..Sharing::default()
+    };
+    for count in [2, 3] {
+        let gate = Counting::new();
+        let workers = Workers { count, sharing };
+        let same = is_plain(rt, alloc, &gate, run, workers, &plain)?;
+        expect_at(rt, &workers, &(same, gate.jobs() > 0), &(true, true));
+    }
+    Ok(())
+}
+
+/// The requests of the same machine are on their way for 100 cycles: 56 of them at least, from cycle 50 on. So the caller, who runs it
 /// alone while less is in flight, shares it out before they come.
 #[test]
 fn a_busy_machine_does_not_show_its_workers(rt: HostRuntime) -> Result<(), Fail> {
-    let changes = ["cores = 24", "channels = 2", "request_latency = 5000"];
+    let changes = ["cores = 24", "channels = 2", "request_latency = 100"];
     let texts = Texts::of(rt.alloc(), &changes, "", &TRACES)?;
-    let same = assert_same(&rt, rt.alloc(), &texts.run(6_000), &[2, 3]);
+    let same = assert_shared_later(&rt, rt.alloc(), &texts.run(400));
     drop(texts);
     Ok(same?)
 }

@@ -14,6 +14,8 @@ mod little_memory;
 #[cfg(test)]
 mod outcomes;
 #[cfg(test)]
+mod phase_counts;
+#[cfg(test)]
 mod phases;
 #[cfg(test)]
 mod same;

@@ -2,7 +2,7 @@
 //! with each allocation failing in turn; what these tests take of memory themselves counts too.
 
 use crate::expect::expect;
-use crate::outcomes::Watching;
+use crate::outcomes::always;
 use fixtures::one_read::{CHANNELS, CORES};
 use fixtures::small::SMALL;
 use sim_base::command::Kind;
@@ -12,6 +12,7 @@ use statistics::outcome::Outcome;
 use std::alloc::Global;
 use std::sync::Wait;
 use std::thread::Threads;
+use workers::gate::Open;
 use workers::watch::Unwatched;
 
 /// Whether these are the commands of one core that reads one line: an ACT in cycle 2 and an RD in cycle 5. Where the list of them is
@@ -48,7 +49,7 @@ fn is_right_or_refused<R: Threads + Wait + Sync>(rt: &R, alloc: Global, workers:
     let texts: [&[u8]; 1] = [b"0 0\n"];
     let watch = &mut Unwatched;
     let config = SMALL.as_bytes();
-    match simulate(rt, alloc, &Watching, watch, config, &texts, 16, workers) {
+    match simulate(rt, alloc, &Open, watch, config, &texts, 16, always(workers)) {
         Ok(outcome) => is_right(alloc, &outcome),
         Err(fault) => fault == Fault::Memory || workers > 1 && fault == Fault::WorkerStart,
     }

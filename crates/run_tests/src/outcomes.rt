@@ -1,32 +1,42 @@
 //! Outcomes of runs, compared by the tables that are written of them.
 
+ghost use Rattle.std.specs.Prelude.{◌≡◌};
+
 use crate::expect::expect_at;
 use fixtures::small::small_text;
 use fixtures::texts::texts_of;
+use reference::runs::simulate_plain;
 use reports::{write_commands, write_final, write_stats};
-use shards::task::TaskName;
 use sim_base::fault::Fault;
 use sim_base::message::Cycle;
-use simulation::runs::{simulate, simulate_plain};
+use simulation::runs::simulate;
 use statistics::outcome::Outcome;
 use std::alloc::{AllocError, Global};
 use std::process::Abort;
 use std::sync::Wait;
 use std::thread::Threads;
 use workers::gate::{Gate, Open};
+use workers::sharing::{Sharing, Workers};
 use workers::watch::{Unwatched, Watch};
 
-/// A gate that watches and does nothing: the units are shared out in shards, even where that is not worth it.
-pub(crate) struct Watching;
-
-impl Gate for Watching {
-    fn watches(&self) -> bool {
-        true
+/// This number of workers, which share each machine out.
+pub(crate) fn always(count: u64) -> Workers
+    ensures { result.count ≡ count }
+{
+    Workers {
+        count,
+        sharing: Sharing::always(),
     }
+}
 
-    fn enter(&self, _worker: usize, _part: TaskName) {}
-
-    fn leave(&self, _worker: usize, _part: TaskName) {}
+/// This number of workers, which share a machine out where that is worth it.
+pub(crate) fn auto(count: u64) -> Workers
+    ensures { result.count ≡ count }
+{
+    Workers {
+        count,
+        sharing: Sharing::default(),
+    }
 }
 
 /// The bytes of an outcome's tables, one behind the other.
@@ -98,14 +108,14 @@ pub(crate) fn plain_tables<R: Threads + Sync>(
     tables_of(alloc, &outcome)
 }
 
-/// The tables of a watched run by this number of workers.
+/// The tables of a watched run by these workers.
 pub(crate) fn tables_watched<R: Threads + Wait + Sync, G: Gate + Sync, W: Watch>(
     rt: &R,
     alloc: Global,
     gate: &G,
     watch: &mut W,
     run: &Run<'_>,
-    workers: u64,
+    workers: Workers,
 ) -> Result<Vec<u8>, Fault> {
     let bytes = run.config.as_bytes();
     let texts = slices_of(alloc, run.texts)?;
@@ -113,59 +123,41 @@ pub(crate) fn tables_watched<R: Threads + Wait + Sync, G: Gate + Sync, W: Watch>
     tables_of(alloc, &outcome)
 }
 
-/// The tables of a run by this number of workers.
+/// The tables of a run by these workers.
 pub(crate) fn tables_by<R: Threads + Wait + Sync, G: Gate + Sync>(
     rt: &R,
     alloc: Global,
     gate: &G,
     run: &Run<'_>,
-    workers: u64,
+    workers: Workers,
 ) -> Result<Vec<u8>, Fault> {
     tables_watched(rt, alloc, gate, &mut Unwatched, run, workers)
 }
 
-/// Whether a run by this number of workers has the tables of the plain machine.
+/// Whether a run by these workers has the tables of the plain machine.
 pub(crate) fn is_plain<R: Threads + Wait + Sync, G: Gate + Sync>(
     rt: &R,
     alloc: Global,
     gate: &G,
     run: &Run<'_>,
-    workers: u64,
+    workers: Workers,
     plain: &[u8],
 ) -> Result<bool, Fault> {
     let tables = tables_by(rt, alloc, gate, run, workers)?;
     Ok(tables.as_slice() == plain)
 }
 
-/// The same by each of these numbers of workers, in shards and as it is run where nothing watches.
-fn assert_plain<R: Abort + Threads + Wait + Sync>(
-    rt: &R,
-    alloc: Global,
-    run: &Run<'_>,
-    workers: &[u64],
-    plain: &[u8],
-) -> Result<(), Fault> {
-    for count in workers {
-        let in_shards = is_plain(rt, alloc, &Watching, run, *count, plain)?;
-        let unwatched = is_plain(rt, alloc, &Open, run, *count, plain)?;
-        expect_at(
-            rt,
-            &(count, run.cycles, run.config),
-            &[in_shards, unwatched],
-            &[true, true],
-        );
-    }
-    Ok(())
-}
-
-/// A run has the same tables by each of these numbers of workers as by the plain machine, in shards and as it is run where nothing
-/// watches.
+/// A run has the same tables by each of these workers as by the plain machine.
 pub(crate) fn assert_same<R: Abort + Threads + Wait + Sync>(
     rt: &R,
     alloc: Global,
     run: &Run<'_>,
-    workers: &[u64],
+    workers: &[Workers],
 ) -> Result<(), Fault> {
     let plain = plain_tables(rt, alloc, run)?;
-    assert_plain(rt, alloc, run, workers, &plain)
+    for workers in workers {
+        let same = is_plain(rt, alloc, &Open, run, *workers, &plain)?;
+        expect_at(rt, &(workers, run.cycles, run.config), &same, &true);
+    }
+    Ok(())
 }

@@ -1,22 +1,20 @@
 //! Phases of a small machine and of toy tasks, run by one thread and by several; and the board from which threads take them.
 
-ghost use Rattle.std.specs.Prelude.{◌≡◌, ◌+◌, ◌<◌, ◌≤◌, ◌^◌, [], length, vec_len, IfOk};
+ghost use Rattle.std.specs.Prelude.{◌≡◌, ◌+◌, ◌<◌, ◌≤◌, ◌^◌, [], length, vec_len};
 ghost use Rattle.crew.specs.Rule.{put_view};
 
 use crate::expect::{expect, expect_at};
-use crate::gates::{Held, Holding};
-use crate::outcomes::{Texts, assert_same};
+use crate::gates::Counting;
+use crate::outcomes::{Texts, always, assert_same, auto};
 use cpu_trace::trace::Trace;
 use crew::bell::Patience;
 use crew::caller::Phases;
 use crew::open::Blank;
 use crew::rule::Room;
-use crew::run::{Course, Refused, with_crew};
+use crew::run::{PhasedRun, Refused, with_crew};
 use crew::seats::{Board, PutSeat, TakeSeat};
 use crew::work::{DoneOf, Work};
 use fixtures::small::{RANK_FIELD, small};
-use shards::fleet::{Fleet, Leg};
-use shards::task::{Task, TaskDone, TaskName};
 use sim_base::command::IssuedCommand;
 use sim_base::config::Config;
 use sim_base::fault::Fault;
@@ -26,13 +24,11 @@ use statistics::outcome::Outcome;
 use std::alloc::{AllocError, Global};
 use std::marker::Brand;
 use std::sync::Wait;
-use std::sync::atomic::{AtomicU64, Ordering};
 use std::test::Fail;
 use std::thread::Threads;
-use units::sim::Sim;
-use workers::gate::{AtGate, Gate, Open};
+use workers::gate::{Gate, Open};
 use workers::machine::run_machine;
-use workers::runner::{Claims, Runner};
+use workers::sharing::{Sharing, Workers};
 use workers::watch::Unwatched;
 
 /// Four cores and two channels.
@@ -45,129 +41,6 @@ fn lines(alloc: Global, cores: u16) -> Result<Vec<Trace>, AllocError> {
         traces.push(Trace::from_entries(alloc, &[Entry::Read(0)])?)?;
     }
     Ok(traces)
-}
-
-/// The small machine with other lines for some keys, whose cores read one line each, before its first cycle.
-fn machine(alloc: Global, changes: &[&str]) -> Result<Sim, Fault>
-    ensures { IfOk result (λ sim. sim.now ≡ 0) }
-{
-    let config = small(alloc, changes, "")?;
-    start(alloc, &config)
-}
-
-fn start(alloc: Global, config: &Config) -> Result<Sim, Fault>
-    ensures { IfOk result (λ sim. sim.now ≡ 0) }
-{
-    let traces = lines(alloc, config.cores)?;
-    if traces.len() != usize::from(config.cores) {
-        return Err(Fault::TraceCount);
-    }
-    Ok(Sim::start(alloc, config, traces)?)
-}
-
-/// The parts of the first phase of a machine that is before its first cycle, one for each of `shards` shards.
-fn parts_of(alloc: Global, sim: Sim, shards: usize) -> Result<Vec<Task>, AllocError>
-    requires early { sim.now ≡ 0 }
-    requires some { 0 < shards }
-{
-    match Fleet::share_out(sim, alloc, shards)?.further(alloc, 16)? {
-        Leg::Done(_) => Ok(Vec::new(alloc)),
-        Leg::Phase(_, tasks) => Ok(tasks),
-    }
-}
-
-/// The parts of its first phase.
-fn first_parts(alloc: Global, changes: &[&str], shards: usize) -> Result<Vec<Task>, Fault>
-    requires { 0 < shards }
-{
-    let sim = machine(alloc, changes)?;
-    Ok(parts_of(alloc, sim, shards)?)
-}
-
-/// One phase, which gives the number of its results.
-#[derive(Drop)]
-struct OnePhase {
-    tasks: Vec<Task>,
-}
-
-impl Course<Task, TaskDone, usize> for OnePhase {
-    ghost leads = { λ c n. Unit {0} };
-
-    fn run<P: Phases<Task, TaskDone>>(
-        self,
-        _alloc: Global,
-        crew: &mut P,
-    ) -> Result<usize, AllocError> {
-        let mut claims = Claims { crew };
-        match claims.run_phase(self.tasks) {
-            Ok(results) => Ok(results.len()),
-            Err(_) => Err(AllocError),
-        }
-    }
-}
-
-#[test]
-fn any_number_of_workers_runs_a_phase(rt: HostRuntime) -> Result<(), Fail> {
-    let work = AtGate { gate: &Open };
-    for workers in [1, 2, 5, 64] {
-        let tasks = first_parts(rt.alloc(), &FOUR_CORES, 6)?;
-        let results = with_crew(
-            &rt,
-            rt.alloc(),
-            &work,
-            6,
-            workers,
-            PATIENCE,
-            OnePhase { tasks },
-        );
-        expect(&rt, &results, &Ok(6));
-    }
-    Ok(())
-}
-
-/// What a gate saw that held the first part of a phase until five others had left.
-fn held_by<R: Threads + Wait + Sync>(rt: &R, alloc: Global, workers: usize) -> Result<Held, Fault> {
-    let gate = Holding::new(5);
-    let work = AtGate { gate: &gate };
-    let tasks = first_parts(alloc, &FOUR_CORES, 6)?;
-    match with_crew(rt, alloc, &work, 6, workers, PATIENCE, OnePhase { tasks }) {
-        Ok(_) => Ok(gate.seen()),
-        Err(Refused::Memory) => Err(Fault::Memory),
-        Err(Refused::Start) => Err(Fault::WorkerStart),
-    }
-}
-
-/// While one of several workers holds the first part, the others take all others: six parts are not shared out in advance.
-#[test]
-fn workers_claim_their_parts(rt: HostRuntime) -> Result<(), Fail> {
-    for workers in [2, 3, 5, 6] {
-        let saw = held_by(&rt, rt.alloc(), workers)?;
-        expect_at(&rt, &("workers", workers), &saw, &(6, 6, 1));
-    }
-    Ok(())
-}
-
-/// Counts the phases.
-#[derive(Drop)]
-struct Counting {
-    next: AtomicU64,
-    phases: AtomicU64,
-}
-
-impl Gate for Counting {
-    fn watches(&self) -> bool {
-        true
-    }
-
-    fn enter(&self, _worker: usize, part: TaskName) {
-        if self.next.load(Ordering::SeqCst) <= part.phase {
-            self.next
-                .store(part.phase.saturating_add(1), Ordering::SeqCst);
-            self.phases.fetch_add(1, Ordering::SeqCst);
-        }
-    }
-
-    fn leave(&self, _worker: usize, _part: TaskName) {}
 }
 
 /// The commands of a run, its cycles, and how many messages it leaves in flight.
@@ -183,12 +56,12 @@ fn did_under<R: Threads + Wait + Sync, G: Gate + Sync>(
     rt: &R,
     alloc: Global,
     gate: &G,
-    workers: usize,
+    workers: Workers,
     config: &Config,
     limit: Cycle,
 ) -> Result<Did, Fault>
-    requires some { 1 ≤ workers }
-    requires few { workers ≤ 64 }
+    requires some { 1 ≤ workers.count }
+    requires few { workers.count ≤ 64 }
     requires limit { limit ≤ 10 ^ 12 }
 {
     let traces = lines(alloc, config.cores)?;
@@ -205,43 +78,50 @@ fn did_by<R: Threads + Wait + Sync, G: Gate + Sync>(
     rt: &R,
     alloc: Global,
     gate: &G,
-    workers: usize,
+    workers: Workers,
     end: &str,
     limit: Cycle,
 ) -> Result<Did, Fault>
-    requires some { 1 ≤ workers }
-    requires few { workers ≤ 64 }
+    requires some { 1 ≤ workers.count }
+    requires few { workers.count ≤ 64 }
     requires limit { limit ≤ 10 ^ 12 }
 {
     let config = small(alloc, &FOUR_CORES, end)?;
     did_under(rt, alloc, gate, workers, &config, limit)
 }
 
-/// How many cycles a run has, and how many phases.
-fn phases_of<R: Threads + Wait + Sync>(
+/// How many jobs a run by two workers has: each phase has four, two for each of them.
+fn jobs_of<R: Threads + Wait + Sync>(
     rt: &R,
     alloc: Global,
+    sharing: Sharing,
     limit: Cycle,
-) -> Result<(Cycle, u64), Fault>
+) -> Result<u64, Fault>
     requires limit { limit ≤ 10 ^ 12 }
 {
-    let counting = Counting {
-        next: AtomicU64::new(0),
-        phases: AtomicU64::new(0),
-    };
-    let (_, cycles, _) = did_by(rt, alloc, &counting, 1, "", limit)?;
-    Ok((cycles, counting.phases.load(Ordering::SeqCst)))
+    let counting = Counting::new();
+    let workers = Workers { count: 2, sharing };
+    did_by(rt, alloc, &counting, workers, "", limit)?;
+    Ok(counting.jobs())
 }
 
 /// Four cores read one line each, up to a distant cycle. The requests come in cycle 2, where the row is opened. It is read in the
 /// cycles 5, 10, 15 and 20, as the lines lie in one group. The credits come two cycles later, and the replies in 15, 20, 25 and
-/// 30. Where nothing happens, there is no phase: a phase begins in the cycles 0, 2, 5, 7, 10, 12, 15, 17, 20, 22, 25 and 30. A run goes by
-/// laps of 4,096 cycles, 8,192 and so on, and each begins with a phase: three more up to cycle 60,000, in 4,096, 12,288 and 28,672.
+/// 30. Where nothing happens, there is no phase: a phase begins in the cycles 0, 2, 5, 7, 10, 12, 15, 17, 20, 22, 25 and 30. Where a run goes by
+/// laps of 4,096 cycles, 8,192 and so on, each begins with a phase: three more up to cycle 60,000, in 4,096, 12,288 and 28,672.
 #[test]
 fn a_machine_works_where_something_happens(rt: HostRuntime) -> Result<(), Fail> {
-    for (limit, phases) in [(16, 7), (60_000, 15)] {
-        let found = phases_of(&rt, rt.alloc(), limit)?;
-        expect(&rt, &found, &(limit, phases));
+    let in_laps = Sharing {
+        first_lap: 4_096,
+        ..Sharing::always()
+    };
+    for (sharing, limit, phases) in [
+        (Sharing::always(), 16, 7),
+        (Sharing::always(), 60_000, 12),
+        (in_laps, 60_000, 15),
+    ] {
+        let jobs = jobs_of(&rt, rt.alloc(), sharing, limit)?;
+        expect_at(&rt, &(sharing, limit), &jobs, &(4 * phases));
     }
     Ok(())
 }
@@ -249,10 +129,10 @@ fn a_machine_works_where_something_happens(rt: HostRuntime) -> Result<(), Fail> 
 /// Four cores read one line each, up to cycle 30: each worker count gives the same ACT and four RDs.
 #[test]
 fn a_machine_does_not_show_its_workers(rt: HostRuntime) -> Result<(), Fail> {
-    let one = did_by(&rt, rt.alloc(), &Open, 1, "", 30)?;
+    let one = did_by(&rt, rt.alloc(), &Open, auto(1), "", 30)?;
     expect(&rt, &one.0.len(), &5);
     for workers in [2, 3] {
-        let more = did_by(&rt, rt.alloc(), &Open, workers, "", 30)?;
+        let more = did_by(&rt, rt.alloc(), &Open, always(workers), "", 30)?;
         expect_at(&rt, &("workers", workers), &more, &one);
     }
     Ok(())
@@ -264,7 +144,14 @@ const DRAINED: &str = "end = \"drained\"\n";
 #[test]
 fn a_machine_ends_drained(rt: HostRuntime) -> Result<(), Fail> {
     for workers in [1, 2, 3] {
-        let (commands, cycles, flight) = did_by(&rt, rt.alloc(), &Open, workers, DRAINED, 1_000)?;
+        let (commands, cycles, flight) = did_by(
+            &rt,
+            rt.alloc(),
+            &Open,
+            always(workers),
+            DRAINED,
+            1_000,
+        )?;
         expect(&rt, &(commands.len(), cycles < 100, flight), &(5, true, 0));
     }
     Ok(())
@@ -274,7 +161,8 @@ fn a_machine_ends_drained(rt: HostRuntime) -> Result<(), Fail> {
 #[test]
 fn most_workers_have_nothing_to_do(rt: HostRuntime) -> Result<(), Fail> {
     let texts = Texts::of(rt.alloc(), &[], "", &["0 0\n7 4096\n3 64 128\n0 8192\n"])?;
-    let same = assert_same(&rt, rt.alloc(), &texts.run(200), &[2, 3, 64]);
+    let workers = [always(2), always(3), always(64)];
+    let same = assert_same(&rt, rt.alloc(), &texts.run(200), &workers);
     drop(texts);
     Ok(same?)
 }
@@ -353,8 +241,8 @@ fn are_whole(squares: &[Square]) -> bool {
     squares.len() == 17 && seen == (1 << 17) - 1
 }
 
-impl Course<Number, Square, u64> for ManyPhases {
-    ghost leads = { λ c n. Unit {0} };
+impl PhasedRun<Number, Square, u64> for ManyPhases {
+    ghost gives = { λ c n. Unit {0} };
 
     fn run<P: Phases<Number, Square>>(
         self,
@@ -372,12 +260,12 @@ impl Course<Number, Square, u64> for ManyPhases {
 
 #[test]
 fn many_phases_are_whole(rt: HostRuntime) -> Result<(), Fail> {
-    let course = ManyPhases {
+    let phased = ManyPhases {
         phases: 10_000,
         refused: 10_000,
     };
     for workers in [1, 2, 4] {
-        let whole = with_crew(&rt, rt.alloc(), &Squaring, 17, workers, PATIENCE, course);
+        let whole = with_crew(&rt, rt.alloc(), &Squaring, 17, workers, PATIENCE, phased);
         expect(&rt, &whole, &Ok(10_000));
     }
     Ok(())
@@ -386,11 +274,11 @@ fn many_phases_are_whole(rt: HostRuntime) -> Result<(), Fail> {
 /// A board that has no room for all tasks of a phase leaves them to the caller.
 #[test]
 fn a_phase_without_room_is_whole(rt: HostRuntime) -> Result<(), Fail> {
-    let course = ManyPhases {
+    let phased = ManyPhases {
         phases: 3,
         refused: 3,
     };
-    let whole = with_crew(&rt, rt.alloc(), &Squaring, 16, 3, PATIENCE, course);
+    let whole = with_crew(&rt, rt.alloc(), &Squaring, 16, 3, PATIENCE, phased);
     expect(&rt, &whole, &Ok(3));
     Ok(())
 }
@@ -399,11 +287,11 @@ fn a_phase_without_room_is_whole(rt: HostRuntime) -> Result<(), Fail> {
 #[test]
 fn refused_memory_ends_the_run(rt: HostRuntime) -> Result<(), Fail> {
     for refused in 0..40 {
-        let course = ManyPhases {
+        let phased = ManyPhases {
             phases: 40,
             refused,
         };
-        let whole = with_crew(&rt, rt.alloc(), &Squaring, 17, 4, PATIENCE, course);
+        let whole = with_crew(&rt, rt.alloc(), &Squaring, 17, 4, PATIENCE, phased);
         expect(&rt, &whole, &Err(Refused::Memory));
     }
     Ok(())
@@ -412,9 +300,9 @@ fn refused_memory_ends_the_run(rt: HostRuntime) -> Result<(), Fail> {
 /// Puts all tasks on a board.
 fn put_all<R: Wait, B: Room>(
     rt: &R,
-    board: &Board<Task, B>,
-    seat: &mut PutSeat<Task, B>,
-    tasks: Vec<Task>,
+    board: &Board<Number, B>,
+    seat: &mut PutSeat<Number, B>,
+    tasks: Vec<Number>,
 )
     requires room { vec_len tasks ≤ board.now }
     requires seat { seat.old ≡ put_view [] [] }
@@ -427,29 +315,29 @@ fn put_all<R: Wait, B: Room>(
     }
 }
 
-/// The shard of the task in front, and how many the seat has then taken.
-fn take_shard<R: Wait, B: Room>(
+/// The number of the task in front, and how many the seat has then taken.
+fn take_number<R: Wait, B: Room>(
     rt: &R,
-    board: &Board<Task, B>,
-    seat: &mut TakeSeat<Task, B>,
+    board: &Board<Number, B>,
+    seat: &mut TakeSeat<Number, B>,
     taken: usize,
-) -> (usize, Option<usize>)
+) -> (usize, Option<u64>)
     requires { (taken ≡ length seat.old) × (taken < 10) }
     ensures { (result.0 ≡ length seat.new) × (result.0 ≤ taken + 1) }
 {
     match board.take(rt, seat) {
-        Some(task) => (taken + 1, Some(task.name().shard)),
+        Some(task) => (taken + 1, Some(task.number)),
         None => (taken, None),
     }
 }
 
-/// Tasks are put and taken by two seats in turn, and once more by each; then both come home. The shards of what was taken, and how
+/// Tasks are put and taken by two seats in turn, and once more by each; then both come home. The numbers of what was taken, and how
 /// many were missing before, between and after.
 fn take_in_turn<R: Wait, B: Room>(
     rt: &R,
-    blank: Blank<Task>,
-    tasks: Vec<Task>,
-) -> ([Option<usize>; 5], [usize; 3])
+    blank: Blank<Number>,
+    tasks: Vec<Number>,
+) -> ([Option<u64>; 5], [usize; 3])
     requires { (blank.name ≡ B.table) × (vec_len tasks ≤ blank.room) }
 {
     let (board, mut seat) = blank.named::<B>();
@@ -458,11 +346,11 @@ fn take_in_turn<R: Wait, B: Room>(
     let before = board.missing(&mut seat, put, 0);
     let mut one = board.deal(&mut seat);
     let mut two = board.deal(&mut seat);
-    let (ones, first) = take_shard(rt, &board, &mut one, 0);
-    let (twos, second) = take_shard(rt, &board, &mut two, 0);
-    let (ones, third) = take_shard(rt, &board, &mut one, ones);
-    let (twos, fourth) = take_shard(rt, &board, &mut two, twos);
-    let (ones, fifth) = take_shard(rt, &board, &mut one, ones);
+    let (ones, first) = take_number(rt, &board, &mut one, 0);
+    let (twos, second) = take_number(rt, &board, &mut two, 0);
+    let (ones, third) = take_number(rt, &board, &mut one, ones);
+    let (twos, fourth) = take_number(rt, &board, &mut two, twos);
+    let (ones, fifth) = take_number(rt, &board, &mut one, ones);
     board.bring_home(&mut seat, one);
     let between = board.missing(&mut seat, put, ones);
     board.bring_home(&mut seat, two);
@@ -473,14 +361,20 @@ fn take_in_turn<R: Wait, B: Room>(
     )
 }
 
-/// Two cores and a channel, each a shard.
+/// Tasks are taken in the order in which they were put.
 #[test]
-fn seats_take_parts_in_their_order(rt: HostRuntime) -> Result<(), Fail> {
-    let tasks = first_parts(rt.alloc(), &["cores = 2"], 3)?;
+fn seats_take_tasks_in_their_order(rt: HostRuntime) -> Result<(), Fail> {
+    let mut tasks = Vec::new(rt.alloc());
+    for number in [7, 3, 5] {
+        tasks.push(Number {
+            number,
+            refused: false,
+        })?;
+    }
     let room = tasks.len().max(1);
     let blank = Blank::open(rt.alloc(), room)?;
-    let (shards, missing) = take_in_turn::<HostRuntime, Brand>(&rt, blank, tasks);
+    let (numbers, missing) = take_in_turn::<HostRuntime, Brand>(&rt, blank, tasks);
     expect(&rt, &missing, &[3, 1, 0]);
-    expect(&rt, &shards, &[Some(0), Some(1), Some(2), None, None]);
+    expect(&rt, &numbers, &[Some(7), Some(3), Some(5), None, None]);
     Ok(())
 }

@@ -1,7 +1,7 @@
 //! Worked rows: any number of workers gives what the plain machine gives, up to several limits, and with a link that is
 //! faster than the others, so that phases are one cycle long.
 
-use crate::outcomes::{Texts, assert_same};
+use crate::outcomes::{Texts, always, assert_same, auto};
 use fixtures::worked_runs::{
     CONFLICT, DRAIN_AT_FOUR, DRAIN_AT_ONE, DRAIN_AT_TWO, DRAINED_LATE, DRAINED_LINE, DRAINED_READ,
     DRAINED_REFRESHES, DRAINED_SLOW_CREDIT, EIGHT_CREDITS, FAST_LINK, GROUPS, HIGH, HITS,
@@ -31,8 +31,9 @@ fn assert_limits<R: Abort + Threads + Wait + Sync>(
     texts: &Texts,
     limit: Cycle,
 ) -> Result<(), Fault> {
+    let workers = [auto(1), always(2), always(7), always(64)];
     for cycles in [limit, 3, 16] {
-        assert_same(rt, alloc, &texts.run(cycles), &[1, 2, 7, 64])?;
+        assert_same(rt, alloc, &texts.run(cycles), &workers)?;
     }
     Ok(())
 }

@@ -1,31 +1,36 @@
-//! Machines whose units are shared out in shards and joined again: neither affects the outcome, nor does the order in which the results of a phase come.
+//! Machines in shards that `run_with` runs with a runner of the tests: neither how many shards there are affects the outcome, nor the order in which the
+//! results of a phase come.
 
-ghost use Rattle.std.specs.Prelude.{◌≡◌, ◌<◌, ◌≤◌, ◌^◌, IfOk};
+ghost use Rattle.std.specs.Prelude.{◌<◌};
 
 use crate::expect::expect_at;
 use crate::generated::TRACES;
 use crate::outcomes::{Run, Texts, plain_tables, tables_of};
 use config_reader::read_config;
 use fixtures::generated::made_up;
+use fixtures::random::Random;
 use fixtures::texts::traces_of;
-use shards::fleet::{Fleet, Leg};
-use shards::rested::run_alone;
-use shards::task::{Task, TaskDone};
+use shards::job::{Done, Job};
 use sim_base::fault::Fault;
 use sim_base::message::Cycle;
-use std::alloc::{AllocError, Global};
+use std::alloc::Global;
 use std::process::Abort;
 use std::test::Fail;
 use std::thread::Threads;
 use units::sim::Sim;
+use workers::gate::Open;
+use workers::machine::run_with;
+use workers::runner::{Runner, Serial};
 
 /// The limit of the longest run.
-const LONGEST: Cycle = 1_000_000_000_000;
+pub(crate) const LONGEST: Cycle = 1_000_000_000_000;
 
 /// The machine of a run before its first cycle.
-fn started<R: Threads + Sync>(rt: &R, alloc: Global, run: &Run<'_>) -> Result<Sim, Fault>
-    ensures { IfOk result (λ sim. sim.now ≡ 0) }
-{
+pub(crate) fn started<R: Threads + Sync>(
+    rt: &R,
+    alloc: Global,
+    run: &Run<'_>,
+) -> Result<Sim, Fault> {
     let config = read_config(alloc, run.config.as_bytes())?;
     let traces = traces_of(rt, alloc, run.texts)?;
     if traces.len() != usize::from(config.cores) {
@@ -34,113 +39,70 @@ fn started<R: Threads + Sync>(rt: &R, alloc: Global, run: &Run<'_>) -> Result<Si
     Ok(Sim::start(alloc, &config, traces)?)
 }
 
-/// The results of the parts of a phase, in their order.
-fn results_of(alloc: Global, tasks: Vec<Task>) -> Result<Vec<TaskDone>, AllocError>
-    ensures { IfOk result (λ results. results.items ≡ tasks.items) }
-{
-    let mut results = Vec::new(alloc);
-    for task in tasks {
-        results.push(task.run()?)?;
-    }
-    Ok(results)
+/// Runs the jobs of a phase one after the other, and gives their results from the last to the first.
+#[derive(Drop)]
+struct Reversed<'a> {
+    serial: Serial<'a, Open>,
 }
 
-/// A simulator at a limit, whose units are shared out in `shards` shards. The results of each phase come in order from the last shard to the first.
-fn run_shared(sim: Sim, alloc: Global, limit: Cycle, shards: usize) -> Result<Sim, AllocError>
-    requires some { 0 < shards }
-    requires not_past { sim.now ≤ limit }
-    requires early { limit ≤ 10 ^ 12 }
-    ensures { IfOk result (λ after. after.now ≡ limit) }
-{
-    let mut fleet = Fleet::share_out(sim, alloc, shards)?;
-    loop {
-        match fleet.further(alloc, limit)? {
-            Leg::Done(sim) => return Ok(sim),
-            Leg::Phase(outing, tasks) => {
-                let mut results = results_of(alloc, tasks)?;
-                results.reverse();
-                fleet = outing.end(alloc, results)?;
-            }
-        }
+impl<'a> Runner for Reversed<'a> {
+    fn run_phase(&mut self, jobs: Vec<Job>) -> Result<Vec<Done>, Fault> {
+        let mut results = self.serial.run_phase(jobs)?;
+        results.reverse();
+        Ok(results)
     }
 }
 
-/// How a machine is run: in `shards` shards, or alone where that is 0, and stopped after `lap` cycles each time.
-#[derive(Clone, Copy, Debug)]
-struct Way {
+/// The simulator at the end of its run, which stops twice on the way.
+fn run_in_shards(
+    sim: Sim,
+    alloc: Global,
+    cycles: Cycle,
+    stop: Cycle,
     shards: usize,
-    lap: Cycle,
-}
-
-/// A simulator at a limit.
-fn run_lap(sim: Sim, alloc: Global, limit: Cycle, shards: usize) -> Result<Sim, AllocError>
-    requires not_past { sim.now ≤ limit }
-    requires early { limit ≤ 10 ^ 12 }
-    ensures { IfOk result (λ after. after.now ≡ limit) }
+) -> Result<Sim, Fault>
+    requires { 0 < shards }
 {
-    if shards == 0 {
-        run_alone(sim, alloc, limit)
-    } else {
-        run_shared(sim, alloc, limit, shards)
-    }
-}
-
-/// A simulator at the end of its run, where it is drained, or at a limit.
-fn run_laps(sim: Sim, alloc: Global, limit: Cycle, way: Way) -> Result<Sim, AllocError>
-    requires not_past { sim.now ≤ limit }
-    requires early { limit ≤ 10 ^ 12 }
-{
+    let mut runner = Reversed {
+        serial: Serial::new(alloc, &Open),
+    };
     let mut sim = sim;
-    while let Some(stop) = sim.next_stop(limit) {
-        let until = stop.min(sim.now().saturating_add(way.lap.max(1)));
-        sim = run_lap(sim, alloc, until, way.shards)?;
+    for limit in [stop / 2, stop, cycles] {
+        if sim.now() <= limit && limit <= LONGEST {
+            sim = run_with(sim, alloc, limit, shards, &mut runner)?;
+        }
     }
     Ok(sim)
 }
 
-/// The tables of a run.
+/// The tables of a run that stops at a cycle.
 fn tables_by<R: Threads + Sync>(
     rt: &R,
     alloc: Global,
     run: &Run<'_>,
-    way: Way,
-) -> Result<Vec<u8>, Fault> {
+    stop: Cycle,
+    shards: usize,
+) -> Result<Vec<u8>, Fault>
+    requires { 0 < shards }
+{
     let sim = started(rt, alloc, run)?;
-    let sim = run_laps(sim, alloc, run.cycles.min(LONGEST), way)?;
+    let sim = run_in_shards(sim, alloc, run.cycles, stop, shards)?;
     let outcome = sim.outcome(alloc)?;
     tables_of(alloc, &outcome)
 }
 
-/// In how many shards, and after how many cycles it stops. Some machines have fewer units than there are shards.
-static WAYS: [(usize, Cycle); 11] = [
-    (0, Cycle::MAX),
-    (0, 7),
-    (1, Cycle::MAX),
-    (1, 7),
-    (2, Cycle::MAX),
-    (2, 7),
-    (3, Cycle::MAX),
-    (3, 7),
-    (4, Cycle::MAX),
-    (4, 7),
-    (9, 1),
-];
-
-/// A run has the tables of the plain machine, however it is shared out.
+/// A run that stops at a cycle has the tables of the plain machine, in however many shards. Some machines have fewer units than there are shards.
 fn assert_shared<R: Abort + Threads + Sync>(
     rt: &R,
     alloc: Global,
     run: &Run<'_>,
+    stop: Cycle,
 ) -> Result<(), Fault> {
     let plain = plain_tables(rt, alloc, run)?;
-    for (shards, lap) in &WAYS {
-        let way = Way {
-            shards: *shards,
-            lap: *lap,
-        };
-        let tables = tables_by(rt, alloc, run, way)?;
+    for shards in [1, 2, 5] {
+        let tables = tables_by(rt, alloc, run, stop, shards)?;
         let same = tables.as_slice() == plain.as_slice();
-        expect_at(rt, &(way, run.config), &same, &true);
+        expect_at(rt, &(shards, stop, run.config), &same, &true);
     }
     Ok(())
 }
@@ -151,7 +113,7 @@ fn shards_of_three_units_do_not_show(rt: HostRuntime) -> Result<(), Fail> {
     let traces = ["0 0\n7 4096\n3 64 128\n", "5 64\n0 8192 64\n2 0\n"];
     for end in ["", "end = \"drained\"\n"] {
         let texts = Texts::of(rt.alloc(), &["cores = 2"], end, &traces)?;
-        assert_shared(&rt, rt.alloc(), &texts.run(300))?;
+        assert_shared(&rt, rt.alloc(), &texts.run(300), 150)?;
     }
     Ok(())
 }
@@ -161,12 +123,12 @@ fn shards_of_three_units_do_not_show(rt: HostRuntime) -> Result<(), Fail> {
 fn shards_of_a_large_machine_do_not_show(rt: HostRuntime) -> Result<(), Fail> {
     let changes = ["cores = 24", "channels = 2"];
     let texts = Texts::of(rt.alloc(), &changes, "", &TRACES)?;
-    let same = assert_shared(&rt, rt.alloc(), &texts.run(400));
+    let same = assert_shared(&rt, rt.alloc(), &texts.run(400), 200);
     drop(texts);
     Ok(same?)
 }
 
-/// The machine of a seed.
+/// The machine of a seed, which stops at a cycle of the seed, or at half of that.
 fn assert_seed<R: Abort + Threads + Sync>(rt: &R, alloc: Global, seed: u64) -> Result<(), Fault> {
     let made = made_up(alloc, seed)?;
     let run = Run {
@@ -174,12 +136,13 @@ fn assert_seed<R: Abort + Threads + Sync>(rt: &R, alloc: Global, seed: u64) -> R
         texts: &made.traces,
         cycles: made.limit,
     };
-    assert_shared(rt, alloc, &run)
+    let stop = Random::new(seed).below(made.limit);
+    assert_shared(rt, alloc, &run, stop)
 }
 
 #[test]
 fn shards_of_generated_machines_do_not_show(rt: HostRuntime) -> Result<(), Fail> {
-    for seed in 40..60 {
+    for seed in 0..300 {
         assert_seed(&rt, rt.alloc(), seed)?;
     }
     Ok(())

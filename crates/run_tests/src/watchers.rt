@@ -1,7 +1,7 @@
 //! Runs that are watched: what the watcher is told, and that its answers do not affect the outcome.
 
 use crate::expect::{expect, expect_at};
-use crate::outcomes::{Run, Texts, Watching, plain_tables, tables_watched};
+use crate::outcomes::{Run, Texts, always, auto, plain_tables, tables_watched};
 use sim_base::fault::Fault;
 use sim_base::message::Cycle;
 use std::alloc::Global;
@@ -9,7 +9,8 @@ use std::process::Abort;
 use std::sync::Wait;
 use std::test::Fail;
 use std::thread::Threads;
-use workers::gate::{Gate, Open};
+use workers::gate::Open;
+use workers::sharing::Workers;
 use workers::watch::{Stage, Watch};
 
 /// A cycle, and how many entries have retired before it, of how many.
@@ -48,33 +49,22 @@ impl Watch for Noting {
     }
 }
 
-/// Whether a watched run by this number of workers has these tables.
-fn is_same<R: Threads + Wait + Sync, G: Gate + Sync>(
+/// Whether a watched run by these workers has these tables.
+fn is_same<R: Threads + Wait + Sync>(
     rt: &R,
     alloc: Global,
-    gate: &G,
     run: &Run<'_>,
-    (workers, stretch): (u64, Cycle),
+    workers: Workers,
+    stretch: Cycle,
     plain: &[u8],
 ) -> Result<bool, Fault> {
     let mut watch = Noting::new(alloc, stretch);
-    let tables = tables_watched(rt, alloc, gate, &mut watch, run, workers)?;
+    let tables = tables_watched(rt, alloc, &Open, &mut watch, run, workers)?;
     Ok(tables.as_slice() == plain && watch.ends == 1)
 }
 
-/// By how many workers, and how many cycles the watcher answers.
-static CASES: [(u64, Cycle); 10] = [
-    (1, 0),
-    (1, 1),
-    (1, 2),
-    (1, 7),
-    (1, Cycle::MAX),
-    (3, 0),
-    (3, 1),
-    (3, 2),
-    (3, 7),
-    (3, Cycle::MAX),
-];
+/// How many cycles the watcher answers.
+static STRETCHES: [Cycle; 5] = [0, 1, 2, 7, Cycle::MAX];
 
 /// A run that is watched has the tables of the plain machine, in shards and in place, and its watcher is told once of its end.
 fn assert_same_watched<R: Abort + Threads + Wait + Sync>(
@@ -83,13 +73,13 @@ fn assert_same_watched<R: Abort + Threads + Wait + Sync>(
     run: &Run<'_>,
     plain: &[u8],
 ) -> Result<(), Fault> {
-    for case in &CASES {
-        let in_shards = is_same(rt, alloc, &Watching, run, *case, plain)?;
-        let in_place = is_same(rt, alloc, &Open, run, *case, plain)?;
+    for stretch in &STRETCHES {
+        let shared = is_same(rt, alloc, run, always(3), *stretch, plain)?;
+        let in_place = is_same(rt, alloc, run, auto(1), *stretch, plain)?;
         expect_at(
             rt,
-            &(case, run.config),
-            &[in_shards, in_place],
+            &(stretch, run.config),
+            &[shared, in_place],
             &[true, true],
         );
     }
@@ -126,7 +116,7 @@ fn told_of<R: Threads + Wait + Sync>(
 ) -> Result<(Vec<Told>, u64), Fault> {
     let texts = Texts::of(alloc, &[], "", &["0 0\n"])?;
     let mut watch = Noting::new(alloc, stretch);
-    tables_watched(rt, alloc, &Open, &mut watch, &texts.run(limit), 1)?;
+    tables_watched(rt, alloc, &Open, &mut watch, &texts.run(limit), auto(1))?;
     Ok((watch.told, watch.ends))
 }
 

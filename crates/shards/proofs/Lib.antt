@@ -4,9 +4,11 @@ pub mod Jumping
 pub mod Going
 pub mod Passing
 pub mod Sharing
-pub mod Sharded
+pub mod Jobs
 pub mod Posting
 pub mod Splitting
+pub mod Placing
+pub mod Whole
 pub mod Unloading
-pub mod Fleets
+pub mod Phases
 pub mod Setting

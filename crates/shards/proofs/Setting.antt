@@ -12,12 +12,14 @@ use Rattle.sim_base.specs.declared.config.Config.{Config}
 use Rattle.sim_base.specs.declared.message.Message.{Message}
 use Rattle.sim_base.specs.declared.trace.Entry.{Entry}
 use Rattle.sim_base.specs.History.{insert_by_age}
-use Rattle.shards.specs.Shards.{TaskView, IsShard, IsTask, IsUpTo, MayGo, MayStop, lists_of, task_at}
+use Rattle.shards.specs.Shards.{IsShard, IsUpTo, lists_of}
+use Rattle.shards.specs.Jobs.{JobView, IsJob, job_at}
+use Rattle.shards.specs.Phases.{MayGo, MayStop}
 use Rattle.units.specs.Units.{unit_count}
 use Rattle.shards.specs.Wakes.{AreLowered, IsAsleep}
 use Rattle.shards.specs.declared.shard.Shard.{Shard}
-use Rattle.shards.specs.declared.task.TaskName.{TaskName}
-use Rattle.shards.proofs.Sharded.{taken-up}
+use Rattle.shards.specs.declared.job.JobName.{JobName}
+use Rattle.shards.proofs.Jobs.{taken-up}
 use Rattle.units.proofs.Standing.{seam-within}
 
 -- the lists of the shards from an index on stand where they stood
@@ -46,29 +48,29 @@ seam-at : (shards ys rest : List (Box Shard Global)) (x : Box Shard Global) → 
 seam-at shards ys rest x e = ap (λ z. get_or z (length ys) x) (sym e) ∙ get_or-append_seam ys x rest x
 
 -- the shard after some may go over the phase, with the lists at its index
-pub seam-task : (s : Config) (traces : List (List Entry)) (bounds : List ℕ) (number from until : ℕ) (shards ys rest : List (Box Shard Global)) (x : Box Shard Global)
+pub seam-job : (s : Config) (traces : List (List Entry)) (bounds : List ℕ) (number from until : ℕ) (shards ys rest : List (Box Shard Global)) (x : Box Shard Global)
     (inbound left : List (Vec (Vec Message Global) Global)) (d : Vec (Vec Message Global) Global) → MayGo s traces bounds number from until shards inbound → ys ++ x ∷ rest ≡ shards
-    → AreLeft (length ys) inbound left → IsTask s traces bounds (record { phase = number; shard = length ys; from = from; until = until }) x.value (get_or left (length ys) d).items
-seam-task s traces bounds number from until shards ys rest x inbound left d h e l =
-    let name : TaskName = record { phase = number; shard = length ys; from = from; until = until } in
+    → AreLeft (length ys) inbound left → IsJob s traces bounds (record { phase = number; shard = length ys; from = from; until = until }) x.value (get_or left (length ys) d).items
+seam-job s traces bounds number from until shards ys rest x inbound left d h e l =
+    let name : JobName = record { phase = number; shard = length ys; from = from; until = until } in
     let less = seam-within shards ys rest x (length shards) e refl in
-    subst (λ (b : Box Shard Global). IsTask s traces bounds name b.value (get_or left (length ys) d).items) (seam-at shards ys rest x e)
-    (subst (λ (v : Vec (Vec Message Global) Global). IsTask s traces bounds name (get_or shards (length ys) x).value v.items) (sym (l.same (length ys) d (omega arith))) (h.each (length ys) x d less))
+    subst (λ (b : Box Shard Global). IsJob s traces bounds name b.value (get_or left (length ys) d).items) (seam-at shards ys rest x e)
+    (subst (λ (v : Vec (Vec Message Global) Global). IsJob s traces bounds name (get_or shards (length ys) x).value v.items) (sym (l.same (length ys) d (omega arith))) (h.each (length ys) x d less))
 
 -- a part of a phase is one of the machine that its shard has
-pub task-own : (s : Config) (traces : List (List Entry)) (bounds : List ℕ) (name : TaskName) (shard : Shard) (inbound : List (Vec Message Global)) → IsTask s traces bounds name shard inbound
-    → IsTask (arc_value shard.machine).config (arc_value shard.machine).traces.items shard.bounds.items name shard inbound
-task-own s traces bounds name shard inbound h =
+pub job-own : (s : Config) (traces : List (List Entry)) (bounds : List ℕ) (name : JobName) (shard : Shard) (inbound : List (Vec Message Global)) → IsJob s traces bounds name shard inbound
+    → IsJob (arc_value shard.machine).config (arc_value shard.machine).traces.items shard.bounds.items name shard inbound
+job-own s traces bounds name shard inbound h =
     let is = h.before.is in
-    subst (λ m. IsTask m (arc_value shard.machine).traces.items shard.bounds.items name shard inbound) (sym is.machine_is)
-    (subst (λ t. IsTask s t shard.bounds.items name shard inbound) (sym is.traces_are) (subst (λ b. IsTask s traces b name shard inbound) (sym is.bounds_are) h))
+    subst (λ m. IsJob m (arc_value shard.machine).traces.items shard.bounds.items name shard inbound) (sym is.machine_is)
+    (subst (λ t. IsJob s t shard.bounds.items name shard inbound) (sym is.traces_are) (subst (λ b. IsJob s traces b name shard inbound) (sym is.bounds_are) h))
 
 -- and contracts see it as one of this machine
-pub task-seen : (s : Config) (traces : List (List Entry)) (bounds : List ℕ) (number from until index : ℕ) (shard : Shard) → IsShard s traces bounds index shard
-    → task_at (arc_value shard.machine).config (arc_value shard.machine).traces.items shard.bounds.items number from until index ≡ task_at s traces bounds number from until index
-task-seen s traces bounds number from until index shard is =
-    ap {B = TaskView} (λ m. task_at m (arc_value shard.machine).traces.items shard.bounds.items number from until index) is.machine_is
-    ∙ ap₂ {C = TaskView} (λ t b. task_at s t b number from until index) is.traces_are is.bounds_are
+pub job-seen : (s : Config) (traces : List (List Entry)) (bounds : List ℕ) (number from until index : ℕ) (shard : Shard) → IsShard s traces bounds index shard
+    → job_at (arc_value shard.machine).config (arc_value shard.machine).traces.items shard.bounds.items number from until index ≡ job_at s traces bounds number from until index
+job-seen s traces bounds number from until index shard is =
+    ap {B = JobView} (λ m. job_at m (arc_value shard.machine).traces.items shard.bounds.items number from until index) is.machine_is
+    ∙ ap₂ {C = JobView} (λ t b. job_at s t b number from until index) is.traces_are is.bounds_are
 
 -- the shard after some may stop at a cycle, with the lists at its index
 pub seam-stop : (s : Config) (traces : List (List Entry)) (bounds : List ℕ) (now : ℕ) (shards ys rest : List (Box Shard Global)) (x : Box Shard Global)

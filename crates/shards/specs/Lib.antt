@@ -1,4 +1,7 @@
 pub mod Wakes
 pub mod Rests
 pub mod Shards
-pub mod Legs
+pub mod Jobs
+pub mod Phases
+pub mod Planning
+pub mod Merging

@@ -1,5 +1,4 @@
 -- A machine whose units are shared out: a shard has those at places one after the other, and is run by one thread at a time.
---     TaskView      what contracts see of a shard's part of a phase: the machine with its traces, where each shard begins, and the part's name
 --     IsSplit s bounds      where each shard begins, and how many units there are
 --     IsShard s traces bounds index shard      the shard with a number, of this machine
 --     lists_of lists      what stands in lists, one after the other
@@ -9,19 +8,9 @@
 --     AreFrom s traces bounds from until shard lists      lists hold what the units of a shard sent in a span, by the shard that it goes to
 --     IsAtRest s traces bounds index from until wake shard      a shard at the end of a phase, which sends nothing before a cycle
 --     IsUpTo s traces bounds index now shard inbound      a shard up to a cycle before which nothing more happens
---     IsTask s traces bounds name shard inbound      what holds of a shard's part of a phase that is to be run
---     IsTaskDone s traces bounds name wake shard outbound      what holds of one that was run
---     tasks_at s traces bounds phase from until      the parts of a phase, shard by shard
 --     AreShards s traces bounds now shards      all shards of a machine, where it stands at a cycle
---     IsFleet s traces bounds now phase wake shards inbound      what holds of all shards between two phases
---     OutingView      a phase of a run, with its parts
---     IsOuting s traces bounds number from until tasks      what holds of a phase, while its parts are out
---     IsOutingOf sim limit outing      a phase that comes next in a run
---     ended outing      the run when it is over
---     MayGo s traces bounds number from until shards inbound      all shards may go over a phase
---     MayStop s traces bounds now shards inbound      all shards may stop at a cycle
---     AreUnloaded s traces bounds from until wake shards outbound      what came of the parts of a phase
-use Rattle.std.specs.Prelude.{◌≡◌, ℕ, suc, ◌+◌, ◌-◌, ◌^◌, ◌<◌, ◌≤◌, List, length, map, flat_map, slice_index_or, All}
+--     IsSharded s traces bounds now phase wake shards inbound      what holds of all shards between two phases
+use Rattle.std.specs.Prelude.{◌≡◌, ℕ, suc, ◌+◌, ◌-◌, ◌^◌, ◌<◌, ◌≤◌, List, length, flat_map, slice_index_or, All}
 use Rattle.std.specs.Arc.{arc_value}
 use Rattle.std.specs.declared.vec.Vec.{Vec}
 use Rattle.std.specs.declared.alloc.Global.{Global}
@@ -30,23 +19,13 @@ use Rattle.sim_base.specs.declared.config.Config.{Config}
 use Rattle.sim_base.specs.declared.message.Message.{Message}
 use Rattle.sim_base.specs.declared.trace.Entry.{Entry}
 use Rattle.sim_base.specs.Counts.{in_flight}
-use Rattle.sim_base.specs.History.{below}
 use Rattle.sim_base.specs.Locality.{TravelsFor}
 use Rattle.sim_base.specs.Machine.{run}
 use Rattle.units.specs.Flight.{among, sent_by}
 use Rattle.units.specs.Parts.{sent_of}
 use Rattle.units.specs.Units.{unit_at, unit_count}
-use Rattle.units.specs.Views.{SimView}
 use Rattle.shards.specs.Wakes.{HaveGone, IsAsleep, sent_in}
 use Rattle.shards.specs.declared.shard.Shard.{Shard}
-use Rattle.shards.specs.declared.task.TaskName.{TaskName}
-
--- a shard's part of a phase of a run, or what came of it
-pub record TaskView : Type 0 where
-  pub machine : Config
-  pub traces : List (List Entry)
-  pub bounds : List ℕ
-  pub name : TaskName
 
 -- where the shard with a number begins; behind the last, the number of units
 abbrev pub bound : List ℕ → ℕ → ℕ
@@ -116,31 +95,6 @@ pub record IsUpTo (s : Config) (traces : List (List Entry)) (bounds : List ℕ) 
   pub arrivals : All (λ m. now ≤ m.arrival) (sent_in s traces began last)
   pub still : IsStill s traces last now
 
--- A shard's part of a phase: the shard stands where the phase begins, or before, and nothing happens up to there.
-pub record IsTask (s : Config) (traces : List (List Entry)) (bounds : List ℕ) (name : TaskName) (shard : Shard) (inbound : List (Vec Message Global)) : Type 0 where
-  pub before : IsUpTo s traces bounds name.shard name.from shard inbound
-  pub next : name.from < name.until
-  pub early : name.until ≤ 10 ^ 12
-  pub travels : TravelsFor s (name.until - name.from)
-
--- A shard has run its part of a phase.
-pub record IsTaskDone (s : Config) (traces : List (List Entry)) (bounds : List ℕ) (name : TaskName) (wake : ℕ) (shard : Shard) (outbound : List (Vec Message Global)) : Type 0 where
-  pub split : IsSplit s bounds
-  pub rests : IsAtRest s traces bounds name.shard name.from name.until wake shard
-  pub order : name.from ≤ name.until
-  pub early : name.until ≤ 10 ^ 12
-  pub travels : TravelsFor s (name.until - name.from)
-  pub outbound_are : AreFrom s traces bounds name.from name.until shard outbound
-
--- the part of a phase of the shard with a number
-abbrev pub task_at : Config → List (List Entry) → List ℕ → ℕ → ℕ → ℕ → ℕ → TaskView
-task_at s traces bounds phase from until index =
-    record { machine = s; traces = traces; bounds = bounds; name = record { phase = phase; shard = index; from = from; until = until } }
-
--- the parts of a phase
-abbrev pub tasks_at : Config → List (List Entry) → List ℕ → ℕ → ℕ → ℕ → List TaskView
-tasks_at s traces bounds phase from until = map (task_at s traces bounds phase from until) (below (length bounds - 1))
-
 -- All shards of a machine, each with the units of its places, which wait, and with what is in flight to them.
 pub record AreShards (s : Config) (traces : List (List Entry)) (bounds : List ℕ) (now : ℕ) (shards : List (Box Shard Global)) : Type 0 where
   pub split : IsSplit s bounds
@@ -150,7 +104,7 @@ pub record AreShards (s : Config) (traces : List (List Entry)) (bounds : List �
       → IsAsleep s traces (slice_index_or shards index d).value.first now (slice_index_or shards index d).value.slots.items (slice_index_or shards index d).value.words.items (slice_index_or shards index d).value.links
 
 -- What holds of all shards of a machine between two phases: each is at rest, and what was sent to it stands in its lists.
-pub record IsFleet (s : Config) (traces : List (List Entry)) (bounds : List ℕ) (now phase wake : ℕ) (shards : List (Box Shard Global)) (inbound : List (Vec (Vec Message Global) Global)) : Type 0 where
+pub record IsSharded (s : Config) (traces : List (List Entry)) (bounds : List ℕ) (now phase wake : ℕ) (shards : List (Box Shard Global)) (inbound : List (Vec (Vec Message Global) Global)) : Type 0 where
   pub counted : phase ≤ now
   pub early : now ≤ 10 ^ 12
   pub split : IsSplit s bounds
@@ -164,58 +118,3 @@ pub record IsFleet (s : Config) (traces : List (List Entry)) (bounds : List ℕ)
   pub lists : (index : ℕ) (d : Vec (Vec Message Global) Global) → index < length shards → suc (length (slice_index_or inbound index d).items) ≡ length bounds
   pub inbound_are : (index : ℕ) (d : Box Shard Global) (e : Vec (Vec Message Global) Global) → index < length shards
       → AreFor s traces began now (slice_index_or shards index d).value (slice_index_or inbound index e).items
-
--- a phase of a run, which covers the cycles from one on and before another, with its parts
-pub record OutingView : Type 0 where
-  pub machine : Config
-  pub traces : List (List Entry)
-  pub number : ℕ
-  pub from : ℕ
-  pub until : ℕ
-  pub tasks : List TaskView
-
--- The parts of a phase are out: there is one for each shard.
-pub record IsOuting (s : Config) (traces : List (List Entry)) (bounds : List ℕ) (number from until : ℕ) (tasks : List TaskView) : Type 0 where
-  pub counted : number ≤ from
-  pub order : from < until
-  pub early : until ≤ 10 ^ 12
-  pub travels : TravelsFor s (until - from)
-  pub split : IsSplit s bounds
-  pub tasks_are : tasks ≡ tasks_at s traces bounds number from until
-
--- a phase of a run, from where it stands or later on, and not past a limit
-pub record IsOutingOf (sim : SimView) (limit : ℕ) (outing : OutingView) : Type 0 where
-  pub machine_is : outing.machine ≡ sim.machine
-  pub traces_are : outing.traces ≡ sim.traces
-  pub number_is : outing.number ≡ sim.phase
-  pub since : sim.now ≤ outing.from
-  pub order : outing.from < outing.until
-  pub within : outing.until ≤ limit
-
--- the run when the phase is over
-abbrev pub ended : OutingView → SimView
-ended outing = record { machine = outing.machine; traces = outing.traces; now = outing.until; phase = suc outing.number }
-
--- What came of the parts of a phase, shard by shard: each is at rest up to a cycle, and what it sent stands in its lists.
-pub record AreUnloaded (s : Config) (traces : List (List Entry)) (bounds : List ℕ) (from until wake : ℕ) (shards : List (Box Shard Global)) (outbound : List (Vec (Vec Message Global) Global)) : Type 0 where
-  pub since : until ≤ wake
-  pub outbound_count : length outbound ≡ length shards
-  pub rest : (index : ℕ) (d : Box Shard Global) → index < length shards → IsAtRest s traces bounds index from until wake (slice_index_or shards index d).value
-  pub outbound_are : (index : ℕ) (d : Box Shard Global) (e : Vec (Vec Message Global) Global) → index < length shards
-      → AreFrom s traces bounds from until (slice_index_or shards index d).value (slice_index_or outbound index e).items
-
--- All shards may go over a phase: each was at rest before, and nothing happens up to its beginning.
-pub record MayGo (s : Config) (traces : List (List Entry)) (bounds : List ℕ) (number from until : ℕ) (shards : List (Box Shard Global)) (inbound : List (Vec (Vec Message Global) Global)) : Type 0 where
-  pub count : suc (length shards) ≡ length bounds
-  pub inbound_count : length inbound ≡ length shards
-  pub each : (index : ℕ) (d : Box Shard Global) (e : Vec (Vec Message Global) Global) → index < length shards
-      → IsTask s traces bounds (record { phase = number; shard = index; from = from; until = until }) (slice_index_or shards index d).value (slice_index_or inbound index e).items
-
--- All shards may stop at a cycle: each was at rest before, and nothing happens up to there.
-pub record MayStop (s : Config) (traces : List (List Entry)) (bounds : List ℕ) (now : ℕ) (shards : List (Box Shard Global)) (inbound : List (Vec (Vec Message Global) Global)) : Type 0 where
-  pub split : IsSplit s bounds
-  pub early : now ≤ 10 ^ 12
-  pub count : suc (length shards) ≡ length bounds
-  pub inbound_count : length inbound ≡ length shards
-  pub each : (index : ℕ) (d : Box Shard Global) (e : Vec (Vec Message Global) Global) → index < length shards
-      → IsUpTo s traces bounds index now (slice_index_or shards index d).value (slice_index_or inbound index e).items

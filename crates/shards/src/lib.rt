@@ -1,12 +1,14 @@
-//! The units of a machine in place: only those that wake in a phase are touched, by the caller alone, or in shards that threads run side by side.
-//! Together they do what the one-clock machine does.
+//! The units of a machine in place: only those that wake in a phase are touched, by the caller alone, or in shards, whose jobs threads run side
+//! by side. Together they do what the one-clock machine does.
 #![tactic(auto)]
 
 mod alone;
-pub mod fleet;
+pub mod job;
+pub mod merging;
+pub mod planning;
 mod post;
 pub mod rested;
 mod shard;
+pub mod sharded;
 mod slot;
 mod split;
-pub mod task;

@@ -94,7 +94,7 @@ impl Slot {
         let unit = unit_at(&machine.config, place);
         let Mail { inbox, sent } = mail;
         inbox.clear();
-        links.take_due_into(unit, now, until, inbox)?;
+        links.take_due_into(unit, until, inbox)?;
         let send = run_and_tell(&mut self.part, inbox, self.at, until, sent)?;
         self.at = until;
         Ok(arrival_word(links, unit, until, send))

@@ -3,7 +3,7 @@
 ghost use Rattle.std.specs.Prelude.{◌≡◌};
 
 use crate::key::Key;
-use crate::message::{CoreId, Unit};
+use crate::message::CoreId;
 use std::fmt;
 use thiserror::Error;
 
@@ -34,9 +34,9 @@ impl fmt::Display for LineCause {
 /// Why the results of a phase cannot be merged.
 #[derive(Clone, Copy, PartialEq, Eq, Debug, Error)]
 pub enum MergeFault {
-    /// There is no result of this unit's job; it is the least such unit.
-    #[error("no result of {0}")]
-    Missing(Unit),
+    /// There is no result of this shard's job; it is the least such shard.
+    #[error("no result of shard {0}")]
+    Missing(usize),
     /// The result at this index is of a job that already has a result at an earlier index.
     #[error("a second result at index {0}")]
     Double(usize),

@@ -5,7 +5,6 @@ pub mod command;
 pub mod config;
 pub mod fault;
 pub mod history;
-pub mod job;
 pub mod key;
 pub mod locality;
 pub mod message;

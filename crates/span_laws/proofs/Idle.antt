@@ -1,22 +1,17 @@
 -- Rows that go on with cycles in which a unit does nothing, and a unit whose steps go on so when it is run alone.
-use Rattle.std.proofs.Common.{◌≡◌, ℕ, zero, suc, ◌+◌, List, [], ◌∷◌, ◌++◌, length, take, Option, None, sym, ap, subst, ◌∙◌, add-zero, add-one, add-suc, append_assoc, ⊎_elim, arith}
+use Rattle.std.proofs.Common.{◌≡◌, ℕ, zero, suc, ◌+◌, List, [], ◌∷◌, ◌++◌, length, take, sym, ap, subst, ◌∙◌, add-zero, add-one, add-suc, append_assoc}
 use Rattle.std.specs.Prelude.{replicate}
 use Rattle.std.proofs.Math.Seq.{take-append_seam, take-length}
-use Rattle.std.proofs.lemmas.Bool.{cases_lt}
 use Rattle.std.proofs.lemmas.List.{append-nil, length_push, replicate_more, same_from_push}
 use Rattle.sim_base.specs.declared.config.Config.{Config}
 use Rattle.sim_base.specs.History.{issued_before, requests_in, core_messages}
-use Rattle.sim_base.specs.Machine.{core_run, channel_run}
-use Rattle.sim_base.specs.Scheduling.{choice}
+use Rattle.sim_base.specs.Machine.{core_run}
 use Rattle.sim_base.specs.Windows.{step}
-use Rattle.sim_base.specs.declared.command.Command.{Command}
 use Rattle.sim_base.specs.declared.history.CoreStep.{CoreStep}
 use Rattle.sim_base.specs.declared.message.Message.{Message}
 use Rattle.sim_base.specs.declared.trace.Entry.{Entry}
 use Rattle.sim_base.proofs.Added.{core_messages-push}
 use Rattle.sim_base.proofs.Grows.{issued_before-push}
-use Rattle.channel_step.specs.Fit.{IsIdle}
-use Rattle.channel_step.proofs.Stretches.{idle-push}
 use Rattle.core_window.specs.Rests.{idle_step, Rests}
 use Rattle.span_laws.proofs.Over.{nothing-between}
 
@@ -57,17 +52,3 @@ rests-sooner s core trace steps mail m (suc k) h =
     let e : core_run s core trace steps mail (suc n) ≡ steps ++ replicate (suc n) idle_step = subst (λ i. Rests s core trace steps mail i) (add-suc m k) h in
     rests-sooner s core trace steps mail m k
     (same_from_push before (steps ++ replicate n idle_step) (step s core trace before mail).0 idle_step (e ∙ rest-push steps n)).0
-
--- a channel whose steps go on with nothing issues nothing
-pub idle-from_run : (s : Config) (channel : ℕ) (steps : List (Option Command)) (mail : List Message) (n : ℕ)
-    → channel_run s channel steps mail n ≡ steps ++ replicate n None → IsIdle s channel steps mail n
-unfolding channel_run
-idle-from_run s channel steps mail zero e k l = absurd (omega arith)
-idle-from_run s channel steps mail (suc n) e k l =
-    let before = channel_run s channel steps mail n in
-    let both = same_from_push before (steps ++ replicate n None) (choice s channel before mail) None (e ∙ idle-push steps n) in
-    ⊎_elim
-    (λ a. idle-from_run s channel steps mail n both.0 k a)
-    (λ b. let last : k ≡ n = omega arith in
-    ap (λ i. choice s channel (steps ++ replicate i None) mail) last ∙ ap (λ r. choice s channel r mail) (sym both.0) ∙ both.1)
-    (cases_lt k n)

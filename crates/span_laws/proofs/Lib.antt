@@ -11,6 +11,4 @@ pub mod Flights
 pub mod Merged
 pub mod Over
 pub mod Lasting
-pub mod Localities
 pub mod Idle
-pub mod QuietSpans

@@ -4,5 +4,4 @@ pub mod Cores
 pub mod Flight
 pub mod Tables
 pub mod Ends
-pub mod Local
 pub mod Quiet

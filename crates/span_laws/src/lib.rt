@@ -7,5 +7,4 @@ pub mod cores;
 pub mod ends;
 pub mod flight;
 pub mod mail;
-pub mod quiet;
 pub mod tables;

@@ -4,7 +4,6 @@ ghost use Rattle.std.specs.Prelude.{ℕ, List};
 ghost use Rattle.sim_base.specs.declared.config.Config.{Config};
 ghost use Rattle.sim_base.specs.declared.trace.Entry.{Entry};
 ghost use Rattle.span_laws.specs.Mail.{MailIsSettled, MailIsKnown, SpansJoin, MailIsSent};
-ghost use Rattle.span_laws.specs.Local.{LateIsLocal};
 
 /// What arrives at a unit before a cycle is settled when the run has come to this cycle, and known earlier by as many cycles as each
 /// message travels at least. What arrived before a span and what arrives in it make up what arrived by its end. What arrives in it is a
@@ -14,10 +13,4 @@ pub fn mail_is_known()
     ensures known { (s : Config) (traces : List (List Entry)) (from until : ℕ) → MailIsKnown s traces from until }
     ensures joined { (s : Config) (traces : List (List Entry)) (from until : ℕ) → SpansJoin s traces from until }
     ensures sent { (s : Config) (traces : List (List Entry)) (from until : ℕ) → MailIsSent s traces from until }
-{}
-
-/// Over a span of any length, where what the units send in it arrives at its end or later, each unit run alone with the mail that
-/// it knows before the span, nothing else arrives in it.
-pub fn late_mail_is_local()
-    ensures { (s : Config) (traces : List (List Entry)) (from until : ℕ) → LateIsLocal s traces from until }
 {}

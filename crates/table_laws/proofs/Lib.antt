@@ -5,3 +5,4 @@ pub mod FieldsBack
 pub mod InRange
 pub mod Unbroken
 pub mod Verdicts
+pub mod Lawful

@@ -4,4 +4,5 @@
 
 pub mod kept;
 pub mod legal;
+pub mod outcomes;
 pub mod written;

@@ -1,15 +1,7 @@
-//! Tests of channels and cores that are run alone, with messages that are known to fit or tested to: a module for each crate.
+//! Tests of a channel that is run alone, with messages that are tested to fit.
 #![tactic(auto)]
 
 #[cfg(test)]
 mod channels;
 #[cfg(test)]
-mod cores;
-#[cfg(test)]
 mod expect;
-#[cfg(test)]
-mod fed_channels;
-#[cfg(test)]
-mod fed_cores;
-#[cfg(test)]
-mod one_read;

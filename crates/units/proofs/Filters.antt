@@ -23,6 +23,11 @@ pub filter-all : {X : Type 0} (p : X → Bool) (xs : List X) → Each (λ x. p x
 filter-all p [] h = refl
 filter-all p (x ∷ xs) h = ap (λ b. cond b (x ∷ filter p xs) (filter p xs)) h.0 ∙ ap (λ z. x ∷ z) (filter-all p xs h.1)
 
+-- where none passes, none is taken
+pub filter-none : {X : Type 0} (p : X → Bool) (xs : List X) → Each (λ x. p x ≡ false) xs → filter p xs ≡ []
+filter-none p [] h = refl
+filter-none p (x ∷ xs) h = ap (λ b. cond b (x ∷ filter p xs) (filter p xs)) h.0 ∙ filter-none p xs h.1
+
 -- what is taken passes the test
 pub Each-taken : {X : Type 0} (p : X → Bool) (xs : List X) → Each (λ x. p x ≡ true) (filter p xs)
 Each-taken p [] = tt

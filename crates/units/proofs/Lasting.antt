@@ -1,5 +1,5 @@
 -- When a run is over, as its units and links show it, and how long it is surely not.
-use Rattle.std.proofs.Common.{◌≡◌, ℕ, suc, ◌+◌, ◌-◌, ◌*◌, ◌/◌, ◌%◌, ◌<◌, ◌≤◌, Bool, true, false, min, max, List, [], length, get_or, Some, ◌⊎◌, inl, inr, refl, sym, ap, subst, ◌∙◌, arith}
+use Rattle.std.proofs.Common.{◌≡◌, ℕ, suc, ◌+◌, ◌-◌, ◌*◌, ◌/◌, ◌%◌, ◌<◌, ◌≤◌, Bool, true, false, min, List, [], length, get_or, Some, ◌⊎◌, inl, inr, refl, sym, ap, subst, ◌∙◌, arith}
 use Rattle.std.specs.Prelude.{Any}
 use Rattle.std.proofs.lemmas.Bool.{cases_lt}
 use Rattle.std.proofs.lemmas.Grind.{div_ceil_times}
@@ -92,23 +92,6 @@ pub same-answer : (a b : Bool) → (a ≡ true → b ≡ true) → (b ≡ true �
 same-answer true b f g = sym (f refl)
 same-answer false true f g = g refl
 same-answer false false f g = refl
-
--- a run goes on where it goes on up to one cycle and up to another
-pub goes_on-max : (s : Config) (traces : List (List Entry)) (from a b : ℕ) → GoesOn s traces from a → GoesOn s traces from b → GoesOn s traces from (max a b)
-goes_on-max s traces from a b h k t l m = go (cases_lt t a)
-  where
-    go : (t < a) ⊎ (a ≤ t) → is_over s traces (run s traces t) ≡ false
-    go (inl n) = h t l n
-    go (inr n) = k t l (omega arith)
-
-pub goes_on-less : (s : Config) (traces : List (List Entry)) (from a b : ℕ) → a ≤ b → GoesOn s traces from b → GoesOn s traces from a
-goes_on-less s traces from a b le h t l m = h t l (omega arith)
-
-pub goes_on-none : (s : Config) (traces : List (List Entry)) (from : ℕ) → GoesOn s traces from from
-goes_on-none s traces from t l m = absurd (omega arith)
-
-pub goes_on-one : (s : Config) (traces : List (List Entry)) (from : ℕ) → is_over s traces (run s traces from) ≡ false → GoesOn s traces from (from + 1)
-goes_on-one s traces from h t l m = let e : from ≡ t = omega arith in subst (λ i. is_over s traces (run s traces i) ≡ false) e h
 
 -- fewer steps than those that some work takes leave some of it
 work-left : (left width k : ℕ) → 0 < width → k < left / width + min 1 (left % width) → width * k < left

@@ -9,5 +9,4 @@ pub mod Tabled
 pub mod Ended
 pub mod Lasting
 pub mod Resting
-pub mod Arriving
-pub mod Quieting
+pub mod Stopping

@@ -5,3 +5,4 @@ pub mod Parts
 pub mod Flight
 pub mod Drained
 pub mod Quiet
+pub mod Stops

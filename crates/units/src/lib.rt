@@ -8,7 +8,6 @@ mod ending;
 pub mod machine;
 pub mod mail;
 pub mod part;
-mod quiet;
 pub mod sim;
 pub mod span;
 mod tables;

@@ -1,13 +1,18 @@
 //! The files that the program reads and writes.
 
 ghost use Rattle.std.specs.Prelude.{◌≡◌, ◌⊎◌, ◌++◌, ◌∷◌, [], Some, None, IfOk, IfErr, OnOk, OnErr, List, ℕ};
+ghost use Rattle.std.specs.Io.{WritesAtMost};
+ghost use Rattle.std.specs.Io.Buffered.{writer_contents};
+ghost use Rattle.std.specs.Io.KnownBytes.{Keeps, WriteAppends};
+ghost use Rattle.std.specs.IoError.{raw_os_error};
 ghost use Rattle.whole_files.specs.Files.{Held, SameFiles, SameBut, IsRenamed, IsReadFault, IsWriteFault};
 
+use crate::host_answers::{Standing, bytes_read, stands_at, written};
 use refusal::reason::Reason;
 use sim_base::fault::Fault;
 use std::alloc::Global;
 use std::fs::{self, OpenOptions};
-use std::io::{self, BufWriter, ErrorKind, Write};
+use std::io::{self, BufWriter, Write};
 use std::rt::Files;
 
 /// Files by their paths, as the program sees them. Tests put memory in their place.
@@ -85,35 +90,14 @@ pub struct HostFiles<'a, R> {
     pub rt: &'a R,
 }
 
-fn read_fault(error: &io::Error) -> Fault
-    ensures { (result ≡ Fault.Memory) ⊎ (result ≡ Fault.Read) }
-{
-    match error.kind() {
-        ErrorKind::OutOfMemory => Fault::Memory,
-        _ => Fault::Read,
-    }
-}
-
-// Why a file is not written, or is not given a place, according to the host's answer.
-fn written(alloc: Global, path: &str, answer: io::Result<()>) -> Result<(), Reason>
-    ensures { IfErr result (λ e. e ≡ Fault.Write) }
-{
-    match answer {
-        Ok(()) => Ok(()),
-        Err(error) => Err(Reason::of_host(alloc, Fault::Write, path, &error)),
-    }
-}
-
 // Opens a file as if to write it, and leaves it as it is: one that is protected, for example by its mode or its folder's, refuses that.
 fn test_writing(alloc: Global, files: &impl Files, path: &str) -> Result<(), Reason>
     ensures { IfErr result (λ e. e ≡ Fault.Write) }
 {
     let mut options = OpenOptions::new();
     options.write(true);
-    match options.open(files, path) {
-        Ok(_) => Ok(()),
-        Err(error) => Err(Reason::of_host(alloc, Fault::Write, path, &error)),
-    }
+    let _file = written(alloc, path, options.open(files, path))?;
+    Ok(())
 }
 
 /// A file of the host that is being written, and the number of the last error that it gave.
@@ -124,30 +108,47 @@ pub struct HostOut<W: Write + Drop> {
 }
 
 impl<W: Write + Drop> HostOut<W> {
-    fn note(&mut self, error: &io::Error) {
+    fn note(&mut self, error: &io::Error)
+        ensures code { self.new.code ≡ raw_os_error error.now }
+        ensures out { self.new.out ≡ self.old.out }
+    {
         self.code = error.raw_os_error();
+    }
+
+    // Writes what is left, and gives the file back.
+    fn finish(self) -> io::Result<W>
+        ensures whole { IfOk result (λ file. Keeps (writer_contents W.contents self.out) (W.contents file)) }
+    {
+        let mut file = self.out.into_inner()?;
+        file.flush()?;
+        Ok(file)
     }
 }
 
 impl<W: Write + Drop> Write for HostOut<W> {
-    fn write(&mut self, buf: &[u8]) -> io::Result<usize> {
-        match self.out.write(buf) {
-            Ok(count) => Ok(count),
-            Err(error) => {
-                self.note(&error);
-                Err(error)
-            }
+    ghost contents = { λ file. writer_contents W.contents file.out };
+
+    fn write(&mut self, buf: &[u8]) -> io::Result<usize>
+        ensures bound { WritesAtMost result buf.now }
+        ensures bytes { WriteAppends (writer_contents W.contents self.old.out) (writer_contents W.contents self.new.out) result buf.now }
+        ensures noted { IfErr result (λ e. self.new.code ≡ raw_os_error e) }
+    {
+        let answer = self.out.write(buf);
+        if let Err(error) = &answer {
+            self.note(error);
         }
+        answer
     }
 
-    fn flush(&mut self) -> io::Result<()> {
-        match self.out.flush() {
-            Ok(()) => Ok(()),
-            Err(error) => {
-                self.note(&error);
-                Err(error)
-            }
+    fn flush(&mut self) -> io::Result<()>
+        ensures bytes { Keeps (writer_contents W.contents self.old.out) (writer_contents W.contents self.new.out) }
+        ensures noted { IfErr result (λ e. self.new.code ≡ raw_os_error e) }
+    {
+        let answer = self.out.flush();
+        if let Err(error) = &answer {
+            self.note(error);
         }
+        answer
     }
 }
 
@@ -155,17 +156,11 @@ impl<R: Files + AllocGlobal> FileSet for HostFiles<'_, R> {
     type Out = HostOut<R::File>;
 
     fn read(&mut self, alloc: Global, path: &str) -> Result<Vec<u8>, Reason> {
-        match fs::read(self.rt, path) {
-            Ok(bytes) => Ok(bytes),
-            Err(error) => Err(Reason::of_host(alloc, read_fault(&error), path, &error)),
-        }
+        bytes_read(alloc, path, fs::read(self.rt, path))
     }
 
     fn create(&mut self, alloc: Global, path: &str) -> Result<HostOut<R::File>, Reason> {
-        let file = match fs::create(self.rt, path) {
-            Ok(file) => file,
-            Err(error) => return Err(Reason::of_host(alloc, Fault::Write, path, &error)),
-        };
+        let file = written(alloc, path, fs::create(self.rt, path))?;
         match BufWriter::new(alloc, file) {
             Ok(out) => Ok(HostOut { out, code: None }),
             Err(_) => Err(Reason::from(Fault::Memory)),
@@ -179,28 +174,16 @@ impl<R: Files + AllocGlobal> FileSet for HostFiles<'_, R> {
         }
     }
 
-    fn close(
-        &mut self,
-        alloc: Global,
-        path: &str,
-        mut out: HostOut<R::File>,
-    ) -> Result<(), Reason> {
-        written(alloc, path, out.flush())
+    fn close(&mut self, alloc: Global, path: &str, out: HostOut<R::File>) -> Result<(), Reason> {
+        let _file = written(alloc, path, out.finish())?;
+        Ok(())
     }
 
     fn test_place(&mut self, path: &str) -> Result<(), Reason> {
         let alloc = self.rt.alloc();
-        match fs::symlink_metadata(self.rt, path) {
-            Ok(found) if found.is_dir() => Err(Reason::of_host(
-                alloc,
-                Fault::Write,
-                path,
-                &"a folder stands there",
-            )),
-            Ok(found) if found.is_file() => test_writing(alloc, self.rt, path),
-            Ok(_) => Ok(()),
-            Err(error) if error.kind() == ErrorKind::NotFound => Ok(()),
-            Err(error) => Err(Reason::of_host(alloc, Fault::Write, path, &error)),
+        match stands_at(alloc, path, fs::symlink_metadata(self.rt, path))? {
+            Standing::File => test_writing(alloc, self.rt, path),
+            Standing::Nothing | Standing::Other => Ok(()),
         }
     }
 

@@ -2,6 +2,7 @@
 #![tactic(auto)]
 
 pub mod files;
+mod host_answers;
 pub mod moves;
 pub mod tables;
 pub mod whole_file;

@@ -1,22 +1,19 @@
-//! What stands at the beginning and at the end of each part of a phase.
+//! What stands at the beginning and at the end of each job of a phase.
 
 ghost use Rattle.std.specs.Prelude.{◌≡◌, IfOk};
 
 use crew::work::Work;
-use shards::task::{Task, TaskDone, TaskName};
+use shards::job::{Done, Job, JobName};
 use std::alloc::{AllocError, Global};
 
-/// What a worker passes before it runs a part of a phase, and after it. Several threads use one gate. Workers are numbered from 0 in each
+/// What a worker passes before it runs a job of a phase, and after it. Several threads use one gate. Workers are numbered from 0 in each
 /// phase.
 pub trait Gate {
-    /// Whether the parts pass the gate. If they do not, the caller may run a machine in place, without splitting phases into parts.
-    fn watches(&self) -> bool;
+    /// The worker is about to run the job.
+    fn enter(&self, worker: usize, job: JobName);
 
-    /// The worker is about to run the part.
-    fn enter(&self, worker: usize, part: TaskName);
-
-    /// The worker has run the part.
-    fn leave(&self, worker: usize, part: TaskName);
+    /// The worker has run the job.
+    fn leave(&self, worker: usize, job: JobName);
 }
 
 /// The gate that does nothing.
@@ -24,50 +21,46 @@ pub trait Gate {
 pub struct Open;
 
 impl Gate for Open {
-    fn watches(&self) -> bool {
-        false
-    }
+    fn enter(&self, _worker: usize, _job: JobName) {}
 
-    fn enter(&self, _worker: usize, _part: TaskName) {}
-
-    fn leave(&self, _worker: usize, _part: TaskName) {}
+    fn leave(&self, _worker: usize, _job: JobName) {}
 }
 
-/// How parts of phases are run: each passes the gate.
+/// How jobs of phases are run: each passes the gate.
 #[derive(Drop)]
 pub struct AtGate<'a, G: Gate> {
     pub gate: &'a G,
 }
 
-impl<'a, G: Gate> Work<Task, TaskDone> for AtGate<'a, G> {
-    fn run(&self, _alloc: Global, worker: usize, task: Task) -> Result<TaskDone, AllocError> {
-        run_at(self.gate, worker, task)
+impl<'a, G: Gate> Work<Job, Done> for AtGate<'a, G> {
+    fn run(&self, _alloc: Global, worker: usize, job: Job) -> Result<Done, AllocError> {
+        run_at(self.gate, worker, job)
     }
 }
 
-/// Runs a part of a phase between its enter and its leave. The only error is out of memory; the part then does not leave the gate.
-pub(crate) fn run_at<G: Gate>(gate: &G, worker: usize, task: Task) -> Result<TaskDone, AllocError>
-    ensures { IfOk result (λ done. done ≡ task) }
+/// Runs a job of a phase between its enter and its leave. The only error is out of memory; the job then does not leave the gate.
+pub(crate) fn run_at<G: Gate>(gate: &G, worker: usize, job: Job) -> Result<Done, AllocError>
+    ensures { IfOk result (λ done. done ≡ job) }
 {
-    let name = task.name();
+    let name = job.name();
     gate.enter(worker, name);
-    let done = task.run()?;
+    let done = job.run()?;
     gate.leave(worker, name);
     Ok(done)
 }
 
-/// Runs parts of a phase one after the other. The only error is out of memory.
+/// Runs jobs of a phase one after the other. The only error is out of memory.
 pub(crate) fn run_all<G: Gate>(
     gate: &G,
     alloc: Global,
     worker: usize,
-    tasks: Vec<Task>,
-) -> Result<Vec<TaskDone>, AllocError>
-    ensures { IfOk result (λ results. results.items ≡ tasks.items) }
+    jobs: Vec<Job>,
+) -> Result<Vec<Done>, AllocError>
+    ensures { IfOk result (λ results. results.items ≡ jobs.items) }
 {
-    let mut results = Vec::with_capacity(alloc, tasks.len())?;
-    for task in tasks {
-        results.push(run_at(gate, worker, task)?)?;
+    let mut results = Vec::with_capacity(alloc, jobs.len())?;
+    for job in jobs {
+        results.push(run_at(gate, worker, job)?)?;
     }
     Ok(results)
 }

@@ -4,4 +4,5 @@
 pub mod gate;
 pub mod machine;
 pub mod runner;
+pub mod sharing;
 pub mod watch;

@@ -1,23 +1,29 @@
 //! A whole machine, run by workers.
 
 ghost use Rattle.std.specs.Prelude.{◌≡◌, ◌<◌, ◌≤◌, ◌^◌, length, IfOk, IfErr};
+ghost use Rattle.shards.specs.Phases.{ended, jobs_of};
 ghost use Rattle.sim_base.specs.Machine.{cycles_run};
 ghost use Rattle.statistics.specs.Runs.{outcome_of};
+ghost use Rattle.units.specs.Drained.{NotEnded};
+ghost use Rattle.units.specs.Stops.{stop_of};
 ghost use Rattle.units.specs.Views.{HasReached};
 ghost use Rattle.workers.specs.Runs.{IsRefusedTo};
 
 use crate::gate::{AtGate, Gate};
-use crate::runner::{Claims, Runner, Serial};
+use crate::runner::{Claims, Runner};
+use crate::sharing::{Sharing, Workers};
 use crate::watch::{Plan, Watch, entries_of, stretch_end};
 use cpu_trace::trace::Trace;
 use crew::bell::Patience;
 use crew::caller::Phases;
-use crew::run::{Course, Refused, with_crew};
-use shards::fleet::{Fleet, Leg};
+use crew::run::{PhasedRun, Refused, with_crew};
+use shards::job::{Done, Job};
+use shards::merging::{Phase, merge};
+use shards::planning::{Planned, plan};
 use shards::rested::run_alone;
-use shards::task::{Task, TaskDone};
+use shards::sharded::ShardedSim;
 use sim_base::config::Config;
-use sim_base::fault::Fault;
+use sim_base::fault::{Fault, MergeFault};
 use sim_base::message::Cycle;
 use statistics::outcome::Outcome;
 use std::alloc::{AllocError, Global};
@@ -33,115 +39,174 @@ const PATIENCE: Patience = Patience {
     turns: 200,
 };
 
-/// A machine with at most this many units is run by the caller as a whole: that costs less than waking other threads.
-const FEW: usize = 16;
-
-/// Where fewer messages than this are in flight, the caller runs a machine alone for a while.
-const BUSY: usize = 32;
-
-/// After how many cycles the run first checks how much is in flight. Each time the distance doubles.
-const FIRST_LAP: Cycle = 4_096;
-
-/// How many shards there are for each worker: one of channels, and one of cores, which have less to do and fill what is left of a phase.
-const SHARDS: usize = 2;
-
 /// How many shards there are at most: what is sent goes through a list for each pair of them.
 const MOST_SHARDS: usize = 64;
 
-/// In how many shards the units are shared out, and how many messages in flight make that worthwhile.
+/// Into how many shards a machine is split, and when.
 #[derive(Clone, Copy)]
-struct Sharing {
+struct Split {
     shards: usize,
-    busy: usize,
+    sharing: Sharing,
     ghost some: { 0 < shards },
 }
 
-/// How a run is run.
-#[derive(Clone, Copy)]
-enum Way {
-    /// By the caller, in place.
-    Alone,
-    /// In shards, each run by a worker in each phase, where enough is in flight; otherwise by the caller, for a while.
-    Shared(Sharing),
-}
-
-/// A simulator at a limit, its units shared out in shards, whose parts of each phase the runner runs.
-fn run_shared<N: Runner>(
-    sim: Sim,
+/// A machine in shards at the end of a phase, whose jobs the runner runs.
+fn run_phase<N: Runner>(
+    phase: Phase,
     alloc: Global,
-    limit: Cycle,
-    sharing: Sharing,
+    jobs: Vec<Job>,
     runner: &mut N,
-) -> Result<Sim, Fault>
-    requires not_past { sim.now ≤ limit }
-    requires early { limit ≤ 10 ^ 12 }
-    ensures ok { IfOk result (HasReached sim limit) }
+) -> Result<ShardedSim, Fault>
+    requires jobs { jobs.items ≡ jobs_of phase }
+    ensures ok { IfOk result (λ sim. sim ≡ ended phase) }
     ensures refused { IfErr result (λ fault. fault ≡ Fault.Memory) }
 {
-    let mut fleet = Fleet::share_out(sim, alloc, sharing.shards)?;
+    let results = runner.run_phase(jobs)?;
+    match merge(phase, alloc, results) {
+        Ok(sim) => Ok(sim),
+        Err(MergeFault::Memory) => Err(Fault::Memory),
+        Err(cause) => Err(Fault::Merge(cause)),
+    }
+}
+
+/// A simulator at a stop, in this many shards, whose jobs the runner runs phase by phase.
+fn run_phases<N: Runner>(
+    sim: Sim,
+    alloc: Global,
+    stop: Cycle,
+    shards: usize,
+    runner: &mut N,
+) -> Result<Sim, Fault>
+    requires some { 0 < shards }
+    requires not_past { sim.now ≤ stop }
+    requires early { stop ≤ 10 ^ 12 }
+    ensures ok { IfOk result (HasReached sim stop) }
+    ensures refused { IfErr result (λ fault. fault ≡ Fault.Memory) }
+{
+    let mut sharded = ShardedSim::split(sim, alloc, shards)?;
     loop {
-        match fleet.further(alloc, limit)? {
-            Leg::Done(sim) => return Ok(sim),
-            Leg::Phase(outing, tasks) => {
-                let results = runner.run_phase(tasks)?;
-                fleet = outing.end(alloc, results)?;
-            }
+        match plan(sharded, alloc, stop)? {
+            Planned::AtLimit(sim) => return Ok(sim),
+            Planned::Phase(phase, jobs) => sharded = run_phase(phase, alloc, jobs, runner)?,
         }
     }
 }
 
-/// A simulator at a limit, run by all workers where enough is in flight now, and otherwise by the caller alone.
+/// Runs a simulator, split into `shards` shards, up to a limit of at most 10^12 cycles, or, where the configuration ends it drained, up to
+/// the first cycle before which all is done. The runner runs the jobs of each phase, one for each shard; which one it is does not show.
+/// Only memory can be refused (fault 10); the simulator is then gone.
+pub fn run_with<N: Runner>(
+    sim: Sim,
+    alloc: Global,
+    limit: Cycle,
+    shards: usize,
+    runner: &mut N,
+) -> Result<Sim, Fault>
+    requires some { 0 < shards }
+    requires not_past { sim.now ≤ limit }
+    requires early { limit ≤ 10 ^ 12 }
+    ensures ok { IfOk result (HasReached sim (stop_of sim limit)) }
+    ensures refused { IfErr result (λ fault. fault ≡ Fault.Memory) }
+{
+    let mut sim = sim;
+    while let Some(stop) = sim.next_stop(limit) {
+        sim = run_phases(sim, alloc, stop, shards, runner)?;
+    }
+    Ok(sim)
+}
+
+/// A simulator at a limit before which the run does not end, in shards where enough messages are in flight now, and otherwise run by the caller
+/// in place.
 fn run_lap<N: Runner>(
     sim: Sim,
     alloc: Global,
     limit: Cycle,
-    sharing: Sharing,
+    split: Split,
     runner: &mut N,
 ) -> Result<Sim, Fault>
     requires not_past { sim.now ≤ limit }
     requires early { limit ≤ 10 ^ 12 }
+    requires goes_on { NotEnded sim.machine sim.traces sim.now limit }
     ensures ok { IfOk result (HasReached sim limit) }
     ensures refused { IfErr result (λ fault. fault ≡ Fault.Memory) }
 {
-    if sim.in_flight(alloc)? < sharing.busy {
+    let messages = split.sharing.messages;
+    if messages > 0 && sim.in_flight(alloc)? < messages {
         return Ok(run_alone(sim, alloc, limit)?);
     }
-    run_shared(sim, alloc, limit, sharing, runner)
+    run_with(sim, alloc, limit, split.shards, runner)
 }
 
-/// A simulator at a limit, lap by lap.
+/// A simulator at a limit before which the run does not end, lap by lap.
 fn run_laps<N: Runner>(
     sim: Sim,
     alloc: Global,
     limit: Cycle,
-    sharing: Sharing,
+    split: Split,
     runner: &mut N,
 ) -> Result<Sim, Fault>
     requires not_past { sim.now ≤ limit }
     requires early { limit ≤ 10 ^ 12 }
+    requires goes_on { NotEnded sim.machine sim.traces sim.now limit }
     ensures ok { IfOk result (HasReached sim limit) }
     ensures refused { IfErr result (λ fault. fault ≡ Fault.Memory) }
 {
     let mut sim = sim;
-    let mut lap = FIRST_LAP;
+    let mut lap = split.sharing.first_lap.max(1);
     while sim.now() < limit {
         let stop = limit.min(sim.now().saturating_add(lap.max(1)));
-        sim = run_lap(sim, alloc, stop, sharing, runner)?;
+        sim = run_lap(sim, alloc, stop, split, runner)?;
         lap = lap.saturating_mul(2);
     }
     Ok(sim)
 }
 
-/// Runs a machine to its end, in the stretches that the watcher wants: by phases, or in place by the caller alone. Only memory can be
-/// refused.
-fn run_by<W: Watch, N: Runner>(
+/// How the stretches of a run are run.
+trait Mode {
+    ghost use Rattle.std.specs.Prelude.{◌≡◌, ◌≤◌, ◌^◌, IfOk, IfErr};
+    ghost use Rattle.units.specs.Drained.{NotEnded};
+    ghost use Rattle.units.specs.Views.{HasReached};
+
+    /// A simulator at a limit before which the run does not end.
+    fn run_to(&mut self, sim: Sim, alloc: Global, limit: Cycle) -> Result<Sim, Fault>
+        requires not_past { sim.now ≤ limit }
+        requires early { limit ≤ 10 ^ 12 }
+        requires goes_on { NotEnded sim.machine sim.traces sim.now limit }
+        ensures ok { IfOk result (HasReached sim limit) }
+        ensures refused { IfErr result (λ fault. fault ≡ Fault.Memory) };
+}
+
+/// By the caller, in place.
+#[derive(Drop)]
+struct InPlace;
+
+impl Mode for InPlace {
+    fn run_to(&mut self, sim: Sim, alloc: Global, limit: Cycle) -> Result<Sim, Fault> {
+        Ok(run_alone(sim, alloc, limit)?)
+    }
+}
+
+/// In shards where enough messages are in flight, and elsewhere by the caller in place.
+#[derive(Drop)]
+struct InShards<N: Runner + Drop> {
+    split: Split,
+    runner: N,
+}
+
+impl<N: Runner + Drop> Mode for InShards<N> {
+    fn run_to(&mut self, sim: Sim, alloc: Global, limit: Cycle) -> Result<Sim, Fault> {
+        run_laps(sim, alloc, limit, self.split, &mut self.runner)
+    }
+}
+
+/// Runs a machine to its end, in the stretches that the watcher wants. Only memory can be refused.
+fn run_by<W: Watch, M: Mode>(
     alloc: Global,
     watch: &mut W,
     config: &Config,
     traces: Vec<Trace>,
     cycles: Cycle,
-    way: Way,
-    runner: &mut N,
+    mode: &mut M,
 ) -> Result<Outcome, Fault>
     requires one_trace_a_core { length traces.items ≡ config.now.cores }
     requires limit { cycles ≤ 10 ^ 12 }
@@ -157,100 +222,98 @@ fn run_by<W: Watch, N: Runner>(
     let mut sim = Sim::start(alloc, config, traces)?;
     while let Some(stop) = sim.next_stop(cycles) {
         let until = stretch_end(&sim, alloc, stop, plan, watch, &mut look);
-        sim = match way {
-            Way::Alone => run_alone(sim, alloc, until)?,
-            Way::Shared(sharing) => run_laps(sim, alloc, until, sharing, runner)?,
-        };
+        sim = mode.run_to(sim, alloc, until)?;
     }
     let outcome = sim.outcome(alloc)?;
     Ok(outcome)
 }
 
-/// The phases of a machine that several workers run.
+/// A run of a machine by a crew.
 #[derive(Drop)]
-struct Voyage<'a, W: Watch> {
+struct CrewRun<'a, W: Watch> {
     watch: &'a mut W,
     config: &'a Config,
     traces: Vec<Trace>,
     cycles: Cycle,
-    way: Way,
+    split: Split,
     ghost one_trace_a_core: { length traces.items ≡ config.now.cores },
     ghost limit: { cycles ≤ 10 ^ 12 },
 }
 
-impl<'a, W: Watch> Course<Task, TaskDone, Outcome> for Voyage<'a, W> {
+impl<'a, W: Watch> PhasedRun<Job, Done, Outcome> for CrewRun<'a, W> {
     ghost use Rattle.std.specs.Prelude.{◌≡◌};
     ghost use Rattle.sim_base.specs.Machine.{cycles_run};
     ghost use Rattle.statistics.specs.Runs.{outcome_of};
 
-    ghost leads = { λ v o. o ≡ outcome_of v.config.now v.traces.items (cycles_run v.config.now v.traces.items v.cycles) };
+    ghost gives = { λ r o. o ≡ outcome_of r.config.now r.traces.items (cycles_run r.config.now r.traces.items r.cycles) };
 
-    fn run<P: Phases<Task, TaskDone>>(
-        self,
-        alloc: Global,
-        crew: &mut P,
-    ) -> Result<Outcome, AllocError> {
-        let Voyage {
+    fn run<P: Phases<Job, Done>>(self, alloc: Global, crew: &mut P) -> Result<Outcome, AllocError> {
+        let CrewRun {
             watch,
             config,
             traces,
             cycles,
-            way,
+            split,
         } = self;
-        let mut claims = Claims { crew };
-        match run_by(alloc, watch, config, traces, cycles, way, &mut claims) {
+        let mut mode = InShards {
+            split,
+            runner: Claims { crew },
+        };
+        match run_by(alloc, watch, config, traces, cycles, &mut mode) {
             Ok(outcome) => Ok(outcome),
             Err(_) => Err(AllocError),
         }
     }
 }
 
-/// In how many shards the units of a machine are shared out for this number of workers: some for each, and no more than there are units, or than `MOST_SHARDS`.
-fn shards_for(workers: usize, config: &Config) -> usize
-    requires { 2 ≤ workers }
-    ensures { 2 ≤ result }
+/// How many units a machine has, cores and channels.
+fn units_of(config: &Config) -> usize
+    ensures { 0 < result }
 {
-    let units = usize::from(config.cores) + usize::from(config.channels);
-    workers.saturating_mul(SHARDS).min(MOST_SHARDS).min(units)
+    usize::from(config.cores) + usize::from(config.channels)
 }
 
-/// Runs a machine by several workers.
+/// Into how many shards a machine is split for this number of workers.
+fn shards_for(workers: usize, sharing: Sharing, config: &Config) -> usize
+    requires { 0 < workers }
+    ensures { 0 < result }
+{
+    workers
+        .saturating_mul(sharing.shards.max(1))
+        .min(MOST_SHARDS)
+        .min(units_of(config))
+}
+
+/// Runs a machine by several workers, which share it out.
 fn run_together<R: Threads + Wait + Sync, G: Gate + Sync, W: Watch>(
     rt: &R,
     alloc: Global,
     gate: &G,
     watch: &mut W,
-    workers: usize,
+    workers: Workers,
     config: &Config,
     traces: Vec<Trace>,
     cycles: Cycle,
 ) -> Result<Outcome, Fault>
     requires one_trace_a_core { length traces.items ≡ config.now.cores }
-    requires some { 2 ≤ workers }
-    requires few { workers ≤ 64 }
+    requires some { 1 ≤ workers.count }
+    requires few { workers.count ≤ 64 }
     requires limit { cycles ≤ 10 ^ 12 }
     ensures outcome { IfOk result (λ o. o ≡ outcome_of config.now traces.items (cycles_run config.now traces.items cycles)) }
-    ensures refused { IfErr result (IsRefusedTo workers) }
+    ensures refused { IfErr result (IsRefusedTo workers.count) }
 {
-    let shards = shards_for(workers, config);
-    let busy = if gate.watches() { 0 } else { BUSY };
-    let voyage = Voyage {
+    let Workers { count, sharing } = workers;
+    let count = count as usize;
+    let shards = shards_for(count, sharing, config);
+    let run = CrewRun {
         watch,
         config,
         traces,
         cycles,
-        way: Way::Shared(Sharing { shards, busy }),
+        split: Split { shards, sharing },
     };
     let work = AtGate { gate };
-    match with_crew(
-        rt,
-        alloc,
-        &work,
-        shards,
-        workers.min(shards),
-        PATIENCE,
-        voyage,
-    ) {
+    match with_crew(rt, alloc, &work, shards, count.min(shards), PATIENCE, run) {
         Ok(outcome) => Ok(outcome),
         Err(Refused::Memory) => Err(Fault::Memory),
         Err(Refused::Start) => Err(Fault::WorkerStart),
@@ -263,54 +326,47 @@ fn run_watched<R: Threads + Wait + Sync, G: Gate + Sync, W: Watch>(
     alloc: Global,
     gate: &G,
     watch: &mut W,
-    workers: usize,
+    workers: Workers,
     config: &Config,
     traces: Vec<Trace>,
     cycles: Cycle,
 ) -> Result<Outcome, Fault>
     requires one_trace_a_core { length traces.items ≡ config.now.cores }
-    requires some { 1 ≤ workers }
-    requires few { workers ≤ 64 }
+    requires some { 1 ≤ workers.count }
+    requires few { workers.count ≤ 64 }
     requires limit { cycles ≤ 10 ^ 12 }
     ensures outcome { IfOk result (λ o. o ≡ outcome_of config.now traces.items (cycles_run config.now traces.items cycles)) }
-    ensures refused { IfErr result (IsRefusedTo workers) }
+    ensures refused { IfErr result (IsRefusedTo workers.count) }
 {
-    let units = usize::from(config.cores) + usize::from(config.channels);
-    let is_small = units <= FEW && !gate.watches();
-    if workers > 1 && !is_small {
+    if workers.count > 1 && units_of(config) >= workers.sharing.units {
         return run_together(rt, alloc, gate, watch, workers, config, traces, cycles);
     }
-    let way = if gate.watches() {
-        Way::Shared(Sharing { shards: 1, busy: 0 })
-    } else {
-        Way::Alone
-    };
-    let mut serial = Serial::new(alloc, gate);
-    run_by(alloc, watch, config, traces, cycles, way, &mut serial)
+    run_by(alloc, watch, config, traces, cycles, &mut InPlace)
 }
 
 /// Runs a machine over one trace a core, up to a limit of at most 10^12 cycles or, where the configuration ends it drained, until
-/// all is done, and gives its commands, its statistics and the state in which it ends. Each phase is run by at most `workers`
-/// workers, 1 to 64: the caller, and threads that are started once. With one worker it is run in the thread of the caller, and in
-/// place where the gate does not watch. The watcher is told how far the run is, and when it has ended. What comes out depends on neither
-/// it, nor the workers, nor the order in which they end: it is what the one-clock machine does. Only the host can refuse: memory (fault
-/// 10), or, where there are several workers, a worker's start (fault 11). All workers have ended when this returns.
+/// all is done, and gives its commands, its statistics and the state in which it ends. It is run by at most as many workers as are named, 1
+/// to 64: the caller, and threads that are started once, which share the machine out when `workers.sharing` says so. With one
+/// worker it is run in the thread of the caller, in place. The watcher is told how far the run is, and when it has ended. What comes out
+/// depends on neither it, nor the workers, nor how they share, nor the order in which they end: it is what the one-clock machine does. Only the
+/// host can refuse: memory (fault 10), or, where there are several workers, a worker's start (fault 11). All workers have ended when this
+/// returns.
 pub fn run_machine<R: Threads + Wait + Sync, G: Gate + Sync, W: Watch>(
     rt: &R,
     alloc: Global,
     gate: &G,
     watch: &mut W,
-    workers: usize,
+    workers: Workers,
     config: &Config,
     traces: Vec<Trace>,
     cycles: Cycle,
 ) -> Result<Outcome, Fault>
     requires one_trace_a_core { length traces.items ≡ config.now.cores }
-    requires some { 1 ≤ workers }
-    requires few { workers ≤ 64 }
+    requires some { 1 ≤ workers.count }
+    requires few { workers.count ≤ 64 }
     requires limit { cycles ≤ 10 ^ 12 }
     ensures outcome { IfOk result (λ o. o ≡ outcome_of config.now traces.items (cycles_run config.now traces.items cycles)) }
-    ensures refused { IfErr result (IsRefusedTo workers) }
+    ensures refused { IfErr result (IsRefusedTo workers.count) }
 {
     let outcome = run_watched(rt, alloc, gate, watch, workers, config, traces, cycles);
     watch.end();

@@ -1,25 +1,25 @@
-//! Who runs the parts of a phase.
+//! Who runs the jobs of a phase.
 
 ghost use Rattle.std.specs.Prelude.{◌≡◌, IsPermutation, IfOk, IfErr};
 
 use crate::gate::{Gate, run_all};
 use crew::caller::Phases;
-use shards::task::{Task, TaskDone};
+use shards::job::{Done, Job};
 use sim_base::fault::Fault;
 use std::alloc::Global;
 
-/// Who runs the parts of a phase.
+/// Who runs the jobs of a phase.
 pub trait Runner {
     ghost use Rattle.std.specs.Prelude.{◌≡◌, IsPermutation, IfOk, IfErr};
 
-    /// Runs the parts of a phase: exactly one result comes of each, with its name, in any order, and nothing else. Only memory can be
+    /// Runs the jobs of a phase: exactly one result comes of each, with its name, in any order, and nothing else. Only memory can be
     /// refused (fault 10).
-    fn run_phase(&mut self, tasks: Vec<Task>) -> Result<Vec<TaskDone>, Fault>
-        ensures each { IfOk result (λ results. IsPermutation tasks.items results.items) }
+    fn run_phase(&mut self, jobs: Vec<Job>) -> Result<Vec<Done>, Fault>
+        ensures each { IfOk result (λ results. IsPermutation jobs.items results.items) }
         ensures refused { IfErr result (λ fault. fault ≡ Fault.Memory) };
 }
 
-/// Runs parts one after the other, in the thread of the caller, which is worker 0.
+/// Runs jobs one after the other, in the thread of the caller, which is worker 0.
 #[derive(Drop)]
 pub struct Serial<'a, G: Gate> {
     alloc: Global,
@@ -36,23 +36,23 @@ impl<'a, G: Gate> Serial<'a, G> {
 }
 
 impl<'a, G: Gate> Runner for Serial<'a, G> {
-    fn run_phase(&mut self, tasks: Vec<Task>) -> Result<Vec<TaskDone>, Fault> {
-        let results = run_all(self.gate, self.alloc, 0, tasks)?;
+    fn run_phase(&mut self, jobs: Vec<Job>) -> Result<Vec<Done>, Fault> {
+        let results = run_all(self.gate, self.alloc, 0, jobs)?;
         Ok(results)
     }
 }
 
-/// Has a crew run the parts, which its threads claim starting from the last: those of channels, which have most to do, come last in a machine.
+/// Has a crew run the jobs, which its threads claim starting from the last: those of channels, which have most to do, come last in a machine.
 #[derive(Drop)]
-pub struct Claims<'a, P: Phases<Task, TaskDone>> {
+pub struct Claims<'a, P: Phases<Job, Done>> {
     pub crew: &'a mut P,
 }
 
-impl<'a, P: Phases<Task, TaskDone>> Runner for Claims<'a, P> {
-    fn run_phase(&mut self, tasks: Vec<Task>) -> Result<Vec<TaskDone>, Fault> {
-        let mut tasks = tasks;
-        tasks.reverse();
-        let results = self.crew.run_tasks(tasks)?;
+impl<'a, P: Phases<Job, Done>> Runner for Claims<'a, P> {
+    fn run_phase(&mut self, jobs: Vec<Job>) -> Result<Vec<Done>, Fault> {
+        let mut jobs = jobs;
+        jobs.reverse();
+        let results = self.crew.run_tasks(jobs)?;
         Ok(results)
     }
 }

@@ -53,22 +53,17 @@ fn messages_of(alloc: Global, phase: u64, arrival: Cycle) -> Result<Vec<Message>
 }
 
 /// Takes out what arrives at each unit, and returns how much that is.
-fn take_all(
-    alloc: Global,
-    links: &mut Links,
-    from: Cycle,
-    until: Cycle,
-) -> Result<u64, AllocError> {
+fn take_all(alloc: Global, links: &mut Links, until: Cycle) -> Result<u64, AllocError> {
     let mut arrived = 0u64;
     let mut inbox = Vec::new(alloc);
     for core in 0..256u16 {
         inbox.clear();
-        links.take_due_into(Unit::Core(core), from, until, &mut inbox)?;
+        links.take_due_into(Unit::Core(core), until, &mut inbox)?;
         arrived = arrived.wrapping_add(inbox.len() as u64);
     }
     for channel in 0..16u32 {
         inbox.clear();
-        links.take_due_into(Unit::Channel(channel), from, until, &mut inbox)?;
+        links.take_due_into(Unit::Channel(channel), until, &mut inbox)?;
         arrived = arrived.wrapping_add(inbox.len() as u64);
     }
     Ok(arrived)
@@ -95,7 +90,7 @@ impl Times {
         self.next_arrival.stop(rt, start);
         let start = Instant::now(rt);
         if none.is_none() && some == Some(now) {
-            let arrived = take_all(alloc, links, now, now.wrapping_add(SPAN))?;
+            let arrived = take_all(alloc, links, now.wrapping_add(SPAN))?;
             self.arrived = self.arrived.wrapping_add(arrived);
         }
         self.take_due.stop(rt, start);

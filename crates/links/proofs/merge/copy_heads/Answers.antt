@@ -1,7 +1,7 @@
-use Rattle.std.proofs.Common.{◌≡◌, length, sym, ap, ap₂, subst, ◌∙◌, arith}
+use Rattle.std.proofs.Common.{◌≡◌, length, sym, ap, ap₂, subst, ◌∙◌}
 use Rattle.std.specs.Prelude.{fold}
 use Rattle.sim_base.specs.History.{insert_by_age, by_age}
-use Rattle.links.proofs.Heads.{due_by_head, head_in_order, length_head}
+use Rattle.links.proofs.Heads.{due_by_head, head_in_order}
 use Rattle.links.proofs.merge.copy_heads.Goals as goal
 
 pub merge_into-requires-clause-in_order : goal.merge_into-requires-clause-in_order
@@ -9,18 +9,13 @@ merge_into-requires-clause-in_order c =
     subst (λ ms. by_age ms ≡ ms) (sym c.in-Some-head_before.ensures) (head_in_order c.args.until c.args.second.now.items c.requires.second)
 
 pub returns-clause-first : goal.returns-clause-first
-returns-clause-first c =
-    let due = due_by_head c.args.from c.args.until _ _ c.requires.first c.in-Some.ensures (sym c.begins_before.ensures ∙ c.if-begins_before.false) in
-    (omega (arith, ap length c.in-Some.ensures, length_head c.args.until c.args.first.now.items), due.1)
+returns-clause-first c = ap length (due_by_head c.args.until _ _ c.requires.first c.in-Some.ensures).0
 
 pub returns-clause-second : goal.returns-clause-second
-returns-clause-second c =
-    let due = due_by_head c.args.from c.args.until _ _ c.requires.second c.in-Some-head_before.ensures (sym c.begins_before-else-begins_before.ensures ∙ c.if-begins_before-2.false) in
-    (omega (arith, ap length c.in-Some-head_before.ensures, length_head c.args.until c.args.second.now.items), due.1)
+returns-clause-second c = ap length (due_by_head c.args.until _ _ c.requires.second c.in-Some-head_before.ensures).0
 
 pub returns-clause-copied : goal.returns-clause-copied
 returns-clause-copied c =
     c.in_ok-merge_into.ensures
-    ∙ ap₂ (λ xs ys. fold insert_by_age xs ys)
-    (due_by_head c.args.from c.args.until _ _ c.requires.first c.in-Some.ensures (sym c.begins_before.ensures ∙ c.if-begins_before.false)).0
-    (due_by_head c.args.from c.args.until _ _ c.requires.second c.in-Some-head_before.ensures (sym c.begins_before-else-begins_before.ensures ∙ c.if-begins_before-2.false)).0
+    ∙ ap₂ (λ xs ys. fold insert_by_age xs ys) (due_by_head c.args.until _ _ c.requires.first c.in-Some.ensures).0
+    (due_by_head c.args.until _ _ c.requires.second c.in-Some-head_before.ensures).0

@@ -1,6 +1,5 @@
 use Rattle.std.proofs.Common.{◌≡◌, length, false, sym, ◌∙◌}
-use Rattle.links.proofs.Both.{is_first_before}
-use Rattle.links.proofs.Heads.{head_alone}
+use Rattle.links.proofs.Heads.{is_first_before, head_alone}
 use Rattle.links.proofs.rings.head_before.Goals as goal
 use Rattle.links.proofs.rings.head_before.Goals.{else-count-front-via-then-count-front+else-begins_before, else-count-front-via-else-count-front}
 

@@ -1,18 +1,13 @@
--- One row more was taken.
-use Rattle.std.proofs.Common.{◌≡◌, [], ◌∷◌, ◌++◌, rules, sym, ◌+◌, subst, length, length-append, arith}
-use Rattle.command_table.specs.Tables.{IsRising}
-use Rattle.run_tables.proofs.RisingRows.{AreUntil, rising_push, until_push}
+-- What is read of a table is what it is of.
+use Rattle.rule_check.specs.Verdict.{records_of}
+use Rattle.run_tables.proofs.Refused.{inverse, row_count, rows_rise}
 use Rattle.run_tables.proofs.commands.read_commands.Goals as goal
 
-pub loop-columns-preserved : goal.loop-columns-preserved
-loop-columns-preserved c =
-    let pushed : c.push.new.self ≡ c.loop-columns.rows ++ c.in_ok-row.row ∷ [] = search rules in
-    let size : length c.push.new.self ≡ length c.loop-columns.rows + 1 = rw pushed (length-append c.loop-columns.rows (c.in_ok-row.row ∷ [])) in
-    let inv = c.loop-columns.invariant in
-    let count = inv.count in
-    let taken = c.in_ok-row.ensures.rest in
-    record {
-      count = omega (arith, size, count, taken);
-      rising = subst IsRising (sym pushed) (rising_push c.loop-columns.rows c.in_ok-row.row c.loop-columns.earliest inv.rising inv.last c.in_ok-row.ensures.later);
-      last = subst (AreUntil c.in_ok-row.row.cycle) (sym pushed) (until_push c.loop-columns.rows c.in_ok-row.row c.loop-columns.earliest inv.last c.in_ok-row.ensures.later);
-    }
+pub returns-clause-inverse : goal.returns-clause-inverse
+returns-clause-inverse c rows table = inverse (records_of c.args.table.now) rows c.read_rows.result c.read_rows.ensures.read c.read_rows.ensures.refused table
+
+pub returns-clause-rows : goal.returns-clause-rows
+returns-clause-rows c = row_count (records_of c.args.table.now) c.read_rows.result c.read_rows.ensures.read
+
+pub returns-clause-rising : goal.returns-clause-rising
+returns-clause-rising c = rows_rise (records_of c.args.table.now) c.read_rows.result c.read_rows.ensures.read

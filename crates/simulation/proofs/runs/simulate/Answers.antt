@@ -1,13 +1,16 @@
 -- The run is that of the configuration and the traces.
+use Rattle.sim_base.specs.Machine.{cycles_run}
 use Rattle.simulation.proofs.TraceLists.{texts_from}
 use Rattle.simulation.proofs.Inputs.{refused-input, refused-run}
-use Rattle.simulation.proofs.Outcomes.{run-of, legal-of}
+use Rattle.table_laws.proofs.Lawful.{owns_data_bus, is_refreshed, has_bounded_queues, holds_few_credits}
+use Rattle.table_laws.specs.Outcomes.{OwnsDataBus, IsRefreshed, HasBoundedQueues, HoldsFewCredits}
+use Rattle.simulation.proofs.Outcomes.{run-of, legal-of, law-of, credits-of}
 use Rattle.simulation.proofs.runs.simulate.Goals as goal
 
 pub returns-clause-run : goal.returns-clause-run
 returns-clause-run g c =
     let given = c.in-Ok.ensures {u = tt} in
-    run-of c.args.config.now (texts_from c.args.texts.now 0) c.args.cycles c.args.workers c.in-Ok.input.0 c.in-Ok.input.1.items c.run_machine.result
+    run-of c.args.config.now (texts_from c.args.texts.now 0) c.args.cycles c.args.workers.count c.in-Ok.input.0 c.in-Ok.input.1.items c.run_machine.result
     given.configured given.input c.run_machine.ensures.outcome
 
 pub returns-clause-legal : goal.returns-clause-legal
@@ -16,11 +19,41 @@ returns-clause-legal g c =
     legal-of c.args.config.now (texts_from c.args.texts.now 0) c.args.cycles c.in-Ok.input.0 c.in-Ok.input.1.items c.run_machine.result
     given.configured given.traces given.cycles c.run_machine.ensures.outcome
 
+pub returns-clause-data_bus : goal.returns-clause-data_bus
+returns-clause-data_bus g c =
+    let given = c.in-Ok.ensures {u = tt} in
+    law-of c.args.config.now c.in-Ok.input.0 OwnsDataBus c.run_machine.result _
+    given.configured (owns_data_bus c.in-Ok.input.0 c.in-Ok.input.1.items (cycles_run c.in-Ok.input.0 c.in-Ok.input.1.items c.args.cycles)) c.run_machine.ensures.outcome
+
+pub returns-clause-refreshed : goal.returns-clause-refreshed
+returns-clause-refreshed g c =
+    let given = c.in-Ok.ensures {u = tt} in
+    law-of c.args.config.now c.in-Ok.input.0 IsRefreshed c.run_machine.result _
+    given.configured (is_refreshed c.in-Ok.input.0 c.in-Ok.input.1.items (cycles_run c.in-Ok.input.0 c.in-Ok.input.1.items c.args.cycles)) c.run_machine.ensures.outcome
+
+pub returns-clause-bounded : goal.returns-clause-bounded
+returns-clause-bounded g c =
+    let given = c.in-Ok.ensures {u = tt} in
+    law-of c.args.config.now c.in-Ok.input.0 HasBoundedQueues c.run_machine.result _
+    given.configured (has_bounded_queues c.in-Ok.input.0 c.in-Ok.input.1.items (cycles_run c.in-Ok.input.0 c.in-Ok.input.1.items c.args.cycles)) c.run_machine.ensures.outcome
+
+pub returns-clause-held : goal.returns-clause-held
+returns-clause-held g c =
+    let given = c.in-Ok.ensures {u = tt} in
+    law-of c.args.config.now c.in-Ok.input.0 HoldsFewCredits c.run_machine.result _
+    given.configured (holds_few_credits c.in-Ok.input.0 c.in-Ok.input.1.items (cycles_run c.in-Ok.input.0 c.in-Ok.input.1.items c.args.cycles)) c.run_machine.ensures.outcome
+
+pub returns-clause-credits : goal.returns-clause-credits
+returns-clause-credits g c =
+    let given = c.in-Ok.ensures {u = tt} in
+    credits-of c.args.config.now (texts_from c.args.texts.now 0) c.args.cycles c.args.workers.count c.in-Ok.input.0 c.in-Ok.input.1.items c.run_machine.result
+    given.configured given.input c.run_machine.ensures.outcome
+
 pub returns-in-Err-clause-refused : goal.returns-in-Err-clause-refused
 returns-in-Err-clause-refused g c =
-    refused-input c.args.config.now (texts_from c.args.texts.now 0) c.args.cycles c.args.workers c.in-Err.fault (c.in-Err.ensures {u = tt}).refused
+    refused-input c.args.config.now (texts_from c.args.texts.now 0) c.args.cycles c.args.workers.count c.in-Err.fault (c.in-Err.ensures {u = tt}).refused
 
 pub returns-clause-refused : goal.returns-clause-refused
 returns-clause-refused g c =
     let given = c.in-Ok.ensures {u = tt} in
-    refused-run c.args.config.now (texts_from c.args.texts.now 0) c.args.cycles c.args.workers c.in-Ok.input.1.items _ given.input (c.run_machine.ensures.refused)
+    refused-run c.args.config.now (texts_from c.args.texts.now 0) c.args.cycles c.args.workers.count c.in-Ok.input.1.items _ given.input (c.run_machine.ensures.refused)

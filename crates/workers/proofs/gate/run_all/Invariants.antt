@@ -1,10 +1,10 @@
--- The tasks so far have their results.
+-- The jobs so far have their results.
 use Rattle.std.proofs.Common.{◌≡◌, ◌++◌, length}
 use Rattle.std.specs.Vec.Iter.{into_iter_items, into_iter_len}
 use Rattle.workers.proofs.gate.run_all.Given as goal
 
-abbrev pub invariant-loop-task : goal.invariant-loop-task
-invariant-loop-task g l =
-    (l.yielded ++ into_iter_items l.task-iterator ≡ into_iter_items l.initial.task-iterator)
-    × (into_iter_len l.task-iterator ≡ length (into_iter_items l.task-iterator))
+abbrev pub invariant-loop-job : goal.invariant-loop-job
+invariant-loop-job g l =
+    (l.yielded ++ into_iter_items l.job-iterator ≡ into_iter_items l.initial.job-iterator)
+    × (into_iter_len l.job-iterator ≡ length (into_iter_items l.job-iterator))
     × (l.results.items ≡ l.yielded)

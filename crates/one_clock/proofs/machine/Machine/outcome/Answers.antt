@@ -1,6 +1,6 @@
 -- The commands that were noted rise, as the table of each run does.
 use Rattle.std.proofs.Common.{◌∙◌}
-use Rattle.one_clock.proofs.Lawful.{table_rises}
+use Rattle.one_clock.proofs.Rising.{table_rises}
 use Rattle.one_clock.proofs.machine.Machine.outcome.Goals as goal
 
 pub of_rows-requires : goal.of_rows-requires

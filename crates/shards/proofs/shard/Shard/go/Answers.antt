@@ -6,7 +6,7 @@ use Rattle.lane_scan.proofs.LeastWord.{least-all, least-since}
 use Rattle.sim_base.specs.declared.message.Message.{Message}
 use Rattle.units.specs.Flight.{sent_by}
 use Rattle.units.specs.declared.machine.Machine.{Machine}
-use Rattle.shards.proofs.Sharded.{gone-words, part-late}
+use Rattle.shards.proofs.Jobs.{gone-words, part-late}
 use Rattle.shards.proofs.shard.Shard.go.Goals as goal
 
 pub returns-clause-since : goal.returns-clause-since

@@ -1,4 +1,0 @@
-pub mod Fitting
-pub mod Feeding
-pub mod Replaying
-pub mod Skipping

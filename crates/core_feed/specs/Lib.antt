@@ -1,3 +1,0 @@
-pub mod Past
-pub mod Expected
-pub mod Fed

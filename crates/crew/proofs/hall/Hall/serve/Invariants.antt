@@ -1,6 +1,0 @@
--- The seat has nothing that it has not sent home.
-use Rattle.std.proofs.Common.{◌≡◌, []}
-use Rattle.crew.proofs.hall.Hall.serve.Given as goal
-
-abbrev pub invariant-loop : goal.invariant-loop
-invariant-loop g l = l.seat ≡ []

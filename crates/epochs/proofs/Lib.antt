@@ -1,5 +1,0 @@
-pub mod Sorting
-pub mod Arranged
-pub mod Whole
-pub mod Stopped
-pub mod Stopping

@@ -1,8 +1,0 @@
--- The places so far are empty.
-use Rattle.std.proofs.Common.{◌≡◌, [], map}
-use Rattle.sim_base.specs.History.{below}
-use Rattle.epochs.specs.ByUnit.{result_at}
-use Rattle.epochs.proofs.merging.no_results.Given as goal
-
-abbrev pub invariant-loop : goal.invariant-loop
-invariant-loop l = l.by_unit.items ≡ map (result_at l.phase []) (below l.counter)

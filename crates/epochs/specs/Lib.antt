@@ -1,5 +1,0 @@
-pub mod Jobs
-pub mod Planning
-pub mod Merging
-pub mod ByUnit
-pub mod Ordered

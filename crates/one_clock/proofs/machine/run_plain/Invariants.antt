@@ -1,0 +1,8 @@
+-- The machine keeps the run of the cycles that are done, and it has not ended before.
+use Rattle.std.proofs.Common.{◌≡◌}
+use Rattle.sim_base.specs.Machine.{cycles_run}
+use Rattle.one_clock.specs.Held.{HoldsRun}
+use Rattle.one_clock.proofs.machine.run_plain.Given as goal
+
+abbrev pub invariant-loop-cycle : goal.invariant-loop-cycle
+invariant-loop-cycle l = record { holds : HoldsRun l.s l.traces l.cycle l.machine; goes_on : cycles_run l.s l.traces l.cycle ≡ l.cycle }

@@ -1,0 +1,4 @@
+pub mod Coming
+pub mod Given
+pub mod Stopped
+pub mod Stopping

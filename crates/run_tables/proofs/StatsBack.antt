@@ -1,0 +1,70 @@
+-- A table of statistics is read as it was written.
+use Rattle.std.proofs.Common.{◌≡◌, ◌+◌, ◌∙◌, ℕ, List, [], ◌∷◌, map, Option, Some, None, refl, ap, arith}
+use Rattle.std.specs.Prelude.{codes}
+use Rattle.std.specs.List.{AllByRecursion as Each}
+use Rattle.csv.specs.Reading.{strip_bom}
+use Rattle.csv.specs.declared.parser.State.TheVariants as st
+use Rattle.sim_base.proofs.Each.{Each-append}
+use Rattle.reports.specs.Rows.{numbered, optional, row_text, rows_text, table_text}
+use Rattle.reports.specs.Stats.{stats_header, stats_rows, stats_text, value_fields, draining_values, core_rows, channel_rows}
+use Rattle.rule_check.specs.Left.{records_after}
+use Rattle.rule_check.specs.Verdict.{records_of}
+use Rattle.statistics.specs.Values.{RunStats}
+use Rattle.statistics.specs.declared.channels.ChannelStats.{ChannelStats}
+use Rattle.statistics.specs.declared.cores.CoreStats.{CoreStats}
+use Rattle.table_laws.proofs.Plain.{IsPlain, decimal-plain}
+use Rattle.table_laws.proofs.RowsBack.{IsPlainRow, rows-read}
+use Rattle.run_tables.specs.Stats.{StatsFit, IsStatsTable}
+use Rattle.run_tables.proofs.Units.{from}
+
+-- a value is plain
+value-plain : (value : Option ℕ) → IsPlain (optional value)
+value-plain None = refl
+value-plain (Some n) = decimal-plain n
+
+-- so is the line of a count
+line : (scope : List ℕ) (id : ℕ) (name : List ℕ) (value : Option ℕ) → IsPlain scope → IsPlain name → IsPlainRow (value_fields scope id (name, value))
+line scope id name value h k = record { several = omega arith; plain = (h, (decimal-plain id, (k, (value-plain value, tt)))) }
+
+core-plain : (id : ℕ) (core : CoreStats) → Each IsPlainRow (core_rows id core)
+core-plain id core =
+    (line (codes "core") id (codes "issued") (Some core.issued) refl refl, (line (codes "core") id (codes "retired") (Some core.retired) refl refl, (line (codes "core") id (codes "reads") (Some core.reads) refl refl, (line (codes "core") id (codes "writes") (Some core.writes) refl refl, (line (codes "core") id (codes "replies") (Some core.replies) refl refl, (line (codes "core") id (codes "read_latency") (Some core.read_latency) refl refl, (line (codes "core") id (codes "stop_end") (Some core.stop_end) refl refl, (line (codes "core") id (codes "stop_width") (Some core.stop_width) refl refl, (line (codes "core") id (codes "stop_window") (Some core.stop_window) refl refl, (line (codes "core") id (codes "stop_memory") (Some core.stop_memory) refl refl, (line (codes "core") id (codes "stop_credit") (Some core.stop_credit) refl refl, (line (codes "core") id (codes "finish") (core.finish) refl refl, tt))))))))))))
+
+draining : (id : ℕ) (count : Option ℕ) → Each IsPlainRow (map (value_fields (codes "channel") id) (draining_values count))
+draining id None = tt
+draining id (Some n) = (line (codes "channel") id (codes "draining") (Some n) refl refl, tt)
+
+channel-plain : (id : ℕ) (channel : ChannelStats) → Each IsPlainRow (channel_rows id channel)
+channel-plain id channel =
+    (line (codes "channel") id (codes "act") (Some channel.act) refl refl, (line (codes "channel") id (codes "rd") (Some channel.rd) refl refl, (line (codes "channel") id (codes "wr") (Some channel.wr) refl refl, (line (codes "channel") id (codes "pre") (Some channel.pre) refl refl, (line (codes "channel") id (codes "prea") (Some channel.prea) refl refl, (line (codes "channel") id (codes "ref") (Some channel.refs) refl refl, (line (codes "channel") id (codes "hits") (Some channel.hits) refl refl, (line (codes "channel") id (codes "queued") (Some channel.queued) refl refl, (line (codes "channel") id (codes "queued_max") (Some channel.queued_max) refl refl, (line (codes "channel") id (codes "idle") (Some channel.idle) refl refl, (line (codes "channel") id (codes "refreshing") (Some channel.refreshing) refl refl, draining id channel.draining)))))))))))
+
+-- so are those of all units
+units-plain : {A : Type 0} (k : ℕ) (f : ℕ → A → List (List (List ℕ))) (xs : List A) → ((id : ℕ) (x : A) → Each IsPlainRow (f id x)) → Each IsPlainRow (from k f xs)
+units-plain k f [] h = tt
+units-plain k f (x ∷ xs) h = Each-append IsPlainRow (f k x) (from (k + 1) f xs) (h k x) (units-plain (k + 1) f xs h)
+
+header-plain : IsPlainRow stats_header
+header-plain = record { several = omega arith; plain = (refl, (refl, (refl, (refl, tt)))) }
+
+rows-plain : (stats : RunStats) → Each IsPlainRow (stats_header ∷ stats_rows stats)
+unfolding numbered
+rows-plain stats = (
+  header-plain,
+  (
+    line (codes "run") 0 (codes "cycles") (Some stats.cycles) refl refl,
+    Each-append IsPlainRow (from 0 core_rows stats.cores) (from 0 channel_rows stats.channels) (units-plain 0 core_rows stats.cores core-plain) (units-plain 0 channel_rows stats.channels channel-plain),
+  ),
+)
+
+-- the table begins with no byte order mark
+unmarked : (stats : RunStats) → strip_bom (stats_text stats) ≡ stats_text stats
+unfolding strip_bom stats_text table_text rows_text row_text
+unmarked stats = refl
+
+-- its records are the header and the rows
+records-read : (stats : RunStats) → records_of (stats_text stats) ≡ stats_header ∷ stats_rows stats
+unfolding records_after stats_text table_text
+records-read stats = ap (λ text. records_after st.StartRecord text) (unmarked stats) ∙ rows-read (stats_header ∷ stats_rows stats) (rows-plain stats)
+
+pub stats-read : (stats : RunStats) → StatsFit stats → IsStatsTable (records_of (stats_text stats)) stats
+stats-read stats fits = record { parts = records-read stats; fits = fits }

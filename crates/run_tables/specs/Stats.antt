@@ -1,0 +1,28 @@
+-- What the records of a table of statistics mean.
+--     CoreInRange core      each count of a core is in its range
+--     StatsFit stats      statistics that a run can have
+--     IsStatsTable records stats      the records are those that are written of these statistics
+use Rattle.std.specs.Prelude.{◌≡◌, ℕ, ◌<◌, ◌^◌, List, ◌∷◌, length, All, IfSome}
+use Rattle.reports.specs.Stats.{stats_header, stats_rows}
+use Rattle.statistics.specs.Values.{RunStats}
+use Rattle.statistics.specs.Cores.{CoreFits}
+use Rattle.statistics.specs.Channels.{ChannelFits}
+use Rattle.statistics.specs.declared.cores.CoreStats.{CoreStats}
+
+-- each count of a core is in its range
+pub record CoreInRange (core : CoreStats) : Type 0 where
+  pub counts : CoreFits core
+  pub finish : IfSome core.finish (λ cycle. cycle < 2 ^ 64)
+
+-- statistics that a run can have: of one core and one channel or more, each count in its range
+pub record StatsFit (stats : RunStats) : Type 0 where
+  pub cycles : stats.cycles < 2 ^ 64
+  pub cores : All CoreInRange stats.cores
+  pub channels : All ChannelFits stats.channels
+  pub some_core : 0 < length stats.cores
+  pub some_channel : 0 < length stats.channels
+
+-- the records of a table of statistics: the header, and then a record for each count
+pub record IsStatsTable (records : List (List (List ℕ))) (stats : RunStats) : Type 0 where
+  pub parts : records ≡ stats_header ∷ stats_rows stats
+  pub fits : StatsFit stats

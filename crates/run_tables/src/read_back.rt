@@ -1,0 +1,36 @@
+//! Laws of tables that are read. Each is a public function with an empty body, whose contract is the law.
+
+ghost use Rattle.std.specs.Prelude.{◌≡◌, ◌≤◌, ◌^◌, ℕ, IsTrue, List, ◌∷◌, length, map, All, Some};
+ghost use Rattle.sim_base.specs.declared.config.Config.{Config};
+ghost use Rattle.sim_base.specs.declared.command.IssuedCommand.{IssuedCommand};
+ghost use Rattle.sim_base.specs.declared.trace.Entry.{Entry};
+ghost use Rattle.sim_base.specs.History.{commands};
+ghost use Rattle.sim_base.specs.Machine.{run};
+ghost use Rattle.command_table.specs.Tables.{IsRising};
+ghost use Rattle.reports.specs.Commands.{commands_text};
+ghost use Rattle.rule_check.specs.Fields.{is_header, row_in};
+ghost use Rattle.rule_check.specs.Verdict.{records_of};
+ghost use Rattle.table_laws.specs.Written.{RowIsOf};
+ghost use Rattle.reports.specs.Stats.{stats_text};
+ghost use Rattle.statistics.specs.Runs.{stats_of};
+ghost use Rattle.statistics.specs.Values.{RunStats};
+ghost use Rattle.run_tables.specs.Commands.{IsCommandTable};
+ghost use Rattle.run_tables.specs.Stats.{StatsFit, IsStatsTable};
+
+/// A table of commands in cycles that do not fall is read as it was written, under each configuration that has its rows, and so is
+/// that of a run. Records that are well-formed under a configuration are the same rows under none.
+pub fn commands_are_read_back()
+    ensures written { (s : Config) (rows : List IssuedCommand) → All (RowIsOf s) rows → IsRising rows
+        → IsCommandTable (records_of (commands_text s.ranks rows)) rows }
+    ensures run { (s : Config) (traces : List (List Entry)) (n : ℕ) → n ≤ 2 ^ 62 → All (λ t. length t ≤ 2 ^ 62) traces
+        → IsCommandTable (records_of (commands_text s.ranks (commands (run s traces n)))) (commands (run s traces n)) }
+    ensures well_formed { (s : Config) (header : List (List ℕ)) (others : List (List (List ℕ))) (rows : List IssuedCommand) → IsTrue (is_header s.ranks header)
+        → map (row_in s) others ≡ map Some rows → IsRising rows → IsCommandTable (header ∷ others) rows }
+{}
+
+/// A table of statistics in their ranges, of one core and one channel or more, is read as it was written, and so is that of a run.
+pub fn stats_are_read_back()
+    ensures written { (stats : RunStats) → StatsFit stats → IsStatsTable (records_of (stats_text stats)) stats }
+    ensures run { (s : Config) (traces : List (List Entry)) (n : ℕ) → n ≤ 2 ^ 62 → All (λ t. length t ≤ 2 ^ 62) traces
+        → IsStatsTable (records_of (stats_text (stats_of s traces (run s traces n)))) (stats_of s traces (run s traces n)) }
+{}

@@ -1,0 +1,24 @@
+use Rattle.std.proofs.Common.{rules, ◌≡◌, [], ◌∷◌, ◌++◌, length, map, ap, sym, ◌∙◌, add-one, arith}
+use Rattle.sim_base.specs.History.{below}
+use Rattle.units.proofs.Standing.{places-more}
+use Rattle.shards.specs.Merging.{result_at}
+use Rattle.shards.specs.Phases.{PhaseView, shard_count}
+use Rattle.shards.proofs.Placing.{results-none}
+use Rattle.shards.proofs.merging.no_results.Goals as goal
+
+pub loop-preserved : goal.loop-preserved
+loop-preserved c =
+    let p = c.args.phase.now in
+    let k = c.loop.counter in
+    c.in_ok-push.ensures.items
+    ∙ ap (λ z. z ++ result_at p [] k ∷ []) c.loop.invariant
+    ∙ places-more (result_at p []) k
+    ∙ ap (λ n. map (result_at p []) (below n)) (sym (add-one k))
+
+pub returns : goal.returns
+returns c =
+    let p = c.args.phase.now in
+    let len : c.len-count.result ≡ length c.phase.inside.bounds.items = search rules in
+    let bounds = ap (λ (v : PhaseView). length v.bounds) c.phase.view_is in
+    let over : c.loop.counter ≡ shard_count p = omega (arith, c.loop-test.false, c.loop.auto.counter-end, len, bounds) in
+    c.loop.invariant ∙ ap (λ n. map (result_at p []) (below n)) over ∙ results-none p

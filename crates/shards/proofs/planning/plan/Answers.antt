@@ -1,0 +1,46 @@
+use Rattle.std.proofs.Common.{◌-◌, ◌≤◌, ap, subst, sym, arith}
+use Rattle.std.specs.Arc.{arc_value}
+use Rattle.sim_base.specs.Locality.{TravelsFor}
+use Rattle.shards.specs.Phases.{MayGo, MayStop}
+use Rattle.units.specs.Views.{SimView}
+use Rattle.units.specs.declared.machine.Machine.{Machine}
+use Rattle.shards.proofs.Phases.{sharded-up_to}
+use Rattle.shards.proofs.planning.plan.Goals as goal
+
+pub settled-requires : goal.settled-requires
+settled-requires c =
+    let f = c.sim.inside in
+    let m = arc_value f.machine in
+    let h = c.sim.invariant in
+    let limit = c.args.limit in
+    let now = ap (λ (v : SimView). v.now) c.sim.view_is in
+    let past : f.now ≤ limit = omega (arith, now, c.requires.not_past) in
+    subst (λ (x : Machine). MayStop x.config x.traces.items c.deref-then-wake-limit.result.now limit f.shards.items f.inbound.items) (sym c.deref.ensures)
+    (subst (λ bs. MayStop m.config m.traces.items bs limit f.shards.items f.inbound.items) (sym c.deref-then-wake-limit.ensures.value)
+    (record {
+      split = h.split;
+      early = c.requires.early;
+      count = h.count;
+      inbound_count = h.inbound_count;
+      each = sharded-up_to m.config m.traces.items f.bounds.items f.now f.phase f.wake limit f.shards.items f.inbound.items h past c.if-wake-limit.true c.requires.early;
+    }))
+
+pub jobs_for-requires : goal.jobs_for-requires
+jobs_for-requires c =
+    let f = c.sim.inside in
+    let m = arc_value f.machine in
+    let h = c.sim.invariant in
+    let end = c.end_of_phase in
+    let early : f.wake ≤ 1000000000000 = omega (arith, c.if-wake-limit.false, c.requires.early) in
+    subst (λ (x : Machine). MayGo x.config x.traces.items c.deref-4.result.now f.phase f.wake end.result f.shards.items f.inbound.items) (sym c.deref-3.ensures)
+    (subst (λ bs. MayGo m.config m.traces.items bs f.phase f.wake end.result f.shards.items f.inbound.items) (sym c.deref-4.ensures.value)
+    (record {
+      count = h.count;
+      inbound_count = h.inbound_count;
+      each = λ index d e less. record {
+        before = sharded-up_to m.config m.traces.items f.bounds.items f.now f.phase f.wake f.wake f.shards.items f.inbound.items h h.since (omega arith) (omega (arith, early)) index d e less;
+        next = end.ensures.some;
+        early = omega (arith, end.ensures.within, c.requires.early);
+        travels = subst (λ (x : Machine). TravelsFor x.config (end.result - f.wake)) c.deref-2.ensures end.ensures.travels;
+      };
+    }))

@@ -1,0 +1,114 @@
+//! A shard's job in a phase, and what comes of it.
+
+ghost use Rattle.std.specs.Prelude.{◌≡◌, IfOk};
+
+use crate::shard::Shard;
+use crew::work::DoneOf;
+use sim_base::message::{Cycle, Message};
+use std::alloc::AllocError;
+use std::marker::Model;
+
+/// The name of a job: the number of the phase, that of the shard, and the cycles of the phase, from one on and before another.
+#[derive(Clone, Copy, Debug, PartialEq, Eq)]
+pub struct JobName {
+    pub phase: u64,
+    pub shard: usize,
+    pub from: Cycle,
+    pub until: Cycle,
+}
+
+/// A shard at the end of a phase, with what was sent to it in that phase, and the name of its job in the next.
+#[derive(Drop)]
+pub struct Job {
+    pub(crate) name: JobName,
+    pub(crate) shard: Box<Shard>,
+    pub(crate) inbound: Vec<Vec<Message>>,
+}
+
+impl Model for Job {
+    ghost use Rattle.std.specs.Arc.{arc_value};
+    ghost use Rattle.shards.specs.Jobs.{JobView};
+
+    ghost Value = { JobView };
+
+    ghost use Rattle.sim_base.specs.contracts.config.Config as config;
+    ghost use Rattle.std.specs.Coded.{codes};
+
+    ghost coded = { Prim.hlevel (codes, config.the_row.coded) };
+
+    ghost use Rattle.shards.specs.Jobs.{IsJob};
+
+    ghost view = { λ t. record { machine = (arc_value t.shard.value.machine).config; traces = (arc_value t.shard.value.machine).traces.items; bounds = t.shard.value.bounds.items; name = t.name } };
+
+    ghost invariant = { λ t. IsJob (arc_value t.shard.value.machine).config (arc_value t.shard.value.machine).traces.items t.shard.value.bounds.items t.name t.shard.value t.inbound.items };
+}
+
+/// What came of a job: the shard at the end of the phase, with what it sent in it, by the shard that it goes to, and a cycle before which it sends nothing more
+/// and nothing that it sent arrives.
+#[derive(Drop)]
+pub struct Done {
+    pub(crate) name: JobName,
+    pub(crate) shard: Box<Shard>,
+    pub(crate) outbound: Vec<Vec<Message>>,
+    pub(crate) wake: Cycle,
+}
+
+impl Model for Done {
+    ghost use Rattle.std.specs.Arc.{arc_value};
+    ghost use Rattle.shards.specs.Jobs.{JobView};
+
+    ghost Value = { JobView };
+
+    ghost use Rattle.sim_base.specs.contracts.config.Config as config;
+    ghost use Rattle.std.specs.Coded.{codes};
+
+    ghost coded = { Prim.hlevel (codes, config.the_row.coded) };
+
+    ghost use Rattle.shards.specs.Jobs.{IsDone};
+
+    ghost view = { λ t. record { machine = (arc_value t.shard.value.machine).config; traces = (arc_value t.shard.value.machine).traces.items; bounds = t.shard.value.bounds.items; name = t.name } };
+
+    ghost invariant = { λ t. IsDone (arc_value t.shard.value.machine).config (arc_value t.shard.value.machine).traces.items t.shard.value.bounds.items t.name t.wake t.shard.value t.outbound.items };
+}
+
+impl DoneOf<Job> for Done {
+    ghost task = { λ done. done };
+}
+
+impl Done {
+    /// The name of the job that this came of.
+    pub fn name(&self) -> JobName
+        ensures { result ≡ self.now.name }
+    {
+        self.name
+    }
+}
+
+impl Job {
+    /// The name of the job.
+    pub fn name(&self) -> JobName
+        ensures { result ≡ self.now.name }
+    {
+        self.name
+    }
+
+    /// Runs the shard over the phase. The only error is out of memory; the shard is then gone.
+    pub fn run(self) -> Result<Done, AllocError>
+        ensures { IfOk result (λ done. done ≡ self) }
+    {
+        let Job {
+            name,
+            mut shard,
+            mut inbound,
+        } = self;
+        shard.take_up(&mut inbound)?;
+        let wake = shard.go(name.from, name.until)?;
+        shard.deal_sent(&mut inbound)?;
+        Ok(Done {
+            name,
+            shard,
+            outbound: inbound,
+            wake,
+        })
+    }
+}

@@ -1,0 +1,117 @@
+//! What comes next of a machine in shards.
+
+ghost use Rattle.std.specs.Prelude.{◌≡◌, ◌≤◌, ◌^◌, IfOk};
+ghost use Rattle.shards.specs.Planning.{IsPlanned};
+ghost use Rattle.shards.specs.Shards.{AreShards};
+ghost use Rattle.shards.specs.Jobs.{jobs_at};
+ghost use Rattle.shards.specs.Phases.{MayGo, MayStop};
+
+use crate::job::{Job, JobName};
+use crate::merging::{Outline, Phase, Span, no_results};
+use crate::shard::Shard;
+use crate::sharded::ShardedSim;
+use crate::split::joined;
+use sim_base::message::{Cycle, Message};
+use std::alloc::{AllocError, Global};
+use std::mem;
+use units::machine::Machine;
+use units::sim::Sim;
+use units::span::end_of_phase;
+
+/// What comes next.
+#[derive(Drop)]
+pub enum Planned {
+    /// Nothing up to the limit, where the simulator stands.
+    AtLimit(Sim),
+    /// A phase, with its jobs, one for each shard.
+    Phase(Phase, Vec<Job>),
+}
+
+/// The jobs of a phase, one for each shard, in their order.
+fn jobs_for(
+    alloc: Global,
+    machine: &Machine,
+    bounds: &[usize],
+    shards: Vec<Box<Shard>>,
+    inbound: Vec<Vec<Vec<Message>>>,
+    span: Span,
+) -> Result<Vec<Job>, AllocError>
+    requires { MayGo machine.now.config machine.now.traces.items bounds.now span.number span.from span.until shards.items inbound.items }
+    ensures { IfOk result (λ jobs. jobs.items ≡ jobs_at machine.now.config machine.now.traces.items bounds.now span.number span.from span.until) }
+{
+    let mut inbound = inbound;
+    let mut jobs = Vec::with_capacity(alloc, shards.len())?;
+    for shard in shards {
+        let index = jobs.len();
+        let name = JobName {
+            phase: span.number,
+            shard: index,
+            from: span.from,
+            until: span.until,
+        };
+        jobs.push(Job {
+            name,
+            shard,
+            inbound: mem::replace(&mut inbound[index], Vec::new(alloc)),
+        })?;
+    }
+    Ok(jobs)
+}
+
+/// All shards at a cycle before which nothing happens any more, with what was sent to them taken up.
+fn settled(
+    alloc: Global,
+    machine: &Machine,
+    bounds: &[usize],
+    shards: Vec<Box<Shard>>,
+    inbound: Vec<Vec<Vec<Message>>>,
+    now: Cycle,
+) -> Result<Vec<Box<Shard>>, AllocError>
+    requires { MayStop machine.now.config machine.now.traces.items bounds.now now shards.items inbound.items }
+    ensures { IfOk result (λ settled. AreShards machine.now.config machine.now.traces.items bounds.now now settled.items) }
+{
+    let mut inbound = inbound;
+    let mut settled = Vec::with_capacity(alloc, shards.len())?;
+    for shard in shards {
+        let index = settled.len();
+        let mut shard = shard;
+        shard.take_up(&mut inbound[index])?;
+        settled.push(shard)?;
+    }
+    Ok(settled)
+}
+
+/// What comes next up to a limit, at most 10^12 cycles: the phase that begins where something happens next, or the simulator at the
+/// limit, where nothing happens before it. The only error is out of memory; the simulator is then gone.
+pub fn plan(sim: ShardedSim, alloc: Global, limit: Cycle) -> Result<Planned, AllocError>
+    requires not_past { sim.now ≤ limit }
+    requires early { limit ≤ 10 ^ 12 }
+    ensures { IfOk result (IsPlanned sim limit) }
+{
+    let ShardedSim {
+        machine,
+        bounds,
+        shards,
+        inbound,
+        phase: number,
+        wake,
+        ..
+    } = sim;
+    if wake >= limit {
+        let shards = settled(alloc, &machine, &bounds, shards, inbound, limit)?;
+        return Ok(Planned::AtLimit(joined(alloc, machine, &bounds, shards, limit, number)?));
+    }
+    let span = Span {
+        number,
+        from: wake,
+        until: end_of_phase(&machine.config, wake, limit),
+    };
+    let jobs = jobs_for(alloc, &machine, &bounds, shards, inbound, span)?;
+    let outline = Outline {
+        machine,
+        bounds,
+        span,
+    };
+    let places = no_results(alloc, &outline)?;
+    Ok(Planned::Phase(Phase { outline, places }, jobs))
+}

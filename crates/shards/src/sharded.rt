@@ -1,0 +1,97 @@
+//! A machine whose units are shared out in shards.
+
+ghost use Rattle.std.specs.Prelude.{◌≡◌, ◌<◌, ℕ, [], length, slice_index_or, IfOk};
+ghost use Rattle.std.specs.declared.vec.Vec.{Vec};
+ghost use Rattle.std.specs.declared.alloc.Global.{Global};
+ghost use Rattle.sim_base.specs.declared.message.Message.{Message};
+ghost use Rattle.shards.specs.Shards.{lists_of};
+
+use crate::shard::Shard;
+use crate::split::{bounds_for, shards_of};
+use sim_base::message::{Cycle, Message};
+use std::alloc::{AllocError, Global};
+use std::marker::Model;
+use std::sync::Arc;
+use units::machine::Machine;
+use units::sim::Sim;
+
+/// All shards of a machine between two phases.
+#[derive(Drop)]
+pub struct ShardedSim {
+    pub(crate) machine: Arc<Machine>,
+    /// The place where each shard begins, and the number of units.
+    pub(crate) bounds: Vec<usize>,
+    pub(crate) shards: Vec<Box<Shard>>,
+    /// What was sent to the units of each shard in the phase before, in a list for each that sent it.
+    pub(crate) inbound: Vec<Vec<Vec<Message>>>,
+    pub(crate) now: Cycle,
+    pub(crate) phase: u64,
+    /// A cycle before which nothing is sent, and nothing that was sent arrives.
+    pub(crate) wake: Cycle,
+}
+
+impl Model for ShardedSim {
+    ghost use Rattle.std.specs.Arc.{arc_value};
+    ghost use Rattle.units.specs.Views.{SimView};
+
+    ghost Value = { SimView };
+
+    ghost use Rattle.sim_base.specs.contracts.config.Config as config;
+    ghost use Rattle.std.specs.Coded.{codes};
+
+    ghost coded = { Prim.hlevel (codes, config.the_row.coded) };
+
+    ghost use Rattle.shards.specs.Shards.{IsSharded};
+
+    ghost view = { λ m. record { machine = (arc_value m.machine).config; traces = (arc_value m.machine).traces.items; now = m.now; phase = m.phase } };
+
+    ghost invariant = { λ m. IsSharded (arc_value m.machine).config (arc_value m.machine).traces.items m.bounds.items m.now m.phase m.wake m.shards.items m.inbound.items };
+}
+
+/// `count` lists, all of them empty.
+fn no_row(alloc: Global, count: usize) -> Result<Vec<Vec<Message>>, AllocError>
+    ensures count { IfOk result (λ row. length row.items ≡ count) }
+    ensures empty { IfOk result (λ row. lists_of row.items ≡ []) }
+{
+    let mut row = Vec::with_capacity(alloc, count)?;
+    for _ in 0..count {
+        row.push(Vec::new(alloc))?;
+    }
+    Ok(row)
+}
+
+/// `count` lists, all of them empty, for each of `count` shards.
+fn no_lists(alloc: Global, count: usize) -> Result<Vec<Vec<Vec<Message>>>, AllocError>
+    ensures count { IfOk result (λ rows. length rows.items ≡ count) }
+    ensures square { IfOk result (λ rows. (index : ℕ) (d : Vec (Vec Message Global) Global) → index < count → length (slice_index_or rows.items index d).items ≡ count) }
+    ensures empty { IfOk result (λ rows. (index : ℕ) (d : Vec (Vec Message Global) Global) → index < count → lists_of (slice_index_or rows.items index d).items ≡ []) }
+{
+    let mut rows = Vec::with_capacity(alloc, count)?;
+    for _ in 0..count {
+        rows.push(no_row(alloc, count)?)?;
+    }
+    Ok(rows)
+}
+
+impl ShardedSim {
+    /// A simulator whose units are shared out in `count` shards. The only error is out of memory; the simulator is then gone.
+    pub fn split(sim: Sim, alloc: Global, count: usize) -> Result<ShardedSim, AllocError>
+        requires { 0 < count }
+        ensures { IfOk result (λ sharded. sharded ≡ sim) }
+    {
+        let bounds = bounds_for(alloc, &sim.machine.config, count)?;
+        let machine = sim.machine.clone()?;
+        let (now, phase) = (sim.now, sim.phase);
+        let shards = shards_of(alloc, sim, &bounds)?;
+        let inbound = no_lists(alloc, count)?;
+        Ok(ShardedSim {
+            machine,
+            bounds,
+            shards,
+            inbound,
+            now,
+            phase,
+            wake: now,
+        })
+    }
+}

@@ -1,0 +1,153 @@
+//! The input of a run, read and tested.
+
+ghost use Rattle.std.specs.Prelude.{◌≡◌, ◌≢◌, ◌≤◌, ◌<◌, ◌^◌, ◌==◌, ◌&&◌, nat_le, length, vec_len, map, slice_index_or, Ok, Err, IfOk, IfErr, IfSome};
+ghost use Rattle.config_reader.specs.Document.{document_of};
+ghost use Rattle.sim_base.specs.TraceText.{trace_answer};
+ghost use Rattle.sim_base.specs.Values.{values_of};
+ghost use Rattle.simulation.specs.Runs.{unless, limits_of, traces_of, AreRead, input_of};
+
+use config_reader::read_config;
+use cpu_trace::reader::read_trace;
+use cpu_trace::trace::Trace;
+use sim_base::config::Config;
+use sim_base::fault::Fault;
+use sim_base::message::{CoreId, Cycle};
+use std::alloc::Global;
+use std::thread::Threads;
+
+/// The greatest limit of a run, in cycles.
+pub const MOST_CYCLES: Cycle = 1_000_000_000_000;
+
+/// The greatest number of workers.
+pub const MOST_WORKERS: u64 = 64;
+
+// One trace per core.
+fn check_count(cores: u16, texts: usize) -> Result<(), Fault>
+    ensures { result ≡ unless (texts == cores) Fault.TraceCount }
+{
+    if texts == usize::from(cores) {
+        Ok(())
+    } else {
+        Err(Fault::TraceCount)
+    }
+}
+
+fn check_workers(workers: u64) -> Result<(), Fault>
+    ensures { result ≡ unless (nat_le 1 workers && nat_le workers 64) Fault.Workers }
+{
+    if 1 <= workers && workers <= MOST_WORKERS {
+        Ok(())
+    } else {
+        Err(Fault::Workers)
+    }
+}
+
+fn check_cycles(cycles: Cycle) -> Result<(), Fault>
+    ensures { result ≡ unless (nat_le cycles 1000000000000) Fault.Cycles }
+{
+    if cycles <= MOST_CYCLES {
+        Ok(())
+    } else {
+        Err(Fault::Cycles)
+    }
+}
+
+#[tactic(auto, unfolding(crate::specs::Runs::limits_of))]
+fn check_limits(cores: u16, texts: usize, cycles: Cycle, workers: u64) -> Result<(), Fault>
+    ensures { result ≡ limits_of cores texts cycles workers }
+{
+    check_count(cores, texts)?;
+    check_workers(workers)?;
+    check_cycles(cycles)
+}
+
+// A core before this one that is given the same text.
+fn earlier(texts: &[&[u8]], core: usize, text: &[u8]) -> Option<usize>
+    ensures before { IfSome result (λ first. first < core) }
+    ensures same { IfSome result (λ first. (slice_index_or texts.now first text.entry).now ≡ text.now) }
+{
+    for first in 0..core.min(texts.len()) {
+        if texts[first] == text {
+            return Some(first);
+        }
+    }
+    None
+}
+
+// The trace of the next core, which it shares with an earlier one that is given the same text.
+fn next_trace<R: Threads + Sync>(
+    rt: &R,
+    alloc: Global,
+    texts: &[&[u8]],
+    traces: &[Trace],
+    text: &[u8],
+) -> Result<Trace, Fault>
+    requires few { length traces.now < 256 }
+    requires read { AreRead (map (λ t. t.now) texts.now) traces.now }
+    ensures answer { IfOk result (λ trace. trace_answer (length traces.now) text.now ≡ Ok trace) }
+    ensures refused { IfErr result (λ e. e ≢ Fault.Memory → trace_answer (length traces.now) text.now ≡ Err e) }
+{
+    let core = traces.len();
+    match earlier(texts, core, text) {
+        Some(first) => Ok(traces[first].copy()?),
+        None => read_trace(rt, alloc, core as CoreId, text),
+    }
+}
+
+// The traces of the cores, in their order.
+fn read_traces<R: Threads + Sync>(
+    rt: &R,
+    alloc: Global,
+    texts: &[&[u8]],
+) -> Result<Vec<Trace>, Fault>
+    requires { length texts.now ≤ 256 }
+    ensures ok { IfOk result (λ v. traces_of 0 (map (λ t. t.now) texts.now) ≡ Ok v.items) }
+    ensures count { IfOk result (λ v. vec_len v ≡ length texts.now) }
+    ensures refused { IfErr result (λ e. e ≢ Fault.Memory → traces_of 0 (map (λ t. t.now) texts.now) ≡ Err e) }
+{
+    let mut traces = Vec::new(alloc);
+    for text in texts {
+        let trace = match next_trace(rt, alloc, texts, &traces, text) {
+            Ok(trace) => trace,
+            Err(fault) => return Err(fault),
+        };
+        let Ok(()) = traces.push(trace) else {
+            return Err(Fault::Memory);
+        };
+    }
+    Ok(traces)
+}
+
+/// The configuration and the traces of a run, one trace per core, after all tests of its input.
+///
+/// The input is tested in this order: the configuration, the number of traces, the number of workers (1 to 64), the limit (at
+/// most 10^12 cycles), and the traces by core. The first fault is returned. `Fault::Memory` may come at any time.
+pub fn read_input<R: Threads + Sync>(
+    rt: &R,
+    alloc: Global,
+    config: &[u8],
+    texts: &[&[u8]],
+    cycles: Cycle,
+    workers: u64,
+) -> Result<(Config, Vec<Trace>), Fault>
+    ensures configured { IfOk result (λ r. document_of config.now ≡ Ok (values_of r.0)) }
+    ensures traces { IfOk result (λ r. traces_of 0 (map (λ t. t.now) texts.now) ≡ Ok r.1.items) }
+    ensures input { IfOk result (λ r. input_of config.now (map (λ t. t.now) texts.now) cycles workers ≡ Ok r.1.items) }
+    ensures count { IfOk result (λ r. vec_len r.1 ≡ r.0.cores) }
+    ensures workers { IfOk result (λ _. (1 ≤ workers) × (workers ≤ 64)) }
+    ensures cycles { IfOk result (λ _. cycles ≤ 10 ^ 12) }
+    ensures refused { IfErr result (λ e. e ≢ Fault.Memory → input_of config.now (map (λ t. t.now) texts.now) cycles workers ≡ Err e) }
+{
+    let config = match read_config(alloc, config) {
+        Ok(config) => config,
+        Err(fault) => return Err(fault),
+    };
+    if let Err(fault) = check_limits(config.cores, texts.len(), cycles, workers) {
+        return Err(fault);
+    }
+    let traces = match read_traces(rt, alloc, texts) {
+        Ok(traces) => traces,
+        Err(fault) => return Err(fault),
+    };
+    Ok((config, traces))
+}

@@ -1,0 +1,87 @@
+//! What the host's answers about files mean to the program.
+
+ghost use Rattle.std.specs.Prelude.{◌≡◌, ◌≢◌, Ok, Err, IfOk, IfErr};
+ghost use Rattle.std.specs.Fs.{file_type, IsDir, IsFile};
+ghost use Rattle.std.specs.IoError.{error_kind};
+
+use refusal::reason::Reason;
+use sim_base::fault::Fault;
+use std::alloc::Global;
+use std::fs::Metadata;
+use std::io::{self, ErrorKind};
+
+fn read_fault(error: &io::Error) -> Fault
+    ensures memory { error_kind error.now ≡ ErrorKind.OutOfMemory → result ≡ Fault.Memory }
+    ensures read { error_kind error.now ≢ ErrorKind.OutOfMemory → result ≡ Fault.Read }
+{
+    match error.kind() {
+        ErrorKind::OutOfMemory => Fault::Memory,
+        _ => Fault::Read,
+    }
+}
+
+/// The bytes of a file that the host was asked to read. Refuses by `Fault::Memory` where the host lacked memory, and otherwise by
+/// `Fault::Read` where it gave no bytes.
+pub(crate) fn bytes_read(
+    alloc: Global,
+    path: &str,
+    answer: io::Result<Vec<u8>>,
+) -> Result<Vec<u8>, Reason>
+    ensures bytes { IfOk answer (λ bytes. result ≡ Ok bytes) }
+    ensures memory { IfErr answer (λ e. error_kind e ≡ ErrorKind.OutOfMemory → result ≡ Err Fault.Memory) }
+    ensures read { IfErr answer (λ e. error_kind e ≢ ErrorKind.OutOfMemory → result ≡ Err Fault.Read) }
+{
+    match answer {
+        Ok(bytes) => Ok(bytes),
+        Err(error) => Err(Reason::of_host(alloc, read_fault(&error), path, &error)),
+    }
+}
+
+/// What the host gave that was asked to open, write, move or remove a file. Refuses by `Fault::Write` just where the host did.
+pub(crate) fn written<T>(alloc: Global, path: &str, answer: io::Result<T>) -> Result<T, Reason>
+    ensures given { IfOk answer (λ value. result ≡ Ok value) }
+    ensures refused { IfErr answer (λ _. result ≡ Err Fault.Write) }
+{
+    match answer {
+        Ok(value) => Ok(value),
+        Err(error) => Err(Reason::of_host(alloc, Fault::Write, path, &error)),
+    }
+}
+
+/// What stands at a path and may give way to a file.
+#[derive(Clone, Copy, PartialEq, Eq, Debug)]
+pub(crate) enum Standing {
+    Nothing,
+    /// A file, if it may be written.
+    File,
+    /// What a file replaces without being written to, such as a symbolic link.
+    Other,
+}
+
+/// What stands at a path, according to the host's answer. Refuses by `Fault::Write` where a folder stands there, and where the host
+/// does not tell.
+pub(crate) fn stands_at(
+    alloc: Global,
+    path: &str,
+    answer: io::Result<Metadata>,
+) -> Result<Standing, Reason>
+    ensures folder { IfOk answer (λ found. IsDir (file_type found) → result ≡ Err Fault.Write) }
+    ensures file { IfOk answer (λ found. IsFile (file_type found) → result ≡ Ok Standing.File) }
+    ensures other { IfOk answer (λ found. (¬ IsDir (file_type found)) → (¬ IsFile (file_type found)) → result ≡ Ok Standing.Other) }
+    ensures nothing { IfErr answer (λ e. error_kind e ≡ ErrorKind.NotFound → result ≡ Ok Standing.Nothing) }
+    ensures untold { IfErr answer (λ e. error_kind e ≢ ErrorKind.NotFound → result ≡ Err Fault.Write) }
+    ensures fault { IfErr result (λ e. e ≡ Fault.Write) }
+{
+    match answer {
+        Ok(found) if found.is_dir() => Err(Reason::of_host(
+            alloc,
+            Fault::Write,
+            path,
+            &"a folder stands there",
+        )),
+        Ok(found) if found.is_file() => Ok(Standing::File),
+        Ok(_) => Ok(Standing::Other),
+        Err(error) if error.kind() == ErrorKind::NotFound => Ok(Standing::Nothing),
+        Err(error) => Err(Reason::of_host(alloc, Fault::Write, path, &error)),
+    }
+}

@@ -1,0 +1,59 @@
+//! How many workers run a machine, and when it is shared out among them.
+
+ghost use Rattle.std.specs.Prelude.{◌≡◌, ◌≤◌, ◌^◌};
+
+use sim_base::message::Cycle;
+
+/// When several workers share a machine out: it is split into shards, and in each phase each shard is a job that a worker takes. Where it
+/// is not, and with one worker always, the caller runs the machine in place. What a run does is the same for every value.
+#[derive(Clone, Copy, PartialEq, Eq, Debug)]
+pub struct Sharing {
+    /// A machine is shared out that has at least this many units, cores and channels.
+    pub units: usize,
+    /// It is shared out while at least this many messages are in flight. They are counted at the beginning of each lap.
+    pub messages: usize,
+    /// How many cycles the first lap has; each lap has twice as many as the one before. 0 is taken as 1.
+    pub first_lap: Cycle,
+    /// How many shards there are for each worker; 0 is taken as 1. There are never more than 64 in all, nor more than units.
+    pub shards: usize,
+}
+
+impl Sharing {
+    /// Each machine is shared out from the first cycle of a run to its end, in one lap.
+    pub fn always() -> Sharing
+        ensures any_units { result.units ≡ 0 }
+        ensures any_messages { result.messages ≡ 0 }
+        ensures one_lap { 10 ^ 12 ≤ result.first_lap }
+    {
+        Sharing {
+            units: 0,
+            messages: 0,
+            first_lap: Cycle::MAX,
+            ..Sharing::default()
+        }
+    }
+}
+
+impl Default for Sharing {
+    /// Where it is worth its cost. With 16 units or fewer the caller alone takes less time than waking other threads does, and with few
+    /// messages in flight there is little to do in a phase. Each worker has two shards: one of channels, and one of cores, which have less to
+    /// do and fill what is left of a phase.
+    fn default() -> Sharing
+        ensures { result ≡ record { units = 17; messages = 32; first_lap = 4096; shards = 2 } }
+    {
+        Sharing {
+            units: 17,
+            messages: 32,
+            first_lap: 4_096,
+            shards: 2,
+        }
+    }
+}
+
+/// How many workers run a machine, and when they share it out.
+#[derive(Clone, Copy, PartialEq, Eq, Debug)]
+pub struct Workers {
+    /// How many there are, 1 to 64, with the caller.
+    pub count: u64,
+    pub sharing: Sharing,
+}
