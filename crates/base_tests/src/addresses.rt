@@ -3,10 +3,7 @@
 use crate::expect::expect;
 use address_map::{address_of, place_of};
 use fixtures::small::small;
-use sim_base::config::Config;
 use sim_base::place::Place;
-use std::alloc::Global;
-use std::process::Abort;
 use std::test::Fail;
 
 static LAST: Place = Place {
@@ -28,22 +25,15 @@ static NEXT_GROUP: Place = Place {
 };
 
 /// The last address is of the last line, and groups follow the columns.
-fn assert_places(rt: &impl Abort, config: &Config) {
-    let found = place_of(config, 8192);
-    expect(
-        rt,
-        &(
-            place_of(config, 18446744073709551615),
-            found,
-            address_of(config, &found),
-        ),
-        &(LAST, NEXT_GROUP, 8192),
-    );
-}
-
 #[test]
 fn places_of_addresses(rt: HostRuntime) -> Result<(), Fail> {
     let config = small(rt.alloc(), &[], "")?;
-    assert_places(&rt, &config);
+    let found = place_of(&config, 8192);
+    let last = place_of(&config, 18446744073709551615);
+    expect(
+        &rt,
+        &(last, found, address_of(&config, &found)),
+        &(LAST, NEXT_GROUP, 8192),
+    );
     Ok(())
 }

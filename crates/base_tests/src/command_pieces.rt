@@ -1,9 +1,9 @@
 //! The table of commands put together by several threads.
 
-ghost use Rattle.std.specs.Prelude.{◌≡◌, IfOk};
+ghost use Rattle.std.specs.Prelude.{IfOk};
 ghost use Rattle.command_table.specs.Tables.{IsRising};
 
-use crate::expect::expect_at;
+use crate::expect::expect;
 use crate::slow::Slow;
 use command_table::list::CommandList;
 use command_table::table::CommandTable;
@@ -18,23 +18,17 @@ use std::thread::Threads;
 /// The caller alone puts a few commands together; of many, each thread puts a piece together.
 static COUNTS: [u64; 3] = [0, 3, 10_000];
 
-fn row_of(cycle: u64) -> IssuedCommand
-    ensures { result.cycle ≡ cycle }
-{
-    IssuedCommand {
-        cycle,
-        channel: 0,
-        command: Command::Prea { rank: 0 },
-    }
-}
-
 /// Commands of `count` cycles, one in each.
 fn list_of(alloc: Global, count: u64) -> Result<CommandList, AllocError>
     ensures { IfOk result IsRising }
 {
     let mut list = CommandList::new(alloc);
     for cycle in 0..count {
-        list.push(row_of(cycle))?;
+        list.push(IssuedCommand {
+            cycle,
+            channel: 0,
+            command: Command::Prea { rank: 0 },
+        })?;
     }
     Ok(list)
 }
@@ -66,11 +60,10 @@ fn assert_written<R: Threads + Sync + Abort>(
     let want = text_of(alloc, count)?;
     let mut text = Vec::new(alloc);
     write_commands_by(rt, alloc, threads, 1, &table, &mut text)?;
-    expect_at(
+    expect(
         rt,
-        &(count, threads),
-        &str::from_utf8(text.as_slice()),
-        &Ok(want.as_str()),
+        &(count, threads, str::from_utf8(text.as_slice())),
+        &(count, threads, Ok(want.as_str())),
     );
     Ok(())
 }
@@ -85,7 +78,11 @@ fn assert_refused<R: Threads + Sync + Abort>(
     let table = table_of(alloc, count)?;
     let mut slow = Slow::new(alloc, 1, 1, true)?;
     let ended = write_commands_by(rt, alloc, threads, 1, &table, &mut slow);
-    expect_at(rt, &(count, threads), &ended, &Err(Fault::Write));
+    expect(
+        rt,
+        &(count, threads, ended),
+        &(count, threads, Err(Fault::Write)),
+    );
     Ok(())
 }
 

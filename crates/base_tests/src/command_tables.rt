@@ -2,7 +2,7 @@
 
 ghost use Rattle.command_table.specs.Tables.{IsRising};
 
-use crate::expect::{expect, expect_at};
+use crate::expect::expect;
 use crate::written::{Report, assert_report};
 use command_table::list::CommandList;
 use command_table::table::{CommandTable, Rows};
@@ -255,7 +255,7 @@ fn assert_pieces(
     want: &[Three],
 ) -> Result<(), AllocError> {
     let read = read_pieces(alloc, table, most)?;
-    expect_at(rt, &most, &read.as_slice(), &want);
+    expect(rt, &(most, read.as_slice()), &(most, want));
     Ok(())
 }
 

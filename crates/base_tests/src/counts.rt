@@ -5,7 +5,6 @@ use sim_base::command::Kind;
 use statistics::channels::ChannelStats;
 use statistics::cores::CoreStats;
 use statistics::stats::Stats;
-use std::process::Abort;
 use std::test::Fail;
 
 // A channel's stretches, joined, and what they are to give. The last is one idle cycle, 16 times.
@@ -118,18 +117,6 @@ fn counts_of_stretches(rt: HostRuntime) {
     );
 }
 
-fn assert_parts(rt: &impl Abort, stats: &Stats, cores: &[CoreStats], channels: &[ChannelStats]) {
-    expect(
-        rt,
-        &(
-            stats.cycles,
-            stats.cores.as_slice(),
-            stats.channels.as_slice(),
-        ),
-        &(16, cores, channels),
-    );
-}
-
 #[test]
 fn keeps_its_parts(rt: HostRuntime) -> Result<(), Fail> {
     let cores = [CoreStats::new()];
@@ -139,6 +126,14 @@ fn keeps_its_parts(rt: HostRuntime) -> Result<(), Fail> {
     };
     let channels = [busy, ChannelStats::new()];
     let stats = Stats::of_parts(rt.alloc(), 16, &cores, &channels)?;
-    assert_parts(&rt, &stats, &cores, &channels);
+    expect(
+        &rt,
+        &(
+            stats.cycles,
+            stats.cores.as_slice(),
+            stats.channels.as_slice(),
+        ),
+        &(16, cores.as_slice(), channels.as_slice()),
+    );
     Ok(())
 }

@@ -1,6 +1,6 @@
 //! Distances of one profile, added up by hand from its numbers.
 
-use crate::expect::{expect, expect_at};
+use crate::expect::expect;
 use fixtures::small::{TWO_RANKS, small};
 use sim_base::command::{Command, Kind, Relation, Source};
 use sim_base::fault::Fault;
@@ -15,21 +15,7 @@ use timing::rules::relation;
 // them.
 type Case = (Kind, Kind, Relation, Option<u64>);
 
-// Where no rule binds, the distance is 0.
-fn assert_gaps(rt: &impl Abort, table: &GapTable, cases: &[Case]) {
-    for (earlier, later, relation, want) in cases {
-        let gap = table.gap(*earlier, *later, *relation);
-        let binds = table.binds(*earlier, *later, *relation);
-        expect_at(
-            rt,
-            &(earlier, later, relation),
-            &(gap, binds),
-            &(want.unwrap_or(0), want.is_some()),
-        );
-    }
-}
-
-// Asserts that a machine with these changes has these distances.
+// Asserts that a machine with these changes has these distances. Where no rule binds, the distance is 0.
 fn assert_distances(
     rt: &impl Abort,
     alloc: Global,
@@ -38,7 +24,16 @@ fn assert_distances(
 ) -> Result<(), Fault> {
     let config = small(alloc, changes, "")?;
     let table = GapTable::of(&config);
-    assert_gaps(rt, &table, cases);
+    for case in cases {
+        let (earlier, later, relation, want) = *case;
+        let gap = table.gap(earlier, later, relation);
+        let binds = table.binds(earlier, later, relation);
+        expect(
+            rt,
+            &(case, gap, binds),
+            &(case, want.unwrap_or(0), want.is_some()),
+        );
+    }
     Ok(())
 }
 

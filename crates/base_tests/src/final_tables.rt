@@ -252,14 +252,10 @@ fn assert_case(rt: &impl Abort, alloc: Global, case: &Case<'_>) -> Result<(), Fa
     assert_report(rt, alloc, Report::Last(case.ranks, &state), case.table)
 }
 
-fn assert_cases(rt: &impl Abort, alloc: Global, cases: &[Case<'_>]) -> Result<(), Fail> {
-    for case in cases {
-        assert_case(rt, alloc, case)?;
-    }
-    Ok(())
-}
-
 #[test]
 fn writes_states(rt: HostRuntime) -> Result<(), Fail> {
-    assert_cases(&rt, rt.alloc(), &CASES)
+    for case in &CASES {
+        assert_case(&rt, rt.alloc(), case)?;
+    }
+    Ok(())
 }

@@ -6,8 +6,6 @@ use fixtures::one_read::STATS;
 use statistics::channels::ChannelStats;
 use statistics::cores::CoreStats;
 use statistics::stats::Stats;
-use std::alloc::Global;
-use std::process::Abort;
 use std::test::Fail;
 
 // The reply is still on its way, so the finish is empty.
@@ -175,15 +173,11 @@ static CASES: [Case<'static>; 4] = [
     ),
 ];
 
-fn assert_cases(rt: &impl Abort, alloc: Global, cases: &[Case<'_>]) -> Result<(), Fail> {
-    for (cycles, cores, channels, want) in cases {
-        let stats = Stats::of_parts(alloc, *cycles, cores, channels)?;
-        assert_report(rt, alloc, Report::Stats(&stats), want)?;
-    }
-    Ok(())
-}
-
 #[test]
 fn writes_statistics(rt: HostRuntime) -> Result<(), Fail> {
-    assert_cases(&rt, rt.alloc(), &CASES)
+    for (cycles, cores, channels, want) in &CASES {
+        let stats = Stats::of_parts(rt.alloc(), *cycles, cores, channels)?;
+        assert_report(&rt, rt.alloc(), Report::Stats(&stats), want)?;
+    }
+    Ok(())
 }

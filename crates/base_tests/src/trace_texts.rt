@@ -1,6 +1,6 @@
 //! Texts of traces whose entries and faults are known.
 
-use crate::expect::{expect, expect_at};
+use crate::expect::expect;
 use cpu_trace::entries::MemoryEntry;
 use cpu_trace::number::read_number;
 use cpu_trace::reader::{read_trace, read_trace_in_pieces};
@@ -57,7 +57,7 @@ fn assert_pieces<R: Abort + Threads + Sync>(
     let wanted = contents(alloc, whole)?;
     for size in [0, 1, 2, 3, 7, 15] {
         let found = contents_in_pieces(rt, alloc, text, size)?;
-        expect_at(rt, &("in pieces of", size), &found, &wanted);
+        expect(rt, &(size, &found), &(size, &wanted));
     }
     Ok(())
 }
@@ -87,47 +87,22 @@ fn entry(trace: &Trace, number: u64) -> Option<Entry> {
     }
 }
 
-// The number of the first of these entries that a trace does not have in its place, with what stands there.
-fn first_other(trace: &Trace, wanted: &[Entry]) -> Option<(u64, Option<Entry>)> {
-    let mut number = 0u64;
-    for want in wanted {
-        let found = entry(trace, number);
-        if found != Some(*want) {
-            return Some((number, found));
-        }
-        number = number.wrapping_add(1);
+// The entries of a trace, each with a semicolon behind it.
+fn entries_of(alloc: Global, trace: &Trace) -> Result<String, AllocError> {
+    let mut text = String::from_str(alloc, if trace.is_empty() { "none" } else { "" })?;
+    for number in 0..trace.len() {
+        let entry = format!(in alloc; "{:?};", trace.entry_at(number))?;
+        text.push_str(&entry)?;
     }
-    None
+    Ok(text)
 }
 
-// Asserts that a trace has these entries.
-fn assert_entries(rt: &impl Abort, trace: &Trace, wanted: &[Entry]) {
-    expect(
-        rt,
-        &(trace.len(), trace.is_empty(), first_other(trace, wanted)),
-        &(wanted.len() as u64, wanted.is_empty(), None),
-    );
-}
-
-// The entries that a text means, or what is said of it.
-type Read<'x> = Result<&'x [Entry], &'x str>;
-
-// Asserts what came of a text.
-fn assert_read(
-    rt: &impl Abort,
-    alloc: Global,
-    found: &Result<Trace, Fault>,
-    want: &Read<'_>,
-) -> Result<(), AllocError> {
-    match (found, want) {
-        (Ok(trace), Ok(wanted)) => assert_entries(rt, trace, wanted),
-        (Err(fault), Err(wanted)) => {
-            let said = fault.to_string(alloc)?;
-            expect(rt, &said.as_str(), wanted);
-        }
-        _ => expect_at(rt, want, &found.is_ok(), &want.is_ok()),
+// The entries that were read, or what is said of the text.
+fn said(alloc: Global, found: &Result<Trace, Fault>) -> Result<String, AllocError> {
+    match found {
+        Ok(trace) => entries_of(alloc, trace),
+        Err(fault) => fault.to_string(alloc),
     }
-    Ok(())
 }
 
 // Asserts what core 0's trace is, whatever the size of the pieces.
@@ -135,22 +110,12 @@ fn assert_text<R: Abort + Threads + Sync>(
     rt: &R,
     alloc: Global,
     text: &[u8],
-    want: &Read<'_>,
+    want: &str,
 ) -> Result<(), AllocError> {
     let found = read_trace(rt, alloc, 0, text);
     assert_pieces(rt, alloc, text, &found)?;
-    assert_read(rt, alloc, &found, want)
-}
-
-// Asserts what these texts are.
-fn assert_texts<R: Abort + Threads + Sync>(
-    rt: &R,
-    alloc: Global,
-    cases: &[(&[u8], Read<'_>)],
-) -> Result<(), AllocError> {
-    for (text, want) in cases {
-        assert_text(rt, alloc, text, want)?;
-    }
+    let said = said(alloc, &found)?;
+    expect(rt, &(text, said.as_str()), &(text, want));
     Ok(())
 }
 
@@ -158,21 +123,21 @@ fn assert_texts<R: Abort + Threads + Sync>(
 const THREE_LINES: &[u8] = b"0\t0x40\r\n\n 1  128";
 
 // Their entries.
-static OF_THREE_LINES: [Entry; 3] = [Entry::Read(64), Entry::Plain, Entry::Read(128)];
+const OF_THREE_LINES: &str = "Read(64);Plain;Read(128);";
 
 // Asserts that a trace of the three lines and its copy have their entries.
-fn assert_copy(rt: &impl Abort, trace: &Trace) -> Result<(), AllocError> {
+fn assert_copy(rt: &impl Abort, alloc: Global, trace: &Trace) -> Result<(), AllocError> {
     let last = MemoryEntry {
         number: 2,
         entry: Entry::Read(128),
     };
+    let copy = trace.copy()?;
+    let entries = entries_of(alloc, &copy)?;
     expect(
         rt,
-        &(trace.next_memory(1), trace.next_memory(3)),
-        &(Some(last), None),
+        &(trace.next_memory(1), trace.next_memory(3), entries.as_str()),
+        &(Some(last), None, OF_THREE_LINES),
     );
-    let copy = trace.copy()?;
-    assert_entries(rt, &copy, &OF_THREE_LINES);
     Ok(())
 }
 
@@ -180,50 +145,42 @@ fn assert_copy(rt: &impl Abort, trace: &Trace) -> Result<(), AllocError> {
 #[test]
 fn entries_of_copies(rt: HostRuntime) -> Result<(), Fail> {
     let trace = read(&rt, rt.alloc(), THREE_LINES)?;
-    assert_copy(&rt, &trace)?;
-    let made = Trace::from_entries(rt.alloc(), &OF_THREE_LINES)?;
-    assert_entries(&rt, &made, &OF_THREE_LINES);
+    assert_copy(&rt, rt.alloc(), &trace)?;
+    let entries = [Entry::Read(64), Entry::Plain, Entry::Read(128)];
+    let made = Trace::from_entries(rt.alloc(), &entries)?;
+    assert_copy(&rt, rt.alloc(), &made)?;
     Ok(())
 }
 
 // The prefixes of the three lines, by their lengths.
-static BEGINNINGS: [Read<'static>; 17] = [
-    Ok(&[]),
-    Err("fault 5: trace 0 line 1 too-few"),
-    Err("fault 5: trace 0 line 1 too-few"),
-    Ok(&[Entry::Read(0)]),
-    Err("fault 5: trace 0 line 1 not-a-number"),
-    Ok(&[Entry::Read(4)]),
-    Ok(&[Entry::Read(64)]),
-    Ok(&[Entry::Read(64)]),
-    Ok(&[Entry::Read(64)]),
-    Ok(&[Entry::Read(64)]),
-    Ok(&[Entry::Read(64)]),
-    Err("fault 5: trace 0 line 3 too-few"),
-    Err("fault 5: trace 0 line 3 too-few"),
-    Err("fault 5: trace 0 line 3 too-few"),
-    Ok(&[Entry::Read(64), Entry::Plain, Entry::Read(1)]),
-    Ok(&[Entry::Read(64), Entry::Plain, Entry::Read(12)]),
-    Ok(&[Entry::Read(64), Entry::Plain, Entry::Read(128)]),
+static BEGINNINGS: [&str; 17] = [
+    "none",
+    "fault 5: trace 0 line 1 too-few",
+    "fault 5: trace 0 line 1 too-few",
+    "Read(0);",
+    "fault 5: trace 0 line 1 not-a-number",
+    "Read(4);",
+    "Read(64);",
+    "Read(64);",
+    "Read(64);",
+    "Read(64);",
+    "Read(64);",
+    "fault 5: trace 0 line 3 too-few",
+    "fault 5: trace 0 line 3 too-few",
+    "fault 5: trace 0 line 3 too-few",
+    "Read(64);Plain;Read(1);",
+    "Read(64);Plain;Read(12);",
+    "Read(64);Plain;Read(128);",
 ];
-
-fn assert_beginnings<R: Abort + Threads + Sync>(
-    rt: &R,
-    alloc: Global,
-    text: &[u8],
-    beginnings: &[Read<'_>],
-) -> Result<(), AllocError> {
-    for (len, want) in beginnings.iter().enumerate() {
-        let cut = text.get(..len).unwrap_or(b"none");
-        assert_text(rt, alloc, cut, want)?;
-    }
-    Ok(())
-}
 
 #[test]
 fn beginnings_of_each_length(rt: HostRuntime) -> Result<(), Fail> {
     expect(&rt, &THREE_LINES.len(), &16);
-    Ok(assert_beginnings(&rt, rt.alloc(), THREE_LINES, &BEGINNINGS)?)
+    for (len, want) in BEGINNINGS.iter().enumerate() {
+        let cut = THREE_LINES.get(..len).unwrap_or(b"none");
+        assert_text(&rt, rt.alloc(), cut, want)?;
+    }
+    Ok(())
 }
 
 // Many bytes of one kind between a beginning and an end.
@@ -255,42 +212,39 @@ fn read_long(
 }
 
 // The first bytes of a text of 1 MiB, the byte that fills it, its last bytes, and what it means.
-type Long<'x> = (&'x [u8], u8, &'x [u8], Read<'x>);
+type Long<'x> = (&'x [u8], u8, &'x [u8], &'x str);
 
 static LONG_LINES: [Long<'static>; 4] = [
-    (b"1", b' ', b"2 3\r\n", Ok(LAST_LINE)),
-    (b"1 0x", b'0', b"2 3", Ok(LAST_LINE)),
-    (
-        b"\n1 ",
-        b'9',
-        b" 3",
-        Err("fault 5: trace 0 line 2 too-large"),
-    ),
+    (b"1", b' ', b"2 3\r\n", LAST_LINE),
+    (b"1 0x", b'0', b"2 3", LAST_LINE),
+    (b"\n1 ", b'9', b" 3", "fault 5: trace 0 line 2 too-large"),
     (
         b"\n1 ",
         b'9',
         b"x 3",
-        Err("fault 5: trace 0 line 2 not-a-number"),
+        "fault 5: trace 0 line 2 not-a-number",
     ),
 ];
 
-const LAST_LINE: &[Entry] = &[Entry::Plain, Entry::Read(2), Entry::Write(3)];
+const LAST_LINE: &str = "Plain;Read(2);Write(3);";
 
-fn assert_long_lines<R: Abort + Threads + Sync>(
+fn assert_long_line<R: Abort + Threads + Sync>(
     rt: &R,
     alloc: Global,
-    cases: &[Long<'_>],
+    (first, byte, last, want): Long<'_>,
 ) -> Result<(), AllocError> {
-    for (first, byte, last, want) in cases {
-        let found = read_long(rt, alloc, first, *byte, last);
-        assert_read(rt, alloc, &found, want)?;
-    }
+    let found = read_long(rt, alloc, first, byte, last);
+    let said = said(alloc, &found)?;
+    expect(rt, &(byte, last, said.as_str()), &(byte, last, want));
     Ok(())
 }
 
 #[test]
 fn long_lines(rt: HostRuntime) -> Result<(), Fail> {
-    Ok(assert_long_lines(&rt, rt.alloc(), &LONG_LINES)?)
+    for long in &LONG_LINES {
+        assert_long_line(&rt, rt.alloc(), *long)?;
+    }
+    Ok(())
 }
 
 static NUMBERS: [(&[u8], Result<u64, LineCause>); 10] = [
@@ -306,12 +260,6 @@ static NUMBERS: [(&[u8], Result<u64, LineCause>); 10] = [
     (b"+1", Err(LineCause::NotANumber)),
 ];
 
-fn assert_numbers(rt: &impl Abort, cases: &[(&[u8], Result<u64, LineCause>)]) {
-    for (token, want) in cases {
-        expect_at(rt, token, &read_number(token), want);
-    }
-}
-
 // The number of a token of many zeros.
 fn long_number(
     alloc: Global,
@@ -324,7 +272,9 @@ fn long_number(
 
 #[test]
 fn numbers_of_tokens(rt: HostRuntime) -> Result<(), Fail> {
-    assert_numbers(&rt, &NUMBERS);
+    for (token, want) in &NUMBERS {
+        expect(&rt, &(token, read_number(token)), &(token, *want));
+    }
     let decimal = long_number(rt.alloc(), b"", b"7")?;
     let hexadecimal = long_number(rt.alloc(), b"0X", b"fF")?;
     expect(&rt, &(decimal, hexadecimal), &(Ok(7), Ok(255)));
@@ -384,11 +334,28 @@ fn read_long_text(rt: &(impl Threads + Sync), alloc: Global) -> Result<Trace, Fa
     read_trace_in_pieces(rt, alloc, 0, &text, 4096)
 }
 
+// The number of the first entry that is another one.
+fn first_other(trace: &Trace, want: Entry) -> Option<u64> {
+    for number in 0..trace.len() {
+        if trace.entry_at(number) != want {
+            return Some(number);
+        }
+    }
+    None
+}
+
 #[test]
 fn long_texts(rt: HostRuntime) -> Result<(), Fail> {
-    let wanted = vec![in rt.alloc(); Entry::Read(64); 100_000]?;
     let trace = read_long_text(&rt, rt.alloc())?;
-    assert_entries(&rt, &trace, &wanted);
+    expect(
+        &rt,
+        &(
+            trace.len(),
+            trace.is_empty(),
+            first_other(&trace, Entry::Read(64)),
+        ),
+        &(100_000, false, None),
+    );
     Ok(())
 }
 
@@ -448,71 +415,54 @@ fn usual_pieces(rt: HostRuntime) -> Result<(), Fail> {
     Ok(())
 }
 
-const TWO_LINES: &[Entry] = &[
-    Entry::Read(1),
-    Entry::Plain,
-    Entry::Read(2),
-    Entry::Write(3),
-];
+const TWO_LINES: &str = "Read(1);Plain;Read(2);Write(3);";
 
-static TEXTS: [(&[u8], Read<'static>); 24] = [
-    (
-        THREE_LINES,
-        Ok(&[Entry::Read(64), Entry::Plain, Entry::Read(128)]),
-    ),
-    (b" \t\r\n\r\n", Ok(&[])),
-    (
-        b"1 0X1f 007\n",
-        Ok(&[Entry::Plain, Entry::Read(31), Entry::Write(7)]),
-    ),
+static TEXTS: [(&[u8], &str); 24] = [
+    (THREE_LINES, OF_THREE_LINES),
+    (b" \t\r\n\r\n", "none"),
+    (b"1 0X1f 007\n", "Plain;Read(31);Write(7);"),
     // Bad lines.
-    (b"3", Err("fault 5: trace 0 line 1 too-few")),
-    (b"1 2 3 4", Err("fault 5: trace 0 line 1 too-many")),
-    (b"1 x", Err("fault 5: trace 0 line 1 not-a-number")),
+    (b"3", "fault 5: trace 0 line 1 too-few"),
+    (b"1 2 3 4", "fault 5: trace 0 line 1 too-many"),
+    (b"1 x", "fault 5: trace 0 line 1 not-a-number"),
     (
         b"0 18446744073709551616",
-        Err("fault 5: trace 0 line 1 too-large"),
+        "fault 5: trace 0 line 1 too-large",
     ),
-    (b"#x", Err("fault 5: trace 0 line 1 too-few")),
-    (b"# a", Err("fault 5: trace 0 line 1 not-a-number")),
-    (b"# a b c", Err("fault 5: trace 0 line 1 too-many")),
-    (b"0 \xff", Err("fault 5: trace 0 line 1 not-a-number")),
-    (
-        b"\xef\xbb\xbf0 0",
-        Err("fault 5: trace 0 line 1 not-a-number"),
-    ),
+    (b"#x", "fault 5: trace 0 line 1 too-few"),
+    (b"# a", "fault 5: trace 0 line 1 not-a-number"),
+    (b"# a b c", "fault 5: trace 0 line 1 too-many"),
+    (b"0 \xff", "fault 5: trace 0 line 1 not-a-number"),
+    (b"\xef\xbb\xbf0 0", "fault 5: trace 0 line 1 not-a-number"),
     (
         b"\n0 0\r\n \n0 0x\n5",
-        Err("fault 5: trace 0 line 4 not-a-number"),
+        "fault 5: trace 0 line 4 not-a-number",
     ),
     // Runs that are too long together.
-    (
-        b"4611686018427387903 0\n0 0",
-        Err("fault 6: trace 0 too long"),
-    ),
-    (
-        b"4611686018427387902 0 0\n0 0",
-        Err("fault 6: trace 0 too long"),
-    ),
+    (b"4611686018427387903 0\n0 0", "fault 6: trace 0 too long"),
+    (b"4611686018427387902 0 0\n0 0", "fault 6: trace 0 too long"),
     (
         b"18446744073709551615 0\n18446744073709551615 0",
-        Err("fault 6: trace 0 too long"),
+        "fault 6: trace 0 too long",
     ),
     (
         b"18446744073709551615 0\n18446744073709551615 0\n1",
-        Err("fault 5: trace 0 line 3 too-few"),
+        "fault 5: trace 0 line 3 too-few",
     ),
     // Texts that are cut at blank lines, at line ends of two bytes, and with no last line end.
-    (b"0 1\n1 2 3", Ok(TWO_LINES)),
-    (b"0 1\n1 2 3\n", Ok(TWO_LINES)),
-    (b"0 1\r\n1 2 3\r\n", Ok(TWO_LINES)),
-    (b"\n0 1\n\n\n1 2 3\n\n", Ok(TWO_LINES)),
-    (b"\r\n0 1\r\n\r\n \t\r\n1 2 3", Ok(TWO_LINES)),
-    (b"\n\n1\n\n2\n", Err("fault 5: trace 0 line 3 too-few")),
-    (b"0 1\n0 2\n0 3\n4", Err("fault 5: trace 0 line 4 too-few")),
+    (b"0 1\n1 2 3", TWO_LINES),
+    (b"0 1\n1 2 3\n", TWO_LINES),
+    (b"0 1\r\n1 2 3\r\n", TWO_LINES),
+    (b"\n0 1\n\n\n1 2 3\n\n", TWO_LINES),
+    (b"\r\n0 1\r\n\r\n \t\r\n1 2 3", TWO_LINES),
+    (b"\n\n1\n\n2\n", "fault 5: trace 0 line 3 too-few"),
+    (b"0 1\n0 2\n0 3\n4", "fault 5: trace 0 line 4 too-few"),
 ];
 
 #[test]
 fn texts_are_read_or_refused(rt: HostRuntime) -> Result<(), Fail> {
-    Ok(assert_texts(&rt, rt.alloc(), &TEXTS)?)
+    for (text, want) in &TEXTS {
+        assert_text(&rt, rt.alloc(), text, want)?;
+    }
+    Ok(())
 }

@@ -1,6 +1,6 @@
 //! Small tables, whose verdicts were found by hand from the distances of one profile.
 
-use crate::expect::{expect, expect_at};
+use crate::expect::expect;
 use fixtures::small::{RANK_FIELD, TWO_RANKS, small};
 use rule_check::{Verdict, check};
 use sim_base::fault::Fault;
@@ -68,7 +68,7 @@ fn assert_verdicts(
 ) -> Result<(), Fault> {
     for table in tables {
         let found = judged(alloc, layout, "", table)?;
-        expect_at(rt, &table, &found, &want);
+        expect(rt, &(table, found), &(table, want));
     }
     Ok(())
 }
@@ -280,13 +280,6 @@ static RULES: [(Layout, &[Case]); 5] = [
     (RANKS_REFRESHED, &OF_REFRESHES_OF_RANKS),
 ];
 
-fn assert_rules(rt: &impl Abort, alloc: Global, rules: &[(Layout, &[Case])]) -> Result<(), Fault> {
-    for (layout, cases) in rules {
-        assert_kept_exactly(rt, alloc, layout, cases)?;
-    }
-    Ok(())
-}
-
 /// Not only the last command matters: the write before the last is in the read's group.
 const EARLIER_COMMANDS: &[&str] = &[
     "2,0,ACT,0,0,0,,0,0\n4,0,ACT,1,0,0,,0,0\n5,0,WR,0,0,0,0,0,0\n9,0,WR,1,0,0,0,0,0\n13,0,RD,0,0,0,0,0,0\n",
@@ -341,16 +334,14 @@ static VERDICTS: [Tables<'static>; 5] = [
     (WHOLE, WRONG_HEADERS, Err(Fault::CheckRow(0))),
 ];
 
-fn assert_all_verdicts(rt: &impl Abort, alloc: Global, cases: &[Tables<'_>]) -> Result<(), Fault> {
-    for (layout, tables, want) in cases {
-        assert_verdicts(rt, alloc, layout, tables, *want)?;
-    }
-    Ok(())
-}
-
 /// Each rule is kept exactly, and each other table has its verdict.
 #[test]
 fn verdicts_of_tables(rt: HostRuntime) -> Result<(), Fail> {
-    assert_rules(&rt, rt.alloc(), &RULES)?;
-    Ok(assert_all_verdicts(&rt, rt.alloc(), &VERDICTS)?)
+    for (layout, cases) in &RULES {
+        assert_kept_exactly(&rt, rt.alloc(), layout, cases)?;
+    }
+    for (layout, tables, want) in &VERDICTS {
+        assert_verdicts(&rt, rt.alloc(), layout, tables, *want)?;
+    }
+    Ok(())
 }

@@ -1,6 +1,6 @@
 //! Reports of machines, as they are written to writers that take all, little or nothing.
 
-use crate::expect::{expect, expect_at};
+use crate::expect::expect;
 use crate::slow::Slow;
 use command_table::table::CommandTable;
 use reports::{write_commands, write_final, write_stats};
@@ -28,16 +28,10 @@ fn write<W: Write>(alloc: Global, report: Report<'_>, writer: &mut W) -> Result<
     }
 }
 
-/// The text of a report.
-fn text_of(alloc: Global, report: Report<'_>) -> Result<Vec<u8>, Fault> {
-    let mut text = Vec::new(alloc);
-    write(alloc, report, &mut text)?;
-    Ok(text)
-}
-
 /// Asserts the text of a report.
 fn assert_text(rt: &impl Abort, alloc: Global, report: Report<'_>, want: &str) -> Result<(), Fail> {
-    let text = text_of(alloc, report)?;
+    let mut text = Vec::new(alloc);
+    write(alloc, report, &mut text)?;
     expect(rt, &str::from_utf8(text.as_slice()), &Ok(want));
     Ok(())
 }
@@ -63,7 +57,7 @@ fn assert_refused(
 ) -> Result<(), Fail> {
     for fails in [false, true] {
         let (_, ended) = slowly(alloc, report, calls, fails)?;
-        expect_at(rt, &("after calls", calls), &ended, &Err(Fault::Write));
+        expect(rt, &(calls, ended), &(calls, Err(Fault::Write)));
     }
     Ok(())
 }

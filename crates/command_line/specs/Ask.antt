@@ -7,7 +7,7 @@
 --     GivesAll command      each argument that the command needs is there
 --     HasBadWord command      a `map` of something that is not a number, or a `run` whose `--share` is no word that it knows
 --     IsAnswerTo words result      an answer to words that the command line takes
-use Rattle.std.specs.Prelude.{◌≡◌, ◌≢◌, ◌⊎◌, ℕ, ◌<◌, ◌^◌, ⊤, Bool, true, false, List, [], ◌∷◌, map, codes, Option, Some, None, Result, Ok, Err, IsSome, IsErr}
+use Rattle.std.specs.Prelude.{◌≡◌, ◌≢◌, ◌⊎◌, ℕ, ◌<◌, ◌^◌, ⊤, Bool, true, false, List, [], ◌∷◌, map, option_map, codes, Option, Some, None, Result, Ok, Err, IsSome, IsErr}
 use Rattle.std.specs.Str.Parse.{IsNumeral, digits_value, without_leading_plus}
 use Rattle.clap.specs.Words.{Row, Text, all_of, fault_of, first_of, one_of, subcommand_of, takes, Kinds, IsAmong}
 use Rattle.clap.specs.declared.error.kind.ErrorKind.{ErrorKind}
@@ -88,14 +88,16 @@ pub record IsMap (rows : List Row) (config : Text) (address : ℕ) : Type 0 wher
   pub address_is : IsAddress (first_of (codes "address") rows) address
 
 -- a show with these values
-pub record IsShow (rows : List Row) (dir : Text) (all : Bool) : Type 0 where
+pub record IsShow (rows : List Row) (dir : Text) (all : Bool) (config : Option Text) : Type 0 where
   pub dir_is : first_of (codes "dir") rows ≡ Some dir
   pub all_is : IsFlag (one_of (codes "all") rows) all
+  pub config_is : first_of (codes "config") rows ≡ config
 
 -- a page with these values: its timeline is of the first 2,000 cycles unless the words say otherwise
-pub record IsPage (rows : List Row) (dir file : Text) (from cycles : ℕ) : Type 0 where
+pub record IsPage (rows : List Row) (dir file : Text) (config : Option Text) (from cycles : ℕ) : Type 0 where
   pub dir_is : first_of (codes "dir") rows ≡ Some dir
   pub file_is : first_of (codes "file") rows ≡ Some file
+  pub config_is : first_of (codes "config") rows ≡ config
   pub from_is : IsCountOr 0 (one_of (codes "from") rows) from
   pub cycles_is : IsCountOr 2000 (one_of (codes "cycles") rows) cycles
 
@@ -105,8 +107,8 @@ IsCommand name rows (Run config cycles workers share out traces) =
     (name ≡ codes "run") × IsRun rows config.now cycles workers share out.now (map (λ t. t.now) traces.items)
 IsCommand name rows (Check config commands) = (name ≡ codes "check") × IsCheck rows config.now commands.now
 IsCommand name rows (Map config address) = (name ≡ codes "map") × IsMap rows config.now address
-IsCommand name rows (Show dir all) = (name ≡ codes "show") × IsShow rows dir.now all
-IsCommand name rows (Page dir file from cycles) = (name ≡ codes "page") × IsPage rows dir.now file.now from cycles
+IsCommand name rows (Show dir all config) = (name ≡ codes "show") × IsShow rows dir.now all (option_map (λ c. c.now) config)
+IsCommand name rows (Page dir file config from cycles) = (name ≡ codes "page") × IsPage rows dir.now file.now (option_map (λ c. c.now) config) from cycles
 IsCommand name rows (Help text) = ⊥
 IsCommand name rows (Version text) = ⊥
 

@@ -57,14 +57,14 @@ check_app = command_app (codes "check") (config_rule ∷ text_rule (codes "comma
 abbrev pub map_app : App
 map_app = command_app (codes "map") (config_rule ∷ text_rule (codes "address") ∷ [])
 
--- `show DIR [--all]`
+-- `show DIR [--all] [--config FILE]`
 abbrev pub show_app : App
-show_app = command_app (codes "show") (text_rule (codes "dir") ∷ flag_rule (codes "all") ∷ [])
+show_app = command_app (codes "show") (text_rule (codes "dir") ∷ flag_rule (codes "all") ∷ word_rule (codes "config") ∷ [])
 
--- `page DIR FILE [--from N] [--cycles N]`
+-- `page DIR FILE [--config FILE] [--from N] [--cycles N]`
 abbrev pub page_app : App
 page_app = command_app (codes "page") (
-    text_rule (codes "dir") ∷ text_rule (codes "file") ∷ count_rule (codes "from") ∷ count_rule (codes "cycles") ∷ [])
+    text_rule (codes "dir") ∷ text_rule (codes "file") ∷ word_rule (codes "config") ∷ count_rule (codes "from") ∷ count_rule (codes "cycles") ∷ [])
 
 -- a command that tells its version
 abbrev pub with_version : App → App

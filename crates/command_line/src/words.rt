@@ -1,6 +1,6 @@
 //! What a command line asks for.
 
-ghost use Rattle.std.specs.Prelude.{◌≡◌, ◌⊎◌, true, Some, None, Ok, IfOk, IfErr, IsOk, IsErr, map, codes};
+ghost use Rattle.std.specs.Prelude.{◌≡◌, ◌⊎◌, true, Some, None, Ok, IfOk, IfErr, IsOk, IsErr, map, option_map, codes};
 ghost use Rattle.clap.specs.Words.{all_of, first_of, found_of, kind_of, one_of, rows_of, subcommand_rows_of};
 ghost use Rattle.sim_base.specs.TraceText.{number_of};
 ghost use Rattle.command_line.specs.Ask.{is_taken, IsCallForHelp, IsCallForVersion, IsCount, IsCountText, IsCountOr, IsNoneOrCount, IsFlag, IsShare, IsNoShare, IsNoAddress, IsCommand, IsCommandOf, IsCommandFault, IsShown, IsHelpUnlessMemory, IsVersionUnlessMemory, IsNoHelp, IsAskedBy, IsAnswerTo, IsWordsFault, GivesRun, GivesCheck, GivesMap, GivesShow, GivesPage, GivesAll};
@@ -12,6 +12,10 @@ use cpu_trace::number::read_number;
 use refusal::reason::Reason;
 use sim_base::fault::Fault;
 use std::alloc::{AllocError, Global};
+use strsim::osa_distance;
+
+// The names of the commands.
+const COMMANDS: [&str; 6] = ["run", "check", "map", "show", "page", "help"];
 
 /// When the workers of a run share a machine out.
 #[derive(Clone, Copy, PartialEq, Eq, Debug)]
@@ -44,15 +48,18 @@ pub enum Ask<'a> {
         config: &'a str,
         address: u64,
     },
-    /// `show DIR [--all]`: tells what the run did whose tables are in a folder.
+    /// `show DIR [--all] [--config FILE]`: tells what the run did whose tables are in a folder, with what its configuration adds.
     Show {
         dir: &'a str,
         all: bool,
+        config: Option<&'a str>,
     },
-    /// `page DIR FILE [--from N] [--cycles N]`: draws the run whose tables are in a folder, and its commands in a window of cycles.
+    /// `page DIR FILE [--config FILE] [--from N] [--cycles N]`: draws the run whose tables are in a folder, and its commands in a window of
+    /// cycles, with what its configuration adds.
     Page {
         dir: &'a str,
         file: &'a str,
+        config: Option<&'a str>,
         from: u64,
         cycles: u64,
     },
@@ -71,6 +78,13 @@ fn text_of<'a>(found: &ArgMatches<'a>, id: &str) -> Result<&'a str, Fault>
         Some(text) => Ok(text),
         None => Err(Fault::CommandLine),
     }
+}
+
+// The text of an argument that may be left out.
+fn text_if_given<'a>(found: &ArgMatches<'a>, id: &str) -> Option<&'a str>
+    ensures { option_map (λ s. s.now) result ≡ first_of id.now (rows_of (found_of found.now)) }
+{
+    found.get_str(id)
 }
 
 // The number of an argument.
@@ -192,6 +206,7 @@ fn show_ask<'a>(found: &ArgMatches<'a>) -> Result<Ask<'a>, Fault>
     Ok(Ask::Show {
         dir: text_of(found, "dir")?,
         all: is_set(found, "all"),
+        config: text_if_given(found, "config"),
     })
 }
 
@@ -203,6 +218,7 @@ fn page_ask<'a>(found: &ArgMatches<'a>) -> Result<Ask<'a>, Fault>
     Ok(Ask::Page {
         dir: text_of(found, "dir")?,
         file: text_of(found, "file")?,
+        config: text_if_given(found, "config"),
         from: count_or(found, "from", 0)?,
         cycles: count_or(found, "cycles", 2_000)?,
     })
@@ -256,8 +272,31 @@ fn command_of<'a>(alloc: Global, matches: &ArgMatches<'a>) -> Result<Ask<'a>, Re
     }
 }
 
+// The command that a word may be meant for: at most a third of its letters are inserted, deleted, changed, or exchanged with the next one.
+fn nearest(alloc: Global, word: &str) -> Result<Option<&'static str>, AllocError> {
+    let most = word.len().max(3) / 3;
+    for name in COMMANDS {
+        if osa_distance(alloc, word, name)? <= most {
+            return Ok(Some(name));
+        }
+    }
+    Ok(None)
+}
+
+// What explains an error of the command line: its text, and the command that the first word may be meant for where the text has no tip.
+fn explain_error(alloc: Global, error: &Error, words: &[&str]) -> Result<String, AllocError> {
+    let text = error.to_string(alloc)?;
+    if error.kind() != ErrorKind::InvalidSubcommand || text.as_str().contains("tip:") {
+        return Ok(text);
+    }
+    match nearest(alloc, words.get(1).copied().unwrap_or(""))? {
+        Some(name) => format!(in alloc; "{text}did you mean '{name}'?\n"),
+        None => Ok(text),
+    }
+}
+
 // Why a command line refuses its words, or the text that answers a call for help or for the version.
-fn help_of<'a>(alloc: Global, error: Error) -> Result<Ask<'a>, Reason>
+fn help_of<'a>(alloc: Global, error: Error, words: &[&str]) -> Result<Ask<'a>, Reason>
     ensures shown { IfOk result (λ ask. IsShown ask (kind_of error)) }
     ensures refused { IfErr result (λ e. (e ≡ Fault.Memory) ⊎ ((e ≡ Fault.CommandLine) × IsNoHelp (kind_of error))) }
 {
@@ -265,7 +304,7 @@ fn help_of<'a>(alloc: Global, error: Error) -> Result<Ask<'a>, Reason>
         ErrorKind::OutOfMemory => Err(Reason::from(Fault::Memory)),
         ErrorKind::DisplayHelp => Ok(Ask::Help(error.to_string(alloc)?)),
         ErrorKind::DisplayVersion => Ok(Ask::Version(error.to_string(alloc)?)),
-        _ => Err(Reason::explained(Fault::CommandLine, error.to_string(alloc))),
+        _ => Err(Reason::explained(Fault::CommandLine, explain_error(alloc, &error, words))),
     }
 }
 
@@ -284,6 +323,6 @@ pub fn read_words<'a>(alloc: Global, words: &'a [&'a str]) -> Result<Ask<'a>, Re
 {
     match program(alloc)?.try_get_matches_from(words) {
         Ok(matches) => command_of(alloc, &matches),
-        Err(error) => help_of(alloc, error),
+        Err(error) => help_of(alloc, error, words),
     }
 }

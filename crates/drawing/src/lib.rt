@@ -1,7 +1,6 @@
-//! What pictures are made of: numbers as a reader wants them, scales, boxes, plots and bars, as HTML and SVG.
+//! What pictures are made of: text put together from pieces, numbers as a reader wants them, and the scales of axes.
 #![tactic(auto)]
 
-pub mod numbers;
-pub mod plots;
+pub mod axes;
+pub mod markup;
 pub mod scales;
-pub mod shapes;

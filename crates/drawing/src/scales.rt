@@ -1,31 +1,21 @@
-//! Where a value lies in a picture. Lengths in a picture are tenths of a pixel.
+//! Shares, and the scales of axes.
 
-ghost use Rattle.std.specs.Prelude.{◌≡◌, ◌<◌, ◌≤◌, ◌*◌, ◌/◌, min};
+ghost use Rattle.std.specs.Prelude.{◌≡◌, ◌<◌, ◌≤◌, ◌+◌, ◌-◌, ◌*◌, ◌/◌, ◌^◌, min};
 
-/// The values from 0 to `span` over `extent` tenths of a pixel.
-#[derive(Clone, Copy, PartialEq, Eq, Debug)]
-pub struct Scale {
-    /// The greatest value that has a place.
-    pub span: u64,
-    /// The length of the scale, in tenths of a pixel.
-    pub extent: u32,
-}
-
-impl Scale {
-    /// How far a value lies from the beginning, in tenths of a pixel, rounded down. A value beyond the span lies at the end; on a scale
-    /// with a span of 0 every value lies at the beginning.
-    pub fn length_of(self, value: u64) -> u64
-        ensures within { result ≤ self.extent }
-        ensures exact { 0 < self.span → result ≡ min value self.span * self.extent / self.span }
-        ensures none { self.span ≡ 0 → result ≡ 0 }
-    {
-        if self.span == 0 {
-            return 0;
-        }
-        let value = value.min(self.span);
-        let length = u128::from(value) * u128::from(self.extent) / u128::from(self.span);
-        length as u64
+/// `part` of `whole`, in units of which `whole` has `units`, rounded half up: 1000 for tenths of a percent. It is 0 for a whole of 0, and
+/// saturates at 2^64 - 1.
+pub fn share_of(part: u128, whole: u64, units: u64) -> u64
+    ensures none { whole ≡ 0 → result ≡ 0 }
+    ensures exact { 0 < whole → result ≡ min ((part * units + whole / 2) / whole) (2 ^ 64 - 1) }
+{
+    if whole == 0 {
+        return 0;
     }
+    let share = part
+        .saturating_mul(u128::from(units))
+        .saturating_add(u128::from(whole / 2))
+        / u128::from(whole);
+    u64::try_from(share).unwrap_or(u64::MAX)
 }
 
 /// A distance between ticks, which is 1, 2 or 5 times a power of ten: with it a span has at most `most` ticks, not counting the first.

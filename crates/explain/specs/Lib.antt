@@ -1,3 +1,5 @@
+pub mod Counts
+pub mod Heads
 pub mod Host
 pub mod Numbers
 pub mod Silence

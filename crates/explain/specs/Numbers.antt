@@ -1,7 +1,7 @@
 -- What is said of the numbers of a command line.
 --     numbers_text fault cores traces cycles workers      the line of a fault, if it is one of these numbers
 use Rattle.std.specs.Prelude.{ℕ, List, [], ◌++◌, codes, decimal, Option}
-use Rattle.explain_text.specs.Counts.{count_text}
+use Rattle.explain.specs.Counts.{count_text}
 use Rattle.sim_base.specs.declared.fault.Fault.{Fault}
 use Rattle.sim_base.specs.declared.fault.Fault.TheVariants as fault
 

@@ -1,10 +1,11 @@
 //! Why a configuration is refused.
 
 ghost use Rattle.std.specs.Prelude.{◌≡◌, true, false, [], IfOk, string_bytes};
+ghost use Rattle.explain.specs.Heads.{Begins, file_head};
 ghost use Rattle.explain.specs.Silence.{is_of_config};
-ghost use Rattle.explain_text.specs.Heads.{Begins, file_head};
 
-use explain_text::config::{key_text, range_text, relation_text, syntax_text};
+use crate::heads::behind;
+use explain_text::config::config_text;
 use sim_base::fault::Fault;
 use std::alloc::{AllocError, Global};
 
@@ -19,10 +20,13 @@ pub fn of_config(
     ensures file { is_of_config fault ≡ true → IfOk result (λ s. Begins (file_head path.now) (string_bytes s)) }
 {
     match fault {
-        Fault::ConfigSyntax => syntax_text(alloc, path, document),
-        Fault::ConfigKey(key) => key_text(alloc, path, document, key),
-        Fault::ConfigRange(key) => range_text(alloc, path, document, key),
-        Fault::ConfigRelation(number) => relation_text(alloc, path, document, number),
+        Fault::ConfigSyntax
+        | Fault::ConfigKey(_)
+        | Fault::ConfigRange(_)
+        | Fault::ConfigRelation(_) => {
+            let rest = config_text(alloc, fault, path, document)?;
+            behind(format!(in alloc; "{path}:")?, rest.as_str())
+        }
         _ => Ok(String::new(alloc)),
     }
 }

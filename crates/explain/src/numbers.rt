@@ -3,7 +3,7 @@
 ghost use Rattle.std.specs.Prelude.{◌≡◌, IfOk, string_bytes};
 ghost use Rattle.explain.specs.Numbers.{numbers_text};
 
-use explain_text::counts::of_count;
+use crate::counts::of_count;
 use sim_base::fault::Fault;
 use std::alloc::{AllocError, Global};
 

@@ -2,13 +2,29 @@
 
 ghost use Rattle.std.specs.Prelude.{◌≡◌, ℕ, false, [], IfOk, string_bytes};
 ghost use Rattle.sim_base.specs.declared.fault.Fault.TheVariants.{CheckRow};
+ghost use Rattle.explain.specs.Heads.{Begins, row_head};
 ghost use Rattle.explain.specs.Silence.{is_of_table};
-ghost use Rattle.explain_text.specs.Heads.{Begins, row_head};
 
-use explain_text::row::TableKind;
-use explain_text::table::row_text;
+use crate::heads::behind;
+use explain_text::table::{TableKind, row_text};
 use sim_base::fault::Fault;
 use std::alloc::{AllocError, Global};
+
+// What is said of a row.
+fn of_row(
+    alloc: Global,
+    kind: TableKind,
+    path: &str,
+    row: u64,
+    table: &[u8],
+) -> Result<String, AllocError>
+    ensures { IfOk result (λ s. Begins (row_head path.now row) (string_bytes s)) }
+{
+    let head = format!(in alloc; "{path}: row {row}")?;
+    let rest = row_text(alloc, kind, row, table)?;
+    let text = behind(head, rest.as_str())?;
+    Ok(text)
+}
 
 /// Explains a malformed row of a table, fault 15. `kind` is which table was to be read.
 pub fn of_table(
@@ -22,7 +38,7 @@ pub fn of_table(
     ensures row { (row : ℕ) → fault ≡ CheckRow row → IfOk result (λ s. Begins (row_head path.now row) (string_bytes s)) }
 {
     match fault {
-        Fault::CheckRow(row) => row_text(alloc, kind, path, row, table),
+        Fault::CheckRow(row) => of_row(alloc, kind, path, row, table),
         _ => Ok(String::new(alloc)),
     }
 }

@@ -4,12 +4,47 @@ ghost use Rattle.std.specs.Prelude.{◌≡◌, ℕ, false, [], IfOk, string_byte
 ghost use Rattle.std.specs.Option.{option_map_or};
 ghost use Rattle.sim_base.specs.declared.fault.Fault.TheVariants.{TraceLine, TraceTooLong};
 ghost use Rattle.sim_base.specs.declared.fault.LineCause.{LineCause};
+ghost use Rattle.explain.specs.Heads.{Begins, line_head, length_text};
 ghost use Rattle.explain.specs.Silence.{is_of_traces};
-ghost use Rattle.explain_text.specs.Heads.{Begins, line_head, length_text};
 
-use explain_text::traces::{length_text, line_text};
+use crate::heads::behind;
+use explain_text::traces::line_text;
 use sim_base::fault::Fault;
+use sim_base::message::CoreId;
 use std::alloc::{AllocError, Global};
+
+fn path_of<'a>(paths: &[&'a str], core: CoreId) -> &'a str
+    ensures { result.now ≡ option_map_or (λ p. p.now) (slice_get paths.now core) (codes "trace") }
+{
+    match paths.get(usize::from(core)) {
+        Some(path) => path,
+        None => "trace",
+    }
+}
+
+fn text_of<'a>(texts: &[&'a [u8]], core: CoreId) -> &'a [u8] {
+    match texts.get(usize::from(core)) {
+        Some(text) => text,
+        None => b"",
+    }
+}
+
+// What is said of a line of a core's trace.
+fn of_line(
+    alloc: Global,
+    core: CoreId,
+    line: u64,
+    paths: &[&str],
+    texts: &[&[u8]],
+) -> Result<String, AllocError>
+    ensures { IfOk result (λ s. Begins (line_head (option_map_or (λ p. p.now) (slice_get paths.now core) (codes "trace")) line) (string_bytes s)) }
+{
+    let path = path_of(paths, core);
+    let head = format!(in alloc; "{path}:{line}: ")?;
+    let rest = line_text(alloc, path, line, text_of(texts, core))?;
+    let text = behind(head, rest.as_str())?;
+    Ok(text)
+}
 
 /// Explains a fault of a core's trace, 5 or 6, by the paths and the texts of all traces.
 pub fn of_traces(
@@ -25,8 +60,13 @@ pub fn of_traces(
         → IfOk result (λ s. string_bytes s ≡ length_text (option_map_or (λ p. p.now) (slice_get paths.now core) (codes "trace"))) }
 {
     match fault {
-        Fault::TraceLine { core, line, .. } => line_text(alloc, core, line, paths, texts),
-        Fault::TraceTooLong { core } => length_text(alloc, core, paths),
+        Fault::TraceLine { core, line, .. } => of_line(alloc, core, line, paths, texts),
+        Fault::TraceTooLong { core } => {
+            let path = path_of(paths, core);
+            format!(in alloc;
+                "{path}: its lines stand for more than 2^62 entries: 'COUNT READ' for COUNT + 1, 'COUNT READ WRITE' for COUNT + 2\n"
+            )
+        }
         _ => Ok(String::new(alloc)),
     }
 }

@@ -2,8 +2,8 @@
 #![tactic(auto)]
 
 #[cfg(test)]
-mod configs;
+mod asked;
 #[cfg(test)]
-mod expect;
+mod configs;
 #[cfg(test)]
 mod others;

@@ -1,86 +1,60 @@
 //! The keys of a configuration, and what may stand at them.
 
 use sim_base::key::Key;
-use std::fmt;
 
 /// The keys of an item of `link`.
 pub(crate) static ITEM_KEYS: [Key; 2] = [Key::Id, Key::Latency];
 
-/// The key of a name, among these.
-pub(crate) fn key_named(keys: &[Key], name: &str) -> Option<Key> {
-    keys.iter().copied().find(|key| key.name() == name)
+/// Whether a name is that of one of these keys.
+pub(crate) fn is_known(keys: &[Key], name: &str) -> bool {
+    for key in keys {
+        if key.name() == name {
+            return true;
+        }
+    }
+    false
 }
 
 /// What may stand at a key.
-#[derive(Clone, Copy)]
-pub(crate) enum Allowed {
-    /// The integers from one to another.
-    Integers(i64, i64),
-    /// What these words say.
-    Words(&'static str),
-}
-
-impl Allowed {
-    /// What may stand at a key. At `fields`, `end` and `link` that is not an integer.
-    pub(crate) fn at(key: Key) -> Allowed {
-        match key {
-            Key::Cores => Allowed::Integers(1, 256),
-            Key::Channels => Allowed::Words("1, 2, 4, 8 or 16"),
-            Key::Groups => Allowed::Words("2 or 4"),
-            Key::Ranks => Allowed::Words("1, 2 or 4"),
-            Key::Columns => Allowed::Words("a power of two from 1 to 1024"),
-            Key::Rows => Allowed::Words("a power of two from 1 to 262144"),
-            Key::Fields => Allowed::Words(
-                "an array of \"channel\", \"column\", \"group\", \"bank\" and \"row\", each once, and \"rank\" where a channel has several",
-            ),
-            Key::Window => Allowed::Integers(1, 4_096),
-            Key::Width => Allowed::Integers(1, 16),
-            Key::ReadCredits | Key::WriteCredits => Allowed::Integers(1, 64),
-            Key::RequestLatency | Key::ReplyLatency | Key::CreditLatency | Key::Latency => {
-                Allowed::Integers(1, 1_000_000)
-            }
-            Key::NRtrs | Key::NRefi => Allowed::Integers(0, 100_000),
-            Key::WriteHigh | Key::WriteLow => Allowed::Integers(0, 8_192),
-            Key::End => Allowed::Words("\"limit\" or \"drained\""),
-            Key::Link => Allowed::Words("tables [[link]] of an id and a latency"),
-            Key::Id => Allowed::Integers(0, 12_287),
-            Key::Unknown => Allowed::Words("no value"),
-            _ => Allowed::Integers(1, 100_000),
+pub(crate) fn range_of(key: Key) -> &'static str {
+    match key {
+        Key::Cores => "1 to 256",
+        Key::Channels => "1, 2, 4, 8 or 16",
+        Key::Groups => "2 or 4",
+        Key::Ranks => "1, 2 or 4",
+        Key::Columns => "a power of two from 1 to 1024",
+        Key::Rows => "a power of two from 1 to 262144",
+        Key::Fields => {
+            "an array of \"channel\", \"column\", \"group\", \"bank\" and \"row\", each once, and \"rank\" where a channel has several"
         }
-    }
-
-    /// Whether it is known that an integer may not stand there.
-    pub(crate) fn excludes(self, number: i64) -> bool {
-        match self {
-            Allowed::Integers(low, high) => number < low || high < number,
-            Allowed::Words(_) => false,
+        Key::Window => "1 to 4096",
+        Key::Width => "1 to 16",
+        Key::ReadCredits | Key::WriteCredits => "1 to 64",
+        Key::RequestLatency | Key::ReplyLatency | Key::CreditLatency | Key::Latency => {
+            "1 to 1000000"
         }
-    }
-
-    /// The same, and that it is an integer.
-    pub(crate) fn with_type(self) -> WithType {
-        WithType(self)
+        Key::NRtrs | Key::NRefi => "0 to 100000",
+        Key::WriteHigh | Key::WriteLow => "0 to 8192",
+        Key::End => "\"limit\" or \"drained\"",
+        Key::Link => "tables [[link]] of an id and a latency",
+        Key::Id => "0 to 12287",
+        Key::Unknown => "no value",
+        _ => "1 to 100000",
     }
 }
 
-impl fmt::Display for Allowed {
-    fn fmt<W: fmt::Write>(&self, f: &mut fmt::Formatter<W>) -> fmt::Result {
-        match *self {
-            Allowed::Integers(low, high) => write!(f, "{low} to {high}"),
-            Allowed::Words(words) => f.write_str(words),
-        }
-    }
-}
-
-/// What may stand at a key, with its type.
-#[derive(Clone, Copy)]
-pub(crate) struct WithType(Allowed);
-
-impl fmt::Display for WithType {
-    fn fmt<W: fmt::Write>(&self, f: &mut fmt::Formatter<W>) -> fmt::Result {
-        match self.0 {
-            Allowed::Integers(..) => write!(f, "an integer from {}", self.0),
-            Allowed::Words(_) => write!(f, "{}", self.0),
-        }
+/// The words before the range of a key that is any integer of it.
+pub(crate) fn type_of(key: Key) -> &'static str {
+    match key {
+        Key::Channels
+        | Key::Groups
+        | Key::Ranks
+        | Key::Columns
+        | Key::Rows
+        | Key::Fields
+        | Key::End
+        | Key::Link
+        | Key::Unknown => "",
+        _ => "an integer from ",
     }
 }

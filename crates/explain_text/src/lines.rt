@@ -14,20 +14,19 @@ pub(crate) struct Position {
 }
 
 impl Position {
-    /// The place right after the first `bytes` bytes of a text.
-    pub(crate) fn behind(text: &[u8], bytes: usize) -> Position {
-        let before = text.get(..bytes).unwrap_or(text);
-        let feeds = before.iter().filter(|byte| **byte == b'\n').count() as u64;
-        let line = feeds.saturating_add(1);
-        let begun = line_at(before, line).unwrap_or(b"");
-        Position {
-            line,
-            column: characters(begun).saturating_add(1),
+    /// The place right after these bytes.
+    pub(crate) fn behind(bytes: &[u8]) -> Position {
+        let mut line = 1u64;
+        let mut column = 1u64;
+        for byte in bytes {
+            if *byte == b'\n' {
+                line = line.saturating_add(1);
+                column = 1;
+            } else if *byte & 0xC0 != 0x80 {
+                // (a character begins here)
+                column = column.saturating_add(1);
+            }
         }
+        Position { line, column }
     }
-}
-
-// How many characters begin in these bytes.
-fn characters(bytes: &[u8]) -> u64 {
-    bytes.iter().filter(|byte| **byte & 0xC0 != 0x80).count() as u64
 }

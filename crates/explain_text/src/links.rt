@@ -1,73 +1,90 @@
 //! What is said of the items of `link`.
 
-use crate::keys::{Allowed, ITEM_KEYS};
+use crate::keys::ITEM_KEYS;
+use crate::pieces::Piece::{Number, Words};
+use crate::pieces::joined;
 use crate::section::Section;
 use sim_base::key::Key;
 use std::alloc::{AllocError, Global};
 use toml::value::Array;
 use toml::{Table, Value};
 
-fn integer_at(table: &Table, key: Key) -> Option<i64> {
-    match table.get(key.name()) {
-        Some(value) => value.as_integer(),
-        None => None,
+/// The integer at a key of a table.
+pub(crate) fn integer_at(table: &Table, name: &str) -> Option<i64> {
+    match table.get(name) {
+        Some(Value::Integer(number)) => Some(*number),
+        _ => None,
     }
 }
 
-fn is_excluded(table: &Table, key: Key) -> bool {
-    match integer_at(table, key) {
-        Some(number) => Allowed::at(key).excludes(number),
-        None => false,
+/// The items of `link`.
+pub(crate) fn items_of(table: &Table) -> Option<&Array> {
+    match table.get("link") {
+        Some(Value::Array(items)) => Some(items),
+        _ => None,
     }
 }
 
-// The first key of an item that holds no integer.
-fn untyped_key(item: &Table) -> Option<Key> {
-    ITEM_KEYS
-        .iter()
-        .copied()
-        .find(|key| integer_at(item, *key).is_none())
-}
-
-// The first key of an item whose integer is out of its range.
-fn excluded_key(item: &Table) -> Option<Key> {
-    ITEM_KEYS
-        .iter()
-        .copied()
-        .find(|key| is_excluded(item, *key))
+/// The id of an item, if it has one.
+pub(crate) fn id_of(value: &Value) -> Option<u64> {
+    match value {
+        Value::Table(item) => u64::try_from(integer_at(item, "id")?).ok(),
+        _ => None,
+    }
 }
 
 // What is wrong with an item that is a table; an empty text where it is right.
 fn table_text(alloc: Global, item: &Section<'_>) -> Result<String, AllocError> {
-    if let Some(key) = untyped_key(item.table) {
-        return item.key_text(alloc, key);
-    }
-    if item.has_unknown() {
-        return item.unknown_text(alloc);
-    }
-    match excluded_key(item.table) {
-        Some(key) => item.range_text(alloc, key),
-        None => Ok(String::new(alloc)),
+    let Some(id) = integer_at(item.table, "id") else {
+        return item.key_text(alloc, Key::Id);
+    };
+    let Some(latency) = integer_at(item.table, "latency") else {
+        return item.key_text(alloc, Key::Latency);
+    };
+    if item.unknown().is_some() {
+        item.unknown_text(alloc)
+    } else if !matches!(id, 0..=12_287) {
+        item.range_text(alloc, Key::Id)
+    } else if !matches!(latency, 1..=1_000_000) {
+        item.range_text(alloc, Key::Latency)
+    } else {
+        Ok(String::new(alloc))
     }
 }
 
-fn item_text(alloc: Global, path: &str, item: usize, value: &Value) -> Result<String, AllocError> {
-    match value.as_table() {
-        Some(table) => {
-            let section = Section {
-                path,
-                table,
-                item: Some(item),
-            };
-            table_text(alloc, &section)
-        }
-        None => format!(in alloc; " item {item} of link is no table of id and latency\n"),
-    }
+// The number of an item, and what comes after it.
+fn item_head(alloc: Global, item: u64, rest: &str) -> Result<String, AllocError> {
+    let pieces = [
+        Words(" item "),
+        Number(item),
+        Words(" of link"),
+        Words(rest),
+    ];
+    joined(alloc, &pieces)
+}
+
+fn item_text<'a>(
+    alloc: Global,
+    path: &'a str,
+    item: u64,
+    value: &'a Value,
+) -> Result<String, AllocError> {
+    let Value::Table(table) = value else {
+        return item_head(alloc, item, " is no table of id and latency\n");
+    };
+    let place = item_head(alloc, item, ":")?;
+    let section = Section {
+        path,
+        place: place.as_str(),
+        table,
+        keys: &ITEM_KEYS,
+    };
+    table_text(alloc, &section)
 }
 
 // What is wrong with the first item that is not right.
 fn items_text(alloc: Global, path: &str, items: &Array) -> Result<String, AllocError> {
-    let mut item = 0usize;
+    let mut item = 0u64;
     for value in items {
         item = item.saturating_add(1);
         let text = item_text(alloc, path, item, value)?;
@@ -75,38 +92,16 @@ fn items_text(alloc: Global, path: &str, items: &Array) -> Result<String, AllocE
             return Ok(text);
         }
     }
-    format!(in alloc;
-        " each item of link is a table of id, 0 to 12287, and latency, 1 to 1000000\n"
+    String::from_str(
+        alloc,
+        " each item of link is a table of id, 0 to 12287, and latency, 1 to 1000000\n",
     )
-}
-
-fn array_at<'t>(table: &'t Table, key: Key) -> Option<&'t Array> {
-    match table.get(key.name()) {
-        Some(value) => value.as_array(),
-        None => None,
-    }
 }
 
 /// Says what is wrong with `link`, or with the first of its items that is not right, after the path.
 pub(crate) fn link_text(alloc: Global, document: &Section<'_>) -> Result<String, AllocError> {
-    match array_at(document.table, Key::Link) {
+    match items_of(document.table) {
         Some(items) => items_text(alloc, document.path, items),
         None => document.key_text(alloc, Key::Link),
-    }
-}
-
-// The id of an item, if it has one.
-fn id_of(value: &Value) -> Option<i64> {
-    match value.as_table() {
-        Some(item) => integer_at(item, Key::Id),
-        None => None,
-    }
-}
-
-/// The ids of the items of `link`, one after the other.
-pub(crate) fn ids_of(alloc: Global, table: &Table) -> Result<Vec<i64>, AllocError> {
-    match array_at(table, Key::Link) {
-        Some(items) => items.iter().filter_map(id_of).collect(alloc),
-        None => Ok(Vec::new(alloc)),
     }
 }

@@ -1,320 +1,326 @@
 //! What is said of a relation between the numbers of a configuration.
 
-use crate::keys::key_named;
-use crate::links::ids_of;
+use crate::links::{id_of, integer_at, items_of};
+use crate::pieces::Piece::{Foreign, Number, Words};
+use crate::pieces::{joined, push};
 use crate::section::entry_text;
-use crate::shown::Shown;
-use sim_base::key::{DOCUMENT_KEYS, Key};
+use sim_base::key::Key;
 use std::alloc::{AllocError, Global};
-use std::fmt;
 use toml::Table;
+use toml::value::Array;
 
-/// How the sides of a relation must compare.
-#[derive(Clone, Copy)]
-enum Comparison {
-    AtLeast,
-    AtMost,
-    Below,
-}
-
-impl Comparison {
-    fn holds(self, left: u64, right: u64) -> bool {
-        match self {
-            Comparison::AtLeast => left >= right,
-            Comparison::AtMost => left <= right,
-            Comparison::Below => left < right,
-        }
-    }
-
-    fn sign(self) -> &'static str {
-        match self {
-            Comparison::AtLeast => ">=",
-            Comparison::AtMost => "<=",
-            Comparison::Below => "<",
-        }
-    }
-
-    // How the sides compare where the relation does not hold.
-    fn contrary(self) -> &'static str {
-        match self {
-            Comparison::AtLeast => "is less than",
-            Comparison::AtMost => "is greater than",
-            Comparison::Below => "is not less than",
-        }
-    }
-}
-
-/// A relation, each side of which is written with the names of keys.
+/// A relation between two sides.
 #[derive(Clone, Copy)]
 struct Relation {
-    /// Where the relation need not hold.
-    unless: &'static str,
-    left: &'static str,
-    comparison: Comparison,
-    right: &'static str,
+    rule: &'static str,
+    /// How the sides compare where it does not hold, in words that are keys, or stand between them.
+    broken: &'static [&'static str],
 }
 
-impl fmt::Display for Relation {
-    fn fmt<W: fmt::Write>(&self, f: &mut fmt::Formatter<W>) -> fmt::Result {
-        let sign = self.comparison.sign();
-        write!(f, "{}{} {sign} {}", self.unless, self.left, self.right)
-    }
-}
+static READ_TO_WRITE: Relation = Relation {
+    rule: " nRTW + nCWL >= nCL + 4",
+    broken: &["nRTW", " + ", "nCWL", " is less than ", "nCL", " + 4"],
+};
 
-impl Relation {
-    // A relation that must hold everywhere.
-    fn of(left: &'static str, comparison: Comparison, right: &'static str) -> Relation {
-        Relation {
-            unless: "",
-            left,
-            comparison,
-            right,
-        }
-    }
-}
+static COLUMNS_APART: Relation = Relation {
+    rule: " nCCD_S >= 4",
+    broken: &["nCCD_S", " is less than 4"],
+};
+
+static COLUMNS: Relation = Relation {
+    rule: " nCCD_L >= nCCD_S",
+    broken: &["nCCD_L", " is less than ", "nCCD_S"],
+};
+
+static ACTIVATES: Relation = Relation {
+    rule: " nRRD_L >= nRRD_S",
+    broken: &["nRRD_L", " is less than ", "nRRD_S"],
+};
+
+static WRITE_TO_READ: Relation = Relation {
+    rule: " nWTR_L >= nWTR_S",
+    broken: &["nWTR_L", " is less than ", "nWTR_S"],
+};
+
+static REFRESH: Relation = Relation {
+    rule: " nREFI = 0 or nREFI >= max(nRAS, nRTP, nCWL + 4 + nWR) + nRP + (ranks - 1)(nRP + 1) + nRFC + 1",
+    broken: &[
+        "nREFI",
+        " is less than max(",
+        "nRAS",
+        ", ",
+        "nRTP",
+        ", ",
+        "nCWL",
+        " + 4 + ",
+        "nWR",
+        ") + ",
+        "nRP",
+        " + (",
+        "ranks",
+        " - 1)(",
+        "nRP",
+        " + 1) + ",
+        "nRFC",
+        " + 1",
+    ],
+};
+
+static CREDITS: Relation = Relation {
+    rule: " cores * (read_credits + write_credits) <= 8192",
+    broken: &[
+        "cores",
+        " * (",
+        "read_credits",
+        " + ",
+        "write_credits",
+        ") is greater than 8192",
+    ],
+};
+
+static DRAIN: Relation = Relation {
+    rule: " write_high = write_low = 0 or write_low < write_high",
+    broken: &["write_low", " is not less than ", "write_high"],
+};
+
+static WRITES: Relation = Relation {
+    rule: " write_high <= cores * write_credits",
+    broken: &[
+        "write_high",
+        " is greater than ",
+        "cores",
+        " * ",
+        "write_credits",
+    ],
+};
 
 // A relation between two sides, by its number.
 fn relation_of(number: u8) -> Option<Relation> {
     Some(match number {
-        1 => Relation::of("nRTW + nCWL", Comparison::AtLeast, "nCL + 4"),
-        2 => Relation::of("nCCD_S", Comparison::AtLeast, "4"),
-        3 => Relation::of("nCCD_L", Comparison::AtLeast, "nCCD_S"),
-        4 => Relation::of("nRRD_L", Comparison::AtLeast, "nRRD_S"),
-        5 => Relation::of("nWTR_L", Comparison::AtLeast, "nWTR_S"),
-        6 => Relation {
-            unless: "nREFI = 0 or ",
-            left: "nREFI",
-            comparison: Comparison::AtLeast,
-            right: "max(nRAS, nRTP, nCWL + 4 + nWR) + nRP + (ranks - 1)(nRP + 1) + nRFC + 1",
-        },
-        7 => Relation::of(
-            "cores * (read_credits + write_credits)",
-            Comparison::AtMost,
-            "8192",
-        ),
-        11 => Relation {
-            unless: "write_high = write_low = 0 or ",
-            left: "write_low",
-            comparison: Comparison::Below,
-            right: "write_high",
-        },
-        12 => Relation::of("write_high", Comparison::AtMost, "cores * write_credits"),
+        1 => READ_TO_WRITE,
+        2 => COLUMNS_APART,
+        3 => COLUMNS,
+        4 => ACTIVATES,
+        5 => WRITE_TO_READ,
+        6 => REFRESH,
+        7 => CREDITS,
+        11 => DRAIN,
+        12 => WRITES,
         _ => return None,
     })
 }
 
-// The number that an absent key counts as.
-fn default_of(key: Key) -> Option<u64> {
-    match key {
-        Key::Ranks => Some(1),
-        Key::NRtrs | Key::WriteHigh | Key::WriteLow => Some(0),
+// The number at a key; where it is absent, the number that it counts as, if there is one.
+fn number_at(table: &Table, name: &str) -> Option<u64> {
+    match (integer_at(table, name), name) {
+        (Some(number), _) => u64::try_from(number).ok(),
+        (None, "ranks") => Some(1),
+        (None, "write_high" | "write_low") => Some(0),
         _ => None,
     }
 }
 
-fn number_at(table: &Table, key: Key) -> Option<u64> {
-    match table.get(key.name()) {
-        Some(value) => u64::try_from(value.as_integer()?).ok(),
-        None => default_of(key),
-    }
+// The number at a key that is there or counts as a number.
+fn value_at(table: &Table, name: &str) -> u64 {
+    number_at(table, name).unwrap_or(0)
 }
 
-fn sum_at(table: &Table, one: Key, other: Key) -> Option<u64> {
-    Some(number_at(table, one)?.saturating_add(number_at(table, other)?))
+fn sum_at(table: &Table, one: &str, other: &str) -> u64 {
+    value_at(table, one).saturating_add(value_at(table, other))
 }
 
-fn closing_at(table: &Table) -> Option<u64> {
-    let written = sum_at(table, Key::NCwl, Key::NWr)?.saturating_add(4);
-    let open = number_at(table, Key::NRas)?.max(number_at(table, Key::NRtp)?);
-    Some(open.max(written))
+fn times_cores(table: &Table, number: u64) -> u64 {
+    number.saturating_mul(value_at(table, "cores"))
 }
 
 // The least nREFI above 0.
-fn refresh_at(table: &Table) -> Option<u64> {
-    let others = number_at(table, Key::Ranks)?.saturating_sub(1);
-    let precharge = number_at(table, Key::NRp)?;
-    let slack = closing_at(table)?
-        .saturating_add(precharge)
-        .saturating_add(others.saturating_mul(precharge.saturating_add(1)));
-    Some(
-        slack
-            .saturating_add(number_at(table, Key::NRfc)?)
-            .saturating_add(1),
-    )
+fn refresh_at(table: &Table) -> u64 {
+    let open = value_at(table, "nRAS").max(value_at(table, "nRTP"));
+    let written = sum_at(table, "nCWL", "nWR").saturating_add(4);
+    let one = value_at(table, "nRP").saturating_add(1);
+    let others = value_at(table, "ranks").saturating_sub(1);
+    open.max(written)
+        .saturating_add(one)
+        .saturating_add(one.saturating_mul(others))
+        .saturating_add(value_at(table, "nRFC"))
 }
 
 // What the left side of a relation comes to.
-fn left_at(table: &Table, number: u8) -> Option<u64> {
+fn left_at(table: &Table, number: u8) -> u64 {
     match number {
-        1 => sum_at(table, Key::NRtw, Key::NCwl),
-        2 => number_at(table, Key::NCcdS),
-        3 => number_at(table, Key::NCcdL),
-        4 => number_at(table, Key::NRrdL),
-        5 => number_at(table, Key::NWtrL),
-        6 => number_at(table, Key::NRefi),
-        7 => {
-            let credits = sum_at(table, Key::ReadCredits, Key::WriteCredits)?;
-            Some(credits.saturating_mul(number_at(table, Key::Cores)?))
-        }
-        11 => number_at(table, Key::WriteLow),
-        12 => number_at(table, Key::WriteHigh),
-        _ => None,
+        1 => sum_at(table, "nRTW", "nCWL"),
+        2 => value_at(table, "nCCD_S"),
+        3 => value_at(table, "nCCD_L"),
+        4 => value_at(table, "nRRD_L"),
+        5 => value_at(table, "nWTR_L"),
+        6 => value_at(table, "nREFI"),
+        7 => times_cores(table, sum_at(table, "read_credits", "write_credits")),
+        11 => value_at(table, "write_low"),
+        _ => value_at(table, "write_high"),
     }
 }
 
 // What the right side of a relation comes to.
-fn right_at(table: &Table, number: u8) -> Option<u64> {
+fn right_at(table: &Table, number: u8) -> u64 {
     match number {
-        1 => Some(number_at(table, Key::NCl)?.saturating_add(4)),
-        2 => Some(4),
-        3 => number_at(table, Key::NCcdS),
-        4 => number_at(table, Key::NRrdS),
-        5 => number_at(table, Key::NWtrS),
+        1 => value_at(table, "nCL").saturating_add(4),
+        2 => 4,
+        3 => value_at(table, "nCCD_S"),
+        4 => value_at(table, "nRRD_S"),
+        5 => value_at(table, "nWTR_S"),
         6 => refresh_at(table),
-        7 => Some(8_192),
-        11 => number_at(table, Key::WriteHigh),
-        12 => {
-            let credits = number_at(table, Key::WriteCredits)?;
-            Some(credits.saturating_mul(number_at(table, Key::Cores)?))
-        }
-        _ => None,
+        7 => 8_192,
+        11 => value_at(table, "write_high"),
+        _ => times_cores(table, value_at(table, "write_credits")),
     }
 }
 
-/// A side of a relation with numbers in place of its keys.
-#[derive(Clone, Copy)]
-struct Filled<'a> {
-    side: &'static str,
-    table: &'a Table,
-}
-
-fn is_no_letter(character: char) -> bool {
-    !(character.is_ascii_alphanumeric() || character == '_')
-}
-
-impl fmt::Display for Filled<'_> {
-    fn fmt<W: fmt::Write>(&self, f: &mut fmt::Formatter<W>) -> fmt::Result {
-        for piece in self.side.split_inclusive(is_no_letter) {
-            write_piece(f, self.table, piece)?;
-        }
-        Ok(())
+// Whether a relation does not hold between what its sides come to.
+fn is_broken(number: u8, left: u64, right: u64) -> bool {
+    match number {
+        7 | 12 => left > right,
+        11 => left >= right,
+        _ => left < right,
     }
 }
 
-// Writes a word and what follows it; if the word is the name of a key, its number instead of the word.
-fn write_piece<W: fmt::Write>(
-    f: &mut fmt::Formatter<W>,
-    table: &Table,
-    piece: &str,
-) -> fmt::Result {
-    let word = piece.trim_end_matches(is_no_letter);
-    match number_named(table, word) {
-        Some(number) => write!(f, "{number}{}", piece.strip_prefix(word).unwrap_or("")),
-        None => f.write_str(piece),
+// Words with numbers in place of the keys among them.
+fn filled_text(alloc: Global, words: &[&str], table: &Table) -> Result<String, AllocError> {
+    let mut text = String::new(alloc);
+    for word in words {
+        let piece = match number_at(table, word) {
+            Some(number) => Number(number),
+            None => Words(word),
+        };
+        push(alloc, &mut text, piece)?;
     }
-}
-
-fn number_named(table: &Table, name: &str) -> Option<u64> {
-    number_at(table, key_named(&DOCUMENT_KEYS, name)?)
-}
-
-// The numbers of a relation that does not hold; none where it holds by the table.
-fn numbers_text(
-    alloc: Global,
-    relation: Relation,
-    number: u8,
-    table: &Table,
-) -> Result<Option<String>, AllocError> {
-    let (Some(left), Some(right)) = (left_at(table, number), right_at(table, number)) else {
-        return Ok(None);
-    };
-    if relation.comparison.holds(left, right) {
-        return Ok(None);
-    }
-    let contrary = relation.comparison.contrary();
-    let (one, other) = (
-        Filled {
-            side: relation.left,
-            table,
-        },
-        Filled {
-            side: relation.right,
-            table,
-        },
-    );
-    Ok(Some(match number {
-        6 => format!(in alloc; "{one} {contrary} {other}, which is {right}")?,
-        _ => format!(in alloc; "{one} {contrary} {other}")?,
-    }))
+    Ok(text)
 }
 
 // A relation between two sides.
 fn sides_text(alloc: Global, number: u8, table: &Table) -> Result<String, AllocError> {
-    let Some(relation) = relation_of(number) else {
-        return format!(in alloc; " relation {number} does not hold\n");
+    let Some(Relation { rule, broken }) = relation_of(number) else {
+        let pieces = [
+            Words(" relation "),
+            Number(u64::from(number)),
+            Words(" does not hold\n"),
+        ];
+        return joined(alloc, &pieces);
     };
-    match numbers_text(alloc, relation, number, table)? {
-        Some(numbers) => format!(in alloc; " {relation} does not hold: {numbers}\n"),
-        None => format!(in alloc; " {relation} must hold\n"),
+    let right = right_at(table, number);
+    if !is_broken(number, left_at(table, number), right) {
+        return joined(alloc, &[Words(rule), Words(" must hold\n")]);
     }
+    let numbers = filled_text(alloc, broken, table)?;
+    let least = (number == 6).then_some(right);
+    broken_sides(alloc, rule, numbers.as_str(), least)
 }
 
-// Relation 8: each link that has a latency of its own exists.
-fn absent_link_text(alloc: Global, table: &Table) -> Result<String, AllocError> {
-    let ids = ids_of(alloc, table)?;
-    let (cores, channels) = (
-        number_at(table, Key::Cores),
-        number_at(table, Key::Channels),
-    );
-    match absent_link(&ids, cores, channels) {
-        Some((id, links)) => {
-            let last = links.saturating_sub(1);
-            format!(in alloc;
-                " link has the id {id}, and there are the links 0 to {last}: 3 for each pair of a core and a channel\n"
-            )
-        }
-        None => { format!(in alloc; " each id of link must be less than 3 * cores * channels\n") }
-    }
+// A relation that does not hold, with numbers in place of the keys, and what its right side comes to where the numbers do not show that.
+fn broken_sides<'a>(
+    alloc: Global,
+    rule: &'a str,
+    numbers: &'a str,
+    least: Option<u64>,
+) -> Result<String, AllocError> {
+    let (which, least) = match least {
+        Some(least) => (", which is ", Number(least)),
+        None => ("", Words("")),
+    };
+    let pieces = [
+        Words(rule),
+        Words(" does not hold: "),
+        Words(numbers),
+        Words(which),
+        least,
+        Words("\n"),
+    ];
+    joined(alloc, &pieces)
 }
 
-// The first id of a link that is not there, and how many links there are.
-fn absent_link(ids: &[i64], cores: Option<u64>, channels: Option<u64>) -> Option<(i64, u64)> {
-    let links = cores?.saturating_mul(channels?).saturating_mul(3);
-    let id = ids
-        .iter()
-        .copied()
-        .find(|id| u64::try_from(*id).is_ok_and(|id| id >= links))?;
-    Some((id, links))
-}
-
-// The first id that also occurs earlier.
-fn repeated(ids: &[i64]) -> Option<i64> {
-    for index in 0..ids.len() {
-        if ids[..index].contains(&ids[index]) {
-            return Some(ids[index]);
+// The first id of a link that is not there.
+fn absent_link(items: Option<&Array>, links: u64) -> Option<u64> {
+    for item in items? {
+        if let Some(id) = id_of(item) {
+            if id >= links {
+                return Some(id);
+            }
         }
     }
     None
 }
 
+// Relation 8: each link that has a latency of its own exists.
+fn absent_link_text(alloc: Global, table: &Table) -> Result<String, AllocError> {
+    let links = times_cores(table, value_at(table, "channels")).saturating_mul(3);
+    match absent_link(items_of(table), links) {
+        Some(id) => joined(
+            alloc,
+            &[
+                Words(" link has the id "),
+                Number(id),
+                Words(", and there are the links 0 to "),
+                Number(links.saturating_sub(1)),
+                Words(": 3 for each pair of a core and a channel\n"),
+            ],
+        ),
+        None => String::from_str(
+            alloc,
+            " each id of link must be less than 3 * cores * channels\n",
+        ),
+    }
+}
+
+// The first id that also occurs earlier.
+fn repeated_id(alloc: Global, items: &Array) -> Result<Option<u64>, AllocError> {
+    let mut seen: Vec<u64> = Vec::new(alloc);
+    for item in items {
+        if let Some(id) = id_of(item) {
+            if seen.contains(&id) {
+                return Ok(Some(id));
+            }
+            seen.push(id)?;
+        }
+    }
+    Ok(None)
+}
+
 // Relation 9: no two latencies are for the same link.
 fn repeated_link_text(alloc: Global, table: &Table) -> Result<String, AllocError> {
-    match repeated(&ids_of(alloc, table)?) {
-        Some(id) => format!(in alloc; " two items of link have the id {id}\n"),
-        None => format!(in alloc; " no two items of link may have the same id\n"),
+    let repeated = match items_of(table) {
+        Some(items) => repeated_id(alloc, items)?,
+        None => None,
+    };
+    match repeated {
+        Some(id) => joined(
+            alloc,
+            &[
+                Words(" two items of link have the id "),
+                Number(id),
+                Words("\n"),
+            ],
+        ),
+        None => String::from_str(alloc, " no two items of link may have the same id\n"),
     }
 }
 
 // Relation 10: if there are several ranks, an address has a field for the rank.
 fn rank_text(alloc: Global, table: &Table) -> Result<String, AllocError> {
-    const RULE: &str = "where ranks is above 1 fields must have \"rank\"";
-    let (Some(ranks), Some(fields)) = (number_at(table, Key::Ranks), table.get("fields")) else {
-        return format!(in alloc; " {RULE}\n");
+    const RULE: &str = " where ranks is above 1 fields must have \"rank\"";
+    let Some(fields) = table.get("fields") else {
+        return joined(alloc, &[Words(RULE), Words("\n")]);
     };
     let entry = entry_text(alloc, Key::Fields, fields)?;
-    format!(in alloc;
-        " {RULE}: ranks = {ranks}, {}\n",
-        Shown(entry.as_str().as_bytes())
+    joined(
+        alloc,
+        &[
+            Words(RULE),
+            Words(": ranks = "),
+            Number(value_at(table, "ranks")),
+            Words(", "),
+            Foreign(entry.as_bytes()),
+            Words("\n"),
+        ],
     )
 }
 

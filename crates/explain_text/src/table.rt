@@ -1,115 +1,180 @@
 //! What is said of a table that is refused.
 
-ghost use Rattle.std.specs.Prelude.{IfOk, string_bytes};
-ghost use Rattle.explain_text.specs.Heads.{Begins, row_head};
-
-use crate::heads::behind;
-use crate::row::{RowFlaw, TableKind};
-use crate::shown::Shown;
+use crate::pieces::Piece::{Foreign, Number, Words};
+use crate::pieces::joined;
 use csv::{ByteRecord, Reader, ReaderBuilder};
 use std::alloc::{AllocError, Global};
 
-// Reads the next record, and tells whether there was one.
-fn read_next(reader: &mut Reader<&[u8]>, record: &mut ByteRecord) -> Result<bool, AllocError> {
-    reader.read_byte_record(record).map_err(|_| AllocError)
+/// The tables that a row may stand in.
+#[derive(Clone, Copy, Debug)]
+pub enum TableKind {
+    /// A table of commands, as `commands.csv`.
+    Commands,
+    /// The statistics of a run, `stats.csv`.
+    Statistics,
 }
 
-fn open<'t>(alloc: Global, table: &'t [u8]) -> Reader<&'t [u8]> {
-    ReaderBuilder::new()
+/// A row of a table, and how many fields the header has.
+#[derive(Drop)]
+struct Row {
+    record: ByteRecord,
+    columns: usize,
+}
+
+/// The field of a row of commands that says which command it is.
+const COMMAND: usize = 2;
+
+// The row with this number, of which 0 is the header.
+fn row_at(alloc: Global, table: &[u8], row: u64) -> Result<Option<Row>, AllocError> {
+    let mut reader = ReaderBuilder::new()
         .has_headers(false)
         .flexible(true)
-        .from_reader(alloc, table)
+        .from_reader(alloc, table);
+    let mut record = ByteRecord::new(alloc);
+    let columns = read_to(&mut reader, &mut record, row)?;
+    Ok(match columns {
+        Some(columns) => Some(Row { record, columns }),
+        None => None,
+    })
 }
 
-// Reads up to a record, and tells whether there is one; the header has the number 0.
+// Reads up to a row, and returns how many fields the header has; nothing where there is no such row.
 fn read_to(
     reader: &mut Reader<&[u8]>,
     record: &mut ByteRecord,
     row: u64,
-) -> Result<bool, AllocError> {
-    for _ in 0..row {
-        if !read_next(reader, record)? {
-            return Ok(false);
+) -> Result<Option<usize>, AllocError> {
+    let mut columns = 0;
+    for number in 0..=row {
+        match reader.read_byte_record(record) {
+            Ok(true) => {}
+            Ok(false) => return Ok(None),
+            Err(_) => return Err(AllocError),
+        }
+        if number == 0 {
+            columns = record.len();
         }
     }
-    read_next(reader, record)
+    Ok(Some(columns))
 }
 
-fn record_at(alloc: Global, table: &[u8], row: u64) -> Result<Option<ByteRecord>, AllocError> {
-    let mut reader = open(alloc, table);
-    let mut record = ByteRecord::new(alloc);
-    if read_to(&mut reader, &mut record, row)? {
-        Ok(Some(record))
-    } else {
-        Ok(None)
-    }
-}
-
-// The fields of a record with commas between them.
-fn joined(alloc: Global, record: &ByteRecord) -> Result<Vec<u8>, AllocError> {
+// The fields of a record, each after a comma.
+fn fields_of(alloc: Global, record: &ByteRecord) -> Result<Vec<u8>, AllocError> {
     let mut text = Vec::new(alloc);
-    for (index, field) in record.iter().enumerate() {
-        if index > 0 {
-            text.push(b',')?;
-        }
+    for field in record.iter() {
+        text.push(b',')?;
         text.extend_from_slice(field)?;
     }
     Ok(text)
 }
 
-fn column_count(alloc: Global, table: &[u8]) -> Result<usize, AllocError> {
-    Ok(record_at(alloc, table, 0)?.map_or(0, |header| header.len()))
-}
+static COMMANDS: [&[u8]; 6] = [b"ACT", b"RD", b"WR", b"PRE", b"PREA", b"REF"];
 
-// What stands in a row, and what is wrong with it, after its number.
-fn record_text(
-    alloc: Global,
-    kind: TableKind,
-    row: u64,
-    record: &ByteRecord,
-    columns: usize,
-) -> Result<String, AllocError> {
-    let text = joined(alloc, record)?;
-    let flaw = RowFlaw::of(kind, row, record, columns);
-    format!(in alloc; ": {}\n{flaw}\n", Shown(&text))
-}
-
-// What is said of a row that is not there, after its number.
-fn absent_text(alloc: Global, kind: TableKind, row: u64) -> Result<String, AllocError> {
-    match row {
-        0 => {
-            let flaw = RowFlaw::Header(kind);
-            format!(in alloc; " is missing\n{flaw}\n")
+fn is_command(field: &[u8]) -> bool {
+    for command in &COMMANDS {
+        if *command == field {
+            return true;
         }
-        _ => String::from_str(alloc, " is missing\n"),
+    }
+    false
+}
+
+fn has_digits_only(field: &[u8]) -> bool {
+    for byte in field {
+        if !byte.is_ascii_digit() {
+            return false;
+        }
+    }
+    true
+}
+
+// The first field other than the command that is neither empty nor a number.
+fn first_that_is_no_number(record: &ByteRecord) -> Option<&[u8]> {
+    for (index, field) in record.iter().enumerate() {
+        if index != COMMAND && !has_digits_only(field) {
+            return Some(field);
+        }
+    }
+    None
+}
+
+// What the header must be.
+fn header_text(alloc: Global, kind: TableKind) -> Result<String, AllocError> {
+    String::from_str(
+        alloc,
+        match kind {
+            TableKind::Commands => {
+                "the header must be cycle,channel,command,group,bank,row,column,core,entry, with rank before group where a channel has several ranks\n"
+            }
+            TableKind::Statistics => "the header must be scope,id,name,value\n",
+        },
+    )
+}
+
+// What is wrong with a row of commands that has as many fields as the header.
+fn command_text(alloc: Global, record: &ByteRecord) -> Result<String, AllocError> {
+    let command = record.get(COMMAND).unwrap_or(b"");
+    let (word, flaw) = if !is_command(command) {
+        (
+            command,
+            "' is no command: ACT, RD, WR, PRE, PREA or REF may stand there\n",
+        )
+    } else if let Some(field) = first_that_is_no_number(record) {
+        (field, "' is no number: decimal digits may stand there\n")
+    } else {
+        return String::from_str(
+            alloc,
+            "a field is missing that the command has, or stands there that it has not, or is out of its range in the configuration\n",
+        );
+    };
+    joined(alloc, &[Words("'"), Foreign(word), Words(flaw)])
+}
+
+// What is wrong with a row below the header.
+fn flaw_text(alloc: Global, kind: TableKind, row: &Row) -> Result<String, AllocError> {
+    let fields = row.record.len();
+    if fields != row.columns {
+        return joined(
+            alloc,
+            &[
+                Words("it has "),
+                Number(fields as u64),
+                Words(" fields, and the header has "),
+                Number(row.columns as u64),
+                Words("\n"),
+            ],
+        );
+    }
+    match kind {
+        TableKind::Commands => command_text(alloc, &row.record),
+        TableKind::Statistics => String::from_str(alloc, "a run writes another record there\n"),
     }
 }
 
-fn found_text(
-    alloc: Global,
-    kind: TableKind,
-    row: u64,
-    table: &[u8],
-) -> Result<String, AllocError> {
-    let columns = column_count(alloc, table)?;
-    match record_at(alloc, table, row)? {
-        Some(record) => record_text(alloc, kind, row, &record, columns),
-        None => absent_text(alloc, kind, row),
-    }
-}
-
-/// Says what stands in a row of a table, and what is wrong with it; row 0 is the header.
+/// Says what stands in a row of a table, and what is wrong with it, after the path and the row's number; row 0 is the header.
 pub fn row_text(
     alloc: Global,
     kind: TableKind,
-    path: &str,
     row: u64,
     table: &[u8],
-) -> Result<String, AllocError>
-    ensures { IfOk result (λ s. Begins (row_head path.now row) (string_bytes s)) }
-{
-    let head = format!(in alloc; "{path}: row {row}")?;
-    let rest = found_text(alloc, kind, row, table)?;
-    let text = behind(head, rest.as_str())?;
-    Ok(text)
+) -> Result<String, AllocError> {
+    let found = row_at(alloc, table, row)?;
+    let flaw = match (row, &found) {
+        (0, _) => header_text(alloc, kind)?,
+        (_, Some(found)) => flaw_text(alloc, kind, found)?,
+        (_, None) => String::new(alloc),
+    };
+    let text = match &found {
+        Some(found) => fields_of(alloc, &found.record)?,
+        None => Vec::new(alloc),
+    };
+    joined(
+        alloc,
+        &[
+            Words(if found.is_some() { ": " } else { " is missing" }),
+            Foreign(text.get(1..).unwrap_or(b"")),
+            Words("\n"),
+            Words(flaw.as_str()),
+        ],
+    )
 }

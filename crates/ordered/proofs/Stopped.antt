@@ -43,9 +43,9 @@ told-as_memory (merging.Double index) e = cc
 told-as_memory (merging.Stranger index) e = cc
 
 -- an order that only permutes leaves out of memory alone
-pub only-memory : (may_give : ℕ → List JobView → List JobView → Type 0) (sim : SimView) (limit : ℕ) (fault : Fault) → IsWhyStopped may_give sim limit fault → OnlyPermutes may_give → fault ≡ Memory
-only-memory may_give sim limit fault (inl e) permutes = e
-only-memory may_give sim limit fault (inr why) permutes =
+pub only-memory : (may_give : ℕ → List JobView → List JobView → Type 0) (shards : ℕ) (sim : SimView) (limit : ℕ) (fault : Fault) → IsWhyStopped may_give shards sim limit fault → OnlyPermutes may_give → fault ≡ Memory
+only-memory may_give shards sim limit fault (inl e) permutes = e
+only-memory may_give shards sim limit fault (inr why) permutes =
     let phase = why.phase in
     let fit = why.blamed.misfit in
     let e : None ≡ Some why.blamed.cause = sym (whole-fits phase fit.arranged (permutes phase.number (jobs_of phase) fit.arranged fit.given)) ∙ fit.fault_is in

@@ -71,8 +71,8 @@ fn run_phases<O: Order>(
     requires not_past { sim.now ≤ stop }
     requires early { stop ≤ 10 ^ 12 }
     ensures ok { IfOk result (HasReached sim stop) }
-    ensures fitted { IfOk result (HasCome O.may_give sim stop) }
-    ensures stopped { IfErr result (IsWhyStopped O.may_give sim stop) }
+    ensures fitted { IfOk result (HasCome O.may_give shards sim stop) }
+    ensures stopped { IfErr result (IsWhyStopped O.may_give shards sim stop) }
     ensures not_memory { IfErr result (λ fault. fault ≢ Fault.Merge MergeFault.Memory) }
 {
     let mut sharded = ShardedSim::split(sim, alloc, shards)?;
@@ -102,7 +102,7 @@ pub fn run_in_order<O: Order>(
     requires not_past { sim.now ≤ limit }
     requires early { limit ≤ 10 ^ 12 }
     ensures ok { IfOk result (HasReached sim (stop_of sim limit)) }
-    ensures stopped { IfErr result (IsWhyStopped O.may_give sim limit) }
+    ensures stopped { IfErr result (IsWhyStopped O.may_give shards sim limit) }
     ensures not_memory { IfErr result (λ fault. fault ≢ Fault.Merge MergeFault.Memory) }
     ensures whole { OnlyPermutes O.may_give → IfErr result (λ fault. fault ≡ Fault.Memory) }
 {

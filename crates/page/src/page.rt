@@ -7,16 +7,18 @@ use crate::fault::PageFault;
 use crate::rows::check_rows;
 use crate::window::Window;
 use command_table::list::CommandList;
-use run_pictures::document::write_document;
+use run_pictures::document::{Run, write_document};
+use sim_base::config::Config;
 use statistics::stats::Stats;
 use std::alloc::Global;
 use std::io::{ErrorKind, Write};
 
 /// Writes the page of a run: its statistics, what its channels did over the whole run, and what they did in a window, one command
-/// after the other. The commands are taken in the order of the list, which is to be that of their cycles.
+/// after the other. The commands are taken in the order of the list, which is to be that of their cycles. Where the configuration is given,
+/// the page also has its keys with their values and the share of the cycles that refreshes take, and draws a REF for as long as it takes.
 ///
-/// The memory that the call takes grows with the channels, the banks that the run uses and the commands of the window, but not with the
-/// length of the run.
+/// The page is made in memory before it is written. It grows with the channels, the banks that the run uses and the commands of the window,
+/// but not with the length of the run.
 ///
 /// # Errors
 ///
@@ -26,6 +28,7 @@ pub fn write_page<W: Write>(
     alloc: Global,
     stats: &Stats,
     commands: &CommandList,
+    config: Option<&Config>,
     window: Window,
     writer: &mut W,
 ) -> Result<(), PageFault>
@@ -33,8 +36,14 @@ pub fn write_page<W: Write>(
     ensures refused { IfErr result (IsReason stats.now commands.now) }
 {
     check_rows(stats, commands)?;
-    let end = window.end_in(stats.cycles);
-    match write_document(alloc, stats, commands, window.from, end, writer) {
+    let run = Run {
+        stats,
+        commands,
+        config,
+        from: window.from,
+        end: window.end_in(stats.cycles),
+    };
+    match write_document(alloc, &run, writer) {
         Ok(()) => Ok(()),
         Err(error) if error.kind() == ErrorKind::OutOfMemory => Err(PageFault::Memory),
         Err(_) => Err(PageFault::Write),

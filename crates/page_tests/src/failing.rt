@@ -8,7 +8,7 @@ use std::io;
 use std::io::{ErrorKind, Write};
 use std::test::Fail;
 
-/// Takes `left` writes. Then it takes no byte, or fails.
+/// Takes `left` writes, of at most 1,000 bytes each. Then it takes no byte, or fails.
 #[derive(Drop)]
 struct Failing {
     left: u64,
@@ -19,7 +19,7 @@ impl Write for Failing {
     fn write(&mut self, buf: &[u8]) -> io::Result<usize> {
         if self.left > 0 {
             self.left -= 1;
-            return Ok(buf.len());
+            return Ok(buf.len().min(1_000));
         }
         if self.fails {
             return Err(io::Error::from(ErrorKind::BrokenPipe));
@@ -41,10 +41,10 @@ fn a_writer_that_fails_is_told(rt: HostRuntime) -> Result<(), Fail> {
         from: 0,
         cycles: 1000,
     };
-    for left in [0, 1, 2, 3, 50, 500, 2000] {
+    for left in [0, 1, 2, 5, 9] {
         for fails in [false, true] {
             let mut writer = Failing { left, fails };
-            let ended = write_page(alloc, &stats, &commands, window, &mut writer);
+            let ended = write_page(alloc, &stats, &commands, None, window, &mut writer);
             assert_eq!(rt; ended, Err(PageFault::Write), "after {left} writes");
         }
     }
@@ -53,7 +53,7 @@ fn a_writer_that_fails_is_told(rt: HostRuntime) -> Result<(), Fail> {
         fails: true,
     };
     assert_eq!(rt;
-        write_page(alloc, &stats, &commands, window, &mut writer),
+        write_page(alloc, &stats, &commands, None, window, &mut writer),
         Ok(())
     );
     Ok(())

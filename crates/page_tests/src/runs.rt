@@ -5,6 +5,7 @@ use page::fault::PageFault;
 use page::page::write_page;
 use page::window::Window;
 use sim_base::command::{Command, IssuedCommand, Source};
+use sim_base::config::Config;
 use sim_base::place::BankId;
 use statistics::channels::ChannelStats;
 use statistics::cores::CoreStats;
@@ -55,10 +56,10 @@ pub(crate) fn one_read() -> [IssuedCommand; 3] {
     [row_of(10, act), row_of(26, rd), row_of(60, pre)]
 }
 
-/// The statistics of a run of one core and one channel over `cycles` cycles.
+/// The statistics of a run of one core and one channel over `cycles` cycles, with a refresh.
 pub(crate) fn stats_of(alloc: Global, cycles: u64) -> Result<Stats, AllocError> {
     let core = CoreStats {
-        retired: 1234,
+        retired: 1235,
         reads: 1,
         replies: 1,
         read_latency: 50,
@@ -67,12 +68,14 @@ pub(crate) fn stats_of(alloc: Global, cycles: u64) -> Result<Stats, AllocError> 
         stop_window: 25,
         stop_memory: 20,
         stop_credit: 5,
+        finish: Some(799),
         ..CoreStats::new()
     };
     let channel = ChannelStats {
         act: 1,
         rd: 1,
         pre: 1,
+        refs: 1,
         queued: 40,
         queued_max: 1,
         idle: 960,
@@ -96,11 +99,12 @@ pub(crate) fn page_of(
     cycles: u64,
     rows: &[IssuedCommand],
     window: Window,
+    config: Option<&Config>,
 ) -> Result<(Vec<u8>, Result<(), PageFault>), AllocError> {
     let stats = stats_of(alloc, cycles)?;
     let list = list_of(alloc, rows)?;
     let mut text = Vec::new(alloc);
-    let ended = write_page(alloc, &stats, &list, window, &mut text);
+    let ended = write_page(alloc, &stats, &list, config, window, &mut text);
     Ok((text, ended))
 }
 
@@ -108,11 +112,11 @@ pub(crate) fn page_of(
 pub(crate) fn assert_page(
     rt: &impl Abort,
     alloc: Global,
-    (cycles, rows, window): (u64, &[IssuedCommand], Window),
+    (cycles, rows, window, config): (u64, &[IssuedCommand], Window, Option<&Config>),
     present: &[&str],
     absent: &[&str],
 ) -> Result<(), Fail> {
-    let (text, ended) = page_of(alloc, cycles, rows, window)?;
+    let (text, ended) = page_of(alloc, cycles, rows, window, config)?;
     assert_eq!(rt; ended, Ok(()));
     let page = str::from_utf8(text.as_slice())?;
     assert!(rt; page.ends_with("</html>\n"));

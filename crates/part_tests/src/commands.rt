@@ -79,26 +79,18 @@ fn table_of(
 /// The commands of two lists by cycle; of one cycle, the command of the first list comes first.
 static ALL: [IssuedCommand; 4] = [ACT, PRE, REF, RD];
 
-fn size_of_none(alloc: Global) -> (usize, bool) {
-    let none = CommandList::new(alloc);
-    (none.len(), none.is_empty())
-}
-
 /// A list has two commands, and a list with nothing none.
 fn assert_kept(rt: &impl Abort, alloc: Global, list: &CommandList) -> Result<(), AllocError> {
     let rows = list.to_vec(alloc)?;
+    let none = CommandList::new(alloc);
     expect(
         rt,
         &(
-            (list.len(), list.is_empty(), size_of_none(alloc)),
+            (list.len(), list.is_empty(), none.len(), none.is_empty()),
             (list.get(1), list.get(2)),
             rows.as_slice(),
         ),
-        &(
-            (2, false, (0, true)),
-            (Some(RD), None),
-            [ACT, RD].as_slice(),
-        ),
+        &((2, false, 0, true), (Some(RD), None), [ACT, RD].as_slice()),
     );
     Ok(())
 }

@@ -1,9 +1,10 @@
 //! Messages whose order and arrival are known from the numbers of links.
 
-use crate::expect::{expect, expect_at};
+use crate::expect::expect;
 use fixtures::small::small;
 use links::flight::Links;
 use links::latency::shortest;
+use sim_base::config::Config;
 use sim_base::message::{Cycle, LinkId, Load, Message, Unit};
 use std::alloc::{AllocError, Global};
 use std::process::Abort;
@@ -100,28 +101,39 @@ fn assert_takes(rt: &impl Abort, alloc: Global, links: &mut Links) -> Result<(),
     for (unit, until, wanted, next) in &TAKES {
         let mut inbox = Vec::new(alloc);
         links.take_due_into(*unit, *until, &mut inbox)?;
-        expect_at(
+        expect(
             rt,
-            until,
-            &(inbox.as_slice(), links.next_arrival()),
-            &(*wanted, *next),
+            &(until, inbox.as_slice(), links.next_arrival()),
+            &(until, *wanted, *next),
         );
     }
     Ok(())
 }
 
-/// Messages of one arrival come by their links; those on short links overtake those on long ones.
+/// Messages of one arrival come by their links.
+fn assert_wide(rt: &impl Abort, alloc: Global, wide: &Config) -> Result<(), AllocError> {
+    let mut links = Links::start(alloc, wide)?;
+    links.accept(&mut sent_on_all(alloc)?)?;
+    assert_by_link(rt, alloc, &mut links)
+}
+
+/// Messages on short links overtake those on long ones.
+fn assert_uneven(rt: &impl Abort, alloc: Global, uneven: &Config) -> Result<(), AllocError> {
+    let mut links = Links::start(alloc, uneven)?;
+    assert_takes(rt, alloc, &mut links)?;
+    expect(rt, &(shortest(uneven), links.is_empty()), &(1, true));
+    Ok(())
+}
+
 #[test]
 fn messages_come_in_order(rt: HostRuntime) -> Result<(), Fail> {
-    let alloc = rt.alloc();
-    let wide = small(alloc, &["cores = 64", "channels = 16"], "")?;
-    let mut links = Links::start(alloc, &wide)?;
-    links.accept(&mut sent_on_all(alloc)?)?;
-    assert_by_link(&rt, alloc, &mut links)?;
-    let uneven = small(alloc, &["cores = 2"], UNEVEN)?;
-    expect(&rt, &(shortest(&wide), shortest(&uneven)), &(2, 1));
-    let mut links = Links::start(alloc, &uneven)?;
-    assert_takes(&rt, alloc, &mut links)?;
-    expect(&rt, &links.is_empty(), &true);
-    Ok(())
+    let wide = small(rt.alloc(), &["cores = 64", "channels = 16"], "")?;
+    expect(&rt, &shortest(&wide), &2);
+    Ok(assert_wide(&rt, rt.alloc(), &wide)?)
+}
+
+#[test]
+fn messages_overtake_others(rt: HostRuntime) -> Result<(), Fail> {
+    let uneven = small(rt.alloc(), &["cores = 2"], UNEVEN)?;
+    Ok(assert_uneven(&rt, rt.alloc(), &uneven)?)
 }

@@ -35,40 +35,32 @@ static WORDS: [(u64, u64); 4] = [
     (u64::MAX - 1, u64::MAX),
 ];
 
-/// One word is less than the others.
-fn check_less(rt: &impl Abort, words: &[u64], place: usize, (less, more): (u64, u64)) {
-    let found = if place < words.len() {
-        Some(place)
-    } else {
-        None
-    };
-    expect(rt, &first_below(words, more), &found);
-    expect(rt, &first_below(words, less), &None);
-    let others = if words.is_empty() { u64::MAX } else { more };
-    let lowest = if found.is_some() { less } else { others };
-    expect(rt, &least(words), &lowest);
-}
-
-/// One word is greater than the others.
-fn check_more(rt: &impl Abort, words: &[u64], place: usize, (less, more): (u64, u64)) {
-    let first = usize::from(place == 0);
+/// Of a column whose words are `more`, but for some that are `less`, of which `first` is the first, if it is in the column.
+fn check_words(rt: &impl Abort, words: &[u64], first: usize, (less, more): (u64, u64)) {
     let found = if first < words.len() {
         Some(first)
     } else {
         None
     };
-    expect(rt, &first_below(words, more), &found);
-    let none = if words.is_empty() { u64::MAX } else { more };
-    let lowest = if found.is_some() { less } else { none };
-    expect(rt, &least(words), &lowest);
+    let others = if words.is_empty() { u64::MAX } else { more };
+    let lowest = if found.is_some() { less } else { others };
+    expect(
+        rt,
+        &(
+            first_below(words, more),
+            first_below(words, less),
+            least(words),
+        ),
+        &(found, None, lowest),
+    );
 }
 
 fn check(rt: &impl Abort, alloc: Global, len: usize, place: usize) -> Result<(), AllocError> {
     for (less, more) in &WORDS {
         let words = column(alloc, len, place, *less, *more)?;
-        check_less(rt, &words, place, (*less, *more));
+        check_words(rt, &words, place, (*less, *more));
         let words = column(alloc, len, place, *more, *less)?;
-        check_more(rt, &words, place, (*less, *more));
+        check_words(rt, &words, usize::from(place == 0), (*less, *more));
     }
     Ok(())
 }

@@ -1,3 +1,2 @@
 pub mod HeldTexts
-pub mod PageFacts
 pub mod RefusedFacts

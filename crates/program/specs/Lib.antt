@@ -1,4 +1,3 @@
-pub mod Pages
 pub mod Answered
 pub mod Refused
 pub mod Told

@@ -1,92 +1,24 @@
-//! What files hold, read as the other crates do, with a refusal that is explained by their texts.
+//! The outcome of a run, with a refusal that is explained by the texts of its files.
 
-ghost use Rattle.std.specs.Prelude.{◌≡◌, ◌≢◌, ◌+◌, ◌∷◌, length, map, Ok, Err, IfOk, IfErr};
-ghost use Rattle.command_table.specs.Tables.{IsRising};
-ghost use Rattle.config_reader.specs.Document.{document_of};
-ghost use Rattle.reports.specs.Stats.{stats_header, stats_rows};
-ghost use Rattle.rule_check.specs.Verdict.{records_of, verdict};
-ghost use Rattle.run_tables.specs.Records.{IsTableFault};
-ghost use Rattle.sim_base.specs.Values.{values_of};
-ghost use Rattle.simulation.specs.Runs.{IsJudgedLegal, IsRefusal, IsRunOf};
+ghost use Rattle.std.specs.Prelude.{◌≡◌, ◌≢◌, map, Err, IsOk, IfOk, IfErr, OnOk};
+ghost use Rattle.program.specs.Refused.{IsRunRefusal};
+ghost use Rattle.simulation.specs.Runs.{input_of, IsJudgedLegal, IsRefusal, IsRunOf};
 
 use crate::host::Host;
-use command_table::list::CommandList;
 use config_reader::read_config;
-use explain::{TableKind, of_config, of_host, of_numbers, of_table, of_traces};
+use explain::{of_config, of_host, of_numbers, of_traces};
 use refusal::reason::Reason;
-use rule_check::{Verdict, check};
-use run_tables::{read_commands, read_stats};
-use sim_base::config::Config;
 use sim_base::fault::Fault;
 use sim_base::message::Cycle;
+use simulation::input::read_input;
 use simulation::runs::simulate;
 use statistics::outcome::Outcome;
-use statistics::stats::Stats;
 use std::alloc::{AllocError, Global};
 use std::sync::Wait;
 use std::thread::Threads;
 use workers::gate::Open;
 use workers::sharing::Workers;
 use workers::watch::Watch;
-
-/// A configuration.
-pub(crate) fn configuration_of(alloc: Global, path: &str, document: &[u8]) -> Result<Config, Reason>
-    ensures ok { IfOk result (λ config. document_of document.now ≡ Ok (values_of config)) }
-    ensures refused { IfErr result (λ e. e ≢ Fault.Memory → document_of document.now ≡ Err e) }
-{
-    match read_config(alloc, document) {
-        Ok(config) => Ok(config),
-        Err(fault) => Err(Reason::explained(fault, of_config(alloc, fault, path, document))),
-    }
-}
-
-/// The verdict on a table of commands.
-pub(crate) fn verdict_of(
-    alloc: Global,
-    config: &Config,
-    path: &str,
-    table: &[u8],
-) -> Result<Verdict, Reason>
-    ensures ok { IfOk result (λ found. verdict config.now (records_of table.now) ≡ Ok found) }
-    ensures refused { IfErr result (λ e. e ≢ Fault.Memory → verdict config.now (records_of table.now) ≡ Err e) }
-{
-    match check(alloc, config, table) {
-        Ok(found) => Ok(found),
-        Err(fault) => Err(Reason::explained(
-            fault,
-            of_table(alloc, fault, TableKind::Commands, path, table),
-        )),
-    }
-}
-
-/// The statistics of a run.
-pub(crate) fn statistics_of(alloc: Global, path: &str, table: &[u8]) -> Result<Stats, Reason>
-    ensures read { IfOk result (λ stats. records_of table.now ≡ stats_header ∷ stats_rows stats) }
-    ensures fault { IfErr result IsTableFault }
-{
-    match read_stats(alloc, table) {
-        Ok(stats) => Ok(stats),
-        Err(fault) => Err(Reason::explained(
-            fault,
-            of_table(alloc, fault, TableKind::Statistics, path, table),
-        )),
-    }
-}
-
-/// The commands of a run.
-pub(crate) fn commands_of(alloc: Global, path: &str, table: &[u8]) -> Result<CommandList, Reason>
-    ensures rows { IfOk result (λ rows. length (records_of table.now) ≡ length rows + 1) }
-    ensures rising { IfOk result IsRising }
-    ensures fault { IfErr result IsTableFault }
-{
-    match read_commands(alloc, table) {
-        Ok(rows) => Ok(rows),
-        Err(fault) => Err(Reason::explained(
-            fault,
-            of_table(alloc, fault, TableKind::Commands, path, table),
-        )),
-    }
-}
 
 /// The files of a run, and what they hold.
 #[derive(Clone, Copy)]
@@ -126,8 +58,8 @@ fn explain_run(
     }
 }
 
-/// The outcome of a run.
-pub(crate) fn outcome_of<R: Threads + Wait + Sync, W: Watch>(
+// The outcome of a run whose folder is there.
+fn simulated<R: Threads + Wait + Sync, W: Watch>(
     host: &mut Host<'_, R, W>,
     alloc: Global,
     input: &Input<'_>,
@@ -152,5 +84,54 @@ pub(crate) fn outcome_of<R: Threads + Wait + Sync, W: Watch>(
             fault,
             explain_run(alloc, fault, input, cycles, workers.count),
         )),
+    }
+}
+
+// Tests the input of a run, and does not run it.
+fn test_input<R: Threads + Sync>(
+    threads: &R,
+    alloc: Global,
+    input: &Input<'_>,
+    cycles: Cycle,
+    workers: u64,
+) -> Result<(), Reason>
+    ensures right { OnOk result (IsOk (input_of input.now.document.now (map (λ t. t.now) input.now.texts.now) cycles workers)) }
+    ensures refused { IfErr result (λ e. e ≢ Fault.Memory → input_of input.now.document.now (map (λ t. t.now) input.now.texts.now) cycles workers ≡ Err e) }
+{
+    let Input {
+        document,
+        texts,
+        ..
+    } = *input;
+    match read_input(threads, alloc, document, texts, cycles, workers) {
+        Ok(_) => Ok(()),
+        Err(fault) => Err(Reason::explained(
+            fault,
+            explain_run(alloc, fault, input, cycles, workers),
+        )),
+    }
+}
+
+/// The outcome of a run. Where its folder is refused, the run is refused once its input has passed all tests, and before its first cycle.
+pub(crate) fn outcome_of<R: Threads + Wait + Sync, W: Watch>(
+    host: &mut Host<'_, R, W>,
+    alloc: Global,
+    folder: Result<(), Reason>,
+    input: &Input<'_>,
+    cycles: Cycle,
+    workers: Workers,
+) -> Result<Outcome, Reason>
+    requires folder { IfErr folder (λ e. e ≡ Fault.Write) }
+    ensures run { IfOk result (IsRunOf input.now.document.now (map (λ t. t.now) input.now.texts.now) cycles workers.count) }
+    ensures legal { IfOk result (IsJudgedLegal input.now.document.now) }
+    ensures folder { OnOk result (IsOk folder) }
+    ensures refused { IfErr result (IsRunRefusal input.now.document.now (map (λ t. t.now) input.now.texts.now) cycles workers.count) }
+{
+    match folder {
+        Ok(()) => simulated(host, alloc, input, cycles, workers),
+        Err(reason) => {
+            test_input(host.threads, alloc, input, cycles, workers.count)?;
+            Err(reason)
+        }
     }
 }

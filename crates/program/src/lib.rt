@@ -3,6 +3,6 @@
 
 mod explained;
 pub mod host;
-mod pages;
 pub mod perform;
+mod runs;
 mod shared;

@@ -84,18 +84,21 @@ fn is_page(ask: &Ask<'_>, window: (u64, u64)) -> bool {
         Ask::Page {
             dir,
             file,
+            config,
             from,
             cycles,
-        } => (*dir, *file) == ("tables", "run.html") && (*from, *cycles) == window,
+        } => (*dir, *file, *config) == ("tables", "run.html", None) && (*from, *cycles) == window,
         _ => false,
     }
 }
 
 const SHOW_ALL: &[&str] = &["dramsim", "show", "--all", "tables"];
 
-fn is_show(ask: &Ask<'_>, each: bool) -> bool {
+const SHOW_CONFIGURED: &[&str] = &["dramsim", "show", "tables", "--config", "c.toml"];
+
+fn is_show(ask: &Ask<'_>, each: bool, wanted: Option<&str>) -> bool {
     match ask {
-        Ask::Show { dir, all } => (*dir, *all) == ("tables", each),
+        Ask::Show { dir, all, config } => (*dir, *all, *config) == ("tables", each, wanted),
         _ => false,
     }
 }
@@ -107,10 +110,9 @@ fn is_help(ask: &Ask<'_>) -> bool {
     }
 }
 
-// The version; the line of the toolchain stands behind it.
 fn is_version(ask: &Ask<'_>) -> bool {
     match ask {
-        Ask::Version(text) => text.as_str().starts_with("dramsim 0.1.0\n"),
+        Ask::Version(text) => text.as_str() == "dramsim 1.0.0\n",
         _ => false,
     }
 }
@@ -124,6 +126,7 @@ enum Want {
     Map,
     Show,
     ShowAll,
+    ShowConfigured,
     Page,
     PageLater,
     Help,
@@ -136,8 +139,9 @@ fn is_right(ask: &Ask<'_>, want: Want) -> bool {
         Want::RunShared => is_run(ask, Share::Always),
         Want::Check => is_check(ask),
         Want::Map => is_map(ask),
-        Want::Show => is_show(ask, false),
-        Want::ShowAll => is_show(ask, true),
+        Want::Show => is_show(ask, false, None),
+        Want::ShowAll => is_show(ask, true, None),
+        Want::ShowConfigured => is_show(ask, false, Some("c.toml")),
         Want::Page => is_page(ask, (0, 2_000)),
         Want::PageLater => is_page(ask, (7, 40)),
         Want::Help => is_help(ask),
@@ -145,13 +149,14 @@ fn is_right(ask: &Ask<'_>, want: Want) -> bool {
     }
 }
 
-static WORDS: [(&[&str], Want); 12] = [
+static WORDS: [(&[&str], Want); 13] = [
     (RUN, Want::Run),
     (RUN_SHARED, Want::RunShared),
     (CHECK, Want::Check),
     (MAP, Want::Map),
     (SHOW, Want::Show),
     (SHOW_ALL, Want::ShowAll),
+    (SHOW_CONFIGURED, Want::ShowConfigured),
     (PAGE, Want::Page),
     (PAGE_LATER, Want::PageLater),
     (&["dramsim", "--help"], Want::Help),

@@ -112,22 +112,32 @@ const TORN: &str = "fault 12: write
 the tables are of two runs: what is missing of this one stands beside them under names that end in .part
 ";
 
-// What goes wrong after the first table has its place, and what is left then.
-static LATE: [(Case, Left<'static>); 2] = [
+// What goes wrong, what is told and opened, and what is left: the folder is not there; or a table is refused after the first has its place.
+static LATE: [(Case, &str, &str, Left<'static>); 3] = [
+    (
+        (Failure::Folder, "d"),
+        "fault 12: write\n",
+        "",
+        &[("old", "nothing"), ("old", "old"), ("old", "nothing")],
+    ),
     (
         (Failure::Renaming, "d/stats.csv"),
+        TORN,
+        ALL_OPENED,
         &[("new", "nothing"), ("old", "new"), ("old", "new")],
     ),
     (
         (Failure::Renaming, "d/final.csv"),
+        TORN,
+        ALL_OPENED,
         &[("new", "nothing"), ("new", "nothing"), ("old", "new")],
     ),
 ];
 
 #[test]
-fn tells_of_torn_tables(rt: HostRuntime) -> Result<(), Fail> {
-    for (case, left) in &LATE {
-        assert_refused(&rt, case, TORN, ALL_OPENED, left)?;
+fn tells_what_is_left(rt: HostRuntime) -> Result<(), Fail> {
+    for (case, told, opened, left) in &LATE {
+        assert_refused(&rt, case, told, opened, left)?;
     }
     Ok(())
 }

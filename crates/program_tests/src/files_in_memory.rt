@@ -13,6 +13,7 @@ use whole_files::files::FileSet;
 // What goes wrong with a file. A placing or a renaming fails by the path that the file is to have.
 #[derive(Clone, Copy, PartialEq, Eq, Debug)]
 pub(crate) enum Failure {
+    Folder,
     Opening,
     Writing,
     Closing,
@@ -114,6 +115,10 @@ impl FileSet for MemoryFiles {
 
     fn test_place(&mut self, path: &str) -> Result<(), Reason> {
         self.test(Failure::Placing, path)
+    }
+
+    fn test_folder(&self, path: &str) -> Result<(), Reason> {
+        self.test(Failure::Folder, path)
     }
 
     fn rename(&mut self, alloc: Global, from: &str, to: &str) -> Result<(), Reason> {

@@ -63,6 +63,25 @@ Usage: dramsim <COMMAND>
 For more information, try '--help'.
 ";
 
+const TURNED_WORD: &str = "fault 14: command line
+error: unrecognized subcommand 'rnu'
+
+Usage: dramsim <COMMAND>
+
+For more information, try '--help'.
+did you mean 'run'?
+";
+
+const TURNED_OPTION: &str = "fault 14: command line
+error: unexpected argument '--cylces' found
+
+  tip: a similar argument exists: '--cycles'
+
+Usage: dramsim run --cycles <N> --workers <N> --out <DIR> <CONFIG> <TRACE>...
+
+For more information, try '--help'.
+";
+
 const BAD_ADDRESS: &str = "fault 14: command line
 '8k' is no ADDRESS: a decimal number, or a hexadecimal one after 0x, at most 18446744073709551615
 ";
@@ -217,7 +236,7 @@ fn said_of<R: Threads + Wait + Sync + AllocGlobal>(rt: &R, line: &str) -> Result
 }
 
 // The places of addresses, and files that are not there.
-static LINES: [(&str, (u8, &str, &str)); 7] = [
+static LINES: [(&str, (u8, &str, &str)); 9] = [
     (
         "dramsim map c.toml 18446744073709551615",
         (0, "channel 0 group 1 bank 3 row 65535 column 127\n", ""),
@@ -228,14 +247,9 @@ static LINES: [(&str, (u8, &str, &str)); 7] = [
     ),
     ("dramsim map c.toml 8k", (2, "", BAD_ADDRESS)),
     ("dramsim runn", (2, "", NO_WORD)),
-    (
-        "dramsim --version",
-        (
-            0,
-            "dramsim 0.1.0\nrattle-kit-13f logic dac8208d650f15bf\n",
-            "",
-        ),
-    ),
+    ("dramsim rnu c.toml --cycles 9", (2, "", TURNED_WORD)),
+    ("dramsim run c.toml --cylces 9", (2, "", TURNED_OPTION)),
+    ("dramsim --version", (0, "dramsim 1.0.0\n", "")),
     ("dramsim map gone.toml 0", (2, "", "fault 13: read\n")),
     (
         "dramsim check gone.toml gone.csv",

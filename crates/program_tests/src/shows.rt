@@ -9,12 +9,12 @@ use std::test::Fail;
 const SCREEN: &str = "cycles 16
 
 Channels (1): row hits in % of rd and wr, all else in % of the cycles
-channel  rd  wr  hits %  bus %  queue mean  queue max  idle %  refresh %  drain %
-      0   1   0     0.0   25.0       0.250          1    75.0        0.0        -
+ channel     rd     wr  hits %  bus %  queue mean  queue max  idle %  refresh due %  drain %
+       0      1      0     0.0   25.0       0.250          1    75.0            0.0        -
 
-Cores (1): entries retired, reads, and why no more was issued, in % of the cycles
-core  retired  per cycle  reads  latency (cycles)  end %  width %  window %  memory %  credit %
-   0        1      0.063      1              15.0  100.0      0.0       0.0       0.0       0.0
+Cores (1): finish and latency in cycles, why no more was issued in % of the cycles
+    core  retired  per cycle  finish  by then  reads  latency    end  width  window  memory  credit
+       0        1      0.063      15    0.063      1     15.0  100.0    0.0     0.0     0.0     0.0
 ";
 
 const NO_FOLDER: &str = "fault 14: command line
@@ -40,11 +40,15 @@ static FILES: [(&str, &str); 2] = [
 ];
 
 // Words, and what the program says to them: its status, what it prints, and what it tells of errors.
-static SHOWN: [(&str, (u8, &str, &str)); 7] = [
+static SHOWN: [(&str, (u8, &str, &str)); 8] = [
     ("dramsim show out", (0, SCREEN, "")),
     ("dramsim show out --all", (0, SCREEN, "")),
     ("dramsim show --all out", (0, SCREEN, "")),
     ("dramsim show none", (2, "", "fault 13: read\n")),
+    (
+        "dramsim show out --config none.toml",
+        (2, "", "fault 13: read\n"),
+    ),
     (
         "dramsim show cut",
         (

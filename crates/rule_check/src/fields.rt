@@ -12,9 +12,9 @@ use sim_base::command::{Command, IssuedCommand, Source};
 use sim_base::config::Config;
 use sim_base::place::BankId;
 
-// The text of a field, counted from 0; the empty text where there is no such field.
+/// The text of a field, counted from 0; the empty text where there is no such field.
 #[tactic(auto, unfolding(crate::specs::Fields::text_at))]
-fn text_at(fields: &ByteRecord, k: usize) -> &[u8]
+pub fn text_at(fields: &ByteRecord, k: usize) -> &[u8]
     ensures { result.now ≡ text_at (fields_of fields.now) k }
 {
     match fields.get(k) {

@@ -4,11 +4,11 @@
 mod around;
 mod broken;
 mod channel;
-mod fields;
+pub mod fields;
 mod latest;
-mod numbers;
+pub mod numbers;
 mod past;
-mod reading;
+pub mod reading;
 mod state;
 mod table;
 mod verdict;

@@ -5,7 +5,7 @@ ghost use Rattle.std.specs.Char.{is_ascii_digit};
 ghost use Rattle.rule_check.specs.Numbers.{number_limit, capped_digit, digits_value, number_below};
 
 /// Each number of a table is below this one.
-pub(crate) const NUMBER_LIMIT: u64 = 1 << 62;
+pub const NUMBER_LIMIT: u64 = 1 << 62;
 
 // The number with one more digit; the limit stands for every number not below it.
 fn with_digit(number: u64, byte: u8) -> u64
@@ -41,9 +41,9 @@ fn digits_value(text: &[u8]) -> Option<u64>
     Some(number)
 }
 
-/// The number in a field, if it has one below a limit of at most 2^62.
+/// The number in a field, if it has one below a limit of at most 2^62. Leading zeros are allowed.
 #[tactic(auto, using(crate::proofs::Digits::capped_value_is), unfolding(crate::specs::Numbers::number_below))]
-pub(crate) fn number_below(limit: u64, text: &[u8]) -> Option<u64>
+pub fn number_below(limit: u64, text: &[u8]) -> Option<u64>
     requires { limit ≤ number_limit }
     ensures value { result ≡ number_below limit text.now }
     ensures below { IfSome result (λ n. n < limit) }
@@ -55,7 +55,7 @@ pub(crate) fn number_below(limit: u64, text: &[u8]) -> Option<u64>
 }
 
 /// The same for a limit of 32 bits.
-pub(crate) fn small_number(limit: u32, text: &[u8]) -> Option<u32>
+pub fn small_number(limit: u32, text: &[u8]) -> Option<u32>
     ensures value { result ≡ number_below limit text.now }
     ensures below { IfSome result (λ n. n < limit) }
 {

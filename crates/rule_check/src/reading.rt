@@ -10,7 +10,7 @@ use sim_base::fault::Fault;
 use std::alloc::Global;
 
 /// A reader of a table, before its first record.
-pub(crate) fn open<'t>(alloc: Global, table: &'t [u8]) -> Reader<&'t [u8]>
+pub fn open<'t>(alloc: Global, table: &'t [u8]) -> Reader<&'t [u8]>
     ensures reading { IsReading result }
     ensures left { left_of result ≡ records_of table.now }
 {
@@ -21,7 +21,7 @@ pub(crate) fn open<'t>(alloc: Global, table: &'t [u8]) -> Reader<&'t [u8]>
 }
 
 /// Reads the next record, and tells whether there was one. The only error is out of memory.
-pub(crate) fn read_next(reader: &mut Reader<&[u8]>, row: &mut ByteRecord) -> Result<bool, Fault>
+pub fn read_next(reader: &mut Reader<&[u8]>, row: &mut ByteRecord) -> Result<bool, Fault>
     requires { IsReading reader.old }
     ensures takes { IfOk result (λ found. Takes reader.old found (fields_of row.new) reader.new) }
     ensures fault { IfErr result (λ e. e ≡ Fault.Memory) }

@@ -1,8 +1,11 @@
-//! What each channel did over the run, in steps of equal length; the last may be shorter.
+//! What each channel did: over the run in steps of equal length, the last of which may be shorter, and in the window of the timeline.
 
+ghost use Rattle.std.specs.Prelude.{◌<◌};
+
+use crate::lanes::Lane;
 use command_table::list::CommandList;
-use drawing::numbers::share_of;
-use sim_base::command::{Command, IssuedCommand, Kind, Source};
+use drawing::scales::share_of;
+use sim_base::command::{Command, IssuedCommand, Kind};
 use sim_base::place::BankId;
 use statistics::stats::Stats;
 use std::alloc::{AllocError, Global};
@@ -13,258 +16,217 @@ const STEPS: u64 = 200;
 /// Cycles that the data of a RD or a WR take on the data bus.
 pub(crate) const BURST: u64 = 4;
 
-/// What a channel did in a step: cycles, commands by kind, row hits, and the banks that were open after the step's last command.
-#[derive(Clone, Copy, Default)]
-pub(crate) struct Step {
-    pub(crate) cycles: u64,
-    act: u64,
-    rd: u64,
-    wr: u64,
-    pre: u64,
-    refs: u64,
-    hits: u64,
-    pub(crate) open: Option<u64>,
+/// The cycles of the timeline, from one up to, but not including, another.
+#[derive(Clone, Copy)]
+pub struct Span {
+    pub from: u64,
+    pub end: u64,
 }
 
-/// The commands that a plot stacks, from below: each with those before it.
+/// What a channel did in a step.
 #[derive(Clone, Copy)]
-pub(crate) enum Stacked {
-    Reads,
-    Writes,
-    Activations,
-    Precharges,
-    All,
+pub(crate) struct Step {
+    cycles: u64,
+    /// Commands by their place in a plot, from below, each with those below it: RD, WR, ACT, PRE and PREA, REF.
+    stacked: [u64; 5],
+    hits: u64,
+    /// Banks with an open row after the last command of the step.
+    open: Option<u64>,
+}
+
+/// A value of a step.
+#[derive(Clone, Copy)]
+pub(crate) enum Value {
+    /// The cycles of data on the bus, in tenths of a percent.
+    BusUse,
+    /// The RDs and WRs that hit an open row, in tenths of a percent of them.
+    Hits,
+    /// The cycles with a command of this place or one below it, in tenths of a percent.
+    Stacked(usize),
+    /// The open banks.
+    OpenBanks,
+}
+
+/// The place of a kind of command in a plot, from below.
+fn place_of(kind: Kind) -> usize
+    ensures { result < 5 }
+{
+    match kind {
+        Kind::Rd => 0,
+        Kind::Wr => 1,
+        Kind::Act => 2,
+        Kind::Pre | Kind::Prea => 3,
+        Kind::Ref => 4,
+    }
 }
 
 impl Step {
-    // Counts a command.
-    fn count(&mut self, kind: Kind, hit: bool) {
-        match kind {
-            Kind::Act => self.act = self.act.saturating_add(1),
-            Kind::Rd => self.rd = self.rd.saturating_add(1),
-            Kind::Wr => self.wr = self.wr.saturating_add(1),
-            Kind::Pre | Kind::Prea => self.pre = self.pre.saturating_add(1),
-            Kind::Ref => self.refs = self.refs.saturating_add(1),
+    // Counts a command, after which so many banks are open.
+    fn count(&mut self, kind: Kind, hit: bool, open: u64) {
+        for count in self.stacked[place_of(kind)..].iter_mut() {
+            *count = count.saturating_add(1);
         }
         if hit {
             self.hits = self.hits.saturating_add(1);
         }
+        self.open = Some(open);
     }
 
-    // RDs and WRs.
-    fn accesses(&self) -> u64 {
-        self.rd.saturating_add(self.wr)
-    }
-
-    /// The cycles of data on the bus, in tenths of a percent.
-    pub(crate) fn bus_use(&self) -> Option<u64> {
-        let cycles = BURST.saturating_mul(self.accesses());
-        Some(share_of(u128::from(cycles), self.cycles, 1000))
-    }
-
-    /// The RDs and WRs that hit an open row, in tenths of a percent, if there is a RD or a WR.
-    pub(crate) fn hit_share(&self) -> Option<u64> {
-        match self.accesses() {
-            0 => None,
-            accesses => Some(share_of(u128::from(self.hits), accesses, 1000)),
+    /// A value of the step, if it has one: without a RD or a WR there is no share of hits.
+    pub(crate) fn value(&self, value: Value) -> Option<u64> {
+        let accesses = self.stacked[1];
+        match value {
+            Value::BusUse => {
+                let cycles = BURST.saturating_mul(accesses);
+                Some(share_of(u128::from(cycles), self.cycles, 1000))
+            }
+            Value::Hits if accesses == 0 => None,
+            Value::Hits => Some(share_of(u128::from(self.hits), accesses, 1000)),
+            Value::Stacked(place) => {
+                let commands = self.stacked.get(place).copied().unwrap_or(0);
+                Some(share_of(u128::from(commands), self.cycles, 1000))
+            }
+            Value::OpenBanks => self.open,
         }
-    }
-
-    // How many commands of this kind and of those stacked below it there were.
-    fn stacked(&self, upto: Stacked) -> u64 {
-        let reads = self.rd;
-        let writes = reads.saturating_add(self.wr);
-        let activations = writes.saturating_add(self.act);
-        let precharges = activations.saturating_add(self.pre);
-        match upto {
-            Stacked::Reads => reads,
-            Stacked::Writes => writes,
-            Stacked::Activations => activations,
-            Stacked::Precharges => precharges,
-            Stacked::All => precharges.saturating_add(self.refs),
-        }
-    }
-
-    /// The cycles of these commands, in tenths of a percent.
-    pub(crate) fn stacked_share(&self, upto: Stacked) -> Option<u64> {
-        let commands = self.stacked(upto);
-        Some(share_of(u128::from(commands), self.cycles, 1000))
     }
 }
 
-/// A bank, as the commands so far leave it.
-#[derive(Clone, Copy)]
-pub(crate) struct Bank {
-    pub(crate) id: BankId,
-    open: bool,
-    /// The request in whose name its last ACT was issued.
-    opened_by: Option<Source>,
-}
-
-/// What a channel did, step by step, and the banks that its commands name.
+/// What a channel did, step by step, its banks, and its commands in the window.
 #[derive(Drop)]
-pub(crate) struct ChannelActivity {
+pub(crate) struct Channel {
     pub(crate) steps: Vec<Step>,
-    pub(crate) banks: Vec<Bank>,
+    /// The banks that its commands name, by rank, group and bank.
+    pub(crate) lanes: Vec<Lane>,
+    pub(crate) shown: Vec<IssuedCommand>,
 }
 
-impl ChannelActivity {
-    // The place of a bank, which joins the others where it is new.
-    fn place_of(&mut self, id: BankId) -> Result<usize, AllocError> {
-        if let Some(place) = self.banks.iter().position(|bank| bank.id == id) {
-            return Ok(place);
-        }
-        let place = self.banks.len();
-        self.banks.push(Bank {
-            id,
-            open: false,
-            opened_by: None,
-        })?;
-        Ok(place)
-    }
-
-    // Notes an ACT.
-    fn open_bank(&mut self, id: BankId, source: Source) -> Result<(), AllocError> {
-        let place = self.place_of(id)?;
-        if let Some(bank) = self.banks.get_mut(place) {
-            bank.open = true;
-            bank.opened_by = Some(source);
-        }
-        Ok(())
-    }
-
-    // Notes a PRE.
-    fn close_bank(&mut self, id: BankId) -> Result<(), AllocError> {
-        let place = self.place_of(id)?;
-        if let Some(bank) = self.banks.get_mut(place) {
-            bank.open = false;
-        }
-        Ok(())
-    }
-
-    // Notes a PREA.
-    fn close_rank(&mut self, rank: u32) {
-        for bank in self.banks.iter_mut() {
-            if bank.id.rank == rank {
-                bank.open = false;
+impl Channel {
+    // A channel without commands, in a run of `cycles` cycles.
+    fn idle(alloc: Global, cycles: u64, step: u64) -> Result<Channel, AllocError> {
+        let mut steps = Vec::new(alloc);
+        let mut left = cycles;
+        for _ in 0..STEPS {
+            if left > 0 {
+                let cycles = step.min(left);
+                steps.push(Step {
+                    cycles,
+                    stacked: [0; 5],
+                    hits: 0,
+                    open: None,
+                })?;
+                left -= cycles;
             }
         }
+        let lanes = Vec::new(alloc);
+        let shown = Vec::new(alloc);
+        Ok(Channel {
+            steps,
+            lanes,
+            shown,
+        })
     }
 
-    // Whether a RD or a WR hits a row that was opened in another's name.
-    fn is_hit(&mut self, id: BankId, source: Source) -> Result<bool, AllocError> {
-        let place = self.place_of(id)?;
-        match self.banks.get(place) {
-            Some(bank) => Ok(bank.opened_by != Some(source)),
-            None => Ok(false),
-        }
-    }
-
-    // Notes a command in the banks. Returns whether it is a row hit.
-    fn note(&mut self, command: Command) -> Result<bool, AllocError> {
-        match command {
-            Command::Act { bank, source, .. } => self.open_bank(bank, source)?,
-            Command::Rd { bank, source, .. } | Command::Wr { bank, source, .. } => {
-                return self.is_hit(bank, source);
+    // Whether a command is a row hit: a RD or a WR of a row that was opened in another's name. A bank that is new joins the lanes, as
+    // the first one of a rank does of whose banks there is none.
+    fn is_hit(&mut self, command: Command) -> Result<bool, AllocError> {
+        for lane in &self.lanes {
+            if lane.is_named_by(command) {
+                return Ok(command.is_column() && lane.opened_by != command.source());
             }
-            Command::Pre { bank, .. } => self.close_bank(bank)?,
-            Command::Prea { rank } => self.close_rank(rank),
-            Command::Ref { .. } => {}
         }
-        Ok(false)
+        let first = BankId {
+            rank: command.rank(),
+            group: 0,
+            bank: 0,
+        };
+        self.lanes.push(Lane::new(command.bank().unwrap_or(first)))?;
+        Ok(command.is_column())
     }
 
-    // Adds a command to its step.
-    fn add(&mut self, step: usize, command: Command) -> Result<(), AllocError> {
-        let hit = self.note(command)?;
-        let open = self.banks.iter().filter(|bank| bank.open).count();
+    // Follows a command in each lane. Gives how many banks are open after it.
+    fn follow(&mut self, row: &IssuedCommand, from: u64) -> u64 {
+        let mut open = 0u64;
+        for lane in self.lanes.iter_mut() {
+            let _closed = lane.follow(row);
+            if row.cycle < from {
+                lane.before = lane.state;
+            }
+            if lane.state.open.is_some() {
+                open = open.saturating_add(1);
+            }
+        }
+        open
+    }
+
+    // Adds a command to its step, and to the window if it lies there.
+    fn add(&mut self, step: usize, row: &IssuedCommand, span: Span) -> Result<(), AllocError> {
+        let hit = self.is_hit(row.command)?;
+        let open = self.follow(row, span.from);
         if let Some(step) = self.steps.get_mut(step) {
-            step.count(command.kind(), hit);
-            step.open = Some(open as u64);
+            step.count(row.command.kind(), hit, open);
+        }
+        if span.from <= row.cycle && row.cycle < span.end {
+            self.shown.push(*row)?;
         }
         Ok(())
     }
 
-    // Puts the banks in order: by rank, group and bank.
-    fn sort_banks(&mut self) -> Result<(), AllocError> {
-        self.banks
-            .sort_by_key(|bank| (bank.id.rank, bank.id.group, bank.id.bank))
+    // Puts the banks in order, and gives each step without a command the open banks of the one before it.
+    fn finish(&mut self) -> Result<(), AllocError> {
+        let mut open = 0;
+        for step in self.steps.iter_mut() {
+            open = step.open.unwrap_or(open);
+            step.open = Some(open);
+        }
+        self.lanes
+            .sort_by_key(|lane| (lane.id.rank, lane.id.group, lane.id.bank))
     }
 }
 
-/// What the channels did in the steps of a run.
+/// What the channels did.
 #[derive(Drop)]
 pub(crate) struct Activity {
+    pub(crate) cycles: u64,
     /// Cycles of a step; the last may be shorter.
     pub(crate) step: u64,
-    pub(crate) channels: Vec<ChannelActivity>,
-}
-
-// The steps of a run, with nothing in them.
-fn empty_steps(alloc: Global, cycles: u64, step: u64) -> Result<Vec<Step>, AllocError> {
-    let mut steps = Vec::new(alloc);
-    let mut left = cycles;
-    for _ in 0..STEPS {
-        if left > 0 {
-            let cycles = step.min(left);
-            steps.push(Step {
-                cycles,
-                ..Step::default()
-            })?;
-            left -= cycles;
-        }
-    }
-    Ok(steps)
-}
-
-// Channels without commands.
-fn empty_channels(
-    alloc: Global,
-    stats: &Stats,
-    step: u64,
-) -> Result<Vec<ChannelActivity>, AllocError> {
-    let mut channels = Vec::new(alloc);
-    for _ in 0..stats.channels.len() {
-        let steps = empty_steps(alloc, stats.cycles, step)?;
-        let banks = Vec::new(alloc);
-        channels.push(ChannelActivity { steps, banks })?;
-    }
-    Ok(channels)
+    pub(crate) channels: Vec<Channel>,
 }
 
 impl Activity {
-    // Adds a command to its channel.
-    fn add(&mut self, row: IssuedCommand) -> Result<(), AllocError> {
-        let step = row.cycle / self.step.max(1);
-        match self.channels.get_mut(row.channel as usize) {
-            Some(channel) => channel.add(step as usize, row.command),
-            None => Ok(()),
+    /// The channels of a run, without commands.
+    pub(crate) fn idle(alloc: Global, stats: &Stats) -> Result<Activity, AllocError> {
+        let cycles = stats.cycles;
+        let step = cycles.div_ceil(STEPS);
+        let mut channels = Vec::new(alloc);
+        for _ in 0..stats.channels.len() {
+            channels.push(Channel::idle(alloc, cycles, step)?)?;
         }
+        Ok(Activity {
+            cycles,
+            step,
+            channels,
+        })
     }
 
-    // Adds each command.
-    fn add_all(&mut self, commands: &CommandList) -> Result<(), AllocError> {
+    // Adds each command to its channel.
+    fn add_all(&mut self, commands: &CommandList, span: Span) -> Result<(), AllocError> {
         for place in 0..commands.len() {
-            if let Some(row) = commands.get(place) {
-                self.add(row)?;
+            if let Some(row) = commands.get(place)
+                && let Some(channel) = self.channels.get_mut(row.channel as usize)
+            {
+                let step = row.cycle / self.step.max(1);
+                channel.add(step as usize, &row, span)?;
             }
         }
         Ok(())
     }
 
-    /// What the channels did by these commands.
-    pub(crate) fn of_run(
-        alloc: Global,
-        stats: &Stats,
-        commands: &CommandList,
-    ) -> Result<Activity, AllocError> {
-        let step = stats.cycles.div_ceil(STEPS);
-        let channels = empty_channels(alloc, stats, step)?;
-        let mut activity = Activity { step, channels };
-        activity.add_all(commands)?;
-        for channel in activity.channels.iter_mut() {
-            channel.sort_banks()?;
+    /// Adds the commands of the run.
+    pub(crate) fn add_run(&mut self, commands: &CommandList, span: Span) -> Result<(), AllocError> {
+        self.add_all(commands, span)?;
+        for channel in self.channels.iter_mut() {
+            channel.finish()?;
         }
-        Ok(activity)
+        Ok(())
     }
 }

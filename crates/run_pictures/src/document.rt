@@ -1,169 +1,196 @@
 //! A run as one HTML document.
 
-use crate::activity::Activity;
-use crate::overview::write_overview;
-use crate::stops::write_stops;
-use crate::strips::{write_legend, write_timeline};
+use crate::activity::{Activity, Channel, Span};
+use crate::overview::put_overview;
+use crate::settings::put_settings;
+use crate::stops::put_stops;
+use crate::strips::{LEGEND, put_timeline};
 use crate::style::STYLE;
-use crate::tables::{write_channels, write_cores};
-use crate::timeline::timelines_of;
+use crate::tables::{put_channels, put_core_summary, put_cores};
 use command_table::list::CommandList;
-use drawing::numbers::Grouped;
+use drawing::markup::{Piece, put, put_legend};
+use sim_base::config::Config;
+use statistics::cores::CoreStats;
 use statistics::stats::Stats;
-use std::alloc::Global;
-use std::fmt;
+use std::alloc::{AllocError, Global};
 use std::io::{self, Write};
 
-// A count, and the word for what is counted.
+/// More cores than this have a summary, with their table and their bars folded.
+const MOST_CORES: usize = 16;
+
+/// What a document shows: a run, its configuration if that is given, and the window of its timeline, which is from a cycle up to, but not
+/// including, another. The commands are taken in the order of the list.
 #[derive(Clone, Copy)]
-struct Counted {
-    count: u64,
-    word: &'static str,
+pub struct Run<'a> {
+    pub stats: &'a Stats,
+    pub commands: &'a CommandList,
+    pub config: Option<&'a Config>,
+    pub from: u64,
+    pub end: u64,
 }
 
-impl fmt::Display for Counted {
-    fn fmt<W: fmt::Write>(&self, f: &mut fmt::Formatter<W>) -> fmt::Result {
-        let number = Grouped(self.count);
-        let ending = if self.count == 1 { "" } else { "s" };
-        write!(f, "<b>{number}</b> {}{ending}", self.word)
+/// What the head counts, and the markup before it.
+static COUNTED: [(&str, &str); 4] = [
+    ("<b>", "</b> cycle"),
+    (", <b>", "</b> core"),
+    (", <b>", "</b> channel"),
+    (", <b>", "</b> command"),
+];
+
+fn plural_of(count: u64) -> &'static str {
+    match count {
+        1 => "",
+        _ => "s",
     }
 }
 
-// The head, with what was run.
-fn write_head<W: Write>(stats: &Stats, commands: &CommandList, writer: &mut W) -> io::Result<()> {
-    writer.write_all(HEAD.as_bytes())?;
-    writer.write_all(STYLE.as_bytes())?;
-    writer.write_all(BODY.as_bytes())?;
-    let cycles = Counted {
-        count: stats.cycles,
-        word: "cycle",
-    };
-    let cores = Counted {
-        count: stats.cores.len() as u64,
-        word: "core",
-    };
-    let channels = Counted {
-        count: stats.channels.len() as u64,
-        word: "channel",
-    };
-    let commands = Counted {
-        count: commands.len() as u64,
-        word: "command",
-    };
-    writeln!(
-        writer,
-        "<p class=\"run\">{cycles}, {cores}, {channels}, {commands}</p>"
-    )
-}
-
-// The tables, and why the cores stopped issuing.
-fn write_counts<W: Write>(stats: &Stats, writer: &mut W) -> io::Result<()> {
-    writeln!(writer, "<h2 id=\"channels\">Channels</h2>")?;
-    write_channels(stats, writer)?;
-    writeln!(writer, "<h2 id=\"cores\">Cores</h2>")?;
-    if stats.cores.len() > 16 {
-        writeln!(writer, "<details><summary>table of the cores</summary>")?;
-        write_cores(stats, writer)?;
-        writeln!(writer, "</details>")?;
-    } else {
-        write_cores(stats, writer)?;
+// The head, with what was run: how many cycles, cores, channels and commands.
+fn put_head(counts: [u64; 4], out: &mut String) -> Result<(), AllocError> {
+    let pieces = [Piece::Text(HEAD), Piece::Text(STYLE), Piece::Text(BODY)];
+    put(&pieces, out)?;
+    for (count, (before, word)) in counts.iter().zip(&COUNTED) {
+        let pieces = [
+            Piece::Text(*before),
+            Piece::Grouped(*count),
+            Piece::Text(*word),
+            Piece::Text(plural_of(*count)),
+        ];
+        put(&pieces, out)?;
     }
-    writeln!(
-        writer,
-        "<h3>Why each core stopped issuing</h3><p>Each cycle counts for one reason.</p>"
-    )?;
-    write_stops(stats, writer)
+    out.push_str("</p>\n")
 }
 
-// The plots of the whole run.
-fn write_steps<W: Write>(
+// The cores: where there are many, a summary with all else folded.
+fn put_all_cores(
     alloc: Global,
     cycles: u64,
-    activity: &Activity,
-    writer: &mut W,
-) -> io::Result<()> {
-    let step = Grouped(activity.step);
-    writeln!(
-        writer,
-        "<h2 id=\"steps\">The run in steps of {step} cycles</h2>"
-    )?;
-    write_overview(alloc, cycles, activity, writer)
+    cores: &[CoreStats],
+    out: &mut String,
+) -> Result<(), AllocError> {
+    out.push_str("<h2 id=\"cores\">Cores</h2>\n")?;
+    if cores.len() <= MOST_CORES {
+        put_cores(cycles, cores, out)?;
+        return put_stops(cycles, cores, out);
+    }
+    put_core_summary(alloc, cycles, cores, out)?;
+    out.push_str("<details><summary>each core</summary>\n")?;
+    put_cores(cycles, cores, out)?;
+    put_stops(cycles, cores, out)?;
+    out.push_str("</details>\n")
 }
 
-// The timeline of a window, from a cycle up to, but not including, another.
-fn write_window<W: Write>(
-    alloc: Global,
-    activity: &Activity,
-    commands: &CommandList,
-    from: u64,
-    end: u64,
-    writer: &mut W,
-) -> io::Result<()> {
-    let first = Grouped(from);
-    let behind = Grouped(end);
-    if end <= from {
-        writeln!(
-            writer,
-            "<h2 id=\"timeline\">Timeline</h2><p>The run has no cycle from {first} on in the window.</p>"
-        )?;
-        return Ok(());
+// The begin of the timeline of a window, or that the run has no cycle there.
+fn put_window_head(span: Span, out: &mut String) -> Result<(), AllocError> {
+    let first = Piece::Grouped(span.from);
+    if span.end <= span.from {
+        let pieces = [
+            Piece::Text("<h2 id=\"timeline\">Timeline</h2><p>The run has no cycle from "),
+            first,
+            Piece::Text(" on in the window.</p>\n"),
+        ];
+        return put(&pieces, out);
     }
-    writeln!(
-        writer,
-        "<h2 id=\"timeline\">Timeline from cycle {first} to before {behind}</h2>"
-    )?;
-    writer.write_all(TIMELINE.as_bytes())?;
-    write_legend(writer)?;
-    let mut channels = timelines_of(alloc, from, end, activity, commands)?;
-    for (id, channel) in channels.iter_mut().enumerate() {
-        write_timeline(id, from, end, channel, writer)?;
+    let pieces = [
+        Piece::Text("<h2 id=\"timeline\">Timeline from cycle "),
+        first,
+        Piece::Text(" to before "),
+        Piece::Grouped(span.end),
+        Piece::Text("</h2>\n"),
+        Piece::Text(TIMELINE),
+    ];
+    put(&pieces, out)?;
+    put_legend(&LEGEND, out)
+}
+
+// What the channels did in the window.
+fn put_window(
+    span: Span,
+    refresh: u64,
+    channels: &mut [Channel],
+    out: &mut String,
+) -> Result<(), AllocError> {
+    put_window_head(span, out)?;
+    if span.from < span.end {
+        for (id, channel) in channels.iter_mut().enumerate() {
+            put_timeline(id as u64, span, refresh, channel, out)?;
+        }
     }
     Ok(())
 }
 
-// What the page shows of a run of some cycles.
-fn write_pictures<W: Write>(
-    alloc: Global,
-    stats: &Stats,
+// What the channels did: `activity` is that of the run without commands.
+fn put_activity(
+    activity: &mut Activity,
     commands: &CommandList,
-    from: u64,
-    end: u64,
-    writer: &mut W,
-) -> io::Result<()> {
-    if commands.is_empty() {
-        write_counts(stats, writer)?;
-        writeln!(writer, "<p>No command was issued.</p>")?;
-        return Ok(());
-    }
-    writer.write_all(CONTENTS.as_bytes())?;
-    write_counts(stats, writer)?;
-    let activity = Activity::of_run(alloc, stats, commands)?;
-    write_steps(alloc, stats.cycles, &activity, writer)?;
-    write_window(alloc, &activity, commands, from, end, writer)
+    span: Span,
+    refresh: u64,
+    out: &mut String,
+) -> Result<(), AllocError> {
+    activity.add_run(commands, span)?;
+    put_overview(activity, out)?;
+    put_window(span, refresh, &mut activity.channels, out)
 }
 
-/// Writes a run as one HTML document: its statistics, what its channels did over the whole run, and what they did from a cycle up to, but
-/// not including, `end`, one command after the other. The commands are taken in the order of the list.
+// Where a page with commands leads to.
+fn contents_of(commands: &CommandList) -> &'static str {
+    if commands.is_empty() { "" } else { CONTENTS }
+}
+
+// The tables, and what the channels did if there are commands. A REF is drawn for as long as it takes, or for a cycle if that is not known.
+fn put_run(alloc: Global, run: &Run<'_>, out: &mut String) -> Result<(), AllocError> {
+    let stats = run.stats;
+    let refresh = match run.config {
+        Some(config) => Some(u64::from(config.timing.n_rfc)),
+        None => None,
+    };
+    let span = Span {
+        from: run.from,
+        end: run.end,
+    };
+    out.push_str(contents_of(run.commands))?;
+    put_channels(stats.cycles, &stats.channels, refresh, out)?;
+    put_all_cores(alloc, stats.cycles, &stats.cores, out)?;
+    if run.commands.is_empty() {
+        return out.push_str("<p>No command was issued.</p>\n");
+    }
+    let mut activity = Activity::idle(alloc, stats)?;
+    put_activity(&mut activity, run.commands, span, refresh.unwrap_or(1), out)
+}
+
+// The configuration, if it is given.
+fn put_config(config: Option<&Config>, out: &mut String) -> Result<(), AllocError> {
+    match config {
+        Some(config) => put_settings(config, out),
+        None => Ok(()),
+    }
+}
+
+// All of the document.
+fn put_document(alloc: Global, run: &Run<'_>, out: &mut String) -> Result<(), AllocError> {
+    let stats = run.stats;
+    let cores = stats.cores.len() as u64;
+    let channels = stats.channels.len() as u64;
+    let counts = [stats.cycles, cores, channels, run.commands.len() as u64];
+    put_head(counts, out)?;
+    put_config(run.config, out)?;
+    if stats.cycles == 0 {
+        out.push_str("<p>The run has no cycles.</p>\n")?;
+    } else {
+        put_run(alloc, run, out)?;
+    }
+    out.push_str(TAIL)
+}
+
+/// Writes a run as one HTML document: its statistics, what its channels did over the whole run, and what they did in the window, one
+/// command after the other.
 ///
 /// # Errors
 ///
 /// An error of `OutOfMemory` where memory is refused, and the writer's error where it fails.
-pub fn write_document<W: Write>(
-    alloc: Global,
-    stats: &Stats,
-    commands: &CommandList,
-    from: u64,
-    end: u64,
-    writer: &mut W,
-) -> io::Result<()> {
-    write_head(stats, commands, writer)?;
-    if stats.cycles == 0 {
-        writeln!(writer, "<p>The run has no cycles.</p>")?;
-    } else {
-        write_pictures(alloc, stats, commands, from, end, writer)?;
-    }
-    writer.write_all(TAIL.as_bytes())?;
-    Ok(())
+pub fn write_document<W: Write>(alloc: Global, run: &Run<'_>, writer: &mut W) -> io::Result<()> {
+    let mut text = String::new(alloc);
+    put_document(alloc, run, &mut text)?;
+    writer.write_all(text.as_bytes())
 }
 
 const HEAD: &str = r#"<!DOCTYPE html>
@@ -180,14 +207,14 @@ const BODY: &str = r#"</style>
 <body>
 <main>
 <h1>dramsim run</h1>
-"#;
+<p class="run">"#;
 
 const CONTENTS: &str =
     r##"<nav><a href="#channels">Channels</a><a href="#cores">Cores</a><a href="#steps">Whole run</a><a href="#timeline">Timeline</a></nav>
 "##;
 
 const TIMELINE: &str =
-    r#"<p>A lane for each bank that the run uses (r rank, g group, b bank), with a box for each command in its cycle; PREA and REF span the banks of their rank. The tooltip of a box has the command's fields. On the data bus each RD and WR takes four cycles, drawn from its command's cycle on: the tables do not have the latency (nCL, nCWL) after which data move.</p>
+    r#"<p>A lane for each bank that the run uses (r rank, g group, b bank), with a box for each command in its cycle; PREA and REF are in each lane of their rank, and a REF has a box of one cycle unless the configuration is given, which says how many it takes (nRFC). The tooltip of a box has the command's fields. On the data bus each RD and WR takes four cycles, drawn from its command's cycle on: the tables do not have the latency (nCL, nCWL) after which data move.</p>
 "#;
 
 const TAIL: &str = "</main>\n</body>\n</html>\n";

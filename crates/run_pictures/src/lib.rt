@@ -1,13 +1,13 @@
-//! The tables and the pictures of a run as HTML: its counts, plots over its cycles, stops of its cores and a timeline, and the document
-//! that has them all. Whether the commands are those of the run is not checked here; `page` does that.
+//! Pictures of a run: what its page shows, without a test whether the commands are those of the run.
 #![tactic(auto)]
 
 mod activity;
+mod cells;
 pub mod document;
-mod kinds;
+mod lanes;
 mod overview;
+mod settings;
 mod stops;
 mod strips;
 mod style;
 mod tables;
-mod timeline;

@@ -1,291 +1,333 @@
-//! The whole run in steps: a plot of each measure for each channel.
+//! The whole run in steps: a plot of each measure for each channel. A picture's units are the run's cycles and the values of its axis.
 
-use crate::activity::{Activity, ChannelActivity, Stacked, Step};
-use drawing::plots::{Axes, Form, Plot, Series};
+use crate::activity::{Activity, Channel, Step, Value};
+use drawing::axes::{Quantity, put_cycle_ticks, put_value_ticks};
+use drawing::markup::{LegendEntry, Piece, put, put_legend};
 use drawing::scales::axis_end;
-use drawing::shapes::LegendEntry;
-use std::alloc::{AllocError, Global};
-use std::io::{self, Write};
+use std::alloc::AllocError;
 
-/// A hundred percent, in tenths.
-const ALL: u64 = 1000;
-
-fn write_plot<W: Write>(
-    id: usize,
-    quantity: &str,
-    axes: Axes,
-    series: &[Series],
-    writer: &mut W,
-) -> io::Result<()> {
-    let plot = Plot {
-        name: "channel",
-        number: id as u64,
-        quantity,
-        axes,
-        series,
-    };
-    writeln!(writer, "{plot}")?;
-    Ok(())
-}
-
-fn write_bus_use<W: Write>(
-    alloc: Global,
-    id: usize,
-    axes: Axes,
-    channel: &ChannelActivity,
-    writer: &mut W,
-) -> io::Result<()> {
-    let values: Vec<Option<u64>> = channel
-        .steps
-        .iter()
-        .map(|step| step.bus_use())
-        .collect(alloc)?;
-    let series = [
-        Series {
-            class: "bus pale",
-            form: Form::Area,
-            values: &values,
-        },
-        Series {
-            class: "bus",
-            form: Form::Line,
-            values: &values,
-        },
-    ];
-    write_plot(id, "data bus (% of cycles)", axes, &series, writer)
-}
-
-fn write_hits<W: Write>(
-    alloc: Global,
-    id: usize,
-    axes: Axes,
-    channel: &ChannelActivity,
-    writer: &mut W,
-) -> io::Result<()> {
-    let values: Vec<Option<u64>> = channel
-        .steps
-        .iter()
-        .map(|step| step.hit_share())
-        .collect(alloc)?;
-    let series = [Series {
-        class: "hits",
-        form: Form::Line,
-        values: &values,
-    }];
-    write_plot(id, "row hits (% of RD and WR)", axes, &series, writer)
-}
-
-fn shares_of(alloc: Global, steps: &[Step], upto: Stacked) -> Result<Vec<Option<u64>>, AllocError> {
-    steps
-        .iter()
-        .map(|step| step.stacked_share(upto))
-        .collect(alloc)
-}
-
-fn write_mix<W: Write>(
-    alloc: Global,
-    id: usize,
-    axes: Axes,
-    channel: &ChannelActivity,
-    writer: &mut W,
-) -> io::Result<()> {
-    let reads = shares_of(alloc, &channel.steps, Stacked::Reads)?;
-    let writes = shares_of(alloc, &channel.steps, Stacked::Writes)?;
-    let activations = shares_of(alloc, &channel.steps, Stacked::Activations)?;
-    let precharges = shares_of(alloc, &channel.steps, Stacked::Precharges)?;
-    let all = shares_of(alloc, &channel.steps, Stacked::All)?;
-    let series = [
-        area("ref", &all),
-        area("pre", &precharges),
-        area("act", &activations),
-        area("wr", &writes),
-        area("rd", &reads),
-    ];
-    write_plot(id, "commands (% of cycles)", axes, &series, writer)
-}
-
-fn area<'a>(class: &'a str, values: &'a [Option<u64>]) -> Series<'a> {
-    Series {
-        class,
-        form: Form::Area,
-        values,
-    }
-}
-
-// The open banks at the end of each step: as the last command left them.
-fn open_banks(alloc: Global, steps: &[Step]) -> Result<Vec<Option<u64>>, AllocError> {
-    let mut values = Vec::new(alloc);
-    let mut open = 0;
-    for step in steps {
-        open = step.open.unwrap_or(open);
-        values.push(Some(open))?;
-    }
-    Ok(values)
-}
-
-fn write_open_banks<W: Write>(
-    alloc: Global,
-    id: usize,
-    axes: Axes,
-    channel: &ChannelActivity,
-    writer: &mut W,
-) -> io::Result<()> {
-    let values = open_banks(alloc, &channel.steps)?;
-    let series = [
-        area("open pale", &values),
-        Series {
-            class: "open",
-            form: Form::Line,
-            values: &values,
-        },
-    ];
-    write_plot(id, "open banks", axes, &series, writer)
-}
-
-/// What is plotted for each channel.
+/// How values are drawn.
 #[derive(Clone, Copy)]
-enum Measure {
-    BusUse,
-    Hits,
-    Mix,
-    OpenBanks,
+enum Form {
+    /// The area below them is filled. Each step has a value.
+    Area,
+    /// A line, with a gap at a step without a value.
+    Line,
 }
 
-fn heading_of(measure: Measure) -> &'static str {
-    match measure {
-        Measure::BusUse =>
-            "<h3>Data bus</h3><p>Cycles in which data move, four for each RD or WR, booked in the step of their command.</p>",
-        Measure::Hits => {
-            "<h3>Row hits</h3><p>A RD or WR is a row hit here unless the last ACT of its bank was issued in the name of its own request. Where a step has neither RD nor WR the line has a gap.</p>"
-        }
-        Measure::Mix =>
-            "<h3>Commands</h3><p>Cycles in which the channel issues a command, stacked by kind.</p>",
-        Measure::OpenBanks =>
-            "<h3>Open banks</h3><p>Banks with an open row at the end of each step.</p>",
-    }
+/// Values by step, in the colour of a class of the style sheet.
+#[derive(Clone, Copy)]
+struct Series {
+    class: &'static str,
+    form: Form,
+    value: Value,
 }
 
-// The greatest share of cycles with a command in a step, in tenths of a percent.
-fn most_commands(activity: &Activity) -> u64 {
-    let mut most = 0;
-    for channel in &activity.channels {
-        for step in &channel.steps {
-            most = step.stacked_share(Stacked::All).unwrap_or(0).max(most);
-        }
-    }
-    most
+/// What is plotted for each channel: its series, later ones drawn over earlier ones.
+#[derive(Clone, Copy)]
+struct Measure {
+    heading: &'static str,
+    name: &'static str,
+    quantity: Quantity,
+    /// No value of a series is above this one.
+    greatest: Value,
+    series: &'static [Series],
+    legend: &'static [LegendEntry],
 }
 
-// The most banks of a channel.
-fn most_banks(activity: &Activity) -> u64 {
-    let mut most = 0;
-    for channel in &activity.channels {
-        most = (channel.banks.len() as u64).max(most);
-    }
-    most
-}
-
-// The axes of a measure, the same for all channels.
-fn axes_of(measure: Measure, activity: &Activity, cycles: u64) -> Axes {
-    let (top, grain) = match measure {
-        Measure::BusUse | Measure::Hits => (ALL, 10),
-        Measure::Mix => (
-            axis_end(most_commands(activity).div_ceil(10), 5).saturating_mul(10),
-            10,
-        ),
-        Measure::OpenBanks => (axis_end(most_banks(activity), 5), 1),
-    };
-    Axes {
-        cycles,
-        step: activity.step,
-        top,
-        grain,
-    }
-}
-
-fn write_one<W: Write>(
-    alloc: Global,
-    measure: Measure,
-    id: usize,
-    axes: Axes,
-    channel: &ChannelActivity,
-    writer: &mut W,
-) -> io::Result<()> {
-    match measure {
-        Measure::BusUse => write_bus_use(alloc, id, axes, channel, writer),
-        Measure::Hits => write_hits(alloc, id, axes, channel, writer),
-        Measure::Mix => write_mix(alloc, id, axes, channel, writer),
-        Measure::OpenBanks => write_open_banks(alloc, id, axes, channel, writer),
-    }
-}
-
-fn write_measure<W: Write>(
-    alloc: Global,
-    measure: Measure,
-    cycles: u64,
-    activity: &Activity,
-    writer: &mut W,
-) -> io::Result<()> {
-    writer.write_all(heading_of(measure).as_bytes())?;
-    if let Measure::Mix = measure {
-        write_kinds(writer)?;
-    }
-    let axes = axes_of(measure, activity, cycles);
-    writeln!(writer, r#"<div class="grid-of-plots">"#)?;
-    for (id, channel) in activity.channels.iter().enumerate() {
-        write_one(alloc, measure, id, axes, channel, writer)?;
-    }
-    writeln!(writer, "</div>")?;
-    Ok(())
-}
-
-/// The colours of the commands that a plot stacks, from above.
-const KINDS: [LegendEntry<'static>; 5] = [
-    LegendEntry {
-        class: "ref",
-        text: "REF",
+static MEASURES: [Measure; 4] = [
+    Measure {
+        heading: "<h3>Data bus</h3><p>Cycles in which data move, four for each RD or WR, booked in the step of their command.</p>",
+        name: "data bus (% of cycles)",
+        quantity: Quantity::Percent,
+        greatest: Value::BusUse,
+        series: &[
+            Series {
+                class: "bus pale",
+                form: Form::Area,
+                value: Value::BusUse,
+            },
+            Series {
+                class: "line bus",
+                form: Form::Line,
+                value: Value::BusUse,
+            },
+        ],
+        legend: &[],
     },
-    LegendEntry {
-        class: "pre",
-        text: "PRE, PREA",
+    Measure {
+        heading: "<h3>Row hits</h3><p>A RD or WR is a row hit here unless the last ACT of its bank was issued in the name of its own request. Where a step has neither RD nor WR the line has a gap.</p>",
+        name: "row hits (% of RD and WR)",
+        quantity: Quantity::Percent,
+        greatest: Value::Hits,
+        series: &[Series {
+            class: "line hits",
+            form: Form::Line,
+            value: Value::Hits,
+        }],
+        legend: &[],
     },
-    LegendEntry {
-        class: "act",
-        text: "ACT",
+    Measure {
+        heading: "<h3>Commands</h3><p>Cycles in which the channel issues a command, stacked by kind.</p>",
+        name: "commands (% of cycles)",
+        quantity: Quantity::Percent,
+        greatest: Value::Stacked(4),
+        series: &[
+            Series {
+                class: "ref",
+                form: Form::Area,
+                value: Value::Stacked(4),
+            },
+            Series {
+                class: "pre",
+                form: Form::Area,
+                value: Value::Stacked(3),
+            },
+            Series {
+                class: "act",
+                form: Form::Area,
+                value: Value::Stacked(2),
+            },
+            Series {
+                class: "wr",
+                form: Form::Area,
+                value: Value::Stacked(1),
+            },
+            Series {
+                class: "rd",
+                form: Form::Area,
+                value: Value::Stacked(0),
+            },
+        ],
+        legend: &[
+            LegendEntry {
+                class: "ref",
+                text: "REF",
+            },
+            LegendEntry {
+                class: "pre",
+                text: "PRE, PREA",
+            },
+            LegendEntry {
+                class: "act",
+                text: "ACT",
+            },
+            LegendEntry {
+                class: "wr",
+                text: "WR",
+            },
+            LegendEntry {
+                class: "rd",
+                text: "RD",
+            },
+        ],
     },
-    LegendEntry {
-        class: "wr",
-        text: "WR",
-    },
-    LegendEntry {
-        class: "rd",
-        text: "RD",
+    Measure {
+        heading: "<h3>Open banks</h3><p>Banks with an open row at the end of each step.</p>",
+        name: "open banks",
+        quantity: Quantity::Count,
+        greatest: Value::OpenBanks,
+        series: &[
+            Series {
+                class: "open pale",
+                form: Form::Area,
+                value: Value::OpenBanks,
+            },
+            Series {
+                class: "line open",
+                form: Form::Line,
+                value: Value::OpenBanks,
+            },
+        ],
+        legend: &[],
     },
 ];
 
-fn write_kinds<W: Write>(writer: &mut W) -> io::Result<()> {
-    write!(writer, r#"<ul class="legend">"#)?;
-    for entry in KINDS {
-        write!(writer, "{entry}")?;
+/// The axes of a plot.
+#[derive(Clone, Copy)]
+struct Axes {
+    cycles: u64,
+    step: u64,
+    /// The value at the upper end, above 0.
+    top: u64,
+}
+
+// Goes on with the path of a series by the value of a step, after the one before it or, where that has none, from a new beginning.
+fn put_step(
+    axes: Axes,
+    place: usize,
+    value: u64,
+    joined: bool,
+    out: &mut String,
+) -> Result<(), AllocError> {
+    let start = axes.step.saturating_mul(place as u64);
+    let end = start.saturating_add(axes.step).min(axes.cycles);
+    let y = axes.top.saturating_sub(value);
+    if !joined {
+        put(
+            &[
+                Piece::Text("M"),
+                Piece::Number(start),
+                Piece::Text(" "),
+                Piece::Number(y),
+            ],
+            out,
+        )?;
     }
-    writeln!(writer, "</ul>")?;
+    put(
+        &[
+            Piece::Text("V"),
+            Piece::Number(y),
+            Piece::Text("H"),
+            Piece::Number(end),
+        ],
+        out,
+    )
+}
+
+fn put_steps(
+    axes: Axes,
+    value: Value,
+    steps: &[Step],
+    mut joined: bool,
+    out: &mut String,
+) -> Result<(), AllocError> {
+    for (place, step) in steps.iter().enumerate() {
+        let found = step.value(value);
+        if let Some(value) = found {
+            put_step(axes, place, value, joined, out)?;
+        }
+        joined = found.is_some();
+    }
     Ok(())
 }
 
-/// Writes the plots of the whole run.
-pub(crate) fn write_overview<W: Write>(
-    alloc: Global,
-    cycles: u64,
-    activity: &Activity,
-    writer: &mut W,
-) -> io::Result<()> {
-    for measure in [
-        Measure::BusUse,
-        Measure::Hits,
-        Measure::Mix,
-        Measure::OpenBanks,
-    ] {
-        write_measure(alloc, measure, cycles, activity, writer)?;
+fn put_series(
+    axes: Axes,
+    series: &Series,
+    steps: &[Step],
+    out: &mut String,
+) -> Result<(), AllocError> {
+    put(
+        &[
+            Piece::Text("<path class=\""),
+            Piece::Text(series.class),
+            Piece::Text("\" d=\""),
+        ],
+        out,
+    )?;
+    match series.form {
+        Form::Area => {
+            put(&[Piece::Text("M0 "), Piece::Number(axes.top)], out)?;
+            put_steps(axes, series.value, steps, true, out)?;
+            put(
+                &[Piece::Text("V"), Piece::Number(axes.top), Piece::Text("Z")],
+                out,
+            )?;
+        }
+        Form::Line => put_steps(axes, series.value, steps, false, out)?,
+    }
+    out.push_str("\"/>")
+}
+
+// The plot of a measure for the channel `id`.
+fn put_plot(
+    measure: &Measure,
+    axes: Axes,
+    id: u64,
+    steps: &[Step],
+    out: &mut String,
+) -> Result<(), AllocError> {
+    put(
+        &[
+            Piece::Text("<figure><figcaption><b>channel "),
+            Piece::Number(id),
+            Piece::Text("</b> "),
+            Piece::Text(measure.name),
+            Piece::Text(
+                "</figcaption><div class=\"plot\"><svg preserveAspectRatio=\"none\" role=\"img\" aria-label=\"channel ",
+            ),
+            Piece::Number(id),
+            Piece::Text(": "),
+            Piece::Text(measure.name),
+            Piece::Text("\" viewBox=\"0 0 "),
+            Piece::Number(axes.cycles),
+            Piece::Text(" "),
+            Piece::Number(axes.top),
+            Piece::Text("\">"),
+        ],
+        out,
+    )?;
+    for series in measure.series {
+        put_series(axes, series, steps, out)?;
+    }
+    out.push_str("</svg>")?;
+    put_value_ticks(measure.quantity, axes.top, out)?;
+    put_cycle_ticks(0, axes.cycles, out)?;
+    out.push_str("</div></figure>\n")
+}
+
+// The greatest value of a series in some steps, or `least` if that is greater.
+fn greatest_of(value: Value, steps: &[Step], least: u64) -> u64 {
+    let mut greatest = least;
+    for step in steps {
+        greatest = step.value(value).unwrap_or(0).max(greatest);
+    }
+    greatest
+}
+
+// The upper end of the axes of a measure, the same for all channels. An axis of percent ends at 1 or above, and at 100.
+fn top_of(measure: &Measure, activity: &Activity) -> u64 {
+    let (mut greatest, most) = match measure.quantity {
+        Quantity::Percent => (10, 1_000),
+        Quantity::Count => (1, u64::MAX),
+    };
+    for channel in &activity.channels {
+        greatest = greatest_of(measure.greatest, &channel.steps, greatest);
+    }
+    axis_end(greatest.min(most), 5)
+}
+
+// The plots of a measure, one for each channel.
+fn put_plots(
+    measure: &Measure,
+    axes: Axes,
+    channels: &[Channel],
+    out: &mut String,
+) -> Result<(), AllocError> {
+    for (id, channel) in channels.iter().enumerate() {
+        put_plot(measure, axes, id as u64, &channel.steps, out)?;
+    }
+    Ok(())
+}
+
+fn put_measure(measure: &Measure, activity: &Activity, out: &mut String) -> Result<(), AllocError> {
+    let axes = Axes {
+        cycles: activity.cycles,
+        step: activity.step,
+        top: top_of(measure, activity),
+    };
+    out.push_str(measure.heading)?;
+    if !measure.legend.is_empty() {
+        put_legend(measure.legend, out)?;
+    }
+    out.push_str("<div class=\"grid\">\n")?;
+    put_plots(measure, axes, &activity.channels, out)?;
+    out.push_str("</div>\n")
+}
+
+/// Appends the plots of the whole run.
+pub(crate) fn put_overview(activity: &Activity, out: &mut String) -> Result<(), AllocError> {
+    put(
+        &[
+            Piece::Text("<h2 id=\"steps\">The run in steps of "),
+            Piece::Grouped(activity.step),
+            Piece::Text(" cycles</h2>\n"),
+        ],
+        out,
+    )?;
+    for measure in &MEASURES {
+        put_measure(measure, activity, out)?;
     }
     Ok(())
 }

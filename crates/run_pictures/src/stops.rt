@@ -1,59 +1,12 @@
-//! Why each core stopped issuing, as bars.
+//! Why each core stopped issuing, as bars. A bar's unit is a cycle.
 
-use drawing::numbers::{Tenths, share_of};
-use drawing::scales::Scale;
-use drawing::shapes::{Extent, LegendEntry};
+use drawing::markup::{LegendEntry, Piece, put, put_legend};
+use drawing::scales::share_of;
 use statistics::cores::CoreStats;
-use statistics::stats::Stats;
-use std::io::{self, Write};
-
-/// Where the bars begin from the left, how long they are, and the room above them.
-const LEFT: u64 = 560;
-
-const LENGTH: u32 = 11_000;
-
-const TOP: u64 = 20;
-
-/// A core's stops for one reason, in cycles.
-#[derive(Clone, Copy)]
-struct Stop {
-    class: &'static str,
-    reason: &'static str,
-    cycles: u64,
-}
-
-fn stops_of(core: &CoreStats) -> [Stop; 5] {
-    [
-        Stop {
-            class: "credit",
-            reason: "credit",
-            cycles: core.stop_credit,
-        },
-        Stop {
-            class: "window",
-            reason: "window",
-            cycles: core.stop_window,
-        },
-        Stop {
-            class: "memory",
-            reason: "memory",
-            cycles: core.stop_memory,
-        },
-        Stop {
-            class: "width",
-            reason: "width",
-            cycles: core.stop_width,
-        },
-        Stop {
-            class: "end",
-            reason: "end",
-            cycles: core.stop_end,
-        },
-    ]
-}
+use std::alloc::AllocError;
 
 /// What each part of a bar stands for.
-const LEGEND: [LegendEntry<'static>; 5] = [
+static LEGEND: [LegendEntry; 5] = [
     LegendEntry {
         class: "credit",
         text: "credit: it held no credit for a channel",
@@ -76,123 +29,77 @@ const LEGEND: [LegendEntry<'static>; 5] = [
     },
 ];
 
-/// How high a bar is with the gap below it, in tenths of a pixel: thin where there are many cores.
-fn pitch_of(cores: usize) -> u64 {
-    match cores {
-        0..=32 => 180,
-        33..=64 => 120,
-        _ => 80,
-    }
-}
-
-// One core's bar.
-#[derive(Clone, Copy)]
-struct Bar {
-    id: usize,
-    y: u64,
-    height: u64,
+// A part of a core's bar: the cycles in which it stopped for a reason, after those of the reasons before it.
+fn put_part(
+    reason: &'static str,
+    before: u64,
+    cycles: u64,
     run: u64,
-}
-
-impl Bar {
-    // The part of a bar for one reason, which begins after `before` cycles.
-    fn extent_of(self, before: u64, cycles: u64) -> Extent {
-        let scale = Scale {
-            span: self.run,
-            extent: LENGTH,
-        };
-        let start = scale.length_of(before);
-        let end = scale.length_of(before.saturating_add(cycles));
-        Extent {
-            x: LEFT + start,
-            y: self.y,
-            width: end.saturating_sub(start),
-            height: self.height,
-        }
+    out: &mut String,
+) -> Result<(), AllocError> {
+    if cycles == 0 {
+        return Ok(());
     }
+    put(
+        &[
+            Piece::Text("<rect class=\""),
+            Piece::Text(reason),
+            Piece::Text("\" x=\""),
+            Piece::Number(before),
+            Piece::Text("\" width=\""),
+            Piece::Number(cycles),
+            Piece::Text("\" height=\"1\"><title>"),
+            Piece::Text(reason),
+            Piece::Text(": "),
+            Piece::Tenths(share_of(u128::from(cycles), run, 1_000)),
+            Piece::Text(" %</title></rect>"),
+        ],
+        out,
+    )
 }
 
-fn write_bar<W: Write>(bar: Bar, core: &CoreStats, writer: &mut W) -> io::Result<()> {
-    let id = bar.id;
-    let label = Tenths(LEFT - 60);
-    let middle = Tenths(bar.y.saturating_add(bar.height / 2));
-    let size = if bar.height < 100 { "small" } else { "tick" };
-    write!(
-        writer,
-        r#"<text class="{size}" text-anchor="end" x="{label}" y="{middle}" dy=".35em">core {id}</text>"#
+fn put_bar(id: u64, run: u64, core: &CoreStats, out: &mut String) -> Result<(), AllocError> {
+    put(
+        &[
+            Piece::Text("<div class=\"bar\"><b>core "),
+            Piece::Number(id),
+            Piece::Text(
+                "</b><svg preserveAspectRatio=\"none\" role=\"img\" aria-label=\"why core ",
+            ),
+            Piece::Number(id),
+            Piece::Text(" stopped issuing\" viewBox=\"0 0 "),
+            Piece::Number(run),
+            Piece::Text(" 1\">"),
+        ],
+        out,
     )?;
     let mut before = 0u64;
-    for stop in stops_of(core) {
-        let extent = bar.extent_of(before, stop.cycles);
-        let class = stop.class;
-        let reason = stop.reason;
-        let percent = Tenths(share_of(u128::from(stop.cycles), bar.run, 1000));
-        if extent.width > 0 {
-            write!(
-                writer,
-                r#"<rect class="{class}" {extent}><title>core {id}, {reason}: {percent} %</title></rect>"#
-            )?;
-        }
-        before = before.saturating_add(stop.cycles);
+    for (reason, cycles) in [
+        ("credit", core.stop_credit),
+        ("window", core.stop_window),
+        ("memory", core.stop_memory),
+        ("width", core.stop_width),
+        ("end", core.stop_end),
+    ] {
+        put_part(reason, before, cycles, run, out)?;
+        before = before.saturating_add(cycles);
     }
-    writeln!(writer)?;
-    Ok(())
+    out.push_str("</svg></div>\n")
 }
 
-fn write_ticks<W: Write>(bottom: u64, writer: &mut W) -> io::Result<()> {
-    let top = Tenths(TOP);
-    let end = Tenths(bottom.saturating_add(30));
-    let label = Tenths(bottom.saturating_add(140));
-    for tenth in 0..=10u64 {
-        let x = Tenths(LEFT + tenth * u64::from(LENGTH / 10));
-        let percent = 10 * tenth;
-        write!(writer, r#"<path class="grid" d="M{x} {top}V{end}"/>"#)?;
-        writeln!(
-            writer,
-            r#"<text class="tick" text-anchor="middle" x="{x}" y="{label}">{percent} %</text>"#
-        )?;
+/// Appends a bar for each core, with a legend.
+pub(crate) fn put_stops(
+    cycles: u64,
+    cores: &[CoreStats],
+    out: &mut String,
+) -> Result<(), AllocError> {
+    out.push_str("<h3>Why each core stopped issuing</h3><p>Each cycle counts for one reason.</p>")?;
+    put_legend(&LEGEND, out)?;
+    out.push_str("<div class=\"bars\">\n")?;
+    for (id, core) in cores.iter().enumerate() {
+        put_bar(id as u64, cycles, core, out)?;
     }
-    Ok(())
-}
-
-fn write_legend<W: Write>(writer: &mut W) -> io::Result<()> {
-    write!(writer, r#"<ul class="legend">"#)?;
-    for entry in LEGEND {
-        write!(writer, "{entry}")?;
-    }
-    writeln!(writer, "</ul>")?;
-    Ok(())
-}
-
-fn write_bars<W: Write>(stats: &Stats, pitch: u64, writer: &mut W) -> io::Result<()> {
-    let mut y = TOP;
-    for (id, core) in stats.cores.iter().enumerate() {
-        let bar = Bar {
-            id,
-            y,
-            height: pitch.saturating_sub(20),
-            run: stats.cycles,
-        };
-        write_bar(bar, core, writer)?;
-        y = y.saturating_add(pitch);
-    }
-    Ok(())
-}
-
-/// Writes a bar for each core, with a legend.
-pub(crate) fn write_stops<W: Write>(stats: &Stats, writer: &mut W) -> io::Result<()> {
-    write_legend(writer)?;
-    let pitch = pitch_of(stats.cores.len());
-    let bottom = pitch
-        .saturating_mul(stats.cores.len() as u64)
-        .saturating_add(TOP);
-    let height = Tenths(bottom.saturating_add(180));
-    writeln!(
-        writer,
-        r#"<svg class="bars" viewBox="0 0 1180 {height}" role="img" aria-label="why each core stopped issuing">"#
-    )?;
-    write_ticks(bottom, writer)?;
-    write_bars(stats, pitch, writer)?;
-    writeln!(writer, "</svg>")?;
-    Ok(())
+    out.push_str(
+        "<div class=\"bar scale\"><b></b><p><i>0 %</i><i>25 %</i><i>50 %</i><i>75 %</i><i>100 %</i></p></div></div>\n",
+    )
 }

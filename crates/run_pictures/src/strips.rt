@@ -1,355 +1,454 @@
-//! The timeline of a channel, in strips of at most `STRIP` cycles, one below the other.
+//! The timeline of a channel, in strips of at most `STRIP` cycles. A strip's units are a cycle and a pixel.
 
-use crate::activity::BURST;
-use crate::kinds::{BankWords, CommandWords, class_of, name_of};
-use crate::timeline::{ChannelTimeline, Lane, OpenRow};
-use drawing::numbers::{Grouped, Tenths};
-use drawing::scales::{Scale, tick_step};
-use drawing::shapes::{Extent, LegendEntry};
-use sim_base::command::{IssuedCommand, Kind};
-use std::io::{self, Write};
+use crate::activity::{BURST, Channel, Span};
+use crate::lanes::{Lane, OpenRow};
+use drawing::axes::put_cycle_ticks;
+use drawing::markup::{LegendEntry, Piece, put};
+use sim_base::command::{Command, IssuedCommand, Kind};
+use sim_base::place::BankId;
+use std::alloc::AllocError;
 
 /// Cycles of a strip, at most.
-const STRIP: u64 = 500;
+const STRIP: u64 = 250;
 
 /// How many commands before a strip may have data in it: a channel issues one a cycle, and data take four.
 const EARLIER: usize = 3;
 
-/// Where the cycles begin from the left and how long a strip is, where the lanes begin from the top, from one lane to the next, and
-/// how high what stands in a lane is, in tenths of a pixel.
-const LEFT: u64 = 620;
+/// How far a lane is from the one above it, in pixels; the last two are free.
+const PITCH: u64 = 14;
 
-const LENGTH: u32 = 11_000;
-
-const TOP: u64 = 20;
-
-const PITCH: u64 = 90;
-
-const HEIGHT: u64 = 75;
-
-/// Some cycles of a window.
-#[derive(Clone, Copy)]
-struct Strip {
-    from: u64,
-    to: u64,
-    /// Cycles that there is room for.
-    room: u64,
-    lanes: usize,
-}
-
-impl Strip {
-    // Where a cycle begins, from the left.
-    fn x(self, cycle: u64) -> u64 {
-        let scale = Scale {
-            span: self.room,
-            extent: LENGTH,
-        };
-        LEFT + scale.length_of(cycle.saturating_sub(self.from))
-    }
-
-    // Where a lane begins, from the top.
-    fn y(self, lane: usize) -> u64 {
-        PITCH.saturating_mul(lane as u64).saturating_add(TOP)
-    }
-
-    // Where the lane of the data bus begins.
-    fn bus(self) -> u64 {
-        self.y(self.lanes).saturating_add(30)
-    }
-
-    // Where the lanes end.
-    fn bottom(self) -> u64 {
-        self.bus().saturating_add(PITCH)
-    }
-
-    // From one cycle up to, but not including, another, as far as that lies in the strip.
-    fn extent_of(self, from: u64, to: u64, y: u64, height: u64) -> Extent {
-        let start = self.x(from);
-        Extent {
-            x: start,
-            y,
-            width: self.x(to.min(self.to)).saturating_sub(start),
-            height,
-        }
-    }
-}
-
-fn write_label<W: Write>(
-    strip: Strip,
-    place: usize,
-    lane: &Lane,
-    writer: &mut W,
-) -> io::Result<()> {
-    let id = lane.id;
-    let y = strip.y(place);
-    let class = if id.group % 2 == 0 {
-        "lane"
-    } else {
-        "lane odd"
-    };
-    let extent = strip.extent_of(strip.from, strip.to, y, HEIGHT);
-    let x = Tenths(LEFT - 50);
-    let middle = Tenths(y.saturating_add(HEIGHT / 2));
-    write!(writer, r#"<rect class="{class}" {extent}/>"#)?;
-    writeln!(
-        writer,
-        r#"<text class="small" text-anchor="end" x="{x}" y="{middle}" dy=".35em">r{} g{} b{}</text>"#,
-        id.rank, id.group, id.bank
-    )?;
-    Ok(())
-}
-
-fn write_labels<W: Write>(strip: Strip, lanes: &[Lane], writer: &mut W) -> io::Result<()> {
-    for (place, lane) in lanes.iter().enumerate() {
-        write_label(strip, place, lane, writer)?;
-    }
-    let extent = strip.extent_of(strip.from, strip.to, strip.bus(), HEIGHT);
-    let x = Tenths(LEFT - 50);
-    let middle = Tenths(strip.bus().saturating_add(HEIGHT / 2));
-    write!(writer, r#"<rect class="lane" {extent}/>"#)?;
-    writeln!(
-        writer,
-        r#"<text class="small" text-anchor="end" x="{x}" y="{middle}" dy=".35em">data bus</text>"#
-    )?;
-    Ok(())
-}
-
-fn write_tick<W: Write>(strip: Strip, cycle: u64, writer: &mut W) -> io::Result<()> {
-    let x = Tenths(strip.x(cycle));
-    let top = Tenths(TOP - 10);
-    let end = Tenths(strip.bottom().saturating_add(20));
-    let label = Tenths(strip.bottom().saturating_add(120));
-    let number = Grouped(cycle);
-    write!(writer, r#"<path class="grid" d="M{x} {top}V{end}"/>"#)?;
-    writeln!(
-        writer,
-        r#"<text class="tick" text-anchor="middle" x="{x}" y="{label}">{number}</text>"#
-    )?;
-    Ok(())
-}
-
-fn write_ticks<W: Write>(strip: Strip, writer: &mut W) -> io::Result<()> {
-    let step = tick_step(strip.room, 10);
-    let first = strip.from.div_ceil(step);
-    for tick in first..=strip.to / step {
-        write_tick(strip, tick.saturating_mul(step), writer)?;
-    }
-    Ok(())
-}
-
-// The band of an open row, up to, but not including, a cycle.
-fn write_band<W: Write>(
-    strip: Strip,
-    place: usize,
-    lane: &Lane,
-    open: OpenRow,
-    until: u64,
-    writer: &mut W,
-) -> io::Result<()> {
-    let extent = strip.extent_of(open.since.max(strip.from), until, strip.y(place), HEIGHT);
-    let bank = BankWords(lane.id);
-    let row = open.row;
-    let since = open.since;
-    writeln!(
-        writer,
-        r#"<rect class="band" {extent}><title>{bank}: row {row} open, since cycle {since}</title></rect>"#
-    )?;
-    Ok(())
-}
-
-// Follows a command in each lane, and draws the bands that it ends.
-fn write_ended<W: Write>(
-    strip: Strip,
-    lanes: &mut [Lane],
-    row: &IssuedCommand,
-    writer: &mut W,
-) -> io::Result<()> {
-    for (place, lane) in lanes.iter_mut().enumerate() {
-        if let Some(closed) = lane.follow(row) {
-            write_band(strip, place, lane, closed, row.cycle, writer)?;
-        }
-    }
-    Ok(())
-}
-
-fn write_bands<W: Write>(
-    strip: Strip,
-    lanes: &mut [Lane],
-    commands: &[IssuedCommand],
-    writer: &mut W,
-) -> io::Result<()> {
-    for row in commands {
-        write_ended(strip, lanes, row, writer)?;
-    }
-    for (place, lane) in lanes.iter().enumerate() {
-        if let Some(open) = lane.open {
-            write_band(strip, place, lane, open, strip.to, writer)?;
-        }
-    }
-    Ok(())
-}
-
-// Where a command's box lies: in the lane of its bank, or across those of its rank.
-fn box_of(strip: Strip, lanes: &[Lane], row: &IssuedCommand) -> Extent {
-    let rank = row.command.rank();
-    let bank = row.command.bank();
-    let among = |lane: &Lane| match bank {
-        Some(bank) => lane.id == bank,
-        None => lane.id.rank == rank,
-    };
-    let place = lanes.iter().position(|lane| among(lane)).unwrap_or(0);
-    let count = lanes.iter().filter(|lane| among(lane)).count() as u64;
-    let height = PITCH.saturating_mul(count).saturating_sub(PITCH - HEIGHT);
-    strip.extent_of(
-        row.cycle,
-        row.cycle.saturating_add(1),
-        strip.y(place),
-        height,
-    )
-}
-
-fn write_box<W: Write>(
-    strip: Strip,
-    lanes: &[Lane],
-    row: &IssuedCommand,
-    writer: &mut W,
-) -> io::Result<()> {
-    let class = class_of(row.command.kind());
-    let extent = box_of(strip, lanes, row);
-    let words = CommandWords(*row);
-    writeln!(
-        writer,
-        r#"<rect class="{class}" {extent}><title>{words}</title></rect>"#
-    )?;
-    Ok(())
-}
-
-// The data of a RD or a WR, as far as they lie in the strip.
-fn write_data<W: Write>(strip: Strip, row: &IssuedCommand, writer: &mut W) -> io::Result<()> {
-    let kind = row.command.kind();
-    let end = row.cycle.saturating_add(BURST);
-    if kind != Kind::Rd && kind != Kind::Wr || end <= strip.from {
-        return Ok(());
-    }
-    let class = class_of(kind);
-    let extent = strip.extent_of(row.cycle, end, strip.bus(), HEIGHT);
-    let words = CommandWords(*row);
-    writeln!(
-        writer,
-        r#"<rect class="data {class}" {extent}><title>{words}</title></rect>"#
-    )
-}
-
-fn write_boxes<W: Write>(
-    strip: Strip,
-    lanes: &[Lane],
-    commands: &[IssuedCommand],
-    writer: &mut W,
-) -> io::Result<()> {
-    for row in commands {
-        write_box(strip, lanes, row, writer)?;
-    }
-    Ok(())
-}
-
-fn write_bus<W: Write>(strip: Strip, commands: &[IssuedCommand], writer: &mut W) -> io::Result<()> {
-    for row in commands {
-        write_data(strip, row, writer)?;
-    }
-    Ok(())
-}
-
-// A strip with its commands, and those before it whose data may reach into it.
-fn write_strip<W: Write>(
-    strip: Strip,
-    lanes: &mut [Lane],
-    earlier: &[IssuedCommand],
-    commands: &[IssuedCommand],
-    writer: &mut W,
-) -> io::Result<()> {
-    let height = Tenths(strip.bottom().saturating_add(150));
-    let from = Grouped(strip.from);
-    let to = Grouped(strip.to);
-    writeln!(
-        writer,
-        r#"<svg class="strip" viewBox="0 0 1190 {height}" role="img" aria-label="commands from cycle {from} to {to}">"#
-    )?;
-    write_labels(strip, lanes, writer)?;
-    write_ticks(strip, writer)?;
-    write_bands(strip, lanes, commands, writer)?;
-    write_boxes(strip, lanes, commands, writer)?;
-    write_bus(strip, earlier, writer)?;
-    write_bus(strip, commands, writer)?;
-    writeln!(writer, "</svg>")?;
-    Ok(())
-}
-
-// The strips of a window, from a cycle up to, but not including, another.
-fn write_strips<W: Write>(
-    start: u64,
-    end: u64,
-    channel: &mut ChannelTimeline,
-    writer: &mut W,
-) -> io::Result<()> {
-    let room = end.saturating_sub(start).min(STRIP);
-    let mut from = start;
-    let mut first = 0;
-    'strips: while from < end {
-        let to = from.saturating_add(room.max(1)).min(end);
-        let strip = Strip {
-            from,
-            to,
-            room,
-            lanes: channel.lanes.len(),
-        };
-        let rest = &channel.commands[first..];
-        let count = rest.partition_point(|row| row.cycle < to);
-        let earlier = &channel.commands[first.saturating_sub(EARLIER)..first];
-        write_strip(strip, &mut channel.lanes, earlier, &rest[..count], writer)?;
-        first += count;
-        from = to;
-    }
-    Ok(())
-}
-
-/// Writes the timeline of a channel in a window, from a cycle up to, but not including, another.
-pub(crate) fn write_timeline<W: Write>(
-    id: usize,
-    from: u64,
-    end: u64,
-    channel: &mut ChannelTimeline,
-    writer: &mut W,
-) -> io::Result<()> {
-    writeln!(
-        writer,
-        r#"<details class="channel" open><summary>channel {id}</summary>"#
-    )?;
-    write_strips(from, end, channel, writer)?;
-    writeln!(writer, "</details>")?;
-    Ok(())
-}
-
-/// Writes what the colours of a timeline stand for.
-pub(crate) fn write_legend<W: Write>(writer: &mut W) -> io::Result<()> {
-    write!(writer, r#"<ul class="legend">"#)?;
-    for kind in [
-        Kind::Act,
-        Kind::Rd,
-        Kind::Wr,
-        Kind::Pre,
-        Kind::Prea,
-        Kind::Ref,
-    ] {
-        let entry = LegendEntry {
-            class: class_of(kind),
-            text: name_of(kind),
-        };
-        write!(writer, "{entry}")?;
-    }
-    let entry = LegendEntry {
+/// What the colours of a timeline stand for.
+pub(crate) static LEGEND: [LegendEntry; 7] = [
+    LegendEntry {
+        class: "act",
+        text: "ACT",
+    },
+    LegendEntry {
+        class: "rd",
+        text: "RD",
+    },
+    LegendEntry {
+        class: "wr",
+        text: "WR",
+    },
+    LegendEntry {
+        class: "pre",
+        text: "PRE",
+    },
+    LegendEntry {
+        class: "prea",
+        text: "PREA",
+    },
+    LegendEntry {
+        class: "ref",
+        text: "REF",
+    },
+    LegendEntry {
         class: "band",
         text: "a row is open",
+    },
+];
+
+/// The name of a kind of command, and its class in the style sheet.
+fn name_of(kind: Kind) -> (&'static str, &'static str) {
+    match kind {
+        Kind::Act => ("ACT", "act"),
+        Kind::Rd => ("RD", "rd"),
+        Kind::Wr => ("WR", "wr"),
+        Kind::Pre => ("PRE", "pre"),
+        Kind::Prea => ("PREA", "prea"),
+        Kind::Ref => ("REF", "ref"),
+    }
+}
+
+/// Some cycles of the window.
+#[derive(Clone, Copy)]
+struct Strip {
+    span: Span,
+    /// Cycles that there is room for.
+    room: u64,
+    /// Cycles that a REF is drawn for.
+    refresh: u64,
+}
+
+/// A box in a lane, from one cycle up to, but not including, another.
+#[derive(Clone, Copy)]
+struct Mark {
+    lane: usize,
+    from: u64,
+    end: u64,
+}
+
+// The begin of a box, as far as it lies in the strip.
+fn put_rect(
+    strip: Strip,
+    mark: Mark,
+    class: &'static str,
+    out: &mut String,
+) -> Result<(), AllocError> {
+    let from = mark.from.max(strip.span.from);
+    let end = mark.end.min(strip.span.end);
+    put(
+        &[
+            Piece::Text("<rect class=\""),
+            Piece::Text(class),
+            Piece::Text("\" x=\""),
+            Piece::Number(from.saturating_sub(strip.span.from)),
+            Piece::Text("\" y=\""),
+            Piece::Number(PITCH.saturating_mul(mark.lane as u64)),
+            Piece::Text("\" width=\""),
+            Piece::Number(end.saturating_sub(from)),
+            Piece::Text("\" height=\"12\"><title>"),
+        ],
+        out,
+    )
+}
+
+// What a command names, but for its request.
+fn put_operands(command: Command, out: &mut String) -> Result<(), AllocError> {
+    match command {
+        Command::Act { bank, row, .. } => {
+            put_bank(bank, out)?;
+            put(&[Piece::Text(", row "), Piece::Number(row.into())], out)
+        }
+        Command::Rd {
+            bank,
+            row,
+            column,
+            ..
+        }
+        | Command::Wr {
+            bank,
+            row,
+            column,
+            ..
+        } => {
+            put_bank(bank, out)?;
+            put(
+                &[
+                    Piece::Text(", row "),
+                    Piece::Number(row.into()),
+                    Piece::Text(", column "),
+                    Piece::Number(column.into()),
+                ],
+                out,
+            )
+        }
+        Command::Pre { bank, .. } => put_bank(bank, out),
+        Command::Prea { rank } | Command::Ref { rank } => put(
+            &[
+                Piece::Text("rank "),
+                Piece::Number(rank.into()),
+                Piece::Text(", all banks"),
+            ],
+            out,
+        ),
+    }
+}
+
+fn put_bank(bank: BankId, out: &mut String) -> Result<(), AllocError> {
+    put(
+        &[
+            Piece::Text("rank "),
+            Piece::Number(bank.rank.into()),
+            Piece::Text(", group "),
+            Piece::Number(bank.group.into()),
+            Piece::Text(", bank "),
+            Piece::Number(bank.bank.into()),
+        ],
+        out,
+    )
+}
+
+// A box for a command, which says all of it.
+fn put_box(
+    strip: Strip,
+    mark: Mark,
+    row: &IssuedCommand,
+    out: &mut String,
+) -> Result<(), AllocError> {
+    let (name, class) = name_of(row.command.kind());
+    put_rect(strip, mark, class, out)?;
+    put(
+        &[
+            Piece::Text(name),
+            Piece::Text(" in cycle "),
+            Piece::Number(row.cycle),
+            Piece::Text(": "),
+        ],
+        out,
+    )?;
+    put_operands(row.command, out)?;
+    if let Some(source) = row.command.source() {
+        put(
+            &[
+                Piece::Text(", core "),
+                Piece::Number(source.core.into()),
+                Piece::Text(", entry "),
+                Piece::Number(source.entry),
+            ],
+            out,
+        )?;
+    }
+    out.push_str("</title></rect>\n")
+}
+
+// The band of a row that is open up to, but not including, a cycle.
+fn put_band(
+    strip: Strip,
+    lane: usize,
+    open: OpenRow,
+    end: u64,
+    out: &mut String,
+) -> Result<(), AllocError> {
+    let mark = Mark {
+        lane,
+        from: open.since,
+        end,
     };
-    writeln!(writer, "{entry}</ul>")?;
+    put_rect(strip, mark, "band", out)?;
+    put(
+        &[
+            Piece::Text("row "),
+            Piece::Number(open.row.into()),
+            Piece::Text(" open, since cycle "),
+            Piece::Number(open.since),
+            Piece::Text("</title></rect>\n"),
+        ],
+        out,
+    )
+}
+
+// The bands of a lane, which follows the commands of the strip.
+fn put_bands(
+    strip: Strip,
+    place: usize,
+    lane: &mut Lane,
+    commands: &[IssuedCommand],
+    out: &mut String,
+) -> Result<(), AllocError> {
+    for row in commands {
+        if let Some(closed) = lane.follow(row) {
+            put_band(strip, place, closed, row.cycle, out)?;
+        }
+    }
+    match lane.state.open {
+        Some(open) => put_band(strip, place, open, strip.span.end, out),
+        None => Ok(()),
+    }
+}
+
+// The boxes of a lane.
+fn put_boxes(
+    strip: Strip,
+    place: usize,
+    lane: &Lane,
+    commands: &[IssuedCommand],
+    out: &mut String,
+) -> Result<(), AllocError> {
+    for row in commands {
+        if lane.is_named_by(row.command) {
+            let cycles = match row.command.kind() {
+                Kind::Ref => strip.refresh,
+                _ => 1,
+            };
+            let mark = Mark {
+                lane: place,
+                from: row.cycle,
+                end: row.cycle.saturating_add(cycles),
+            };
+            put_box(strip, mark, row, out)?;
+        }
+    }
     Ok(())
+}
+
+// The rest of a refresh that began before the strip.
+fn put_refresh(
+    strip: Strip,
+    place: usize,
+    lane: &Lane,
+    out: &mut String,
+) -> Result<(), AllocError> {
+    let Some(cycle) = lane.state.refreshed else {
+        return Ok(());
+    };
+    let end = cycle.saturating_add(strip.refresh);
+    if end <= strip.span.from {
+        return Ok(());
+    }
+    let row = IssuedCommand {
+        cycle,
+        channel: 0,
+        command: Command::Ref { rank: lane.id.rank },
+    };
+    let mark = Mark {
+        lane: place,
+        from: cycle,
+        end,
+    };
+    put_box(strip, mark, &row, out)
+}
+
+// The data of RDs and WRs on the bus, as far as they lie in the strip.
+fn put_data(
+    strip: Strip,
+    lane: usize,
+    commands: &[IssuedCommand],
+    out: &mut String,
+) -> Result<(), AllocError> {
+    for row in commands {
+        let mark = Mark {
+            lane,
+            from: row.cycle,
+            end: row.cycle.saturating_add(BURST),
+        };
+        if row.command.is_column() && strip.span.from < mark.end {
+            put_box(strip, mark, row, out)?;
+        }
+    }
+    Ok(())
+}
+
+// The label of a lane, and its ground.
+fn put_label(place: usize, lane: &Lane, out: &mut String) -> Result<(), AllocError> {
+    let class = if lane.id.group % 2 == 0 { "" } else { " odd" };
+    put(
+        &[
+            Piece::Text("<i class=\"lane"),
+            Piece::Text(class),
+            Piece::Text("\" style=\"top:"),
+            Piece::Number(PITCH.saturating_mul(place as u64)),
+            Piece::Text("px\"><b>r"),
+            Piece::Number(lane.id.rank.into()),
+            Piece::Text(" g"),
+            Piece::Number(lane.id.group.into()),
+            Piece::Text(" b"),
+            Piece::Number(lane.id.bank.into()),
+            Piece::Text("</b></i>"),
+        ],
+        out,
+    )
+}
+
+// The grounds and labels of the lanes, the last of which is the data bus, and the ticks.
+fn put_ground(strip: Strip, lanes: &[Lane], out: &mut String) -> Result<(), AllocError> {
+    let bus = PITCH.saturating_mul(lanes.len() as u64);
+    put(
+        &[
+            Piece::Text("<div class=\"strip\" style=\"height:"),
+            Piece::Number(bus.saturating_add(PITCH)),
+            Piece::Text("px\"><i class=\"lane\" style=\"top:"),
+            Piece::Number(bus),
+            Piece::Text("px\"><b>data bus</b></i>"),
+        ],
+        out,
+    )?;
+    for (place, lane) in lanes.iter().enumerate() {
+        put_label(place, lane, out)?;
+    }
+    put_cycle_ticks(strip.span.from, strip.room, out)?;
+    put(
+        &[
+            Piece::Text(
+                "<svg preserveAspectRatio=\"none\" role=\"img\" aria-label=\"commands from cycle ",
+            ),
+            Piece::Grouped(strip.span.from),
+            Piece::Text(" to before "),
+            Piece::Grouped(strip.span.end),
+            Piece::Text("\" viewBox=\"0 0 "),
+            Piece::Number(strip.room),
+            Piece::Text(" "),
+            Piece::Number(bus.saturating_add(PITCH)),
+            Piece::Text("\">\n"),
+        ],
+        out,
+    )
+}
+
+// Where the commands from a cycle on begin.
+fn place_of(commands: &[IssuedCommand], cycle: u64) -> usize {
+    commands.partition_point(|row| row.cycle < cycle)
+}
+
+// The lanes of a strip with its commands.
+fn put_lanes(
+    strip: Strip,
+    lanes: &mut [Lane],
+    commands: &[IssuedCommand],
+    out: &mut String,
+) -> Result<(), AllocError> {
+    for (place, lane) in lanes.iter_mut().enumerate() {
+        put_refresh(strip, place, lane, out)?;
+        put_bands(strip, place, lane, commands, out)?;
+        put_boxes(strip, place, lane, commands, out)?;
+    }
+    Ok(())
+}
+
+// A strip of a window's commands; those just before it may have data that reach into it.
+fn put_strip(
+    strip: Strip,
+    lanes: &mut [Lane],
+    shown: &[IssuedCommand],
+    out: &mut String,
+) -> Result<(), AllocError> {
+    let first = place_of(shown, strip.span.from);
+    let last = place_of(shown, strip.span.end);
+    let earlier = first.saturating_sub(EARLIER);
+    put_ground(strip, lanes, out)?;
+    put_lanes(strip, lanes, shown.get(first..last).unwrap_or(&[]), out)?;
+    put_data(
+        strip,
+        lanes.len(),
+        shown.get(earlier..last).unwrap_or(&[]),
+        out,
+    )?;
+    out.push_str("</svg></div>\n")
+}
+
+// The strips of a window.
+fn put_strips(
+    span: Span,
+    refresh: u64,
+    lanes: &mut [Lane],
+    shown: &[IssuedCommand],
+    out: &mut String,
+) -> Result<(), AllocError> {
+    let cycles = span.end.saturating_sub(span.from);
+    let room = cycles.min(STRIP).max(1);
+    for number in 0..cycles.div_ceil(room) {
+        let from = number.saturating_mul(room).saturating_add(span.from);
+        let end = from.saturating_add(room).min(span.end);
+        let strip = Strip {
+            span: Span { from, end },
+            room,
+            refresh,
+        };
+        put_strip(strip, lanes, shown, out)?;
+    }
+    Ok(())
+}
+
+/// Appends the timeline of the channel `id`, with REFs of `refresh` cycles.
+pub(crate) fn put_timeline(
+    id: u64,
+    span: Span,
+    refresh: u64,
+    channel: &mut Channel,
+    out: &mut String,
+) -> Result<(), AllocError> {
+    for lane in channel.lanes.iter_mut() {
+        lane.state = lane.before;
+    }
+    put(
+        &[
+            Piece::Text("<details open><summary>channel "),
+            Piece::Number(id),
+            Piece::Text("</summary><div class=\"strips\">\n"),
+        ],
+        out,
+    )?;
+    put_strips(span, refresh, &mut channel.lanes, &channel.shown, out)?;
+    out.push_str("</div></details>\n")
 }

@@ -1,20 +1,17 @@
 -- A record is the line of a count just where it is written as one.
-use Rattle.std.proofs.Common.{◌≡◌, ◌≢◌, ◌^◌, ◌<◌, ◌&&◌, ◌==◌, ◌∙◌, ℕ, Bool, true, false, if◌then◌else◌, List, [], ◌∷◌, length, drop, Option, Some, None, Result, Ok, Err, refl, sym, ap, arith, inl, inr}
-use Rattle.std.specs.Prelude.{codes, IfOk, IfErr, IfSome, OnOk, MatchResult, option_map}
+use Rattle.std.proofs.Common.{◌≡◌, ◌^◌, ◌<◌, ◌&&◌, ◌==◌, ◌∙◌, ℕ, Bool, true, false, if◌then◌else◌, List, [], ◌∷◌, length, Option, Some, None, refl, sym, ap, subst, arith, inl, inr}
+use Rattle.std.specs.Prelude.{codes, IfSome, option_map}
 use Rattle.std.specs.Fmt.{decimal}
 use Rattle.std.specs.Str.{bytes_eq}
 use Rattle.std.proofs.lemmas.Bool.{and_parts, cases_Bool, eqb-true, ne_eqb}
 use Rattle.csv.specs.Records.{field_at}
-use Rattle.sim_base.specs.declared.fault.Fault.{Fault}
-use Rattle.sim_base.specs.declared.fault.Fault.TheVariants.{CheckRow, Memory}
 use Rattle.reports.specs.Rows.{optional}
 use Rattle.reports.specs.Stats.{stats_header, value_fields}
 use Rattle.rule_check.specs.Fields.{text_at}
-use Rattle.run_tables.specs.Lines.{is_line, optional_written, line_value, first_value, is_stats_header, begins_with_header}
+use Rattle.run_tables.specs.Lines.{is_line, optional_written, line_value, is_stats_header}
 use Rattle.run_tables.specs.Numbers.{number_written}
-use Rattle.run_tables.specs.Records.{IsTableFault}
 use Rattle.run_tables.proofs.FourFields.{three_texts, four_texts}
-use Rattle.run_tables.proofs.Written.{bytes_self, bytes_same, decimal_some, number_back, number_is}
+use Rattle.run_tables.proofs.Written.{bytes_self, bytes_same, decimal_some, number_back, number_is, number_wide}
 
 -- a value that fits 128 bits
 abbrev pub IsWide : Option ℕ → Type 0
@@ -47,9 +44,19 @@ optional_back None h = refl
 optional_back (Some n) h =
     of_some (length (decimal n) == 0) (option_map (λ number. Some number) (number_written (decimal n))) (Some n) (decimal_some n h) (ap (option_map (λ number. Some number)) (number_back n h))
 
+some_wide : (text : List ℕ) (o value : Option ℕ) → o ≡ number_written text → option_map (λ number. Some number) o ≡ Some value → IsWide value
+some_wide text None value e h = cc h
+some_wide text (Some n) value e h = let same : Some n ≡ value = cc h in subst IsWide same (number_wide text n (sym e))
+
+optional_wide : (text : List ℕ) (value : Option ℕ) → optional_written text ≡ Some value → IsWide value
+optional_wide [] value h = let same : None ≡ value = cc h in subst IsWide same tt
+optional_wide (c ∷ text) value h =
+    let some : (length (c ∷ text) == 0) ≡ false = ne_eqb (length (c ∷ text)) 0 (λ e. omega (arith, e)) in
+    some_wide (c ∷ text) (number_written (c ∷ text)) value refl (some_of (length (c ∷ text) == 0) (option_map (λ number. Some number) (number_written (c ∷ text))) value some h)
+
 -- THE LINE
 
-line_is : (scope : List ℕ) (id : ℕ) (name : List ℕ) (fields : List (List ℕ)) (value : Option ℕ) → line_value scope id name fields ≡ Some value → fields ≡ value_fields scope id (name, value)
+pub line_is : (scope : List ℕ) (id : ℕ) (name : List ℕ) (fields : List (List ℕ)) (value : Option ℕ) → line_value scope id name fields ≡ Some value → fields ≡ value_fields scope id (name, value)
 unfolding line_value
 line_is scope id name fields value h =
     elim (cases_Bool (is_line scope id name fields)) [
@@ -63,41 +70,21 @@ line_is scope id name fields value h =
           ∙ ap (λ (t : List ℕ). scope ∷ decimal id ∷ name ∷ t ∷ []) (optional_is (text_at fields 3) value last)
     ]
 
-line_back : (scope : List ℕ) (id : ℕ) (name : List ℕ) (value : Option ℕ) → IsWide value → line_value scope id name (value_fields scope id (name, value)) ≡ Some value
+pub line_wide : (scope : List ℕ) (id : ℕ) (name : List ℕ) (fields : List (List ℕ)) (value : Option ℕ) → line_value scope id name fields ≡ Some value → IsWide value
+unfolding line_value
+line_wide scope id name fields value h =
+    elim (cases_Bool (is_line scope id name fields)) [
+      | inr fails ↦ let none : None ≡ Some value = rw fails at h in cc none
+      | inl holds ↦ let last : optional_written (text_at fields 3) ≡ Some value = rw holds at h in optional_wide (text_at fields 3) value last
+    ]
+
+pub line_back : (scope : List ℕ) (id : ℕ) (name : List ℕ) (value : Option ℕ) → IsWide value → line_value scope id name (value_fields scope id (name, value)) ≡ Some value
 unfolding line_value text_at field_at
 line_back scope id name value h = rw (bytes_self scope, bytes_self (decimal id), bytes_self name) (optional_back value h)
 
--- what was taken of some records is their first
-pub value_taken : (scope : List ℕ) (id : ℕ) (name : List ℕ) (old new : List (List (List ℕ))) (result : Result (Option ℕ) Fault) → IfOk result (λ value. first_value scope id name old ≡ Some value)
-    → OnOk result (new ≡ drop 1 old) → IfOk result (λ value. old ≡ value_fields scope id (name, value) ∷ new)
-value_taken scope id name [] new (Ok value) read rest = cc read
-value_taken scope id name (fields ∷ others) new (Ok value) read rest =
-    ap (λ (f : List (List ℕ)). f ∷ others) (line_is scope id name fields value read) ∙ ap (λ (t : List (List (List ℕ))). value_fields scope id (name, value) ∷ t) (sym rest)
-value_taken scope id name old new (Err e) read rest = tt
-
--- memory alone is refused where a record is as it must be
-pub only_memory : (e : Fault) → IsTableFault e → ((e ≢ Memory) → ⊥) → e ≡ Memory
-only_memory (CheckRow k) fault h = absurd (h (λ same. cc same))
-only_memory Memory fault h = refl
-only_memory _ fault h = absurd fault
-
--- what is taken of records that begin with the line of a count
-pub value_exact : (scope : List ℕ) (id : ℕ) (name : List ℕ) (old new : List (List (List ℕ))) (result : Result (Option ℕ) Fault) → IfOk result (λ value. first_value scope id name old ≡ Some value)
-    → OnOk result (new ≡ drop 1 old) → IfErr result (λ e. e ≢ Memory → first_value scope id name old ≡ None) → IfErr result IsTableFault → (value : Option ℕ) (rest : List (List (List ℕ))) → IsWide value
-    → old ≡ value_fields scope id (name, value) ∷ rest → MatchResult result (λ found. (found ≡ value) × (new ≡ rest)) (λ e. e ≡ Memory)
-value_exact scope id name old new (Ok found) read taken refused fault value rest wide is =
-    let back = line_back scope id name value wide in
-    let first = ap (first_value scope id name) is in
-    let same : Some found ≡ Some value = sym read ∙ first ∙ back in
-    (cc same, taken ∙ ap (drop 1) is)
-value_exact scope id name old new (Err e) read taken refused fault value rest wide is =
-    let back = line_back scope id name value wide in
-    let first = ap (first_value scope id name) is in
-    only_memory e fault (λ other. let none : None ≡ Some value = sym (refused other) ∙ first ∙ back in cc none)
-
 -- THE HEADER
 
-header_is : (fields : List (List ℕ)) → is_stats_header fields ≡ true → fields ≡ stats_header
+pub header_is : (fields : List (List ℕ)) → is_stats_header fields ≡ true → fields ≡ stats_header
 unfolding is_stats_header
 header_is fields holds =
     let a = and_parts ((length fields == 4) && bytes_eq (text_at fields 0) (codes "scope") && bytes_eq (text_at fields 1) (codes "id") && bytes_eq (text_at fields 2) (codes "name")) (bytes_eq (text_at fields 3) (codes "value")) holds in
@@ -107,16 +94,6 @@ header_is fields holds =
     four_texts fields (codes "scope") (codes "id") (codes "name") (codes "value") (eqb-true (length fields) 4 d.0) (bytes_same (text_at fields 0) (codes "scope") d.1)
     (bytes_same (text_at fields 1) (codes "id") c.1) (bytes_same (text_at fields 2) (codes "name") b.1) (bytes_same (text_at fields 3) (codes "value") a.1)
 
-header_back : is_stats_header stats_header ≡ true
+pub header_back : is_stats_header stats_header ≡ true
 unfolding is_stats_header text_at field_at
 header_back = refl
-
--- the header was taken
-pub header_taken : (old new : List (List (List ℕ))) → begins_with_header old ≡ true → new ≡ drop 1 old → old ≡ stats_header ∷ new
-header_taken [] new h rest = cc h
-header_taken (fields ∷ others) new h rest =
-    ap (λ (f : List (List ℕ)). f ∷ others) (header_is fields h) ∙ ap (λ (t : List (List (List ℕ))). stats_header ∷ t) (sym rest)
-
--- it is no other record
-pub header_begins : (old rest : List (List (List ℕ))) → old ≡ stats_header ∷ rest → begins_with_header old ≡ true
-header_begins old rest is = ap begins_with_header is ∙ header_back

@@ -1,107 +1,72 @@
--- The units of a table, one after the other: what was taken, and what is left of each table that has these records.
-use Rattle.std.proofs.Common.{◌≡◌, ◌+◌, ◌<◌, ◌∙◌, ◌⊎◌, ℕ, List, [], ◌∷◌, ◌++◌, length, get_or, All, refl, sym, ap, subst, arith, inl, inr, append-nil, append_assoc, length-append}
-use Rattle.std.proofs.lemmas.List.{get_or-append-add}
-use Rattle.std.specs.List.{enumerate_from, flat_map}
-use Rattle.reports.specs.Rows.{numbered}
+-- Units that are read one after the other.
+use Rattle.std.proofs.Common.{◌≡◌, ◌+◌, ◌≤◌, ◌∙◌, ◌⊎◌, ℕ, List, [], ◌∷◌, ◌++◌, length, drop, Result, Ok, refl, sym, ap, subst, arith, inl, inr, append_assoc}
+use Rattle.std.specs.List.{AllByRecursion as Each, enumerate_from, flat_map}
 use Rattle.sim_base.specs.declared.fault.Fault.{Fault}
-use Rattle.sim_base.specs.declared.fault.Fault.TheVariants.{Memory}
-use Rattle.run_tables.proofs.Numbered.{numbered_step}
+use Rattle.run_tables.specs.Units.{AreRead}
 
 -- what the items of a list give with their numbers, which count from here
 abbrev pub from : {A : Type 0} → ℕ → (ℕ → A → List (List (List ℕ))) → List A → List (List (List ℕ))
 from k f xs = flat_map (λ p. f p.0 p.1) (enumerate_from k xs)
 
--- some items were taken of all, and these records are left
-pub record LeftOf {A : Type 0} (f : ℕ → A → List (List (List ℕ))) (all xs : List A) (rest left : List (List (List ℕ))) : Type 0 where
-  pub more : List A
-  pub items : all ≡ xs ++ more
-  pub is : left ≡ from (length xs) f more ++ rest
+-- the records of units that are read
+pub rows_of_units : {A : Type 0} (u : ℕ → ℕ → Result A Fault) (size : A → ℕ) (f : ℕ → A → List (List (List ℕ))) (Fits : A → Type 0) (table : List (List (List ℕ)))
+    → ((row id : ℕ) (x : A) → u row id ≡ Ok x → (drop row table ≡ f id x ++ drop (row + size x) table) × Fits x)
+    → (xs : List A) (row id end : ℕ) → AreRead u size row id xs end → (drop row table ≡ from id f xs ++ drop end table) × Each Fits xs
+rows_of_units u size f Fits table one [] row id end h = (ap (λ k. drop k table) (sym h), tt)
+rows_of_units u size f Fits table one (x ∷ xs) row id end h =
+    let first = one row id x h.0 in
+    let rest = rows_of_units u size f Fits table one xs (row + size x) (id + 1) end h.1 in
+    (first.0 ∙ ap (λ (t : List (List (List ℕ))). f id x ++ t) rest.0 ∙ sym (append_assoc (f id x) (from (id + 1) f xs) (drop end table)), (first.1, rest.1))
 
--- the same, where one item or more is left
-pub record NextOf {A : Type 0} (f : ℕ → A → List (List (List ℕ))) (all xs : List A) (rest left : List (List (List ℕ))) : Type 0 where
-  pub item : A
-  pub others : List A
-  pub items : all ≡ xs ++ item ∷ others
-  pub is : left ≡ f (length xs) item ++ (from (length xs + 1) f others ++ rest)
+-- the units that are read, where their records stand in a table
+pub units_of_rows : {A : Type 0} (u : ℕ → ℕ → Result A Fault) (size : A → ℕ) (f : ℕ → A → List (List (List ℕ))) (Fits : A → Type 0) (Ends : List (List (List ℕ)) → Type 0) (table rest : List (List (List ℕ)))
+    → ((row id : ℕ) (x : A) (others : List (List (List ℕ))) → drop row table ≡ f id x ++ others → Fits x → Ends others → (u row id ≡ Ok x) × (drop (row + size x) table ≡ others))
+    → ((id : ℕ) (xs : List A) → Ends (from id f xs ++ rest)) → (xs : List A) (row id : ℕ) → drop row table ≡ from id f xs ++ rest → Each Fits xs
+    → (end : ℕ) × AreRead u size row id xs end × (drop end table ≡ rest)
+units_of_rows u size f Fits Ends table rest one ends [] row id is fits = (row, refl, is)
+units_of_rows u size f Fits Ends table rest one ends (x ∷ xs) row id is fits =
+    let first = one row id x (from (id + 1) f xs ++ rest) (is ∙ append_assoc (f id x) (from (id + 1) f xs) rest) fits.0 (ends (id + 1) xs) in
+    let more = units_of_rows u size f Fits Ends table rest one ends xs (row + size x) (id + 1) first.1 fits.1 in
+    (more.0, (first.0, more.1), more.2)
 
--- some items were taken, and these are the first of each list that these records can be of
-pub record TakenOf {A : Type 0} (f : ℕ → A → List (List (List ℕ))) (Fits : A → Type 0) (Ends : List (List (List ℕ)) → Type 0) (old left : List (List (List ℕ))) (xs : List A) : Type 0 where
-  pub taken : old ≡ numbered f xs ++ left
-  pub exact : (all : List A) (rest : List (List (List ℕ))) → All Fits all → 0 < length all → Ends rest → old ≡ numbered f all ++ rest → LeftOf f all xs rest left
+-- one more
+pub one_more : {A : Type 0} (u : ℕ → ℕ → Result A Fault) (size : A → ℕ) (xs : List A) (y : A) (row id end next : ℕ) → AreRead u size row id xs end → next ≡ id + length xs → u end next ≡ Ok y
+    → AreRead u size row id (xs ++ y ∷ []) (end + size y)
+one_more u size [] y row id end next h n read =
+    let number : next ≡ id = omega (arith, n) in
+    (sym (ap (λ k. u k next) h ∙ ap (u row) number) ∙ read, ap (λ k. k + size y) h)
+one_more u size (x ∷ xs) y row id end next h n read = (h.0, one_more u size xs y (row + size x) (id + 1) end next h.1 (omega (arith, n)) read)
 
--- no item was taken
-pub none_taken : {A : Type 0} (f : ℕ → A → List (List (List ℕ))) (Fits : A → Type 0) (Ends : List (List (List ℕ)) → Type 0) (old : List (List (List ℕ))) (xs : List A) → xs ≡ []
-    → TakenOf f Fits Ends old old xs
-unfolding numbered
-none_taken f Fits Ends old xs none =
-    subst (TakenOf f Fits Ends old old) (sym none) (record {
-      taken = refl;
-      exact = λ all rest fits some ends is. record { more = all; items = refl; is = is };
-    })
+-- they end where they begin or later
+pub end_after : {A : Type 0} (u : ℕ → ℕ → Result A Fault) (size : A → ℕ) (xs : List A) (row id end : ℕ) → AreRead u size row id xs end → row ≤ end
+end_after u size [] row id end h = omega (arith, h)
+end_after u size (x ∷ xs) row id end h = let after = end_after u size xs (row + size x) (id + 1) end h.1 in omega (arith, after)
 
-next_by : {A : Type 0} (f : ℕ → A → List (List (List ℕ))) (all xs more : List A) (rest left : List (List (List ℕ))) → all ≡ xs ++ more → left ≡ from (length xs) f more ++ rest → 0 < length all
-    → (length xs ≡ 0) ⊎ (left ≡ rest → ⊥) → NextOf f all xs rest left
-next_by f all xs [] rest left items is some goes =
-    let size = ap length items in
-    let long = length-append xs [] in
-    elim goes [
-      | inl empty ↦ absurd (omega (arith, size, long, empty, some))
-      | inr other ↦ absurd (other is)
+-- two tables in which units are read from the same row on: those of the second begin with those of the first, or end where one more can be read
+abbrev pub Begins : {A : Type 0} → (ℕ → ℕ → Result A Fault) → (A → ℕ) → List A → List A → ℕ → ℕ → ℕ → Type 0
+Begins v size xs ys id end last =
+    ((zs : List _) × (ys ≡ xs ++ zs) × AreRead v size end (id + length xs) zs last) ⊎ ((number : ℕ) × (x : _) × (v last number ≡ Ok x))
+
+begins_more : {A : Type 0} (v : ℕ → ℕ → Result A Fault) (size : A → ℕ) (x : A) (xs ys : List A) (id end last : ℕ) → Begins v size xs ys (id + 1) end last → Begins v size (x ∷ xs) (x ∷ ys) id end last
+begins_more v size x xs ys id end last h =
+    elim h [
+      | inl more ↦
+          let number : id + 1 + length xs ≡ id + length (x ∷ xs) = omega arith in
+          inl (more.0, ap (λ (t : List _). x ∷ t) more.1, subst (λ k. AreRead v size end k more.0 last) number more.2)
+      | inr one ↦ inr one
     ]
-next_by f all xs (m ∷ ms) rest left items is some goes =
-    record { item = m; others = ms; items = items; is = is ∙ append_assoc (f (length xs) m) (from (length xs + 1) f ms) rest }
 
--- the next item of each list that the records can be of
-pub next_of : {A : Type 0} (f : ℕ → A → List (List (List ℕ))) (all xs : List A) (rest left : List (List (List ℕ))) → LeftOf f all xs rest left → 0 < length all
-    → (length xs ≡ 0) ⊎ (left ≡ rest → ⊥) → NextOf f all xs rest left
-next_of f all xs rest left l some goes = next_by f all xs l.more rest left l.items l.is some goes
-
--- it fits
-pub next_fits : {A : Type 0} (f : ℕ → A → List (List (List ℕ))) (Fits : A → Type 0) (all xs : List A) (rest left : List (List (List ℕ))) (n : NextOf f all xs rest left) → All Fits all → Fits n.item
-next_fits f Fits all xs rest left n fits =
-    let size = ap length n.items ∙ length-append xs (n.item ∷ n.others) in
-    let at = ap (λ t. get_or t (length xs + 0) n.item) n.items ∙ get_or-append-add xs (n.item ∷ n.others) 0 n.item in
-    subst Fits at (fits (length xs + 0) n.item (omega (arith, size)))
-
--- one item more was taken
-pub one_taken : {A : Type 0} (f : ℕ → A → List (List (List ℕ))) (Fits : A → Type 0) (Ends : List (List (List ℕ)) → Type 0) (old left new : List (List (List ℕ))) (xs pushed : List A) (y : A) (id : ℕ)
-    → TakenOf f Fits Ends old left xs → ((rest : List (List (List ℕ))) → Ends rest → (length xs ≡ 0) ⊎ (left ≡ rest → ⊥)) → id ≡ length xs → left ≡ f id y ++ new
-    → ((x : A) (others : List A) (rest : List (List (List ℕ))) → Fits x → Ends rest → left ≡ f id x ++ (from (length xs + 1) f others ++ rest) → (y ≡ x) × (new ≡ from (length xs + 1) f others ++ rest))
-    → pushed ≡ xs ++ y ∷ [] → TakenOf f Fits Ends old new pushed
-one_taken f Fits Ends old left new xs pushed y id t goes place took item push =
-    record {
-      taken = numbered_step f xs pushed y id old left new t.taken took place push;
-      exact = λ all rest fits some ends is.
-          let n = next_of f all xs rest left (t.exact all rest fits some ends is) some (goes rest ends) in
-          let at = n.is ∙ ap (λ k. f k n.item ++ (from (length xs + 1) f n.others ++ rest)) (sym place) in
-          let same = item n.item n.others rest (next_fits f Fits all xs rest left n fits) ends at in
-          let size = ap length push ∙ length-append xs (y ∷ []) in
-          record {
-            more = n.others;
-            items = n.items ∙ ap (λ x. xs ++ x ∷ n.others) (sym same.0) ∙ sym (append_assoc xs (y ∷ []) n.others) ∙ ap (λ t. t ++ n.others) (sym push);
-            is = same.1 ∙ ap (λ k. from k f n.others ++ rest) (sym size);
-          };
-    }
-
--- an item that cannot be taken, though it is there, is refused for memory
-pub one_refused : {A : Type 0} (f : ℕ → A → List (List (List ℕ))) (Fits : A → Type 0) (Ends : List (List (List ℕ)) → Type 0) (old left : List (List (List ℕ))) (xs : List A) (id : ℕ) (e : Fault)
-    → TakenOf f Fits Ends old left xs → ((rest : List (List (List ℕ))) → Ends rest → (length xs ≡ 0) ⊎ (left ≡ rest → ⊥)) → id ≡ length xs
-    → ((x : A) (others : List A) (rest : List (List (List ℕ))) → Fits x → Ends rest → left ≡ f id x ++ (from (length xs + 1) f others ++ rest) → e ≡ Memory)
-    → (all : List A) (rest : List (List (List ℕ))) → All Fits all → 0 < length all → Ends rest → old ≡ numbered f all ++ rest → e ≡ Memory
-one_refused f Fits Ends old left xs id e t goes place item all rest fits some ends is =
-    let n = next_of f all xs rest left (t.exact all rest fits some ends is) some (goes rest ends) in
-    let at = n.is ∙ ap (λ k. f k n.item ++ (from (length xs + 1) f n.others ++ rest)) (sym place) in
-    item n.item n.others rest (next_fits f Fits all xs rest left n fits) ends at
-
-last_by : {A : Type 0} (f : ℕ → A → List (List (List ℕ))) (all xs more : List A) (rest left : List (List (List ℕ))) → all ≡ xs ++ more → left ≡ from (length xs) f more ++ rest
-    → ((x : A) (others : List (List (List ℕ))) → left ≡ f (length xs) x ++ others → ⊥) → (xs ≡ all) × (left ≡ rest)
-last_by f all xs [] rest left items is ends = (sym (append-nil xs) ∙ sym items, is)
-last_by f all xs (m ∷ ms) rest left items is ends = absurd (ends m (from (length xs + 1) f ms ++ rest) (is ∙ append_assoc (f (length xs) m) (from (length xs + 1) f ms) rest))
-
--- all items were taken
-pub all_taken : {A : Type 0} (f : ℕ → A → List (List (List ℕ))) (Fits : A → Type 0) (Ends : List (List (List ℕ)) → Type 0) (old left : List (List (List ℕ))) (xs : List A) → TakenOf f Fits Ends old left xs
-    → ((x : A) (others : List (List (List ℕ))) → left ≡ f (length xs) x ++ others → ⊥) → (all : List A) (rest : List (List (List ℕ))) → All Fits all → 0 < length all → Ends rest → old ≡ numbered f all ++ rest
-    → (xs ≡ all) × (left ≡ rest)
-all_taken f Fits Ends old left xs t ends all rest fits some end is =
-    let l = t.exact all rest fits some end is in
-    last_by f all xs l.more rest left l.items l.is ends
+pub begins : {A : Type 0} (u v : ℕ → ℕ → Result A Fault) (size : A → ℕ) (Same : ℕ → Type 0) → ((row id end : ℕ) (x : A) → u row id ≡ Ok x → row + size x ≤ end → Same end → v row id ≡ Ok x)
+    → (xs ys : List A) (row id end last : ℕ) → AreRead u size row id xs end → AreRead v size row id ys last → Same end → Begins v size xs ys id end last
+begins u v size Same one [] ys row id end last h k same =
+    let number : id ≡ id + 0 = omega arith in
+    inl (ys, refl, subst (λ n. AreRead v size end n ys last) number (subst (λ r. AreRead v size r id ys last) (sym h) k))
+begins u v size Same one (x ∷ xs) [] row id end last h k same =
+    let after = end_after u size xs (row + size x) (id + 1) end h.1 in
+    inr (id, x, ap (λ r. v r id) k ∙ one row id end x h.0 after same)
+begins u v size Same one (x ∷ xs) (y ∷ ys) row id end last h k same =
+    let after = end_after u size xs (row + size x) (id + 1) end h.1 in
+    let both : Ok x ≡ Ok y = sym (one row id end x h.0 after same) ∙ k.0 in
+    let item : x ≡ y = cc both in
+    let rest = begins u v size Same one xs ys (row + size x) (id + 1) end last h.1 (subst (λ (z : _). AreRead v size (row + size z) (id + 1) ys last) (sym item) k.1) same in
+    subst (λ (z : _). Begins v size (x ∷ xs) (z ∷ ys) id end last) item (begins_more v size x xs ys id end last rest)

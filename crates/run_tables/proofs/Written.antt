@@ -154,6 +154,14 @@ number_is text n h =
     let small = r.small in
     canonical_is text r.all r.some r.first (omega (arith, small)) ∙ ap decimal r.value
 
+-- and it has 128 bits
+pub number_wide : (text : List ℕ) (n : ℕ) → number_written text ≡ Some n → n < 2 ^ 128
+number_wide text n h =
+    let r = reads text n h in
+    let small = r.small in
+    let value = r.value in
+    omega (arith, small, value)
+
 -- BYTES
 
 eqb-self : (n : ℕ) → (n == n) ≡ true

@@ -4,3 +4,4 @@ pub mod Columns
 pub mod Numbers
 pub mod Lines
 pub mod Stats
+pub mod Units

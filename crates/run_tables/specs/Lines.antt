@@ -1,22 +1,20 @@
--- What the reader of statistics finds of a record.
---     first_is k text records      a field of the first of some records is this text
---     has_more records      there are any
+-- What the reader of statistics makes of a record.
 --     line_value scope id name fields      the value of the line of a count, if a record is one
+--     count_in, sum_in, cycle_in row scope id name record      the value of the line of a count, or the fault of its row
+--     has_text k text record      a field of a record is this text
 --     is_stats_header fields      a record is the header
-use Rattle.std.specs.Prelude.{ℕ, ◌==◌, Bool, true, false, ◌&&◌, List, [], ◌∷◌, length, codes, decimal, option_map, Option, Some, None, if◌then◌else◌}
+use Rattle.std.specs.Prelude.{ℕ, ◌^◌, ◌==◌, nat_lt, Bool, false, ◌&&◌, List, length, codes, decimal, option_map, option_and_then, Option, Some, None, Result, Ok, Err, if◌then◌else◌}
 use Rattle.std.specs.Str.{bytes_eq}
+use Rattle.sim_base.specs.declared.fault.Fault.{Fault}
+use Rattle.sim_base.specs.declared.fault.Fault.TheVariants.{CheckRow}
 use Rattle.rule_check.specs.Fields.{is_empty, text_at}
 use Rattle.run_tables.specs.Numbers.{number_written}
 
--- a field of the first of some records is this text
-abbrev pub first_is : ℕ → List ℕ → List (List (List ℕ)) → Bool
-first_is k text [] = false
-first_is k text (fields ∷ others) = bytes_eq (text_at fields k) text
-
--- whether there are any
-abbrev pub has_more : List (List (List ℕ)) → Bool
-has_more [] = false
-has_more (fields ∷ others) = true
+-- what is made of a value that may have been refused: the first fault stays
+infixl 10 ◌>>=◌
+abbrev pub ◌>>=◌ : {A B : Type 0} → Result A Fault → (A → Result B Fault) → Result B Fault
+Ok x >>= f = f x
+Err e >>= f = Err e
 
 -- whether a record is the line of a count, whatever its value
 abbrev pub is_line : List ℕ → ℕ → List ℕ → List (List ℕ) → Bool
@@ -31,10 +29,40 @@ optional_written text = if is_empty text then Some None else option_map (λ numb
 unfoldable pub line_value : List ℕ → ℕ → List ℕ → List (List ℕ) → Option (Option ℕ)
 line_value scope id name fields = if is_line scope id name fields then optional_written (text_at fields 3) else None
 
--- the same of the first of some records
-abbrev pub first_value : List ℕ → ℕ → List ℕ → List (List (List ℕ)) → Option (Option ℕ)
-first_value scope id name [] = None
-first_value scope id name (fields ∷ others) = line_value scope id name fields
+-- a value of a row, which is refused where it is missing
+abbrev pub or_refused : {A : Type 0} → ℕ → Option A → Result A Fault
+or_refused row (Some value) = Ok value
+or_refused row None = Err (CheckRow row)
+
+-- a number of a row, which is refused if it has more than 64 bits
+abbrev pub narrow : ℕ → ℕ → Result ℕ Fault
+narrow row number = if nat_lt number (2 ^ 64) then Ok number else Err (CheckRow row)
+
+-- the same of a number that may be missing
+abbrev pub narrow_optional : ℕ → Option ℕ → Result (Option ℕ) Fault
+narrow_optional row None = Ok None
+narrow_optional row (Some number) = narrow row number >>= (λ found. Ok (Some found))
+
+-- the value of the line of a count, which must stand in a row
+unfoldable pub value_in : ℕ → List ℕ → ℕ → List ℕ → Option (List (List ℕ)) → Result (Option ℕ) Fault
+value_in row scope id name line = or_refused row (option_and_then (line_value scope id name) line)
+
+-- a sum
+unfoldable pub sum_in : ℕ → List ℕ → ℕ → List ℕ → Option (List (List ℕ)) → Result ℕ Fault
+sum_in row scope id name line = value_in row scope id name line >>= or_refused row
+
+-- a count
+unfoldable pub count_in : ℕ → List ℕ → ℕ → List ℕ → Option (List (List ℕ)) → Result ℕ Fault
+count_in row scope id name line = sum_in row scope id name line >>= narrow row
+
+-- a cycle that may be missing
+unfoldable pub cycle_in : ℕ → List ℕ → ℕ → List ℕ → Option (List (List ℕ)) → Result (Option ℕ) Fault
+cycle_in row scope id name line = value_in row scope id name line >>= narrow_optional row
+
+-- a field of a record is this text
+abbrev pub has_text : ℕ → List ℕ → Option (List (List ℕ)) → Bool
+has_text k text None = false
+has_text k text (Some fields) = bytes_eq (text_at fields k) text
 
 -- whether a record is the header
 unfoldable pub is_stats_header : List (List ℕ) → Bool
@@ -42,7 +70,7 @@ is_stats_header fields =
     (length fields == 4) && bytes_eq (text_at fields 0) (codes "scope") && bytes_eq (text_at fields 1) (codes "id")
     && bytes_eq (text_at fields 2) (codes "name") && bytes_eq (text_at fields 3) (codes "value")
 
--- the same of the first of some records
-abbrev pub begins_with_header : List (List (List ℕ)) → Bool
-begins_with_header [] = false
-begins_with_header (fields ∷ others) = is_stats_header fields
+-- the same of a record that may be missing
+abbrev pub is_header_row : Option (List (List ℕ)) → Bool
+is_header_row None = false
+is_header_row (Some fields) = is_stats_header fields

@@ -2,6 +2,7 @@
 --     CoreInRange core      each count of a core is in its range
 --     StatsFit stats      statistics that a run can have
 --     IsStatsTable records stats      the records are those that are written of these statistics
+--     HoldsStats records      they are a table of some statistics
 use Rattle.std.specs.Prelude.{◌≡◌, ℕ, ◌<◌, ◌^◌, List, ◌∷◌, length, All, IfSome}
 use Rattle.reports.specs.Stats.{stats_header, stats_rows}
 use Rattle.statistics.specs.Values.{RunStats}
@@ -26,3 +27,7 @@ pub record StatsFit (stats : RunStats) : Type 0 where
 pub record IsStatsTable (records : List (List (List ℕ))) (stats : RunStats) : Type 0 where
   pub parts : records ≡ stats_header ∷ stats_rows stats
   pub fits : StatsFit stats
+
+-- the records are those of a table of some statistics
+abbrev pub HoldsStats : List (List (List ℕ)) → Type 0
+HoldsStats records = (stats : RunStats) × IsStatsTable records stats

@@ -13,11 +13,12 @@ ghost use Rattle.run_tables.specs.Commands.{ranks_told, rank_read, bank_read, so
 ghost use Rattle.run_tables.specs.Commands.{IsCommandTable, HoldsCommands};
 ghost use Rattle.run_tables.specs.Records.{IsTableFault, IsRefusedFor};
 
-use crate::fields::{is_at, text_at};
-use crate::numbers::{NUMBER_LIMIT, number_below, small_number};
+use crate::fields::is_at;
 use crate::records::Records;
 use command_table::list::CommandList;
 use csv::ByteRecord;
+use rule_check::fields::text_at;
+use rule_check::numbers::{NUMBER_LIMIT, number_below, small_number};
 use sim_base::command::{Command, IssuedCommand, Source};
 use sim_base::fault::Fault;
 use sim_base::message::Cycle;
@@ -40,7 +41,7 @@ const COLUMN_LIMIT: u32 = 1_024;
 const CORE_LIMIT: u64 = 256;
 
 /// The columns of a table.
-#[derive(Clone, Copy, PartialEq, Eq, Debug)]
+#[derive(Clone, Copy)]
 enum Columns {
     /// There is one for the rank, before that of the bank group.
     WithRank,

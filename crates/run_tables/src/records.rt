@@ -1,11 +1,11 @@
-//! The records of a table, read one after the other.
+//! The records of a table, read one after the other, or all at once.
 
-ghost use Rattle.std.specs.Prelude.{◌≡◌, ◌+◌, ◌<◌, ◌↔◌, [], ◌∷◌, length, drop, IsTrue, IfOk, IfErr, OnOk};
+ghost use Rattle.std.specs.Prelude.{◌≡◌, ◌+◌, ◌<◌, ◌^◌, ◌↔◌, [], ◌∷◌, length, map, slice_get, option_map, drop, IsTrue, IfOk, IfErr, OnOk};
 ghost use Rattle.csv.specs.Records.{fields_of};
-ghost use Rattle.rule_check.specs.Left.{IsReading, Takes, left_of};
 ghost use Rattle.rule_check.specs.Verdict.{records_of};
 
-use csv::{ByteRecord, Reader, ReaderBuilder};
+use csv::{ByteRecord, Reader};
+use rule_check::reading::{open, read_next};
 use sim_base::fault::Fault;
 use std::alloc::Global;
 use std::marker::Model;
@@ -29,29 +29,6 @@ impl<'t> Model for Records<'t> {
     ghost view = { λ r. record { row = r.row; records = left_from r.found (fields_of r.first) (left_of r.reader) } };
 
     ghost invariant = { λ r. Stands r.reader (fields_of r.first) r.found r.row };
-}
-
-// A reader of a table, before its first record.
-fn open<'t>(alloc: Global, table: &'t [u8]) -> Reader<&'t [u8]>
-    ensures reading { IsReading result }
-    ensures left { left_of result ≡ records_of table.now }
-{
-    ReaderBuilder::new()
-        .has_headers(false)
-        .flexible(true)
-        .from_reader(alloc, table)
-}
-
-// Reads the next record, and tells whether there was one. The only error is out of memory.
-fn read_next(reader: &mut Reader<&[u8]>, row: &mut ByteRecord) -> Result<bool, Fault>
-    requires { IsReading reader.old }
-    ensures takes { IfOk result (λ found. Takes reader.old found (fields_of row.new) reader.new) }
-    ensures fault { IfErr result (λ e. e ≡ Fault.Memory) }
-{
-    let Ok(found) = reader.read_byte_record(row) else {
-        return Err(Fault::Memory);
-    };
-    Ok(found)
 }
 
 impl<'t> Records<'t> {
@@ -107,5 +84,52 @@ impl<'t> Records<'t> {
         self.found = read_next(&mut self.reader, &mut self.first)?;
         self.row += 1;
         Ok(())
+    }
+}
+
+/// All records of a table; the header has number 0.
+#[derive(Drop)]
+pub(crate) struct Table {
+    records: Vec<ByteRecord>,
+}
+
+impl Model for Table {
+    ghost use Rattle.std.specs.Prelude.{ℕ, List, map};
+    ghost use Rattle.csv.specs.Records.{fields_of};
+
+    ghost Value = { List (List (List ℕ)) };
+
+    ghost view = { λ t. map fields_of t.records.items };
+}
+
+impl Table {
+    /// Reads a table. The only error is out of memory.
+    pub(crate) fn read(alloc: Global, table: &[u8]) -> Result<Table, Fault>
+        ensures all { IfOk result (λ t. t ≡ records_of table.now) }
+        ensures fault { IfErr result (λ e. e ≡ Fault.Memory) }
+    {
+        let mut left = Records::of(alloc, table)?;
+        let mut records = Vec::new(alloc);
+        while !left.is_empty() {
+            let record = left.first().clone().map_err(|_| Fault::Memory)?;
+            records.push(record).map_err(|_| Fault::Memory)?;
+            left.drop_first()?;
+        }
+        Ok(Table { records })
+    }
+
+    /// How many records it has.
+    pub(crate) fn len(&self) -> usize
+        ensures value { result ≡ length self.now }
+        ensures few { result < 2 ^ 63 }
+    {
+        self.records.len()
+    }
+
+    /// A record.
+    pub(crate) fn get(&self, row: usize) -> Option<&ByteRecord>
+        ensures { option_map (λ r. fields_of r.now) result ≡ slice_get self.now row }
+    {
+        self.records.get(row)
     }
 }

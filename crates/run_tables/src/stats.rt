@@ -1,24 +1,22 @@
 //! The table of statistics.
 
-ghost use Rattle.std.specs.Prelude.{ℕ, ◌≡◌, ◌≢◌, ◌<◌, ◌^◌, ◌==◌, ◌||◌, ◌∷◌, ◌++◌, [], codes, true, false, List, Option, None, Some, All, decimal, drop, length, map, MatchResult, IfOk, IfErr, IfSome, OnOk};
+ghost use Rattle.std.specs.Prelude.{◌≡◌, ◌⊎◌, ◌≤◌, ◌<◌, ◌^◌, ◌+◌, ◌*◌, ◌∷◌, codes, decimal, length, slice_get, MatchResult, IfOk, IfErr};
 ghost use Rattle.std.specs.Str.{bytes_eq};
 ghost use Rattle.csv.specs.Records.{fields_of};
-ghost use Rattle.statistics.specs.declared.channels.ChannelStats.{ChannelStats as Channel};
-ghost use Rattle.statistics.specs.declared.cores.CoreStats.{CoreStats as Core};
-ghost use Rattle.statistics.specs.Channels.{ChannelFits};
 ghost use Rattle.statistics.specs.Values.{RunStats};
-ghost use Rattle.reports.specs.Rows.{numbered};
-ghost use Rattle.reports.specs.Stats.{stats_header, stats_rows, value_fields, draining_values, core_rows, channel_rows};
+ghost use Rattle.reports.specs.Stats.{stats_header, stats_rows};
 ghost use Rattle.rule_check.specs.Fields.{text_at};
 ghost use Rattle.rule_check.specs.Verdict.{records_of};
-ghost use Rattle.run_tables.specs.Lines.{first_is, has_more, is_line, optional_written, line_value, first_value, is_stats_header, begins_with_header};
-ghost use Rattle.run_tables.specs.Records.{IsTableFault};
-ghost use Rattle.run_tables.specs.Stats.{CoreInRange, IsStatsTable};
+ghost use Rattle.run_tables.specs.Lines.{is_line, optional_written, line_value, narrow, value_in, sum_in, count_in, cycle_in, has_text, is_stats_header, is_header_row};
+ghost use Rattle.run_tables.specs.Records.{IsTableFault, IsRefusedFor};
+ghost use Rattle.run_tables.specs.Stats.{IsStatsTable, HoldsStats};
+ghost use Rattle.run_tables.specs.Units.{entries_at, stops_at, core_at, draining_at, commands_at, queue_at, channel_at, channel_size, has_core, has_channel, CoresAre, CoresStop, ChannelsAre, ChannelsStop, IsRead};
 
-use crate::fields::{is_at, text_at};
+use crate::fields::is_at;
 use crate::numbers::number_in;
-use crate::records::Records;
+use crate::records::Table;
 use csv::ByteRecord;
+use rule_check::fields::text_at;
 use sim_base::fault::Fault;
 use sim_base::message::Cycle;
 use statistics::channels::ChannelStats;
@@ -26,18 +24,11 @@ use statistics::cores::CoreStats;
 use statistics::stats::Stats;
 use std::alloc::Global;
 
-// Drops the header.
-fn take_header(records: &mut Records<'_>) -> Result<(), Fault>
-    ensures header { OnOk result (begins_with_header records.old.records ≡ true) }
-    ensures rest { OnOk result (records.new.records ≡ drop 1 records.old.records) }
-    ensures refused { IfErr result (λ e. e ≢ Fault.Memory → begins_with_header records.old.records ≡ false) }
-    ensures fault { IfErr result IsTableFault }
-{
-    if records.is_empty() || !is_header(records.first()) {
-        return Err(records.fault());
-    }
-    records.drop_first()
-}
+/// The records of a core.
+const CORE_RECORDS: usize = 12;
+
+/// The records that each channel has; one more tells how long it drained.
+const CHANNEL_RECORDS: usize = 11;
 
 #[tactic(auto, unfolding(crate::specs::Lines::is_stats_header))]
 fn is_header(fields: &ByteRecord) -> bool
@@ -48,6 +39,15 @@ fn is_header(fields: &ByteRecord) -> bool
         && is_at(fields, 1, b"id")
         && is_at(fields, 2, b"name")
         && is_at(fields, 3, b"value")
+}
+
+fn has_header(table: &Table) -> bool
+    ensures { result ≡ is_header_row (slice_get table.now 0) }
+{
+    match table.get(0) {
+        Some(fields) => is_header(fields),
+        None => false,
+    }
 }
 
 /// The unit that a line is about.
@@ -102,104 +102,119 @@ fn line_value(fields: &ByteRecord, unit: Unit, name: &[u8]) -> Option<Option<u12
     }
 }
 
-// The value of the line of a count, which must be the next.
-fn next_value(records: &mut Records<'_>, unit: Unit, name: &[u8]) -> Result<Option<u128>, Fault>
-    ensures read { IfOk result (λ value. first_value unit.scope.now unit.id name.now records.old.records ≡ Some value) }
-    ensures rest { OnOk result (records.new.records ≡ drop 1 records.old.records) }
-    ensures refused { IfErr result (λ e. e ≢ Fault.Memory → first_value unit.scope.now unit.id name.now records.old.records ≡ None) }
-    ensures fault { IfErr result IsTableFault }
+// The value of the line of a count, which must be the record of a row.
+#[tactic(auto, unfolding(crate::specs::Lines::value_in))]
+fn value_at(table: &Table, row: usize, unit: Unit, name: &[u8]) -> Result<Option<u128>, Fault>
+    ensures { result ≡ value_in row unit.scope.now unit.id name.now (slice_get table.now row) }
 {
-    let fault = records.fault();
-    if records.is_empty() {
-        return Err(fault);
-    }
-    let Some(value) = line_value(records.first(), unit, name) else {
+    let fault = Fault::CheckRow(row as u64);
+    let Some(fields) = table.get(row) else {
         return Err(fault);
     };
-    records.drop_first()?;
-    Ok(value)
-}
-
-// The value of a count that may be missing.
-fn take_value(records: &mut Records<'_>, unit: Unit, name: &[u8]) -> Result<Option<u128>, Fault>
-    ensures value { IfOk result (λ value. records.old.records ≡ value_fields unit.scope.now unit.id (name.now, value) ∷ records.new.records) }
-    ensures exact { (value : Option ℕ) (rest : List (List (List ℕ))) → IfSome value (λ n. n < 2 ^ 128)
-        → records.old.records ≡ value_fields unit.scope.now unit.id (name.now, value) ∷ rest
-        → MatchResult result (λ found. (found ≡ value) × (records.new.records ≡ rest)) (λ e. e ≡ Fault.Memory) }
-    ensures fault { IfErr result IsTableFault }
-{
-    next_value(records, unit, name)
-}
-
-// A sum.
-fn take_sum(records: &mut Records<'_>, unit: Unit, name: &[u8]) -> Result<u128, Fault>
-    ensures value { IfOk result (λ value. records.old.records ≡ value_fields unit.scope.now unit.id (name.now, Some value) ∷ records.new.records) }
-    ensures exact { (sum : ℕ) (rest : List (List (List ℕ))) → sum < 2 ^ 128
-        → records.old.records ≡ value_fields unit.scope.now unit.id (name.now, Some sum) ∷ rest
-        → MatchResult result (λ found. (found ≡ sum) × (records.new.records ≡ rest)) (λ e. e ≡ Fault.Memory) }
-    ensures fault { IfErr result IsTableFault }
-{
-    let fault = records.fault();
-    match take_value(records, unit, name)? {
-        Some(sum) => Ok(sum),
+    match line_value(fields, unit, name) {
+        Some(value) => Ok(value),
         None => Err(fault),
     }
 }
 
-// A count.
-fn take_count(records: &mut Records<'_>, unit: Unit, name: &[u8]) -> Result<u64, Fault>
-    ensures value { IfOk result (λ value. records.old.records ≡ value_fields unit.scope.now unit.id (name.now, Some value) ∷ records.new.records) }
-    ensures exact { (count : ℕ) (rest : List (List (List ℕ))) → count < 2 ^ 64
-        → records.old.records ≡ value_fields unit.scope.now unit.id (name.now, Some count) ∷ rest
-        → MatchResult result (λ found. (found ≡ count) × (records.new.records ≡ rest)) (λ e. e ≡ Fault.Memory) }
-    ensures fault { IfErr result IsTableFault }
+// A sum.
+#[tactic(auto, unfolding(crate::specs::Lines::sum_in))]
+fn sum_at(table: &Table, row: usize, unit: Unit, name: &[u8]) -> Result<u128, Fault>
+    ensures { result ≡ sum_in row unit.scope.now unit.id name.now (slice_get table.now row) }
 {
-    let fault = records.fault();
-    let sum = take_sum(records, unit, name)?;
-    match u64::try_from(sum) {
-        Ok(count) => Ok(count),
-        Err(_) => Err(fault),
+    match value_at(table, row, unit, name)? {
+        Some(sum) => Ok(sum),
+        None => Err(Fault::CheckRow(row as u64)),
     }
 }
 
-// A cycle that may be missing.
-fn take_cycle(records: &mut Records<'_>, unit: Unit, name: &[u8]) -> Result<Option<Cycle>, Fault>
-    ensures value { IfOk result (λ value. records.old.records ≡ value_fields unit.scope.now unit.id (name.now, value) ∷ records.new.records) }
-    ensures exact { (cycle : Option ℕ) (rest : List (List (List ℕ))) → IfSome cycle (λ n. n < 2 ^ 64)
-        → records.old.records ≡ value_fields unit.scope.now unit.id (name.now, cycle) ∷ rest
-        → MatchResult result (λ found. (found ≡ cycle) × (records.new.records ≡ rest)) (λ e. e ≡ Fault.Memory) }
-    ensures fault { IfErr result IsTableFault }
+// A number of a row, if it has 64 bits.
+fn narrow(row: usize, number: u128) -> Result<u64, Fault>
+    ensures { result ≡ narrow row number }
 {
-    let fault = records.fault();
-    match take_value(records, unit, name)? {
-        Some(cycle) => match u64::try_from(cycle) {
-            Ok(cycle) => Ok(Some(cycle)),
-            Err(_) => Err(fault),
-        },
+    match u64::try_from(number) {
+        Ok(number) => Ok(number),
+        Err(_) => Err(Fault::CheckRow(row as u64)),
+    }
+}
+
+// A count.
+#[tactic(auto, unfolding(crate::specs::Lines::count_in))]
+fn count_at(table: &Table, row: usize, unit: Unit, name: &[u8]) -> Result<u64, Fault>
+    ensures { result ≡ count_in row unit.scope.now unit.id name.now (slice_get table.now row) }
+{
+    narrow(row, sum_at(table, row, unit, name)?)
+}
+
+// A cycle that may be missing.
+#[tactic(auto, unfolding(crate::specs::Lines::cycle_in))]
+fn cycle_at(table: &Table, row: usize, unit: Unit, name: &[u8]) -> Result<Option<Cycle>, Fault>
+    ensures { result ≡ cycle_in row unit.scope.now unit.id name.now (slice_get table.now row) }
+{
+    match value_at(table, row, unit, name)? {
+        Some(cycle) => Ok(Some(narrow(row, cycle)?)),
         None => Ok(None),
     }
 }
 
-// The counts of a core.
-fn take_core(records: &mut Records<'_>, id: u64) -> Result<CoreStats, Fault>
-    ensures core { IfOk result (λ core. records.old.records ≡ core_rows id core ++ records.new.records) }
-    ensures exact { (core : Core) (rest : List (List (List ℕ))) → CoreInRange core → records.old.records ≡ core_rows id core ++ rest
-        → MatchResult result (λ found. (found ≡ core) × (records.new.records ≡ rest)) (λ e. e ≡ Fault.Memory) }
-    ensures fault { IfErr result IsTableFault }
+// The counts of a core's entries.
+#[tactic(auto, unfolding(crate::specs::Units::entries_at))]
+fn entries_at(table: &Table, row: usize, id: u64) -> Result<(u64, u64, u64, u64, u64, u128), Fault>
+    requires { row + 6 < 2 ^ 64 }
+    ensures { result ≡ entries_at table.now row id }
 {
-    let unit = Unit { scope: b"core", id };
-    let issued = take_count(records, unit, b"issued")?;
-    let retired = take_count(records, unit, b"retired")?;
-    let reads = take_count(records, unit, b"reads")?;
-    let writes = take_count(records, unit, b"writes")?;
-    let replies = take_count(records, unit, b"replies")?;
-    let read_latency = take_sum(records, unit, b"read_latency")?;
-    let stop_end = take_count(records, unit, b"stop_end")?;
-    let stop_width = take_count(records, unit, b"stop_width")?;
-    let stop_window = take_count(records, unit, b"stop_window")?;
-    let stop_memory = take_count(records, unit, b"stop_memory")?;
-    let stop_credit = take_count(records, unit, b"stop_credit")?;
-    let finish = take_cycle(records, unit, b"finish")?;
+    let core = Unit { scope: b"core", id };
+    let issued = count_at(table, row, core, b"issued")?;
+    let retired = count_at(table, row + 1, core, b"retired")?;
+    let reads = count_at(table, row + 2, core, b"reads")?;
+    let writes = count_at(table, row + 3, core, b"writes")?;
+    let replies = count_at(table, row + 4, core, b"replies")?;
+    let read_latency = sum_at(table, row + 5, core, b"read_latency")?;
+    Ok((issued, retired, reads, writes, replies, read_latency))
+}
+
+// The counts of why it stopped, and when it finished.
+#[tactic(auto, unfolding(crate::specs::Units::stops_at))]
+fn stops_at(
+    table: &Table,
+    row: usize,
+    id: u64,
+) -> Result<(u64, u64, u64, u64, u64, Option<Cycle>), Fault>
+    requires { row + 6 < 2 ^ 64 }
+    ensures { result ≡ stops_at table.now row id }
+{
+    let core = Unit { scope: b"core", id };
+    let stop_end = count_at(table, row, core, b"stop_end")?;
+    let stop_width = count_at(table, row + 1, core, b"stop_width")?;
+    let stop_window = count_at(table, row + 2, core, b"stop_window")?;
+    let stop_memory = count_at(table, row + 3, core, b"stop_memory")?;
+    let stop_credit = count_at(table, row + 4, core, b"stop_credit")?;
+    let finish = cycle_at(table, row + 5, core, b"finish")?;
+    Ok((
+        stop_end,
+        stop_width,
+        stop_window,
+        stop_memory,
+        stop_credit,
+        finish,
+    ))
+}
+
+// The counts of a core, from a row on.
+#[tactic(auto, unfolding(crate::specs::Units::core_at))]
+fn core_at(table: &Table, row: usize, id: u64) -> Result<CoreStats, Fault>
+    requires { row ≤ length table.now }
+    ensures value { result ≡ core_at table.now row id }
+    ensures few { row + 12 < 2 ^ 64 }
+{
+    // tells the proof that the row can be counted
+    let _few = table.len();
+    let (issued, retired, reads, writes, replies, read_latency) = entries_at(table, row, id)?;
+    let (stop_end, stop_width, stop_window, stop_memory, stop_credit, finish) = stops_at(
+        table,
+        row + 6,
+        id,
+    )?;
     Ok(CoreStats {
         issued,
         retired,
@@ -216,75 +231,108 @@ fn take_core(records: &mut Records<'_>, id: u64) -> Result<CoreStats, Fault>
     })
 }
 
-// Whether a record is left whose field is this text.
-fn is_next(records: &Records<'_>, k: usize, text: &[u8]) -> bool
-    ensures { result ≡ first_is k text.now records.now.records }
+// Whether a field of the record of a row is this text.
+fn has_text(table: &Table, row: usize, k: usize, text: &[u8]) -> bool
+    ensures { result ≡ has_text k text.now (slice_get table.now row) }
 {
-    !records.is_empty() && is_at(records.first(), k, text)
+    match table.get(row) {
+        Some(fields) => is_at(fields, k, text),
+        None => false,
+    }
 }
 
-// Whether the counts of a core follow, after those of this many cores. There is at least one.
-fn has_core(count: usize, records: &Records<'_>) -> bool
-    ensures { result ≡ ((count == 0) || first_is 0 (codes "core") records.now.records) }
+// Whether the counts of a core must follow, after those of this many cores. There is at least one.
+fn has_core(count: usize, table: &Table, row: usize) -> bool
+    ensures { result ≡ has_core count table.now row }
 {
-    count == 0 || is_next(records, 0, b"core")
+    count == 0 || has_text(table, row, 0, b"core")
 }
 
-// The counts of each core. There is at least one.
-fn take_cores(alloc: Global, records: &mut Records<'_>) -> Result<Vec<CoreStats>, Fault>
-    ensures cores { IfOk result (λ cores. records.old.records ≡ numbered core_rows cores.items ++ records.new.records) }
-    ensures exact { (cores : List Core) (rest : List (List (List ℕ))) → All CoreInRange cores → 0 < length cores → first_is 0 (codes "core") rest ≡ false
-        → records.old.records ≡ numbered core_rows cores ++ rest
-        → MatchResult result (λ found. (found.items ≡ cores) × (records.new.records ≡ rest)) (λ e. e ≡ Fault.Memory) }
-    ensures fault { IfErr result IsTableFault }
+// The counts of each core, from the third record on. There is at least one.
+fn read_cores(alloc: Global, table: &Table) -> Result<Vec<CoreStats>, Fault>
+    requires { 2 ≤ length table.now }
+    ensures read { IfOk result (λ cores. CoresAre table.now cores.items (2 + 12 * length cores.items)) }
+    ensures refused { IfErr result (λ e. (e ≡ Fault.Memory) ⊎ CoresStop table.now e) }
 {
     let mut cores = Vec::new(alloc);
-    while has_core(cores.len(), records) {
-        let core = take_core(records, cores.len() as u64)?;
+    let mut row = 2;
+    while has_core(cores.len(), table, row) {
+        let core = core_at(table, row, cores.len() as u64)?;
         cores.push(core).map_err(|_| Fault::Memory)?;
+        row += CORE_RECORDS;
     }
     Ok(cores)
 }
 
-// The count of cycles in which a channel drained its writes, if the next line is that.
-fn take_draining(records: &mut Records<'_>, channel: Unit) -> Result<Option<u64>, Fault>
-    ensures value { IfOk result (λ count. records.old.records ≡ map (value_fields channel.scope.now channel.id) (draining_values count) ++ records.new.records) }
-    ensures exact { (count : Option ℕ) (rest : List (List (List ℕ))) → IfSome count (λ n. n < 2 ^ 64) → first_is 2 (codes "draining") rest ≡ false
-        → records.old.records ≡ map (value_fields channel.scope.now channel.id) (draining_values count) ++ rest
-        → MatchResult result (λ found. (found ≡ count) × (records.new.records ≡ rest)) (λ e. e ≡ Fault.Memory) }
-    ensures fault { IfErr result IsTableFault }
+// The count of cycles in which a channel drained its writes, if the record of a row is that.
+#[tactic(auto, unfolding(crate::specs::Units::draining_in))]
+fn draining_at(table: &Table, row: usize, id: u64) -> Result<Option<u64>, Fault>
+    ensures { result ≡ draining_at table.now row id }
 {
-    if is_next(records, 2, b"draining") {
-        Ok(Some(take_count(records, channel, b"draining")?))
+    if has_text(table, row, 2, b"draining") {
+        let channel = Unit {
+            scope: b"channel",
+            id,
+        };
+        Ok(Some(count_at(table, row, channel, b"draining")?))
     } else {
         Ok(None)
     }
 }
 
-// The counts of a channel.
-fn take_channel(records: &mut Records<'_>, id: u64) -> Result<ChannelStats, Fault>
-    ensures channel { IfOk result (λ channel. records.old.records ≡ channel_rows id channel ++ records.new.records) }
-    ensures exact { (channel : Channel) (rest : List (List (List ℕ))) → ChannelFits channel → first_is 2 (codes "draining") rest ≡ false
-        → records.old.records ≡ channel_rows id channel ++ rest
-        → MatchResult result (λ found. (found ≡ channel) × (records.new.records ≡ rest)) (λ e. e ≡ Fault.Memory) }
-    ensures fault { IfErr result IsTableFault }
+// The counts of a channel's commands.
+#[tactic(auto, unfolding(crate::specs::Units::commands_at))]
+fn commands_at(table: &Table, row: usize, id: u64) -> Result<(u64, u64, u64, u64, u64, u64), Fault>
+    requires { row + 6 < 2 ^ 64 }
+    ensures { result ≡ commands_at table.now row id }
 {
-    let unit = Unit {
+    let channel = Unit {
         scope: b"channel",
         id,
     };
-    let act = take_count(records, unit, b"act")?;
-    let rd = take_count(records, unit, b"rd")?;
-    let wr = take_count(records, unit, b"wr")?;
-    let pre = take_count(records, unit, b"pre")?;
-    let prea = take_count(records, unit, b"prea")?;
-    let refs = take_count(records, unit, b"ref")?;
-    let hits = take_count(records, unit, b"hits")?;
-    let queued = take_sum(records, unit, b"queued")?;
-    let queued_max = take_count(records, unit, b"queued_max")?;
-    let idle = take_count(records, unit, b"idle")?;
-    let refreshing = take_count(records, unit, b"refreshing")?;
-    let draining = take_draining(records, unit)?;
+    let act = count_at(table, row, channel, b"act")?;
+    let rd = count_at(table, row + 1, channel, b"rd")?;
+    let wr = count_at(table, row + 2, channel, b"wr")?;
+    let pre = count_at(table, row + 3, channel, b"pre")?;
+    let prea = count_at(table, row + 4, channel, b"prea")?;
+    let refs = count_at(table, row + 5, channel, b"ref")?;
+    Ok((act, rd, wr, pre, prea, refs))
+}
+
+// The counts of its requests and cycles.
+#[tactic(auto, unfolding(crate::specs::Units::queue_at))]
+fn queue_at(
+    table: &Table,
+    row: usize,
+    id: u64,
+) -> Result<(u64, u128, u64, u64, u64, Option<u64>), Fault>
+    requires { row + 6 < 2 ^ 64 }
+    ensures { result ≡ queue_at table.now row id }
+{
+    let channel = Unit {
+        scope: b"channel",
+        id,
+    };
+    let hits = count_at(table, row, channel, b"hits")?;
+    let queued = sum_at(table, row + 1, channel, b"queued")?;
+    let queued_max = count_at(table, row + 2, channel, b"queued_max")?;
+    let idle = count_at(table, row + 3, channel, b"idle")?;
+    let refreshing = count_at(table, row + 4, channel, b"refreshing")?;
+    let draining = draining_at(table, row + 5, id)?;
+    Ok((hits, queued, queued_max, idle, refreshing, draining))
+}
+
+// The counts of a channel, from a row on.
+#[tactic(auto, unfolding(crate::specs::Units::channel_at))]
+fn channel_at(table: &Table, row: usize, id: u64) -> Result<ChannelStats, Fault>
+    requires { row ≤ length table.now }
+    ensures value { result ≡ channel_at table.now row id }
+    ensures few { row + 12 < 2 ^ 64 }
+{
+    // tells the proof that the row can be counted
+    let _few = table.len();
+    let (act, rd, wr, pre, prea, refs) = commands_at(table, row, id)?;
+    let (hits, queued, queued_max, idle, refreshing, draining) = queue_at(table, row + 6, id)?;
     Ok(ChannelStats {
         act,
         rd,
@@ -301,30 +349,65 @@ fn take_channel(records: &mut Records<'_>, id: u64) -> Result<ChannelStats, Faul
     })
 }
 
-// Whether the counts of a channel must follow, after those of this many channels: they end the table, and there is at least one.
-fn has_channel(count: usize, records: &Records<'_>) -> bool
-    ensures { result ≡ ((count == 0) || has_more records.now.records) }
+// How many records the counts of a channel have.
+fn channel_size(channel: &ChannelStats) -> usize
+    ensures { result ≡ channel_size channel.now }
 {
-    count == 0 || !records.is_empty()
+    match channel.draining {
+        Some(_) => CHANNEL_RECORDS + 1,
+        None => CHANNEL_RECORDS,
+    }
 }
 
-// The counts of each channel, to the end of the table. There is at least one.
-fn take_channels(alloc: Global, records: &mut Records<'_>) -> Result<Vec<ChannelStats>, Fault>
-    ensures channels { IfOk result (λ channels. records.old.records ≡ numbered channel_rows channels.items) }
-    ensures exact { (channels : List Channel) → All ChannelFits channels → 0 < length channels → records.old.records ≡ numbered channel_rows channels
-        → MatchResult result (λ found. found.items ≡ channels) (λ e. e ≡ Fault.Memory) }
-    ensures fault { IfErr result IsTableFault }
+// Whether the counts of a channel must follow, after those of this many channels: they end the table, and there is at least one.
+fn has_channel(count: usize, table: &Table, row: usize) -> bool
+    ensures { result ≡ has_channel count table.now row }
+{
+    count == 0 || row < table.len()
+}
+
+// The counts of each channel, from a row on to the end of the table. There is at least one.
+fn read_channels(alloc: Global, table: &Table, start: usize) -> Result<Vec<ChannelStats>, Fault>
+    requires { start ≤ length table.now }
+    ensures read { IfOk result (λ channels. ChannelsAre table.now start channels.items) }
+    ensures refused { IfErr result (λ e. (e ≡ Fault.Memory) ⊎ ChannelsStop table.now start e) }
 {
     let mut channels = Vec::new(alloc);
-    while has_channel(channels.len(), records) {
-        let channel = take_channel(records, channels.len() as u64)?;
+    let mut row = start;
+    while has_channel(channels.len(), table, row) {
+        let channel = channel_at(table, row, channels.len() as u64)?;
         channels.push(channel).map_err(|_| Fault::Memory)?;
+        row += channel_size(&channel);
     }
     Ok(channels)
 }
 
+// The statistics of a table.
+fn read_table(alloc: Global, table: &Table) -> Result<Stats, Fault>
+    ensures read { IfOk result (λ stats. IsRead table.now stats) }
+    ensures refused { IfErr result (IsRefusedFor HoldsStats table.now) }
+{
+    if !has_header(table) {
+        return Err(Fault::CheckRow(0));
+    }
+    let run = Unit {
+        scope: b"run",
+        id: 0,
+    };
+    let cycles = count_at(table, 1, run, b"cycles")?;
+    let cores = read_cores(alloc, table)?;
+    let channels = read_channels(alloc, table, 2 + CORE_RECORDS * cores.len())?;
+    Ok(Stats {
+        cycles,
+        cores,
+        channels,
+    })
+}
+
 /// Reads the table of statistics of a run, `stats.csv`: the very statistics whose table it is, of one core and one channel or more. It has
 /// just the records that `reports::write_stats` writes, in their order, and numbers without leading zeros.
+///
+/// The memory is that of the records of the table, and of the statistics.
 ///
 /// # Errors
 ///
@@ -332,21 +415,10 @@ fn take_channels(alloc: Global, records: &mut Records<'_>) -> Result<Vec<Channel
 /// counted from 1. `Fault::Memory` where memory is refused. A table of statistics is refused for memory alone.
 pub fn read_stats(alloc: Global, table: &[u8]) -> Result<Stats, Fault>
     ensures read { IfOk result (λ stats. records_of table.now ≡ stats_header ∷ stats_rows stats) }
+    ensures refused { IfErr result (IsRefusedFor HoldsStats (records_of table.now)) }
     ensures inverse { (stats : RunStats) → IsStatsTable (records_of table.now) stats → MatchResult result (λ found. found ≡ stats) (λ e. e ≡ Fault.Memory) }
     ensures fault { IfErr result IsTableFault }
 {
-    let mut records = Records::of(alloc, table)?;
-    take_header(&mut records)?;
-    let run = Unit {
-        scope: b"run",
-        id: 0,
-    };
-    let cycles = take_count(&mut records, run, b"cycles")?;
-    let cores = take_cores(alloc, &mut records)?;
-    let channels = take_channels(alloc, &mut records)?;
-    Ok(Stats {
-        cycles,
-        cores,
-        channels,
-    })
+    let records = Table::read(alloc, table)?;
+    read_table(alloc, &records)
 }

@@ -1,13 +1,11 @@
 //! Runs that are refused where two things are wrong at once: the first of them in the order of the tests is told, by the machine
 //! with workers and by the plain one.
 
-use crate::expect::expect_at;
-use crate::outcomes::{Texts, always, slices_of};
-use reference::runs::simulate_plain;
+use crate::expect::expect;
+use crate::outcomes::{Texts, always, outcome_of, plain_outcome};
 use sim_base::fault::{Fault, LineCause};
 use sim_base::key::Key;
 use sim_base::message::Cycle;
-use simulation::runs::simulate;
 use std::alloc::{AllocError, Global};
 use std::sync::Wait;
 use std::test::Fail;
@@ -18,10 +16,12 @@ use workers::watch::Unwatched;
 /// One cycle more than a run may have.
 const TOO_LONG: Cycle = 1_000_000_000_001;
 
-/// Lines of the small machine that are changed, and what else is wrong of a run, with the fault that is told.
+/// A line in the place of one of the small machine's, or none, the first `count` of some traces, and what else is wrong of a run; and the fault that
+/// is told.
 struct Case<'x> {
-    changes: &'x [&'x str],
-    traces: &'x [&'x str],
+    change: &'x str,
+    traces: [&'x str; 3],
+    count: usize,
     cycles: Cycle,
     workers: u64,
     want: Fault,
@@ -33,103 +33,113 @@ fn refused<R: Threads + Wait + Sync>(
     alloc: Global,
     case: &Case<'_>,
 ) -> Result<[Option<Fault>; 2], AllocError> {
-    let texts = Texts::of(alloc, case.changes, "", case.traces)?;
+    let traces = case.traces.get(..case.count).unwrap_or(&[]);
+    let texts = Texts::of(alloc, &[case.change], "", traces)?;
     let run = texts.run(case.cycles);
-    let (bytes, cycles) = (run.config.as_bytes(), run.cycles);
-    let texts = slices_of(alloc, run.texts)?;
     let watch = &mut Unwatched;
-    let workers = always(case.workers);
-    let by_workers = simulate(rt, alloc, &Open, watch, bytes, &texts, cycles, workers).err();
-    let plain = simulate_plain(rt, alloc, bytes, &texts, cycles, case.workers).err();
+    let by_workers = outcome_of(rt, alloc, &Open, watch, &run, always(case.workers)).err();
+    let plain = plain_outcome(rt, alloc, &run, case.workers).err();
     Ok([by_workers, plain])
 }
 
 static CASES: [Case<'static>; 13] = [
     // No document comes first, with all else that is wrong.
     Case {
-        changes: &["cores = = 1"],
-        traces: &[],
+        change: "cores = = 1",
+        traces: ["", "", ""],
+        count: 0,
         cycles: TOO_LONG,
         workers: 0,
         want: Fault::ConfigSyntax,
     },
     // Then comes the configuration.
     Case {
-        changes: &["request_latency = 0"],
-        traces: &["x\n"],
+        change: "request_latency = 0",
+        traces: ["x\n", "", ""],
+        count: 1,
         cycles: 64,
         workers: 2,
         want: Fault::ConfigRange(Key::RequestLatency),
     },
     Case {
-        changes: &["request_latency = 0"],
-        traces: &["0 0\n", "0 0\n"],
+        change: "request_latency = 0",
+        traces: ["0 0\n", "0 0\n", ""],
+        count: 2,
         cycles: 64,
         workers: 2,
         want: Fault::ConfigRange(Key::RequestLatency),
     },
     Case {
-        changes: &["nREFI = 34"],
-        traces: &["0 0\n"],
+        change: "nREFI = 34",
+        traces: ["0 0\n", "", ""],
+        count: 1,
         cycles: 64,
         workers: 65,
         want: Fault::ConfigRelation(6),
     },
     Case {
-        changes: &["nREFI = 34"],
-        traces: &["0 0\n"],
+        change: "nREFI = 34",
+        traces: ["0 0\n", "", ""],
+        count: 1,
         cycles: TOO_LONG,
         workers: 2,
         want: Fault::ConfigRelation(6),
     },
     // Then comes the number of traces.
     Case {
-        changes: &["cores = 2"],
-        traces: &["x\n"],
+        change: "cores = 2",
+        traces: ["x\n", "", ""],
+        count: 1,
         cycles: 64,
         workers: 2,
         want: Fault::TraceCount,
     },
     Case {
-        changes: &["cores = 2"],
-        traces: &["0 0\n"; 3],
+        change: "cores = 2",
+        traces: ["0 0\n", "0 0\n", "0 0\n"],
+        count: 3,
         cycles: 64,
         workers: 0,
         want: Fault::TraceCount,
     },
     Case {
-        changes: &[],
-        traces: &[],
+        change: "",
+        traces: ["", "", ""],
+        count: 0,
         cycles: TOO_LONG,
         workers: 2,
         want: Fault::TraceCount,
     },
     // Then come the workers and the limit.
     Case {
-        changes: &[],
-        traces: &["0 0\n"],
+        change: "",
+        traces: ["0 0\n", "", ""],
+        count: 1,
         cycles: TOO_LONG,
         workers: 0,
         want: Fault::Workers,
     },
     Case {
-        changes: &[],
-        traces: &["x\n"],
+        change: "",
+        traces: ["x\n", "", ""],
+        count: 1,
         cycles: 64,
         workers: 65,
         want: Fault::Workers,
     },
     Case {
-        changes: &[],
-        traces: &["x\n"],
+        change: "",
+        traces: ["x\n", "", ""],
+        count: 1,
         cycles: TOO_LONG,
         workers: 2,
         want: Fault::Cycles,
     },
     // Then come the traces by core.
     Case {
-        changes: &["cores = 2"],
-        traces: &["0 0\n3\n", "x y\n"],
+        change: "cores = 2",
+        traces: ["0 0\n3\n", "x y\n", ""],
+        count: 2,
         cycles: 64,
         workers: 2,
         want: Fault::TraceLine {
@@ -139,8 +149,9 @@ static CASES: [Case<'static>; 13] = [
         },
     },
     Case {
-        changes: &["cores = 2"],
-        traces: &["0 0\n", "0 0\n\n1 x\n1 2 3 4\n"],
+        change: "cores = 2",
+        traces: ["0 0\n", "0 0\n\n1 x\n1 2 3 4\n", ""],
+        count: 2,
         cycles: 64,
         workers: 2,
         want: Fault::TraceLine {
@@ -155,11 +166,11 @@ static CASES: [Case<'static>; 13] = [
 fn the_first_fault_is_told(rt: HostRuntime) -> Result<(), Fail> {
     for case in &CASES {
         let found = refused(&rt, rt.alloc(), case)?;
-        expect_at(
+        let want = [Some(case.want), Some(case.want)];
+        expect(
             &rt,
-            &(case.changes, case.traces),
-            &found,
-            &[Some(case.want), Some(case.want)],
+            &(case.change, case.traces, found),
+            &(case.change, case.traces, want),
         );
     }
     Ok(())

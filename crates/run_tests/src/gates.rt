@@ -4,8 +4,8 @@
 //! worker, or as many as there are units, and no worker takes a job while it holds another; so a job that is held is held by one worker, and the
 //! others take all other jobs.
 
-use crate::expect::expect_at;
-use crate::outcomes::{Run, Texts, always, auto, is_plain, plain_tables, tables_by};
+use crate::expect::expect;
+use crate::outcomes::{Run, Texts, always, auto, has_tables, outcome_of, plain_tables};
 use shards::job::JobName;
 use sim_base::fault::Fault;
 use sim_base::message::Cycle;
@@ -18,6 +18,7 @@ use std::thread;
 use std::thread::Threads;
 use workers::gate::Gate;
 use workers::sharing::Workers;
+use workers::watch::Unwatched;
 
 /// How often a job that is held looks whether it may go on, where something is wrong.
 const TURNS: u64 = 20_000_000;
@@ -70,17 +71,6 @@ fn are_one(counts: &[AtomicU64]) -> bool {
     true
 }
 
-/// The number of a phase, if it is one of the expected ones, with its cycles.
-fn phase_of(job: JobName) -> Option<usize> {
-    let phase = usize::try_from(job.phase).ok()?;
-    let (from, until) = *SPANS.get(phase)?;
-    if job.from == from && job.until == until {
-        Some(phase)
-    } else {
-        None
-    }
-}
-
 impl Meeting {
     /// A gate for phases of `jobs` jobs each, which are run by `workers` workers at the same time.
     fn new(alloc: Global, workers: u64, jobs: usize) -> Result<Self, AllocError> {
@@ -97,22 +87,15 @@ impl Meeting {
         })
     }
 
-    /// The place of a job, if it is one of the expected ones.
-    fn place_of(&self, job: JobName) -> Option<usize> {
-        let phase = phase_of(job)?;
-        if job.shard >= self.jobs {
+    /// The phase of a job and its place among all jobs, if it is one of the expected ones.
+    fn place_of(&self, job: JobName) -> Option<(usize, usize)> {
+        let phase = usize::try_from(job.phase).ok()?;
+        let (from, until) = *SPANS.get(phase)?;
+        if job.from != from || job.until != until || job.shard >= self.jobs {
             return None;
         }
-        phase.checked_mul(self.jobs)?.checked_add(job.shard)
-    }
-
-    fn faults(&self) -> u64 {
-        self.faults.load(Ordering::SeqCst)
-    }
-
-    /// Whether each job of each phase was entered once and left once.
-    fn is_whole(&self) -> bool {
-        are_one(&self.entered) && are_one(&self.left)
+        let place = phase.checked_mul(self.jobs)?.checked_add(job.shard)?;
+        Some((phase, place))
     }
 
     /// Whether all jobs of a phase come.
@@ -128,17 +111,17 @@ impl Meeting {
 
     /// Whether a job, if it is one of the expected ones, goes on.
     fn enters(&self, job: JobName) -> Option<bool> {
-        let come = self.come.get(phase_of(job)?)?;
-        let place = self.entered.get(self.place_of(job)?)?;
-        place.fetch_add(1, Ordering::SeqCst);
+        let (phase, place) = self.place_of(job)?;
+        let come = self.come.get(phase)?;
+        self.entered.get(place)?.fetch_add(1, Ordering::SeqCst);
         come.fetch_add(1, Ordering::SeqCst);
         Some(self.is_met(come))
     }
 
     /// Whether a job is one of those, and has left.
     fn leaves(&self, job: JobName) -> Option<bool> {
-        let place = self.left.get(self.place_of(job)?)?;
-        place.fetch_add(1, Ordering::SeqCst);
+        let (_, place) = self.place_of(job)?;
+        self.left.get(place)?.fetch_add(1, Ordering::SeqCst);
         Some(true)
     }
 
@@ -169,8 +152,17 @@ fn met_by<R: Threads + Wait + Sync>(
     plain: &[u8],
 ) -> Result<(bool, u64, bool), Fault> {
     let gate = Meeting::new(alloc, workers, jobs)?;
-    let same = is_plain(rt, alloc, &gate, run, always(workers), plain)?;
-    Ok((same, gate.faults(), gate.is_whole()))
+    let same = has_tables(
+        rt,
+        alloc,
+        &gate,
+        &mut Unwatched,
+        run,
+        always(workers),
+        plain,
+    )?;
+    let whole = are_one(&gate.entered) && are_one(&gate.left);
+    Ok((same, gate.faults.load(Ordering::SeqCst), whole))
 }
 
 fn assert_meetings<R: Abort + Threads + Wait + Sync>(
@@ -181,7 +173,7 @@ fn assert_meetings<R: Abort + Threads + Wait + Sync>(
     let plain = plain_tables(rt, alloc, run)?;
     for case in [(2, 3), (3, 3), (7, 3)] {
         let saw = met_by(rt, alloc, run, case, &plain)?;
-        expect_at(rt, &("workers and jobs", case), &saw, &(true, 0, true));
+        expect(rt, &(case, saw), &(case, (true, 0, true)));
     }
     Ok(())
 }
@@ -255,8 +247,16 @@ fn held<R: Abort + Threads + Wait + Sync>(
     plain: &[u8],
 ) -> Result<Held, Fault> {
     let gate = Holding::new(jobs.saturating_sub(1));
-    let same = is_plain(rt, alloc, &gate, run, always(workers), plain)?;
-    expect_at(rt, &("workers", workers), &same, &true);
+    let same = has_tables(
+        rt,
+        alloc,
+        &gate,
+        &mut Unwatched,
+        run,
+        always(workers),
+        plain,
+    )?;
+    expect(rt, &(workers, same), &(workers, true));
     Ok(gate.seen())
 }
 
@@ -269,7 +269,7 @@ fn assert_held<R: Abort + Threads + Wait + Sync>(
     let plain = plain_tables(rt, alloc, run)?;
     for (workers, jobs) in [(2, 4), (3, 6), (6, 6)] {
         let saw = held(rt, alloc, run, (workers, jobs), &plain)?;
-        expect_at(rt, &("workers", workers), &saw, &(jobs, jobs, 1));
+        expect(rt, &(workers, saw), &(workers, (jobs, jobs, 1)));
     }
     Ok(())
 }
@@ -326,7 +326,7 @@ fn is_shared_out<R: Threads + Wait + Sync>(
     let changes = [cores, "channels = 2", "request_latency = 5000"];
     let texts = Texts::of(alloc, &changes, "", traces)?;
     let gate = Counting::new();
-    tables_by(rt, alloc, &gate, &texts.run(6_000), workers)?;
+    outcome_of(rt, alloc, &gate, &mut Unwatched, &texts.run(6_000), workers)?;
     Ok(gate.jobs() > 0)
 }
 
@@ -341,7 +341,11 @@ fn a_large_machine_is_shared_out(rt: HostRuntime) -> Result<(), Fail> {
     ] {
         let large = is_shared_out(&rt, rt.alloc(), "cores = 24", &[FOUR_LINES; 24], workers)?;
         let small = is_shared_out(&rt, rt.alloc(), "cores = 14", &[FOUR_LINES; 14], workers)?;
-        expect_at(&rt, &workers, &(large, small), &want);
+        expect(
+            &rt,
+            &(workers.count, large, small),
+            &(workers.count, want.0, want.1),
+        );
     }
     Ok(())
 }

@@ -1,8 +1,8 @@
 //! Machines and traces that are made up by seeds: three workers give what the plain machine gives.
 
-use crate::expect::expect_at;
+use crate::expect::expect;
 use crate::gates::Counting;
-use crate::outcomes::{Run, Texts, always, assert_same, auto, is_plain, plain_tables};
+use crate::outcomes::{Run, Texts, always, assert_same, auto, has_tables, plain_tables};
 use fixtures::generated::made_up;
 use sim_base::fault::Fault;
 use std::alloc::Global;
@@ -11,6 +11,7 @@ use std::sync::Wait;
 use std::test::Fail;
 use std::thread::Threads;
 use workers::sharing::{Sharing, Workers};
+use workers::watch::Unwatched;
 
 /// Compares the runs of the machine of a seed.
 fn assert_seed<R: Abort + Threads + Wait + Sync>(
@@ -72,8 +73,8 @@ fn assert_shared_later<R: Abort + Threads + Wait + Sync>(
     for count in [2, 3] {
         let gate = Counting::new();
         let workers = Workers { count, sharing };
-        let same = is_plain(rt, alloc, &gate, run, workers, &plain)?;
-        expect_at(rt, &workers, &(same, gate.jobs() > 0), &(true, true));
+        let same = has_tables(rt, alloc, &gate, &mut Unwatched, run, workers, &plain)?;
+        expect(rt, &(count, same, gate.jobs() > 0), &(count, true, true));
     }
     Ok(())
 }

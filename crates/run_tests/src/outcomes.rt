@@ -1,8 +1,6 @@
 //! Outcomes of runs, compared by the tables that are written of them.
 
-ghost use Rattle.std.specs.Prelude.{◌≡◌};
-
-use crate::expect::expect_at;
+use crate::expect::expect;
 use fixtures::small::small_text;
 use fixtures::texts::texts_of;
 use reference::runs::simulate_plain;
@@ -20,9 +18,7 @@ use workers::sharing::{Sharing, Workers};
 use workers::watch::{Unwatched, Watch};
 
 /// This number of workers, which share each machine out.
-pub(crate) fn always(count: u64) -> Workers
-    ensures { result.count ≡ count }
-{
+pub(crate) fn always(count: u64) -> Workers {
     Workers {
         count,
         sharing: Sharing::always(),
@@ -30,9 +26,7 @@ pub(crate) fn always(count: u64) -> Workers
 }
 
 /// This number of workers, which share a machine out where that is worth it.
-pub(crate) fn auto(count: u64) -> Workers
-    ensures { result.count ≡ count }
-{
+pub(crate) fn auto(count: u64) -> Workers {
     Workers {
         count,
         sharing: Sharing::default(),
@@ -96,55 +90,61 @@ pub(crate) fn slices_of<'a>(
     texts.iter().map(|text| text.as_slice()).collect(alloc)
 }
 
-/// The tables of a run by the plain machine.
+/// The outcome of a run by the plain machine, which only tests the number of workers.
+pub(crate) fn plain_outcome<R: Threads + Sync>(
+    rt: &R,
+    alloc: Global,
+    run: &Run<'_>,
+    workers: u64,
+) -> Result<Outcome, Fault> {
+    let texts = slices_of(alloc, run.texts)?;
+    simulate_plain(
+        rt,
+        alloc,
+        run.config.as_bytes(),
+        &texts,
+        run.cycles,
+        workers,
+    )
+}
+
+/// Its tables.
 pub(crate) fn plain_tables<R: Threads + Sync>(
     rt: &R,
     alloc: Global,
     run: &Run<'_>,
 ) -> Result<Vec<u8>, Fault> {
-    let bytes = run.config.as_bytes();
-    let texts = slices_of(alloc, run.texts)?;
-    let outcome = simulate_plain(rt, alloc, bytes, &texts, run.cycles, 1)?;
+    let outcome = plain_outcome(rt, alloc, run, 1)?;
     tables_of(alloc, &outcome)
 }
 
-/// The tables of a watched run by these workers.
-pub(crate) fn tables_watched<R: Threads + Wait + Sync, G: Gate + Sync, W: Watch>(
+/// The outcome of a watched run by these workers.
+pub(crate) fn outcome_of<R: Threads + Wait + Sync, G: Gate + Sync, W: Watch>(
     rt: &R,
     alloc: Global,
     gate: &G,
     watch: &mut W,
     run: &Run<'_>,
     workers: Workers,
-) -> Result<Vec<u8>, Fault> {
+) -> Result<Outcome, Fault> {
     let bytes = run.config.as_bytes();
     let texts = slices_of(alloc, run.texts)?;
-    let outcome = simulate(rt, alloc, gate, watch, bytes, &texts, run.cycles, workers)?;
-    tables_of(alloc, &outcome)
+    simulate(rt, alloc, gate, watch, bytes, &texts, run.cycles, workers)
 }
 
-/// The tables of a run by these workers.
-pub(crate) fn tables_by<R: Threads + Wait + Sync, G: Gate + Sync>(
+/// Whether a watched run by these workers has these tables.
+pub(crate) fn has_tables<R: Threads + Wait + Sync, G: Gate + Sync, W: Watch>(
     rt: &R,
     alloc: Global,
     gate: &G,
+    watch: &mut W,
     run: &Run<'_>,
     workers: Workers,
-) -> Result<Vec<u8>, Fault> {
-    tables_watched(rt, alloc, gate, &mut Unwatched, run, workers)
-}
-
-/// Whether a run by these workers has the tables of the plain machine.
-pub(crate) fn is_plain<R: Threads + Wait + Sync, G: Gate + Sync>(
-    rt: &R,
-    alloc: Global,
-    gate: &G,
-    run: &Run<'_>,
-    workers: Workers,
-    plain: &[u8],
+    want: &[u8],
 ) -> Result<bool, Fault> {
-    let tables = tables_by(rt, alloc, gate, run, workers)?;
-    Ok(tables.as_slice() == plain)
+    let outcome = outcome_of(rt, alloc, gate, watch, run, workers)?;
+    let tables = tables_of(alloc, &outcome)?;
+    Ok(tables.as_slice() == want)
 }
 
 /// A run has the same tables by each of these workers as by the plain machine.
@@ -156,8 +156,12 @@ pub(crate) fn assert_same<R: Abort + Threads + Wait + Sync>(
 ) -> Result<(), Fault> {
     let plain = plain_tables(rt, alloc, run)?;
     for workers in workers {
-        let same = is_plain(rt, alloc, &Open, run, *workers, &plain)?;
-        expect_at(rt, &(workers, run.cycles, run.config), &same, &true);
+        let same = has_tables(rt, alloc, &Open, &mut Unwatched, run, *workers, &plain)?;
+        expect(
+            rt,
+            &(workers.count, run.cycles, run.config, same),
+            &(workers.count, run.cycles, run.config, true),
+        );
     }
     Ok(())
 }

@@ -1,9 +1,9 @@
 //! How many phases a run has, and over which cycles. Where a machine is split each unit is asked, in a phase of its own; after that, one begins where
 //! something is sent or arrives.
 
-use crate::expect::expect_at;
+use crate::expect::expect;
 use crate::outcomes::Texts;
-use crate::shared_out::{LONGEST, started};
+use crate::shared_out::{LONGEST, run_up_to, started};
 use shards::job::{Done, Job};
 use sim_base::fault::Fault;
 use sim_base::message::Cycle;
@@ -11,13 +11,12 @@ use std::alloc::Global;
 use std::test::Fail;
 use std::thread::Threads;
 use workers::gate::Open;
-use workers::machine::run_with;
 use workers::runner::{Runner, Serial};
 
 /// The cycles of a phase, from one on and before another.
 type Span = (Cycle, Cycle);
 
-/// Runs the jobs of a phase one after the other, and notes its cycles.
+/// Runs the jobs of a phase one after the other, and notes its cycles, as far as there is memory for them.
 #[derive(Drop)]
 struct Noting<'a> {
     serial: Serial<'a, Open>,
@@ -28,8 +27,7 @@ impl<'a> Runner for Noting<'a> {
     fn run_phase(&mut self, jobs: Vec<Job>) -> Result<Vec<Done>, Fault> {
         if let Some(job) = jobs.first() {
             let name = job.name();
-            let span = (name.from, name.until);
-            self.spans.push(span).map_err(|_| Fault::Memory)?;
+            let _ = self.spans.push((name.from, name.until));
         }
         self.serial.run_phase(jobs)
     }
@@ -89,9 +87,7 @@ fn spans_of<R: Threads + Sync>(
         serial: Serial::new(alloc, &Open),
         spans: Vec::new(alloc),
     };
-    if sim.now() <= counted.cycles && counted.cycles <= LONGEST {
-        let _sim = run_with(sim, alloc, counted.cycles, 2, &mut noting)?;
-    }
+    run_up_to(sim, alloc, counted.cycles, 2, &mut noting)?.outcome(alloc)?;
     Ok(noting.spans)
 }
 
@@ -99,7 +95,7 @@ fn spans_of<R: Threads + Sync>(
 fn a_phase_begins_where_something_happens(rt: HostRuntime) -> Result<(), Fail> {
     for counted in &COUNTED {
         let spans = spans_of(&rt, rt.alloc(), counted)?;
-        expect_at(&rt, &counted.cycles, &spans.as_slice(), &counted.spans);
+        expect(&rt, &spans.as_slice(), &counted.spans);
     }
     Ok(())
 }

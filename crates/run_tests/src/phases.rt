@@ -1,12 +1,11 @@
 //! Phases of a small machine and of toy tasks, run by one thread and by several; and the board from which threads take them.
 
-ghost use Rattle.std.specs.Prelude.{◌≡◌, ◌+◌, ◌<◌, ◌≤◌, ◌^◌, [], length, vec_len};
+ghost use Rattle.std.specs.Prelude.{◌≡◌, ◌+◌, ◌<◌, ◌≤◌, [], length, vec_len};
 ghost use Rattle.crew.specs.Rule.{put_view};
 
-use crate::expect::{expect, expect_at};
+use crate::expect::expect;
 use crate::gates::Counting;
-use crate::outcomes::{Texts, always, assert_same, auto};
-use cpu_trace::trace::Trace;
+use crate::outcomes::{Texts, always, assert_same, auto, outcome_of};
 use crew::bell::Patience;
 use crew::caller::Phases;
 use crew::open::Blank;
@@ -14,12 +13,10 @@ use crew::rule::Room;
 use crew::run::{PhasedRun, Refused, with_crew};
 use crew::seats::{Board, PutSeat, TakeSeat};
 use crew::work::{DoneOf, Work};
-use fixtures::small::{RANK_FIELD, small};
+use fixtures::small::RANK_FIELD;
 use sim_base::command::IssuedCommand;
-use sim_base::config::Config;
 use sim_base::fault::Fault;
 use sim_base::message::Cycle;
-use sim_base::trace::Entry;
 use statistics::outcome::Outcome;
 use std::alloc::{AllocError, Global};
 use std::marker::Brand;
@@ -27,21 +24,11 @@ use std::sync::Wait;
 use std::test::Fail;
 use std::thread::Threads;
 use workers::gate::{Gate, Open};
-use workers::machine::run_machine;
 use workers::sharing::{Sharing, Workers};
 use workers::watch::Unwatched;
 
 /// Four cores and two channels.
 static FOUR_CORES: [&str; 3] = [RANK_FIELD, "cores = 4", "channels = 2"];
-
-/// One line to read for each of some cores.
-fn lines(alloc: Global, cores: u16) -> Result<Vec<Trace>, AllocError> {
-    let mut traces = Vec::new(alloc);
-    for _ in 0..cores {
-        traces.push(Trace::from_entries(alloc, &[Entry::Read(0)])?)?;
-    }
-    Ok(traces)
-}
 
 /// The commands of a run, its cycles, and how many messages it leaves in flight.
 type Did = (Vec<IssuedCommand>, Cycle, usize);
@@ -51,29 +38,7 @@ fn did(alloc: Global, outcome: &Outcome) -> Result<Did, Fault> {
     Ok((commands, outcome.stats.cycles, outcome.last.in_flight.len()))
 }
 
-/// What a run of a machine whose cores read one line each does.
-fn did_under<R: Threads + Wait + Sync, G: Gate + Sync>(
-    rt: &R,
-    alloc: Global,
-    gate: &G,
-    workers: Workers,
-    config: &Config,
-    limit: Cycle,
-) -> Result<Did, Fault>
-    requires some { 1 ≤ workers.count }
-    requires few { workers.count ≤ 64 }
-    requires limit { limit ≤ 10 ^ 12 }
-{
-    let traces = lines(alloc, config.cores)?;
-    if traces.len() != usize::from(config.cores) {
-        return Err(Fault::TraceCount);
-    }
-    let watch = &mut Unwatched;
-    let outcome = run_machine(rt, alloc, gate, watch, workers, config, traces, limit)?;
-    did(alloc, &outcome)
-}
-
-/// What a run of the four cores does. The end of the run is a line of its own.
+/// What a run of four cores that read one line each does, on two channels. The end of the run is a line of its own.
 fn did_by<R: Threads + Wait + Sync, G: Gate + Sync>(
     rt: &R,
     alloc: Global,
@@ -81,13 +46,10 @@ fn did_by<R: Threads + Wait + Sync, G: Gate + Sync>(
     workers: Workers,
     end: &str,
     limit: Cycle,
-) -> Result<Did, Fault>
-    requires some { 1 ≤ workers.count }
-    requires few { workers.count ≤ 64 }
-    requires limit { limit ≤ 10 ^ 12 }
-{
-    let config = small(alloc, &FOUR_CORES, end)?;
-    did_under(rt, alloc, gate, workers, &config, limit)
+) -> Result<Did, Fault> {
+    let texts = Texts::of(alloc, &FOUR_CORES, end, &["0 0\n"; 4])?;
+    let outcome = outcome_of(rt, alloc, gate, &mut Unwatched, &texts.run(limit), workers)?;
+    did(alloc, &outcome)
 }
 
 /// How many jobs a run by two workers has: each phase has four, two for each of them.
@@ -96,9 +58,7 @@ fn jobs_of<R: Threads + Wait + Sync>(
     alloc: Global,
     sharing: Sharing,
     limit: Cycle,
-) -> Result<u64, Fault>
-    requires limit { limit ≤ 10 ^ 12 }
-{
+) -> Result<u64, Fault> {
     let counting = Counting::new();
     let workers = Workers { count: 2, sharing };
     did_by(rt, alloc, &counting, workers, "", limit)?;
@@ -121,7 +81,7 @@ fn a_machine_works_where_something_happens(rt: HostRuntime) -> Result<(), Fail> 
         (in_laps, 60_000, 15),
     ] {
         let jobs = jobs_of(&rt, rt.alloc(), sharing, limit)?;
-        expect_at(&rt, &(sharing, limit), &jobs, &(4 * phases));
+        expect(&rt, &(limit, jobs), &(limit, 4 * phases));
     }
     Ok(())
 }
@@ -133,7 +93,7 @@ fn a_machine_does_not_show_its_workers(rt: HostRuntime) -> Result<(), Fail> {
     expect(&rt, &one.0.len(), &5);
     for workers in [2, 3] {
         let more = did_by(&rt, rt.alloc(), &Open, always(workers), "", 30)?;
-        expect_at(&rt, &("workers", workers), &more, &one);
+        expect(&rt, &(workers, &more), &(workers, &one));
     }
     Ok(())
 }
@@ -258,28 +218,26 @@ impl PhasedRun<Number, Square, u64> for ManyPhases {
     }
 }
 
+/// Of no memory refused: a number of phases, how many tasks of one the board has room for, and workers. Where there is no room for all, the
+/// caller has the others.
+static WHOLE: [(u64, usize, usize); 4] = [
+    (10_000, 17, 1),
+    (10_000, 17, 2),
+    (10_000, 17, 4),
+    (3, 16, 3),
+];
+
 #[test]
 fn many_phases_are_whole(rt: HostRuntime) -> Result<(), Fail> {
-    let phased = ManyPhases {
-        phases: 10_000,
-        refused: 10_000,
-    };
-    for workers in [1, 2, 4] {
-        let whole = with_crew(&rt, rt.alloc(), &Squaring, 17, workers, PATIENCE, phased);
-        expect(&rt, &whole, &Ok(10_000));
+    for (phases, room, workers) in &WHOLE {
+        let phased = ManyPhases {
+            phases: *phases,
+            refused: *phases,
+        };
+        let room = (*room).max(1);
+        let whole = with_crew(&rt, rt.alloc(), &Squaring, room, *workers, PATIENCE, phased);
+        expect(&rt, &(workers, whole), &(workers, Ok(*phases)));
     }
-    Ok(())
-}
-
-/// A board that has no room for all tasks of a phase leaves them to the caller.
-#[test]
-fn a_phase_without_room_is_whole(rt: HostRuntime) -> Result<(), Fail> {
-    let phased = ManyPhases {
-        phases: 3,
-        refused: 3,
-    };
-    let whole = with_crew(&rt, rt.alloc(), &Squaring, 16, 3, PATIENCE, phased);
-    expect(&rt, &whole, &Ok(3));
     Ok(())
 }
 

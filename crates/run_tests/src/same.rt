@@ -79,22 +79,16 @@ static ROWS: [Row; 28] = [
     DRAINED_LATE,
 ];
 
-/// It has a link of its own.
+/// It has a link of its own, so that a fast one is not added to it.
 static SLOW_CREDIT: Row = DRAINED_SLOW_CREDIT;
 
+/// Each row, as it is and with a fast link.
 #[test]
-fn rows_as_they_are(rt: HostRuntime) -> Result<(), Fail> {
+fn rows_do_not_show_their_workers(rt: HostRuntime) -> Result<(), Fail> {
     for row in &ROWS {
         assert_run(&rt, rt.alloc(), row, "")?;
-    }
-    assert_run(&rt, rt.alloc(), &SLOW_CREDIT, "")?;
-    Ok(())
-}
-
-#[test]
-fn rows_with_a_fast_link(rt: HostRuntime) -> Result<(), Fail> {
-    for row in &ROWS {
         assert_run(&rt, rt.alloc(), row, FAST_LINK)?;
     }
+    assert_run(&rt, rt.alloc(), &SLOW_CREDIT, "")?;
     Ok(())
 }

@@ -3,7 +3,7 @@
 
 ghost use Rattle.std.specs.Prelude.{◌<◌};
 
-use crate::expect::expect_at;
+use crate::expect::expect;
 use crate::generated::TRACES;
 use crate::outcomes::{Run, Texts, plain_tables, tables_of};
 use config_reader::read_config;
@@ -53,6 +53,23 @@ impl<'a> Runner for Reversed<'a> {
     }
 }
 
+/// The simulator at a limit, if that is one that it has not passed.
+pub(crate) fn run_up_to<N: Runner>(
+    sim: Sim,
+    alloc: Global,
+    limit: Cycle,
+    shards: usize,
+    runner: &mut N,
+) -> Result<Sim, Fault>
+    requires { 0 < shards }
+{
+    if sim.now() <= limit && limit <= LONGEST {
+        run_with(sim, alloc, limit, shards, runner)
+    } else {
+        Ok(sim)
+    }
+}
+
 /// The simulator at the end of its run, which stops twice on the way.
 fn run_in_shards(
     sim: Sim,
@@ -68,9 +85,7 @@ fn run_in_shards(
     };
     let mut sim = sim;
     for limit in [stop / 2, stop, cycles] {
-        if sim.now() <= limit && limit <= LONGEST {
-            sim = run_with(sim, alloc, limit, shards, &mut runner)?;
-        }
+        sim = run_up_to(sim, alloc, limit, shards, &mut runner)?;
     }
     Ok(sim)
 }
@@ -102,7 +117,11 @@ fn assert_shared<R: Abort + Threads + Sync>(
     for shards in [1, 2, 5] {
         let tables = tables_by(rt, alloc, run, stop, shards)?;
         let same = tables.as_slice() == plain.as_slice();
-        expect_at(rt, &(shards, stop, run.config), &same, &true);
+        expect(
+            rt,
+            &(shards, stop, run.config, same),
+            &(shards, stop, run.config, true),
+        );
     }
     Ok(())
 }

@@ -1,7 +1,7 @@
 //! Runs that are watched: what the watcher is told, and that its answers do not affect the outcome.
 
-use crate::expect::{expect, expect_at};
-use crate::outcomes::{Run, Texts, always, auto, plain_tables, tables_watched};
+use crate::expect::expect;
+use crate::outcomes::{Run, Texts, always, auto, has_tables, outcome_of, plain_tables};
 use sim_base::fault::Fault;
 use sim_base::message::Cycle;
 use std::alloc::Global;
@@ -59,8 +59,8 @@ fn is_same<R: Threads + Wait + Sync>(
     plain: &[u8],
 ) -> Result<bool, Fault> {
     let mut watch = Noting::new(alloc, stretch);
-    let tables = tables_watched(rt, alloc, &Open, &mut watch, run, workers)?;
-    Ok(tables.as_slice() == plain && watch.ends == 1)
+    let same = has_tables(rt, alloc, &Open, &mut watch, run, workers, plain)?;
+    Ok(same && watch.ends == 1)
 }
 
 /// How many cycles the watcher answers.
@@ -76,11 +76,10 @@ fn assert_same_watched<R: Abort + Threads + Wait + Sync>(
     for stretch in &STRETCHES {
         let shared = is_same(rt, alloc, run, always(3), *stretch, plain)?;
         let in_place = is_same(rt, alloc, run, auto(1), *stretch, plain)?;
-        expect_at(
+        expect(
             rt,
-            &(stretch, run.config),
-            &[shared, in_place],
-            &[true, true],
+            &(stretch, run.config, shared, in_place),
+            &(stretch, run.config, true, true),
         );
     }
     Ok(())
@@ -116,7 +115,7 @@ fn told_of<R: Threads + Wait + Sync>(
 ) -> Result<(Vec<Told>, u64), Fault> {
     let texts = Texts::of(alloc, &[], "", &["0 0\n"])?;
     let mut watch = Noting::new(alloc, stretch);
-    tables_watched(rt, alloc, &Open, &mut watch, &texts.run(limit), auto(1))?;
+    outcome_of(rt, alloc, &Open, &mut watch, &texts.run(limit), auto(1))?;
     Ok((watch.told, watch.ends))
 }
 

@@ -1,11 +1,13 @@
 -- A phase of a run: all its jobs, from the time they are planned until what came of them is put together.
+--     ShardedView      what contracts see of a simulator whose units are shared out
+--     shards_in v, sim_of v      how many shards there are, and the simulator that they make up
 --     PhaseView      a phase of a run
 --     shard_count p      how many shards there are
 --     job_of p shard, name_of p shard      the job of a shard, and its name
 --     jobs_of p      all jobs of a phase, shard by shard
 --     IsPhase s traces bounds number from until      what holds of a phase, while its jobs are out
 --     IsPhaseOf sim limit phase      a phase that comes next in a run
---     ended phase      the run when it is over
+--     ended phase      the shards when it is over
 --     AreUnloaded s traces bounds from until wake shards outbound      what came of the jobs of a phase
 --     MayGo s traces bounds number from until shards inbound      all shards may go over a phase
 --     MayStop s traces bounds now shards inbound      all shards may stop at a cycle
@@ -22,6 +24,23 @@ use Rattle.shards.specs.declared.shard.Shard.{Shard}
 use Rattle.shards.specs.Shards.{IsSplit, AreFrom, IsAtRest, IsUpTo}
 use Rattle.shards.specs.Jobs.{JobView, IsJob, job_at, jobs_at}
 use Rattle.shards.specs.declared.job.JobName.{JobName}
+
+-- the run of a machine over these traces in shards: where each shard begins, and behind the last the number of units; how many cycles are
+-- over, and how many phases they took
+pub record ShardedView : Type 0 where
+  pub machine : Config
+  pub traces : List (List Entry)
+  pub bounds : List ℕ
+  pub now : ℕ
+  pub phase : ℕ
+
+-- how many shards there are
+abbrev pub shards_in : ShardedView → ℕ
+shards_in v = length v.bounds - 1
+
+-- the simulator that the shards make up
+abbrev pub sim_of : ShardedView → SimView
+sim_of v = record { machine = v.machine; traces = v.traces; now = v.now; phase = v.phase }
 
 -- a phase of a run, which covers the cycles from one on and before another, and where each shard begins
 pub record PhaseView : Type 0 where
@@ -65,9 +84,9 @@ pub record IsPhaseOf (sim : SimView) (limit : ℕ) (phase : PhaseView) : Type 0 
   pub order : phase.from < phase.until
   pub within : phase.until ≤ limit
 
--- the run when the phase is over
-abbrev pub ended : PhaseView → SimView
-ended phase = record { machine = phase.machine; traces = phase.traces; now = phase.until; phase = suc phase.number }
+-- the shards when the phase is over
+abbrev pub ended : PhaseView → ShardedView
+ended phase = record { machine = phase.machine; traces = phase.traces; bounds = phase.bounds; now = phase.until; phase = suc phase.number }
 
 -- What came of the jobs of a phase, shard by shard: each is at rest up to a cycle, and what it sent stands in its lists.
 pub record AreUnloaded (s : Config) (traces : List (List Entry)) (bounds : List ℕ) (from until wake : ℕ) (shards : List (Box Shard Global)) (outbound : List (Vec (Vec Message Global) Global)) : Type 0 where

@@ -5,6 +5,7 @@ ghost use Rattle.std.specs.declared.vec.Vec.{Vec};
 ghost use Rattle.std.specs.declared.alloc.Global.{Global};
 ghost use Rattle.sim_base.specs.declared.message.Message.{Message};
 ghost use Rattle.shards.specs.Shards.{lists_of};
+ghost use Rattle.shards.specs.Phases.{shards_in, sim_of};
 
 use crate::shard::Shard;
 use crate::split::{bounds_for, shards_of};
@@ -32,9 +33,9 @@ pub struct ShardedSim {
 
 impl Model for ShardedSim {
     ghost use Rattle.std.specs.Arc.{arc_value};
-    ghost use Rattle.units.specs.Views.{SimView};
+    ghost use Rattle.shards.specs.Phases.{ShardedView};
 
-    ghost Value = { SimView };
+    ghost Value = { ShardedView };
 
     ghost use Rattle.sim_base.specs.contracts.config.Config as config;
     ghost use Rattle.std.specs.Coded.{codes};
@@ -43,7 +44,7 @@ impl Model for ShardedSim {
 
     ghost use Rattle.shards.specs.Shards.{IsSharded};
 
-    ghost view = { λ m. record { machine = (arc_value m.machine).config; traces = (arc_value m.machine).traces.items; now = m.now; phase = m.phase } };
+    ghost view = { λ m. record { machine = (arc_value m.machine).config; traces = (arc_value m.machine).traces.items; bounds = m.bounds.items; now = m.now; phase = m.phase } };
 
     ghost invariant = { λ m. IsSharded (arc_value m.machine).config (arc_value m.machine).traces.items m.bounds.items m.now m.phase m.wake m.shards.items m.inbound.items };
 }
@@ -77,7 +78,8 @@ impl ShardedSim {
     /// A simulator whose units are shared out in `count` shards. The only error is out of memory; the simulator is then gone.
     pub fn split(sim: Sim, alloc: Global, count: usize) -> Result<ShardedSim, AllocError>
         requires { 0 < count }
-        ensures { IfOk result (λ sharded. sharded ≡ sim) }
+        ensures same { IfOk result (λ sharded. sim_of sharded ≡ sim) }
+        ensures count { IfOk result (λ sharded. shards_in sharded ≡ count) }
     {
         let bounds = bounds_for(alloc, &sim.machine.config, count)?;
         let machine = sim.machine.clone()?;

@@ -16,7 +16,7 @@ channels_head cycles count =
 
 -- the lines above the table of cores
 abbrev pub cores_head : ℕ → List ℕ
-cores_head count = codes "\nCores (" ++ decimal count ++ codes "): entries retired, reads, and why no more was issued, in % of the cycles\n"
+cores_head count = codes "\nCores (" ++ decimal count ++ codes "): finish and latency in cycles, why no more was issued in % of the cycles\n"
 
 -- the screen of a run: how many cycles, channels and cores there are, and lines below each head
 pub record IsScreen (stats : RunStats) (text : List ℕ) : Type 0 where

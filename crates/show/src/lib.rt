@@ -1,10 +1,8 @@
 //! What a run did, on one screen.
 #![tactic(auto)]
 
-mod channels;
-mod column;
-mod cores;
 mod number;
+mod rows;
 mod screen;
 mod table;
 

@@ -1,12 +1,12 @@
 //! Numbers as the screen shows them: at most four digits that say something.
 
-ghost use Rattle.std.specs.Prelude.{◌≡◌, ◌*◌, ◌/◌, ◌^◌, ◌<◌, Some, None, min, is_some};
+ghost use Rattle.std.specs.Prelude.{◌≡◌, ◌*◌, ◌/◌, ◌^◌, ◌<◌, Some, None, min};
 ghost use Rattle.show.specs.Number.{halves_of};
 
 use std::fmt;
 
 /// How a number is shown.
-#[derive(Clone, Copy, PartialEq, Eq, PartialOrd, Ord, Debug)]
+#[derive(Clone, Copy)]
 pub(crate) enum Form {
     /// With up to three decimals: `0.456`, `4.56`, `45.6`, `456`, `4567`, `45.7k`.
     Mean,
@@ -35,7 +35,7 @@ impl Form {
 }
 
 /// A number of the screen.
-#[derive(Clone, Copy, PartialEq, Eq, PartialOrd, Ord, Debug)]
+#[derive(Clone, Copy)]
 pub(crate) struct Number {
     /// The number in halves of a thousandth, rounded down; none where there is nothing to divide by. Rounding it to thousandths or
     /// coarser therefore gives the same as rounding the exact number.
@@ -115,11 +115,12 @@ fn scale_of(form: Form, halves: u128) -> Scale {
         Scale::new(100, 1, form.limit_of_tenths(), ""),
         Scale::new(1_000, 0, 10_000, ""),
     ];
-    scales
-        .iter()
-        .copied()
-        .find(|scale| scale.decimals <= form.most_decimals() && scale.fits(halves))
-        .unwrap_or(coarse_scale(halves))
+    for scale in scales {
+        if scale.decimals <= form.most_decimals() && scale.fits(halves) {
+            return scale;
+        }
+    }
+    coarse_scale(halves)
 }
 
 // The first scale with a unit that fits a number.
@@ -142,11 +143,12 @@ fn coarse_scale(halves: u128) -> Scale {
         Scale::new(10_000_000_000_000_000_000, 2, 1_000, "E"),
         Scale::new(100_000_000_000_000_000_000, 1, 1_000, "E"),
     ];
-    scales
-        .iter()
-        .copied()
-        .find(|scale| scale.fits(halves))
-        .unwrap_or(Scale::new(1_000_000_000_000_000_000_000, 0, 10_000, "E"))
+    for scale in scales {
+        if scale.fits(halves) {
+            return scale;
+        }
+    }
+    Scale::new(1_000_000_000_000_000_000_000, 0, 10_000, "E")
 }
 
 impl Number {
@@ -194,12 +196,6 @@ impl Number {
             halves: None,
             form: Form::Count,
         }
-    }
-
-    pub(crate) fn is_known(self) -> bool
-        ensures { result ≡ is_some self.halves }
-    {
-        self.halves.is_some()
     }
 }
 

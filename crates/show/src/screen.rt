@@ -3,41 +3,37 @@
 ghost use Rattle.std.specs.Prelude.{IfOk, OnOk, length, string_bytes};
 ghost use Rattle.show.specs.Screen.{Extends, IsScreen, channels_head, cores_head};
 
-use crate::channels::channel_columns;
-use crate::column::Column;
-use crate::cores::core_columns;
+use crate::rows::{CHANNEL_HEADINGS, CORE_HEADINGS, channel_rows, core_rows};
 use crate::table::Table;
+use sim_base::config::Config;
 use statistics::stats::Stats;
 use std::alloc::{AllocError, Global};
 
-/// A table with more lines than this is shown in three, unless all are asked for.
-const MOST_LINES: usize = 16;
-
-// Appends the table of `count` units to a text.
-fn put_table(
-    alloc: Global,
-    heading: &str,
-    count: usize,
-    columns: &[Column],
-    all: bool,
-    text: &mut String,
-) -> Result<(), AllocError>
-    ensures { OnOk result (Extends (string_bytes text.old) (string_bytes text.new)) }
-{
-    let summarized = count > MOST_LINES && !all;
-    Table::of(alloc, heading, count, columns, summarized)?.write(text)
-}
-
 // The channels of a run, below the cycles.
-fn text_of_channels(alloc: Global, stats: &Stats, all: bool) -> Result<String, AllocError>
+fn text_of_channels(
+    alloc: Global,
+    stats: &Stats,
+    all: bool,
+    config: Option<&Config>,
+) -> Result<String, AllocError>
     ensures { IfOk result (λ text. Extends (channels_head stats.now.cycles (length stats.now.channels)) (string_bytes text)) }
 {
     let (cycles, channels) = (stats.cycles, stats.channels.len());
-    let columns = channel_columns(alloc, cycles, &stats.channels)?;
+    let rows = channel_rows(alloc, cycles, &stats.channels, config)?;
+    let headings = if config.is_some() {
+        &CHANNEL_HEADINGS[..]
+    } else {
+        &CHANNEL_HEADINGS[..9]
+    };
     let mut text = format!(in alloc;
         "cycles {cycles}\n\nChannels ({channels}): row hits in % of rd and wr, all else in % of the cycles\n"
     )?;
-    put_table(alloc, "channel", channels, &columns, all, &mut text)?;
+    let table = Table {
+        label: "channel",
+        headings,
+        all,
+    };
+    table.put(alloc, &rows, &mut text)?;
     Ok(text)
 }
 
@@ -46,11 +42,16 @@ fn text_of_cores(alloc: Global, stats: &Stats, all: bool) -> Result<String, Allo
     ensures { IfOk result (λ text. Extends (cores_head (length stats.now.cores)) (string_bytes text)) }
 {
     let cores = stats.cores.len();
-    let columns = core_columns(alloc, stats.cycles, &stats.cores)?;
+    let rows = core_rows(alloc, stats.cycles, &stats.cores)?;
     let mut text = format!(in alloc;
-        "\nCores ({cores}): entries retired, reads, and why no more was issued, in % of the cycles\n"
+        "\nCores ({cores}): finish and latency in cycles, why no more was issued in % of the cycles\n"
     )?;
-    put_table(alloc, "core", cores, &columns, all, &mut text)?;
+    let table = Table {
+        label: "core",
+        headings: &CORE_HEADINGS,
+        all,
+    };
+    table.put(alloc, &rows, &mut text)?;
     Ok(text)
 }
 
@@ -58,18 +59,25 @@ fn text_of_cores(alloc: Global, stats: &Stats, all: bool) -> Result<String, Allo
 ///
 /// - Of a channel: its RDs and WRs, the percentage of them that were row hits, the percentage of cycles in which its data bus was taken
 ///   (4 cycles for each RD and WR), the mean and the greatest length of its queue, and the percentages of cycles in which its queue was
-///   empty, a refresh was due, and it drained its writes.
-/// - Of a core: the entries that it retired, in total and per cycle, the reads that it issued, the mean latency in cycles of those that
-///   were answered, and, for each reason, the percentage of cycles in which it issued no more for that reason.
+///   empty, a refresh was due, and it drained its writes; and, where the configuration is given, the percentage of cycles that its REFs
+///   take, nRFC each.
+/// - Of a core: the entries that it retired, in total and per cycle, the cycle in which the last one retired, and the entries per cycle
+///   up to that one, the reads that it issued, the mean latency in cycles of those that were answered, and, for each reason, the
+///   percentage of cycles in which it issued no more for that reason.
 ///
 /// Numbers have at most four digits, rounded half up, with `k` for a thousand, `M` for a million and so on. `-` stands where there is
-/// nothing to divide by, and for the drain of a channel that never does. A table of more than 16 units has the least, the median and the
-/// greatest number of each column instead, unless `all` is set; the median of an even count is the lower of the two in the middle. Only
-/// memory can be refused.
-pub fn show_text(alloc: Global, stats: &Stats, all: bool) -> Result<String, AllocError>
+/// nothing to divide by, for the drain of a channel that never does, and for the finish of a core that has not finished. A table of more
+/// than 16 units has the least, the median and the greatest number of each column instead, unless `all` is set; the median of an even
+/// count is the lower of the two in the middle. Only memory can be refused.
+pub fn show_text(
+    alloc: Global,
+    stats: &Stats,
+    all: bool,
+    config: Option<&Config>,
+) -> Result<String, AllocError>
     ensures { IfOk result (λ text. IsScreen stats.now (string_bytes text)) }
 {
-    let mut text = text_of_channels(alloc, stats, all)?;
+    let mut text = text_of_channels(alloc, stats, all, config)?;
     let cores = text_of_cores(alloc, stats, all)?;
     text.push_str(cores.as_str())?;
     Ok(text)

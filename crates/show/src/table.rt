@@ -1,137 +1,130 @@
-//! Tables of text: a line of headings, and below it a line for each unit, with each column flush right.
+//! Tables of text: a line of headings, and below it a line for each row, with each column flush right.
 
 ghost use Rattle.std.specs.Prelude.{OnOk, string_bytes};
 ghost use Rattle.show.specs.Screen.{Extends};
 
-use crate::column::Column;
+use crate::number::Number;
+use crate::rows::{Row, summary_rows};
 use std::alloc::{AllocError, Global};
 
-/// A column of cells, the first of which is its heading.
-#[derive(Drop)]
-struct Cells {
-    texts: Vec<String>,
-    /// The characters of the longest cell.
+/// A table with more lines than this is shown in three, unless all are asked for.
+const MOST_LINES: usize = 16;
+
+/// The width of the first column, in characters: that of the longest label.
+const LABEL_WIDTH: usize = 8;
+
+/// The least width of a column of numbers, in characters: no number is longer.
+const NUMBER_WIDTH: usize = 5;
+
+// The width of a column of numbers, in characters.
+fn width_of(heading: &str) -> usize {
+    heading.len().max(NUMBER_WIDTH)
+}
+
+// What stands before a row: the number of its unit, or which of three rows of a summary it is.
+fn label_of(alloc: Global, row: usize, summarized: bool) -> Result<String, AllocError> {
+    if !summarized {
+        return format!(in alloc; "{row}");
+    }
+    let label = match row {
+        0 => "least",
+        1 => "median",
+        _ => "greatest",
+    };
+    String::from_str(alloc, label)
+}
+
+// Appends a cell, padded on the left.
+fn put_cell(text: &str, width: usize, out: &mut String) -> Result<(), AllocError>
+    ensures { OnOk result (Extends (string_bytes out.old) (string_bytes out.new)) }
+{
+    for _ in text.len()..width {
+        out.push_str(" ")?;
+    }
+    out.push_str(text)
+}
+
+fn put_number(
+    alloc: Global,
+    number: Number,
     width: usize,
+    out: &mut String,
+) -> Result<(), AllocError>
+    ensures { OnOk result (Extends (string_bytes out.old) (string_bytes out.new)) }
+{
+    let text = number.to_string(alloc)?;
+    put_cell(text.as_str(), width, out)
 }
 
-impl Cells {
-    fn under(alloc: Global, heading: &str) -> Result<Cells, AllocError> {
-        let mut cells = Cells {
-            texts: Vec::new(alloc),
-            width: 0,
-        };
-        cells.push(String::from_str(alloc, heading)?)?;
-        Ok(cells)
-    }
+/// The headings of a table, `label` that of its first column, which says what each line is about; and whether each row has a line, however
+/// many there are.
+#[derive(Clone, Copy)]
+pub(crate) struct Table<'a> {
+    pub(crate) label: &'a str,
+    pub(crate) headings: &'a [&'a str],
+    pub(crate) all: bool,
+}
 
-    fn push(&mut self, text: String) -> Result<(), AllocError> {
-        self.width = self.width.max(text.len());
-        self.texts.push(text)?;
-        Ok(())
-    }
-
-    fn of_column(alloc: Global, column: &Column) -> Result<Cells, AllocError> {
-        let mut cells = Cells::under(alloc, column.heading)?;
-        for number in &column.numbers {
-            cells.push(number.to_string(alloc)?)?;
-        }
-        Ok(cells)
-    }
-
-    fn of_summary(alloc: Global, column: &Column) -> Result<Cells, AllocError> {
-        let summary = column.summary(alloc)?;
-        Cells::of_column(alloc, &summary)
-    }
-
-    // A cell, padded on the left to the width of the others.
-    fn write_cell(&self, line: usize, out: &mut String) -> Result<(), AllocError>
+impl Table<'_> {
+    fn put_headings(&self, out: &mut String) -> Result<(), AllocError>
         ensures { OnOk result (Extends (string_bytes out.old) (string_bytes out.new)) }
     {
-        let Some(text) = self.texts.get(line) else {
-            return Ok(());
-        };
-        for _ in text.len()..self.width {
-            out.push_str(" ")?;
-        }
-        out.push_str(text.as_str())
-    }
-}
-
-/// A table, whose first column says what each line is about.
-#[derive(Drop)]
-pub(crate) struct Table {
-    labels: Cells,
-    columns: Vec<Cells>,
-}
-
-// The labels of `count` units, by number, under a heading.
-fn numbers_of(alloc: Global, heading: &str, count: usize) -> Result<Cells, AllocError> {
-    let mut labels = Cells::under(alloc, heading)?;
-    for unit in 0..count {
-        labels.push(format!(in alloc; "{unit}")?)?;
-    }
-    Ok(labels)
-}
-
-// The labels of the least, the median and the greatest number, under a heading.
-fn summary_labels(alloc: Global, heading: &str) -> Result<Cells, AllocError> {
-    let mut labels = Cells::under(alloc, heading)?;
-    for label in ["least", "median", "greatest"] {
-        labels.push(String::from_str(alloc, label)?)?;
-    }
-    Ok(labels)
-}
-
-// The cells of columns, or of their summaries.
-fn cells_of(alloc: Global, columns: &[Column], summarized: bool) -> Result<Vec<Cells>, AllocError> {
-    let mut all = Vec::new(alloc);
-    for column in columns {
-        let cells = if summarized {
-            Cells::of_summary(alloc, column)?
-        } else {
-            Cells::of_column(alloc, column)?
-        };
-        all.push(cells)?;
-    }
-    Ok(all)
-}
-
-impl Table {
-    /// The table of columns of `count` units, or of the columns' summaries.
-    pub(crate) fn of(
-        alloc: Global,
-        heading: &str,
-        count: usize,
-        columns: &[Column],
-        summarized: bool,
-    ) -> Result<Table, AllocError> {
-        let columns = cells_of(alloc, columns, summarized)?;
-        let labels = if summarized {
-            summary_labels(alloc, heading)?
-        } else {
-            numbers_of(alloc, heading, count)?
-        };
-        Ok(Table { labels, columns })
-    }
-
-    fn write_line(&self, line: usize, out: &mut String) -> Result<(), AllocError>
-        ensures { OnOk result (Extends (string_bytes out.old) (string_bytes out.new)) }
-    {
-        self.labels.write_cell(line, out)?;
-        for column in &self.columns {
+        put_cell(self.label, LABEL_WIDTH, out)?;
+        for heading in self.headings {
             out.push_str("  ")?;
-            column.write_cell(line, out)?;
+            put_cell(heading, width_of(heading), out)?;
         }
         out.push_str("\n")
     }
 
-    /// Writes all lines, the first of which has the headings.
-    pub(crate) fn write(&self, out: &mut String) -> Result<(), AllocError>
+    fn put_row(
+        &self,
+        alloc: Global,
+        label: &str,
+        row: &Row,
+        out: &mut String,
+    ) -> Result<(), AllocError>
         ensures { OnOk result (Extends (string_bytes out.old) (string_bytes out.new)) }
     {
-        for line in 0..self.labels.texts.len() {
-            self.write_line(line, out)?;
+        put_cell(label, LABEL_WIDTH, out)?;
+        for (column, heading) in self.headings.iter().enumerate() {
+            let number = row.get(column).copied().unwrap_or(Number::absent());
+            out.push_str("  ")?;
+            put_number(alloc, number, width_of(heading), out)?;
+        }
+        out.push_str("\n")
+    }
+
+    fn put_lines(
+        &self,
+        alloc: Global,
+        rows: &[Row],
+        summarized: bool,
+        out: &mut String,
+    ) -> Result<(), AllocError>
+        ensures { OnOk result (Extends (string_bytes out.old) (string_bytes out.new)) }
+    {
+        self.put_headings(out)?;
+        for (place, row) in rows.iter().enumerate() {
+            let label = label_of(alloc, place, summarized)?;
+            self.put_row(alloc, label.as_str(), row, out)?;
         }
         Ok(())
+    }
+
+    /// Appends the table of rows, or of their summary: the headings, and a line for each row.
+    pub(crate) fn put(
+        &self,
+        alloc: Global,
+        rows: &[Row],
+        out: &mut String,
+    ) -> Result<(), AllocError>
+        ensures { OnOk result (Extends (string_bytes out.old) (string_bytes out.new)) }
+    {
+        if rows.len() > MOST_LINES && !self.all {
+            let summary = summary_rows(alloc, rows)?;
+            return self.put_lines(alloc, &summary, true, out);
+        }
+        self.put_lines(alloc, rows, false, out)
     }
 }

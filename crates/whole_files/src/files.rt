@@ -1,13 +1,13 @@
 //! The files that the program reads and writes.
 
-ghost use Rattle.std.specs.Prelude.{◌≡◌, ◌⊎◌, ◌++◌, ◌∷◌, [], Some, None, IfOk, IfErr, OnOk, OnErr, List, ℕ};
+ghost use Rattle.std.specs.Prelude.{◌≡◌, ◌⊎◌, ◌++◌, ◌∷◌, [], Some, None, IfOk, IfErr, OnOk, OnErr, List, ℕ, Bool, true, false};
 ghost use Rattle.std.specs.Io.{WritesAtMost};
 ghost use Rattle.std.specs.Io.Buffered.{writer_contents};
 ghost use Rattle.std.specs.Io.KnownBytes.{Keeps, WriteAppends};
 ghost use Rattle.std.specs.IoError.{raw_os_error};
 ghost use Rattle.whole_files.specs.Files.{Held, SameFiles, SameBut, IsRenamed, IsReadFault, IsWriteFault};
 
-use crate::host_answers::{Standing, bytes_read, stands_at, written};
+use crate::host_answers::{Standing, bytes_read, folder_at, stands_at, written};
 use refusal::reason::Reason;
 use sim_base::fault::Fault;
 use std::alloc::Global;
@@ -29,6 +29,9 @@ pub trait FileSet {
 
     /// What each path holds: the bytes of a file, or `None` where there is none.
     ghost held: { Self → Held } = { λ _ _. None };
+
+    /// Whether a folder stands at a path.
+    ghost has_folder: { Self → List ℕ → Bool } = { λ _ _. true };
 
     /// The paths that were opened to be written, in their order.
     ghost opened: { Self → List (List ℕ) } = { λ _. [] };
@@ -68,6 +71,12 @@ pub trait FileSet {
         ensures fault { IfErr result (λ e. IsWriteFault e) }
         ensures same { tells → SameFiles (held self.old) (held self.new) }
         ensures unopened { tells → opened self.new ≡ opened self.old };
+
+    /// Tests whether a folder stands at a path. Refuses by `Fault::Write` where none does, or where that cannot be told.
+    fn test_folder(&self, path: &str) -> Result<(), Reason>
+        ensures there { OnOk result (tells → has_folder self.now path.now ≡ true) }
+        ensures none { OnErr result (tells → has_folder self.now path.now ≡ false) }
+        ensures fault { IfErr result (λ e. e ≡ Fault.Write) };
 
     /// Gives a file another path, in one step: what that path held is gone, or, where it refuses, nothing has changed. Refuses by
     /// `Fault::Write`, and by `Fault::Memory`.
@@ -185,6 +194,10 @@ impl<R: Files + AllocGlobal> FileSet for HostFiles<'_, R> {
             Standing::File => test_writing(alloc, self.rt, path),
             Standing::Nothing | Standing::Other => Ok(()),
         }
+    }
+
+    fn test_folder(&self, path: &str) -> Result<(), Reason> {
+        folder_at(self.rt.alloc(), path, fs::metadata(self.rt, path))
     }
 
     fn rename(&mut self, alloc: Global, from: &str, to: &str) -> Result<(), Reason> {

@@ -1,6 +1,6 @@
 //! What the host's answers about files mean to the program.
 
-ghost use Rattle.std.specs.Prelude.{◌≡◌, ◌≢◌, Ok, Err, IfOk, IfErr};
+ghost use Rattle.std.specs.Prelude.{◌≡◌, ◌≢◌, Ok, Err, IfOk, IfErr, IsOk, IsErr};
 ghost use Rattle.std.specs.Fs.{file_type, IsDir, IsFile};
 ghost use Rattle.std.specs.IoError.{error_kind};
 
@@ -82,6 +82,25 @@ pub(crate) fn stands_at(
         Ok(found) if found.is_file() => Ok(Standing::File),
         Ok(_) => Ok(Standing::Other),
         Err(error) if error.kind() == ErrorKind::NotFound => Ok(Standing::Nothing),
+        Err(error) => Err(Reason::of_host(alloc, Fault::Write, path, &error)),
+    }
+}
+
+/// Whether a folder stands at a path, or at what a symbolic link there names, according to the host's answer. Refuses by `Fault::Write` where
+/// none does, and where the host does not tell.
+pub(crate) fn folder_at(
+    alloc: Global,
+    path: &str,
+    answer: io::Result<Metadata>,
+) -> Result<(), Reason>
+    ensures folder { IfOk answer (λ found. IsDir (file_type found) → IsOk result) }
+    ensures other { IfOk answer (λ found. (¬ IsDir (file_type found)) → IsErr result) }
+    ensures untold { IfErr answer (λ _. IsErr result) }
+    ensures fault { IfErr result (λ e. e ≡ Fault.Write) }
+{
+    match answer {
+        Ok(found) if found.is_dir() => Ok(()),
+        Ok(_) => Err(Reason::of_host(alloc, Fault::Write, path, &"this is no folder")),
         Err(error) => Err(Reason::of_host(alloc, Fault::Write, path, &error)),
     }
 }

@@ -1,22 +1,17 @@
-use Rattle.std.proofs.Common.{ap, ap₂, ◌≡◌, ◌∙◌, codes, refl}
+use Rattle.std.proofs.Common.{ap, ◌≡◌, ◌∙◌, codes, refl}
 use Rattle.std.proofs.lemmas.Result.{IfOk-weaker}
 use Rattle.clap.specs.Simple.{app_of_fields}
-use Rattle.clap.specs.Words.{App, app_of, new_app, with_subcommand}
-use Rattle.command_line.specs.CommandLine.{with_subcommand_required, with_version}
-use Rattle.command_line.proofs.CommandLemmas.{no_global}
+use Rattle.clap.specs.Words.{app_of, new_app}
+use Rattle.command_line.specs.CommandLine.{with_subcommand_required, with_version, run_app, check_app, map_app, show_app, page_app}
+use Rattle.command_line.proofs.CommandLemmas.{added}
 use Rattle.command_line.proofs.command_line.program.Goals as goal
 
 pub returns : goal.returns
 returns c =
-    let run_is = c.in_ok-run_command.ensures in
-    let check_is = c.in_ok-check_command.ensures in
-    let map_is = c.in_ok-map_command.ensures in
-    let show_is = c.in_ok-show_command.ensures in
-    let page_is = c.in_ok-page_command.ensures in
-    let start : app_of c.subcommand_required.result ≡ with_subcommand_required (with_version (new_app (codes "dramsim"))) =
-    ap app_of_fields c.subcommand_required.ensures ∙ ap with_subcommand_required (ap app_of_fields c.version.ensures ∙ ap with_version c.command.ensures.app) in
-    let one = c.in_ok-subcommand.ensures.shape (no_global _ _ _ _ _ _ run_is refl refl) ∙ ap₂ with_subcommand start (ap (λ (a : App). a.top) run_is) in
-    let two = c.in_ok-subcommand-2.ensures.shape (no_global _ _ _ _ _ _ check_is refl refl) ∙ ap₂ with_subcommand one (ap (λ (a : App). a.top) check_is) in
-    let three = c.in_ok-subcommand-3.ensures.shape (no_global _ _ _ _ _ _ map_is refl refl) ∙ ap₂ with_subcommand two (ap (λ (a : App). a.top) map_is) in
-    let four = c.in_ok-subcommand-4.ensures.shape (no_global _ _ _ _ _ _ show_is refl refl) ∙ ap₂ with_subcommand three (ap (λ (a : App). a.top) show_is) in
-    IfOk-weaker c.subcommand-5.result _ _ (λ r added. added.shape (no_global _ _ _ _ _ _ page_is refl refl) ∙ ap₂ with_subcommand four (ap (λ (a : App). a.top) page_is)) c.subcommand-5.ensures
+    let start : app_of c.subcommand_required-bare.result ≡ with_subcommand_required (with_version (new_app (codes "dramsim"))) =
+    ap app_of_fields c.subcommand_required-bare.ensures ∙ ap with_subcommand_required (ap app_of_fields c.version.ensures ∙ ap with_version c.command.ensures.app) in
+    let one = added c.run_command.result _ _ _ run_app start refl c.run_command.ensures c.in_ok-one.ensures in
+    let two = added c.check_command.result _ _ _ check_app one refl c.check_command.ensures c.in_ok-two.ensures in
+    let three = added c.map_command.result _ _ _ map_app two refl c.map_command.ensures c.in_ok-three.ensures in
+    let four = added c.show_command.result _ _ _ show_app three refl c.show_command.ensures c.in_ok-four.ensures in
+    IfOk-weaker c.with_command-5.result _ _ (λ r adds. added c.page_command.result _ _ _ page_app four refl c.page_command.ensures adds) c.with_command-5.ensures

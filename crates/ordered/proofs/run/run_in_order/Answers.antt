@@ -13,12 +13,12 @@ returns-in_err-sim-clause-stopped g c =
     let next = c.in-Some.ensures {u = tt} in
     let q = err_from_is_err_and c.from_residual.result c.from_residual.ensures.1 in
     rw (q.1, q.2)
-    (why-on g.O.Order.may_give c.args.sim c.loop-stop.sim c.in-Some.stop c.args.limit c.in_err-sim.field-0.0 next.within come (c.in_err-sim.ensures {u = tt}).stopped)
+    (why-on g.O.Order.may_give c.args.shards c.args.sim c.loop-stop.sim c.in-Some.stop c.args.limit c.in_err-sim.field-0.0 next.within come (c.in_err-sim.ensures {u = tt}).stopped)
 
 pub returns-in_err-sim-clause-whole : goal.returns-in_err-sim-clause-whole
 returns-in_err-sim-clause-whole g c permutes =
     let q = err_from_is_err_and c.from_residual.result c.from_residual.ensures.1 in
-    rw (q.1, q.2) (only-memory g.O.Order.may_give c.loop-stop.sim c.in-Some.stop c.in_err-sim.field-0.0 (c.in_err-sim.ensures {u = tt}).stopped permutes)
+    rw (q.1, q.2) (only-memory g.O.Order.may_give c.args.shards c.loop-stop.sim c.in-Some.stop c.in_err-sim.field-0.0 (c.in_err-sim.ensures {u = tt}).stopped permutes)
 
 -- The run did not end before the cycle where the simulator stands, and ends there, or is at the limit.
 pub returns-clause-ok : goal.returns-clause-ok
@@ -30,7 +30,7 @@ returns-clause-ok g c =
     record { machine_is = same.0; traces_are = same.1; at_limit = stands-at_stop sim c.args.limit now same.2 same.3 same.4 ended }
 
 pub loop-stop-init : goal.loop-stop-init
-loop-stop-init g c = (refl, refl, omega arith, c.requires.not_past, λ t l k. absurd (omega (arith, l, k)), come-none g.O.Order.may_give c.args.sim c.args.limit)
+loop-stop-init g c = (refl, refl, omega arith, c.requires.not_past, λ t l k. absurd (omega (arith, l, k)), come-none g.O.Order.may_give c.args.shards c.args.sim c.args.limit)
 
 pub loop-stop-preserved : goal.loop-stop-preserved
 loop-stop-preserved g c =
@@ -47,5 +47,5 @@ loop-stop-preserved g c =
       omega (arith, at.invariant.2, next.later, there),
       omega (arith, next.within, there),
       on-next sim.machine at.sim.machine sim.traces at.sim.traces sim.now at.sim.now stop c.in_ok-sim.sim.now at.invariant.0 at.invariant.1 there at.invariant.4 next.goes_on,
-      come-on m sim at.sim c.in_ok-sim.sim stop limit next.within at.invariant.5 ran.fitted,
+      come-on m c.args.shards sim at.sim c.in_ok-sim.sim stop limit next.within at.invariant.5 ran.fitted,
     )

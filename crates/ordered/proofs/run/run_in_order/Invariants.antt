@@ -8,7 +8,7 @@ abbrev pub invariant-loop-stop : goal.invariant-loop-stop
 invariant-loop-stop g l =
     (l.sim.machine ≡ l.fn.sim.machine) × (l.sim.traces ≡ l.fn.sim.traces) × (l.fn.sim.now ≤ l.sim.now) × (l.sim.now ≤ l.limit)
     × NotEnded l.fn.sim.machine l.fn.sim.traces l.fn.sim.now l.sim.now
-    × HasCome g.O.Order.may_give l.fn.sim l.limit l.sim
+    × HasCome g.O.Order.may_give l.shards l.fn.sim l.limit l.sim
 
 abbrev pub decreases-loop-stop : goal.decreases-loop-stop
 decreases-loop-stop g l = l.limit - l.sim.now

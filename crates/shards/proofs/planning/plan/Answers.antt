@@ -1,8 +1,7 @@
 use Rattle.std.proofs.Common.{◌-◌, ◌≤◌, ap, subst, sym, arith}
 use Rattle.std.specs.Arc.{arc_value}
 use Rattle.sim_base.specs.Locality.{TravelsFor}
-use Rattle.shards.specs.Phases.{MayGo, MayStop}
-use Rattle.units.specs.Views.{SimView}
+use Rattle.shards.specs.Phases.{MayGo, MayStop, ShardedView}
 use Rattle.units.specs.declared.machine.Machine.{Machine}
 use Rattle.shards.proofs.Phases.{sharded-up_to}
 use Rattle.shards.proofs.planning.plan.Goals as goal
@@ -13,7 +12,7 @@ settled-requires c =
     let m = arc_value f.machine in
     let h = c.sim.invariant in
     let limit = c.args.limit in
-    let now = ap (λ (v : SimView). v.now) c.sim.view_is in
+    let now = ap (λ (v : ShardedView). v.now) c.sim.view_is in
     let past : f.now ≤ limit = omega (arith, now, c.requires.not_past) in
     subst (λ (x : Machine). MayStop x.config x.traces.items c.deref-then-wake-limit.result.now limit f.shards.items f.inbound.items) (sym c.deref.ensures)
     (subst (λ bs. MayStop m.config m.traces.items bs limit f.shards.items f.inbound.items) (sym c.deref-then-wake-limit.ensures.value)

@@ -1,0 +1,3 @@
+pub mod NamedFacts
+pub mod PageFacts
+pub mod RefusedFacts

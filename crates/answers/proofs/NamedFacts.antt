@@ -1,0 +1,201 @@
+-- What a configuration that may be named adds to what is read, and to why it is refused.
+use Rattle.std.proofs.Common.{◌≡◌, ◌≢◌, ◌⊎◌, inl, inr, ℕ, List, [], ◌∷◌, length, Option, Some, None, Result, Ok, Err, refl, sym, ap, ap₂, ◌∙◌, arith}
+use Rattle.std.specs.Result.{IfOk}
+use Rattle.sim_base.specs.declared.command.IssuedCommand.{IssuedCommand}
+use Rattle.sim_base.specs.declared.config.Config.{Config}
+use Rattle.sim_base.specs.declared.fault.Fault.{Fault}
+use Rattle.sim_base.specs.declared.fault.Fault.TheVariants.{Memory, Read, CheckRow}
+use Rattle.sim_base.specs.Values.{values_of}
+use Rattle.config_reader.specs.Document.{document_of}
+use Rattle.reports.specs.Stats.{stats_header, stats_rows}
+use Rattle.rule_check.specs.Verdict.{records_of}
+use Rattle.statistics.specs.Values.{RunStats}
+use Rattle.run_tables.specs.Records as Tables
+use Rattle.whole_files.specs.Files.{Held, SameFiles, IsReadFault}
+use Rattle.answers.specs.Named.{with_config, IsNamedText, Fits, IsConfiguredBy, IsConfigured}
+use Rattle.answers.specs.Pages.{AreTablesIn}
+use Rattle.answers.specs.Refused.{LacksOne, AreTexts, IsFilesFault, IsInputFault, IsReady, IsRowRefusal, IsSizeFault, IsShowFault, IsRightShow, IsPageFault, IsRightPage}
+use Rattle.answers.proofs.RefusedFacts.{one_text, two_texts, memory_or_row, unless_memory, found_or_memory}
+
+-- ---- files that are read
+
+-- what a file holds that was read after others
+pub text_later : (tells : Type 0) (old mid : Held) (path text : List ℕ) → (tells → SameFiles old mid) → (tells → mid path ≡ Some text) → tells → old path ≡ Some text
+text_later tells old mid path text same is t = sym (same t path) ∙ is t
+
+pub named_texts : (tells : Type 0) (held : Held) (config document : Option (List ℕ)) (paths texts : List (List ℕ)) → IsNamedText tells held config document
+    → AreTexts tells held paths texts → AreTexts tells held (with_config config paths) (with_config document texts)
+named_texts tells held None None paths texts named read = read
+named_texts tells held (Some path) (Some text) paths texts named read = record {
+  count = omega (arith, read.count);
+  texts_are = λ t. ap₂ (λ x xs. x ∷ xs) (named t) (read.texts_are t);
+}
+named_texts tells held None (Some text) paths texts named read = absurd named
+named_texts tells held (Some path) None paths texts named read = absurd named
+
+-- ---- files that are not read
+
+pub unread_named : (tells : Type 0) (held : Held) (config : Option (List ℕ)) (paths : List (List ℕ)) (fault : Fault) → IsFilesFault tells held (with_config config []) fault
+    → IsFilesFault tells held (with_config config paths) fault
+unread_named tells held None paths fault (inl memory) = inl memory
+unread_named tells held None paths fault (inr lacks) = absurd lacks.1
+unread_named tells held (Some path) paths fault (inl memory) = inl memory
+unread_named tells held (Some path) paths fault (inr (e, inl none)) = inr (e, inl none)
+unread_named tells held (Some path) paths fault (inr (e, inr lacks)) = absurd lacks
+
+unread_beside : (tells : Type 0) (held : Held) (config : Option (List ℕ)) (paths : List (List ℕ)) (fault : Fault) → IsFilesFault tells held paths fault
+    → IsFilesFault tells held (with_config config paths) fault
+unread_beside tells held None paths fault files = files
+unread_beside tells held (Some path) paths fault (inl memory) = inl memory
+unread_beside tells held (Some path) paths fault (inr (e, lacks)) = inr (e, inr lacks)
+
+lacks_first : (tells : Type 0) (old mid : Held) (path : List ℕ) (paths : List (List ℕ)) (fault : Fault) → (tells → SameFiles old mid) → IsReadFault tells (mid path) fault
+    → IsFilesFault tells old (path ∷ paths) fault
+lacks_first tells old mid path paths fault same (inl memory) = inl memory
+lacks_first tells old mid path paths fault same (inr (e, none)) = inr (e, inl (λ t. sym (same t path) ∙ none t))
+
+lacks_second : (tells : Type 0) (held : Held) (path : List ℕ) (paths : List (List ℕ)) (fault : Fault) → IsFilesFault tells held paths fault → IsFilesFault tells held (path ∷ paths) fault
+lacks_second tells held path paths fault (inl memory) = inl memory
+lacks_second tells held path paths fault (inr (e, lacks)) = inr (e, inr lacks)
+
+pub unread_first : (tells : Type 0) (old mid : Held) (config : Option (List ℕ)) (path : List ℕ) (paths : List (List ℕ)) (fault : Fault) → (tells → SameFiles old mid)
+    → IsReadFault tells (mid path) fault → IsFilesFault tells old (with_config config (path ∷ paths)) fault
+unread_first tells old mid config path paths fault same read = unread_beside tells old config (path ∷ paths) fault (lacks_first tells old mid path paths fault same read)
+
+pub unread_second : (tells : Type 0) (old mid : Held) (config : Option (List ℕ)) (one two : List ℕ) (fault : Fault) → (tells → SameFiles old mid)
+    → IsReadFault tells (mid two) fault → IsFilesFault tells old (with_config config (one ∷ two ∷ [])) fault
+unread_second tells old mid config one two fault same read =
+    unread_beside tells old config (one ∷ two ∷ []) fault (lacks_second tells old one (two ∷ []) fault (lacks_first tells old mid two [] fault same read))
+
+-- ---- what they hold
+
+pub configured_from : (tells : Type 0) (held : Held) (config document : Option (List ℕ)) (stats : RunStats) (machine : Option Config) → IsNamedText tells held config document
+    → IsConfiguredBy document stats machine → tells → IsConfigured config held stats
+configured_from tells held None document stats machine named is t = tt
+configured_from tells held (Some path) (Some text) stats (Some machine) named is t = record {
+  document = text;
+  machine = machine;
+  document_is = named t;
+  configured = is.0;
+  fits = is.1;
+}
+configured_from tells held (Some path) (Some text) stats None named is t = absurd is
+configured_from tells held (Some path) None stats machine named is t = absurd named
+
+pub right_show : (document : Option (List ℕ)) (table : List ℕ) (stats : RunStats) (machine : Option Config) → records_of table ≡ stats_header ∷ stats_rows stats
+    → IsConfiguredBy document stats machine → IsRightShow (with_config document (table ∷ []))
+right_show None table stats machine read is = record { stats = stats; rows_are = read }
+right_show (Some text) table stats (Some machine) read is = record { machine = machine; stats = stats; configured = is.0; rows_are = read; fits = is.1 }
+right_show (Some text) table stats None read is = absurd is
+
+pub right_page : (document : Option (List ℕ)) (table commands_table : List ℕ) (stats : RunStats) (commands : List IssuedCommand) (machine : Option Config)
+    → AreTablesIn table commands_table stats commands → IsConfiguredBy document stats machine → IsRightPage (with_config document (table ∷ commands_table ∷ []))
+right_page None table commands_table stats commands machine tables is = record { stats = stats; commands = commands; tables = tables }
+right_page (Some text) table commands_table stats commands (Some machine) tables is =
+    (record { machine = machine; stats = stats; configured = is.0; rows_are = tables.rows_are; fits = is.1 }, record { stats = stats; commands = commands; tables = tables })
+right_page (Some text) table commands_table stats commands None tables is = absurd is
+
+-- ---- why that is refused
+
+pub config_refused : (document text table : List ℕ) (fault : Fault) → text ≡ document → (fault ≢ Memory → document_of text ≡ Err fault)
+    → (fault ≡ Memory) ⊎ IsShowFault (document ∷ table ∷ []) fault
+config_refused document text table fault same refused =
+    unless_memory (λ f. IsShowFault (document ∷ table ∷ []) f) fault (λ other. inl (ap document_of (sym same) ∙ refused other))
+
+row_under : (document table : List ℕ) (machine : Config) (fault : Fault) → document_of document ≡ Ok (values_of machine) → (fault ≡ Memory) ⊎ IsRowRefusal fault
+    → (fault ≡ Memory) ⊎ IsShowFault (document ∷ table ∷ []) fault
+row_under document table machine fault configured (inl memory) = inl memory
+row_under document table machine fault configured (inr row) = inr (inr (record { machine = machine; configured = configured; fault_is = inl row }))
+
+pub row_refused : (document text table : List ℕ) (machine : Config) (fault : Fault) → text ≡ document → document_of text ≡ Ok (values_of machine) → Tables.IsTableFault fault
+    → (fault ≡ Memory) ⊎ IsShowFault (document ∷ table ∷ []) fault
+row_refused document text table machine fault same configured refused =
+    row_under document table machine fault (ap document_of (sym same) ∙ configured) (memory_or_row fault refused)
+
+pub size_refused : (document text table : List ℕ) (machine : Config) (stats : RunStats) (fault : Fault) → text ≡ document → document_of text ≡ Ok (values_of machine)
+    → records_of table ≡ stats_header ∷ stats_rows stats → IsSizeFault machine stats fault → (fault ≡ Memory) ⊎ IsShowFault (document ∷ table ∷ []) fault
+size_refused document text table machine stats fault same configured read refused = inr (inr (record {
+  machine = machine;
+  configured = ap document_of (sym same) ∙ configured;
+  fault_is = inr (record { stats = stats; rows_are = read; fault_is = refused });
+}))
+
+-- what is wrong with the first table of a page is wrong with the page
+pub page_of_show : (document : Option (List ℕ)) (table commands : List ℕ) (fault : Fault) → (fault ≡ Memory) ⊎ IsShowFault (with_config document (table ∷ [])) fault
+    → (fault ≡ Memory) ⊎ IsPageFault (with_config document (table ∷ commands ∷ [])) fault
+page_of_show document table commands fault (inl memory) = inl memory
+page_of_show None table commands fault (inr refused) = inr refused
+page_of_show (Some text) table commands fault (inr refused) = inr refused
+
+row_of_page : (document : Option (List ℕ)) (table commands : List ℕ) (stats : RunStats) (machine : Option Config) (fault : Fault) → IsConfiguredBy document stats machine
+    → (fault ≡ Memory) ⊎ IsRowRefusal fault → (fault ≡ Memory) ⊎ IsPageFault (with_config document (table ∷ commands ∷ [])) fault
+row_of_page document table commands stats machine fault is (inl memory) = inl memory
+row_of_page None table commands stats machine fault is (inr row) = inr row
+row_of_page (Some text) table commands stats (Some machine) fault is (inr row) = inr (inr (record { machine = machine; configured = is.0; fault_is = inl row }))
+row_of_page (Some text) table commands stats None fault is (inr row) = absurd is
+
+pub commands_refused : (document : Option (List ℕ)) (table commands : List ℕ) (stats : RunStats) (machine : Option Config) (fault : Fault) → IsConfiguredBy document stats machine
+    → Tables.IsTableFault fault → (fault ≡ Memory) ⊎ IsPageFault (with_config document (table ∷ commands ∷ [])) fault
+commands_refused document table commands stats machine fault is refused = row_of_page document table commands stats machine fault is (memory_or_row fault refused)
+
+-- a command that is not of the run is a row of the table of a page that has no other fault
+pub row_of_right : (texts : List (List ℕ)) (row : ℕ) → IsRightPage texts → IsPageFault texts (CheckRow row)
+row_of_right [] row right = absurd right
+row_of_right (a ∷ []) row right = absurd right
+row_of_right (a ∷ b ∷ []) row right = tt
+row_of_right (a ∷ b ∷ c ∷ []) row right = inr (record { machine = right.0.machine; configured = right.0.configured; fault_is = inl tt })
+row_of_right (a ∷ b ∷ c ∷ d ∷ rest) row right = absurd right
+
+-- ---- all of that together
+
+-- two facts of one result
+pub both_ok : {T E : Type 0} (r : Result T E) (P Q R : T → Type 0) → ((x : T) → P x → Q x → R x) → IfOk r P → IfOk r Q → IfOk r R
+both_ok (Ok x) P Q R f p q = f x p q
+both_ok (Err e) P Q R f p q = tt
+
+show_texts : (tells : Type 0) (old mid : Held) (config document : Option (List ℕ)) (path table : List ℕ) → IsNamedText tells old config document → (tells → SameFiles old mid)
+    → (tells → mid path ≡ Some table) → AreTexts tells old (with_config config (path ∷ [])) (with_config document (table ∷ []))
+show_texts tells old mid config document path table named same is =
+    named_texts tells old config document (path ∷ []) (table ∷ []) named (one_text tells old path table (text_later tells old mid path table same is))
+
+pub ready_show : (tells : Type 0) (old mid : Held) (config document : Option (List ℕ)) (path table : List ℕ) (stats : RunStats) (machine : Option Config)
+    → IsNamedText tells old config document → (tells → SameFiles old mid) → (tells → mid path ≡ Some table) → records_of table ≡ stats_header ∷ stats_rows stats
+    → IsConfiguredBy document stats machine → IsReady tells old (with_config config (path ∷ [])) IsRightShow
+ready_show tells old mid config document path table stats machine named same is read configured = record {
+  texts = with_config document (table ∷ []);
+  read = show_texts tells old mid config document path table named same is;
+  right = right_show document table stats machine read configured;
+}
+
+pub fault_show : (tells : Type 0) (old mid : Held) (config document : Option (List ℕ)) (path table : List ℕ) (fault : Fault) → IsNamedText tells old config document
+    → (tells → SameFiles old mid) → (tells → mid path ≡ Some table) → (fault ≡ Memory) ⊎ IsShowFault (with_config document (table ∷ [])) fault
+    → IsInputFault tells old (with_config config (path ∷ [])) IsShowFault fault
+fault_show tells old mid config document path table fault named same is refused =
+    found_or_memory tells old (with_config config (path ∷ [])) (with_config document (table ∷ [])) IsShowFault fault
+    (show_texts tells old mid config document path table named same is) refused
+
+page_texts : (tells : Type 0) (old mid last : Held) (config document : Option (List ℕ)) (one two table commands : List ℕ) → IsNamedText tells old config document
+    → (tells → SameFiles old mid) → (tells → mid one ≡ Some table) → (tells → SameFiles mid last) → (tells → last two ≡ Some commands)
+    → AreTexts tells old (with_config config (one ∷ two ∷ [])) (with_config document (table ∷ commands ∷ []))
+page_texts tells old mid last config document one two table commands named same is later is_later =
+    named_texts tells old config document (one ∷ two ∷ []) (table ∷ commands ∷ []) named
+    (two_texts tells old last one two table commands (text_later tells old mid one table same is) (λ t path. later t path ∙ same t path) is_later)
+
+pub ready_page : (tells : Type 0) (old mid last : Held) (config document : Option (List ℕ)) (one two table commands_table : List ℕ) (stats : RunStats) (commands : List IssuedCommand)
+    (machine : Option Config) → IsNamedText tells old config document
+    → (tells → SameFiles old mid) → (tells → mid one ≡ Some table) → (tells → SameFiles mid last) → (tells → last two ≡ Some commands_table)
+    → AreTablesIn table commands_table stats commands → IsConfiguredBy document stats machine
+    → IsReady tells old (with_config config (one ∷ two ∷ [])) IsRightPage
+ready_page tells old mid last config document one two table commands_table stats commands machine named same is later is_later tables configured = record {
+  texts = with_config document (table ∷ commands_table ∷ []);
+  read = page_texts tells old mid last config document one two table commands_table named same is later is_later;
+  right = right_page document table commands_table stats commands machine tables configured;
+}
+
+pub fault_page : (tells : Type 0) (old mid last : Held) (config document : Option (List ℕ)) (one two table commands : List ℕ) (fault : Fault) → IsNamedText tells old config document
+    → (tells → SameFiles old mid) → (tells → mid one ≡ Some table) → (tells → SameFiles mid last) → (tells → last two ≡ Some commands)
+    → (fault ≡ Memory) ⊎ IsPageFault (with_config document (table ∷ commands ∷ [])) fault
+    → IsInputFault tells old (with_config config (one ∷ two ∷ [])) IsPageFault fault
+fault_page tells old mid last config document one two table commands fault named same is later is_later refused =
+    found_or_memory tells old (with_config config (one ∷ two ∷ [])) (with_config document (table ∷ commands ∷ [])) IsPageFault fault
+    (page_texts tells old mid last config document one two table commands named same is later is_later) refused

@@ -1,0 +1,93 @@
+-- What `check`, `map` and `show` answer, from what the files hold that they name.
+--     IsVerdict config commands held found      what a table of commands is found to be
+--     verdict_line found, verdict_status found      the line and the status that tell it
+--     IsChecked config commands status held before after      it was told
+--     IsPlace config address held ranks place      the place of an address, and how many ranks there are
+--     place_line ranks place      the line that tells it
+--     IsMapped config address held before after      it was told
+--     IsStatsOf path held stats      the statistics whose table a file holds
+--     IsShown dir config held before after      their screen was printed
+use Rattle.std.specs.Prelude.{◌≡◌, ℕ, nat_lt, List, [], ◌∷◌, ◌++◌, codes, decimal, Option, Some, Ok, if◌then◌else◌}
+use Rattle.std.specs.Io.KnownBytes.{Appends}
+use Rattle.sim_base.specs.declared.config.Config.{Config}
+use Rattle.sim_base.specs.declared.place.Place.{Place}
+use Rattle.sim_base.specs.Places.{place_of}
+use Rattle.sim_base.specs.Values.{values_of}
+use Rattle.config_reader.specs.Document.{document_of}
+use Rattle.reports.specs.Stats.{stats_header, stats_rows}
+use Rattle.statistics.specs.Values.{RunStats}
+use Rattle.rule_check.specs.Verdict.{records_of, verdict}
+use Rattle.rule_check.specs.declared.verdict.Verdict.{Verdict}
+use Rattle.rule_check.specs.declared.verdict.Verdict.TheVariants.{Legal, Broken}
+use Rattle.show.specs.Screen.{IsScreen}
+use Rattle.whole_files.specs.Files.{Held}
+use Rattle.whole_files.specs.Tables.{path_in, stats_name}
+use Rattle.answers.specs.Named.{IsConfigured}
+
+-- what `check` finds of the table that a file holds, under the configuration that another holds
+pub record IsVerdict (config commands : List ℕ) (held : Held) (found : Verdict) : Type 0 where
+  pub document : List ℕ
+  pub table : List ℕ
+  pub machine : Config
+  pub config_is : held config ≡ Some document
+  pub table_is : held commands ≡ Some table
+  pub configured : document_of document ≡ Ok (values_of machine)
+  pub found_is : verdict machine (records_of table) ≡ Ok found
+
+-- the line that tells what a table is found to be
+abbrev pub verdict_line : Verdict → List ℕ
+verdict_line Legal = codes "legal\n"
+verdict_line (Broken row rule) = codes "broken row " ++ decimal row ++ codes " rule " ++ decimal rule ++ codes "\n"
+
+-- the status: 1 where a rule is broken
+abbrev pub verdict_status : Verdict → ℕ
+verdict_status Legal = 0
+verdict_status (Broken row rule) = 1
+
+-- the verdict was printed, and the status is that of the verdict
+pub record IsChecked (config commands : List ℕ) (status : ℕ) (held : Held) (before after : Option (List ℕ)) : Type 0 where
+  pub found : Verdict
+  pub judged : IsVerdict config commands held found
+  pub status_is : status ≡ verdict_status found
+  pub printed : Appends before after (verdict_line found)
+
+-- the place of an address under the configuration that a file holds, and how many ranks there are
+pub record IsPlace (config : List ℕ) (address : ℕ) (held : Held) (ranks : ℕ) (place : Place) : Type 0 where
+  pub document : List ℕ
+  pub machine : Config
+  pub config_is : held config ≡ Some document
+  pub configured : document_of document ≡ Ok (values_of machine)
+  pub ranks_is : ranks ≡ machine.ranks
+  pub place_is : place ≡ place_of machine address
+
+-- the rank is told where there are several
+abbrev pub rank_words : ℕ → ℕ → List ℕ
+rank_words ranks rank = if nat_lt 1 ranks then codes " rank " ++ decimal rank else []
+
+-- the line that tells a place
+abbrev pub place_line : ℕ → Place → List ℕ
+place_line ranks place =
+    codes "channel " ++ decimal place.channel ++ rank_words ranks place.rank ++ codes " group " ++ decimal place.group
+    ++ codes " bank " ++ decimal place.bank ++ codes " row " ++ decimal place.row ++ codes " column " ++ decimal place.column ++ codes "\n"
+
+-- the place of an address was printed
+pub record IsMapped (config : List ℕ) (address : ℕ) (held : Held) (before after : Option (List ℕ)) : Type 0 where
+  pub ranks : ℕ
+  pub place : Place
+  pub is_place : IsPlace config address held ranks place
+  pub printed : Appends before after (place_line ranks place)
+
+-- the statistics whose table a file holds
+pub record IsStatsOf (path : List ℕ) (held : Held) (stats : RunStats) : Type 0 where
+  pub table : List ℕ
+  pub table_is : held path ≡ Some table
+  pub rows_are : records_of table ≡ stats_header ∷ stats_rows stats
+
+-- a folder has the table of statistics, a configuration that is named is one that they fit, and their screen was printed
+pub record IsShown (dir : List ℕ) (config : Option (List ℕ)) (held : Held) (before after : Option (List ℕ)) : Type 0 where
+  pub stats : RunStats
+  pub text : List ℕ
+  pub stats_are : IsStatsOf (path_in dir stats_name) held stats
+  pub configured : IsConfigured config held stats
+  pub screen : IsScreen stats text
+  pub printed : Appends before after text

@@ -1,0 +1,4 @@
+pub mod Named
+pub mod Pages
+pub mod Answers
+pub mod Refused

@@ -1,0 +1,79 @@
+//! What files hold, read as the other crates do, with a refusal that is explained by their texts.
+
+ghost use Rattle.std.specs.Prelude.{◌≡◌, ◌≢◌, ◌+◌, ◌∷◌, length, Ok, Err, IfOk, IfErr};
+ghost use Rattle.command_table.specs.Tables.{IsRising};
+ghost use Rattle.config_reader.specs.Document.{document_of};
+ghost use Rattle.reports.specs.Stats.{stats_header, stats_rows};
+ghost use Rattle.rule_check.specs.Verdict.{records_of, verdict};
+ghost use Rattle.run_tables.specs.Records.{IsTableFault};
+ghost use Rattle.sim_base.specs.Values.{values_of};
+
+use command_table::list::CommandList;
+use config_reader::read_config;
+use explain::{TableKind, of_config, of_table};
+use refusal::reason::Reason;
+use rule_check::{Verdict, check};
+use run_tables::{read_commands, read_stats};
+use sim_base::config::Config;
+use sim_base::fault::Fault;
+use statistics::stats::Stats;
+use std::alloc::Global;
+
+/// A configuration.
+pub(crate) fn configuration_of(alloc: Global, path: &str, document: &[u8]) -> Result<Config, Reason>
+    ensures ok { IfOk result (λ config. document_of document.now ≡ Ok (values_of config)) }
+    ensures refused { IfErr result (λ e. e ≢ Fault.Memory → document_of document.now ≡ Err e) }
+{
+    match read_config(alloc, document) {
+        Ok(config) => Ok(config),
+        Err(fault) => Err(Reason::explained(fault, of_config(alloc, fault, path, document))),
+    }
+}
+
+/// The verdict on a table of commands.
+pub(crate) fn verdict_of(
+    alloc: Global,
+    config: &Config,
+    path: &str,
+    table: &[u8],
+) -> Result<Verdict, Reason>
+    ensures ok { IfOk result (λ found. verdict config.now (records_of table.now) ≡ Ok found) }
+    ensures refused { IfErr result (λ e. e ≢ Fault.Memory → verdict config.now (records_of table.now) ≡ Err e) }
+{
+    match check(alloc, config, table) {
+        Ok(found) => Ok(found),
+        Err(fault) => Err(Reason::explained(
+            fault,
+            of_table(alloc, fault, TableKind::Commands, path, table),
+        )),
+    }
+}
+
+/// The statistics of a run.
+pub(crate) fn statistics_of(alloc: Global, path: &str, table: &[u8]) -> Result<Stats, Reason>
+    ensures read { IfOk result (λ stats. records_of table.now ≡ stats_header ∷ stats_rows stats) }
+    ensures fault { IfErr result IsTableFault }
+{
+    match read_stats(alloc, table) {
+        Ok(stats) => Ok(stats),
+        Err(fault) => Err(Reason::explained(
+            fault,
+            of_table(alloc, fault, TableKind::Statistics, path, table),
+        )),
+    }
+}
+
+/// The commands of a run.
+pub(crate) fn commands_of(alloc: Global, path: &str, table: &[u8]) -> Result<CommandList, Reason>
+    ensures rows { IfOk result (λ rows. length (records_of table.now) ≡ length rows + 1) }
+    ensures rising { IfOk result IsRising }
+    ensures fault { IfErr result IsTableFault }
+{
+    match read_commands(alloc, table) {
+        Ok(rows) => Ok(rows),
+        Err(fault) => Err(Reason::explained(
+            fault,
+            of_table(alloc, fault, TableKind::Commands, path, table),
+        )),
+    }
+}

@@ -1,0 +1,28 @@
+//! Answers on a stream.
+
+ghost use Rattle.std.specs.Prelude.{◌≡◌, IfErr, OnOk};
+ghost use Rattle.std.specs.Io.KnownBytes.{Appends};
+
+use refusal::reason::Reason;
+use sim_base::fault::Fault;
+use std::alloc::Global;
+use std::io::{self, Write};
+
+// Sends a text down a stream.
+fn send<P: Write>(output: &mut P, text: &str) -> io::Result<()>
+    ensures { OnOk result (Appends (P.contents output.old) (P.contents output.new) text.now) }
+{
+    output.write_all(text.as_bytes())?;
+    output.flush()
+}
+
+/// Puts a text on the stream of answers. Refuses by `Fault::Write` where the stream does not take it whole.
+pub fn print_text<P: Write>(alloc: Global, output: &mut P, text: &str) -> Result<(), Reason>
+    ensures printed { OnOk result (Appends (P.contents output.old) (P.contents output.new) text.now) }
+    ensures fault { IfErr result (λ e. e ≡ Fault.Write) }
+{
+    match send(output, text) {
+        Ok(()) => Ok(()),
+        Err(error) => Err(Reason::of_host(alloc, Fault::Write, "standard output", &error)),
+    }
+}

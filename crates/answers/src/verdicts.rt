@@ -1,0 +1,82 @@
+//! Whether a table of commands keeps the rules.
+
+ghost use Rattle.std.specs.Prelude.{◌≡◌, ◌≤◌, ◌∷◌, [], IfOk, IfErr, OnOk, string_bytes};
+ghost use Rattle.whole_files.specs.Files.{SameFiles};
+ghost use Rattle.answers.specs.Answers.{IsVerdict, verdict_line, verdict_status, IsChecked};
+ghost use Rattle.answers.specs.Refused.{IsTableFault, IsRightTable, IsReady, IsInputFault, IsAnswerFault};
+
+use crate::explained::{configuration_of, verdict_of};
+use crate::print::print_text;
+use refusal::reason::Reason;
+use refusal::status::{BROKEN, DONE};
+use rule_check::Verdict;
+use sim_base::fault::Fault;
+use std::alloc::Global;
+use std::io::Write;
+use whole_files::files::FileSet;
+
+// What a table is found to be.
+fn judge<F: FileSet>(
+    alloc: Global,
+    files: &mut F,
+    config: &str,
+    commands: &str,
+) -> Result<Verdict, Reason>
+    ensures found { IfOk result (λ found. F.tells → IsVerdict config.now commands.now (F.held files.old) found) }
+    ensures ready { OnOk result (IsReady F.tells (F.held files.old) (config.now ∷ commands.now ∷ []) IsRightTable) }
+    ensures fault { IfErr result (IsInputFault F.tells (F.held files.old) (config.now ∷ commands.now ∷ []) IsTableFault) }
+    ensures same { F.tells → SameFiles (F.held files.old) (F.held files.new) }
+    ensures unopened { F.tells → F.opened files.new ≡ F.opened files.old }
+{
+    let document = files.read(alloc, config)?;
+    let table = files.read(alloc, commands)?;
+    let config = configuration_of(alloc, config, &document)?;
+    verdict_of(alloc, &config, commands, &table)
+}
+
+fn verdict_line_of(alloc: Global, found: Verdict) -> Result<String, Fault>
+    ensures line { IfOk result (λ s. string_bytes s ≡ verdict_line found) }
+    ensures fault { IfErr result (λ e. e ≡ Fault.Memory) }
+{
+    match found {
+        Verdict::Legal => Ok(String::from_str(alloc, "legal\n")?),
+        Verdict::Broken { row, rule } => {
+            Ok(format!(in alloc; "broken row {row} rule {rule}\n")?)
+        }
+    }
+}
+
+fn status_of(found: Verdict) -> u8
+    ensures status { result ≡ verdict_status found }
+    ensures least { result ≤ 1 }
+{
+    match found {
+        Verdict::Legal => DONE,
+        Verdict::Broken { .. } => BROKEN,
+    }
+}
+
+/// `check CONFIG COMMANDS`: prints the verdict on a table of commands, and gives the status, 0 for a legal table and 1 for one that breaks
+/// a rule. It opens and changes no file.
+///
+/// # Errors
+///
+/// `Fault::Read`, the configuration's first fault, the table's, `Fault::Write` where the answer cannot be written, and `Fault::Memory`.
+pub fn perform_check<F: FileSet, P: Write>(
+    alloc: Global,
+    files: &mut F,
+    output: &mut P,
+    config: &str,
+    commands: &str,
+) -> Result<u8, Reason>
+    ensures checked { IfOk result (λ status. F.tells → IsChecked config.now commands.now status (F.held files.old) (P.contents output.old) (P.contents output.new)) }
+    ensures status { IfOk result (λ status. status ≤ 1) }
+    ensures fault { IfErr result (IsAnswerFault F.tells (F.held files.old) (config.now ∷ commands.now ∷ []) IsTableFault IsRightTable) }
+    ensures same { F.tells → SameFiles (F.held files.old) (F.held files.new) }
+    ensures unopened { F.tells → F.opened files.new ≡ F.opened files.old }
+{
+    let found = judge(alloc, files, config, commands)?;
+    let line = verdict_line_of(alloc, found)?;
+    print_text(alloc, output, line.as_str())?;
+    Ok(status_of(found))
+}

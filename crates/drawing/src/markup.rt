@@ -1,0 +1,84 @@
+//! Text of a page, put together from pieces.
+
+use std::alloc::AllocError;
+
+/// A piece of text.
+#[derive(Clone, Copy)]
+pub enum Piece {
+    /// Markup, or words without markup: it is not escaped.
+    Text(&'static str),
+    /// A number as it stands: `1234567`.
+    Number(u64),
+    /// A number in groups of three digits: `1,234,567`.
+    Grouped(u64),
+    /// A number of tenths: 123 is `12.3`.
+    Tenths(u64),
+    /// A number of hundredths: 123 is `1.23`.
+    Hundredths(u64),
+}
+
+/// What each group of three digits counts, except for the last group.
+const GROUPS: [u64; 6] = [
+    1_000_000_000_000_000_000,
+    1_000_000_000_000_000,
+    1_000_000_000_000,
+    1_000_000_000,
+    1_000_000,
+    1_000,
+];
+
+fn put_grouped(number: u64, out: &mut String) -> Result<(), AllocError> {
+    if number < 1_000 {
+        return write!(out, "{number}");
+    }
+    for size in GROUPS {
+        let group = number / size;
+        if group >= 1_000 {
+            write!(out, "{:03},", group % 1_000)?;
+        } else if group > 0 {
+            write!(out, "{group},")?;
+        }
+    }
+    write!(out, "{:03}", number % 1_000)
+}
+
+fn put_piece(piece: Piece, out: &mut String) -> Result<(), AllocError> {
+    match piece {
+        Piece::Text(text) => out.push_str(text),
+        Piece::Number(number) => write!(out, "{number}"),
+        Piece::Grouped(number) => put_grouped(number, out),
+        Piece::Tenths(number) => write!(out, "{}.{}", number / 10, number % 10),
+        Piece::Hundredths(number) => write!(out, "{}.{:02}", number / 100, number % 100),
+    }
+}
+
+/// Appends pieces to a text. The only error is out of memory.
+pub fn put(pieces: &[Piece], out: &mut String) -> Result<(), AllocError> {
+    for piece in pieces {
+        put_piece(*piece, out)?;
+    }
+    Ok(())
+}
+
+/// An entry of a legend: a patch in the colour of a class of the style sheet, and what it stands for.
+#[derive(Clone, Copy)]
+pub struct LegendEntry {
+    pub class: &'static str,
+    pub text: &'static str,
+}
+
+/// Appends a legend as a list.
+pub fn put_legend(entries: &[LegendEntry], out: &mut String) -> Result<(), AllocError> {
+    out.push_str("<ul class=\"legend\">")?;
+    for entry in entries {
+        let pieces = [
+            Piece::Text("<li><svg class=\"patch\" viewBox=\"0 0 10 10\"><rect class=\""),
+            Piece::Text(entry.class),
+            Piece::Text("\" width=\"10\" height=\"10\"/></svg>"),
+            Piece::Text(entry.text),
+            Piece::Text("</li>"),
+        ];
+        put(&pieces, out)?;
+    }
+    out.push_str("</ul>\n")
+}
