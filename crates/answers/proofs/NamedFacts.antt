@@ -1,10 +1,10 @@
 -- What a configuration that may be named adds to what is read, and to why it is refused.
-use Rattle.std.proofs.Common.{◌≡◌, ◌≢◌, ◌⊎◌, inl, inr, ℕ, List, [], ◌∷◌, length, Option, Some, None, Result, Ok, Err, refl, sym, ap, ap₂, ◌∙◌, arith}
+use Rattle.std.proofs.Common.{◌≡◌, ◌≢◌, ◌⊎◌, inl, inr, ℕ, List, [], ◌∷◌, Option, Some, None, Result, Ok, Err, sym, ap, ap₂, ◌∙◌, arith}
 use Rattle.std.specs.Result.{IfOk}
 use Rattle.sim_base.specs.declared.command.IssuedCommand.{IssuedCommand}
 use Rattle.sim_base.specs.declared.config.Config.{Config}
 use Rattle.sim_base.specs.declared.fault.Fault.{Fault}
-use Rattle.sim_base.specs.declared.fault.Fault.TheVariants.{Memory, Read, CheckRow}
+use Rattle.sim_base.specs.declared.fault.Fault.TheVariants.{Memory, CheckRow}
 use Rattle.sim_base.specs.Values.{values_of}
 use Rattle.config_reader.specs.Document.{document_of}
 use Rattle.reports.specs.Stats.{stats_header, stats_rows}
@@ -12,9 +12,9 @@ use Rattle.rule_check.specs.Verdict.{records_of}
 use Rattle.statistics.specs.Values.{RunStats}
 use Rattle.run_tables.specs.Records as Tables
 use Rattle.whole_files.specs.Files.{Held, SameFiles, IsReadFault}
-use Rattle.answers.specs.Named.{with_config, IsNamedText, Fits, IsConfiguredBy, IsConfigured}
+use Rattle.answers.specs.Named.{with_config, IsNamedText, IsConfiguredBy, IsConfigured}
 use Rattle.answers.specs.Pages.{AreTablesIn}
-use Rattle.answers.specs.Refused.{LacksOne, AreTexts, IsFilesFault, IsInputFault, IsReady, IsRowRefusal, IsSizeFault, IsShowFault, IsRightShow, IsPageFault, IsRightPage}
+use Rattle.answers.specs.Refused.{AreTexts, IsFilesFault, IsInputFault, IsReady, IsRowRefusal, IsSizeFault, IsShowFault, IsRightShow, IsPageFault, IsRightPage}
 use Rattle.answers.proofs.RefusedFacts.{one_text, two_texts, memory_or_row, unless_memory, found_or_memory}
 
 -- ---- files that are read

@@ -2,7 +2,7 @@
 --     AreTablesIn stats_table commands_table stats commands      what the two tables hold
 --     AreTablesAt stats_path commands_path held stats commands      the same for what two files hold
 --     IsNoPage stats commands fault      why they make no page
---     IsPageDone dir file config old new      the page is in its place
+--     IsPageDone dir file config warning old new      the page is in its place, and this is warned of
 use Rattle.std.specs.Prelude.{◌≡◌, ℕ, ◌+◌, ◌-◌, ◌<◌, ⊤, List, ◌∷◌, length, slice_get, IsSomeAnd, Option, Some}
 use Rattle.sim_base.specs.declared.command.IssuedCommand.{IssuedCommand}
 use Rattle.sim_base.specs.declared.fault.Fault.{Fault}
@@ -12,6 +12,8 @@ use Rattle.reports.specs.Stats.{stats_header, stats_rows}
 use Rattle.rule_check.specs.Verdict.{records_of}
 use Rattle.statistics.specs.Values.{RunStats}
 use Rattle.page.specs.Rows.{IsOfRun, IsOfRunAt}
+use Rattle.refusal.specs.Warnings.{IsWarningOf}
+use Rattle.refusal.specs.declared.warning.LargePage.{LargePage}
 use Rattle.whole_files.specs.Files.{Held}
 use Rattle.whole_files.specs.Tables.{path_in, stats_name, commands_name}
 use Rattle.whole_files.specs.WholeFile.{IsWhole}
@@ -39,8 +41,8 @@ IsNoPage stats commands Write = ⊤
 IsNoPage stats commands _ = ⊥
 
 -- the folder has the tables of a run, a configuration that is named is one that it fits, each command is of the run, the file is a new one,
--- and nothing else has changed
-pub record IsPageDone (dir file : List ℕ) (config : Option (List ℕ)) (old new : Held) : Type 0 where
+-- nothing else has changed, and a page of more than 50 MB is warned of
+pub record IsPageDone (dir file : List ℕ) (config : Option (List ℕ)) (warning : Option LargePage) (old new : Held) : Type 0 where
   pub stats : RunStats
   pub commands : List IssuedCommand
   pub text : List ℕ
@@ -48,3 +50,4 @@ pub record IsPageDone (dir file : List ℕ) (config : Option (List ℕ)) (old ne
   pub configured : IsConfigured config old stats
   pub of_run : (place : ℕ) → IsOfRunAt stats commands place
   pub written : IsWhole file text old new
+  pub warned : IsWarningOf text warning

@@ -2,6 +2,7 @@
 
 ghost use Rattle.std.specs.Prelude.{◌≡◌, ◌⊎◌, ◌+◌, ◌<◌, ◌++◌, ◌∷◌, [], ℕ, length, option_map, IfOk, IfErr, OnOk, OnErr};
 ghost use Rattle.page.specs.Rows.{IsOfRunAt};
+ghost use Rattle.refusal.specs.Warnings.{IsWarningOf};
 ghost use Rattle.whole_files.specs.Files.{SameFiles};
 ghost use Rattle.whole_files.specs.Tables.{path_in, stats_name, commands_name};
 ghost use Rattle.whole_files.specs.WholeFile.{part_of, IsUnwritten};
@@ -16,11 +17,15 @@ use page::fault::PageFault;
 use page::page::write_page;
 use page::window::Window;
 use refusal::reason::Reason;
+use refusal::warning::{LARGE_PAGE, LargePage};
 use sim_base::fault::Fault;
 use std::alloc::Global;
 use whole_files::files::FileSet;
 use whole_files::moves::path_of;
 use whole_files::whole_file::write_whole;
+
+/// How many windows are tried for a page that is not too long.
+const MOST_TRIED: u32 = 8;
 
 // What a page is made of.
 #[derive(Drop)]
@@ -139,8 +144,62 @@ fn page_text(alloc: Global, dir: &str, found: &RunTables, window: Window) -> Res
     }
 }
 
+// So many cycles of the window that they would make a page of 49 MB, if its length grew with them alone.
+fn in_proportion(cycles: u64, bytes: u64) -> u64 {
+    let thousandths = LARGE_PAGE / 50 * 49 / (bytes / 1_000 + 1);
+    match thousandths {
+        0..1_000 => cycles / 1_000 * thousandths + cycles % 1_000 * thousandths / 1_000,
+        _ => cycles,
+    }
+}
+
+// The window with a number of cycles, of those that were tried, that gives a page of at most 50 MB. None where memory is refused.
+fn cycles_that_fit(
+    alloc: Global,
+    dir: &str,
+    found: &RunTables,
+    window: Window,
+    bytes: u64,
+) -> Option<u64> {
+    let shown = found.run.stats.cycles.saturating_sub(window.from);
+    let mut fewer = Window {
+        from: window.from,
+        cycles: window.cycles.min(shown),
+    };
+    let mut bytes = bytes;
+    for _ in 0..MOST_TRIED {
+        fewer.cycles = in_proportion(fewer.cycles, bytes);
+        bytes = page_text(alloc, dir, found, fewer).ok()?.len() as u64;
+        if bytes <= LARGE_PAGE {
+            return Some(fewer.cycles);
+        }
+    }
+    None
+}
+
+// What is warned of where a page is long.
+fn warning_of(
+    alloc: Global,
+    dir: &str,
+    found: &RunTables,
+    window: Window,
+    text: &[u8],
+) -> Option<LargePage>
+    ensures { IsWarningOf text.now result }
+{
+    let bytes = text.len() as u64;
+    if bytes <= LARGE_PAGE {
+        return None;
+    }
+    Some(LargePage {
+        bytes,
+        cycles: cycles_that_fit(alloc, dir, found, window, bytes),
+    })
+}
+
 /// `page DIR FILE [--config FILE] [--from N] [--cycles N]`: draws the run whose tables are in a folder, and its commands in a window of
-/// cycles, with what its configuration adds, as a file that is written whole or not at all.
+/// cycles, with what its configuration adds, as a file that is written whole or not at all. What is given back is a warning of a page of more than
+/// 50 MB (50,000,000 bytes), with how many cycles of the window would give one that is not.
 ///
 /// # Errors
 ///
@@ -154,13 +213,15 @@ pub fn perform_page<F: FileSet>(
     file: &str,
     config: Option<&str>,
     window: Window,
-) -> Result<(), Reason>
-    ensures done { OnOk result (F.tells → IsPageDone dir.now file.now (option_map (λ c. c.now) config.entry) (F.held files.old) (F.held files.new)) }
+) -> Result<Option<LargePage>, Reason>
+    ensures done { IfOk result (λ warning. F.tells → IsPageDone dir.now file.now (option_map (λ c. c.now) config.entry) warning (F.held files.old) (F.held files.new)) }
     ensures noted { OnOk result (F.tells → F.opened files.new ≡ F.opened files.old ++ part_of file.now ∷ []) }
     ensures refused { OnErr result (F.tells → IsUnwritten file.now (F.held files.old) (F.held files.new) (F.opened files.old) (F.opened files.new)) }
     ensures fault { IfErr result (IsAnswerFault F.tells (F.held files.old) (with_config (option_map (λ c. c.now) config.entry) (path_in dir.now stats_name ∷ path_in dir.now commands_name ∷ [])) IsPageFault IsRightPage) }
 {
     let found = tables_in(alloc, files, config, dir)?;
     let text = page_text(alloc, dir, &found, window)?;
-    write_whole(alloc, files, file, &text)
+    let warning = warning_of(alloc, dir, &found, window, &text);
+    write_whole(alloc, files, file, &text)?;
+    Ok(warning)
 }

@@ -1,4 +1,4 @@
-//! An assertion as a call, which costs the proof of a test far less than what the macro writes in its place.
+//! Assertions as calls, which cost the proof of a test far less than what the macros write in its place.
 
 ghost use Rattle.std.specs.Prelude.{◌≡◌, true};
 
@@ -10,4 +10,11 @@ pub fn expect<T: PartialEq + Debug>(rt: &impl Abort, found: &T, want: &T)
     ensures { T.eq found.now want.now ≡ true }
 {
     assert_eq!(rt; found, want);
+}
+
+/// The same, and prints at which case it is.
+pub fn expect_at<T: PartialEq + Debug, N: Debug>(rt: &impl Abort, case: &N, found: &T, want: &T)
+    ensures { T.eq found.now want.now ≡ true }
+{
+    assert_eq!(rt; found, want, "at {case:?}");
 }

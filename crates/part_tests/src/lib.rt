@@ -1,6 +1,8 @@
-//! Tests of the parts that a channel and the links are made of: a module for each crate.
+//! Tests of the parts that a channel and the links are made of, a module for each crate, and of channels in sessions.
 #![tactic(auto)]
 
+#[cfg(test)]
+mod channels;
 #[cfg(test)]
 mod commands;
 #[cfg(test)]

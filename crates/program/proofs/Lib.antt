@@ -1,2 +1,3 @@
+pub mod AnswerFacts
 pub mod HeldTexts
 pub mod RefusedFacts

@@ -3,10 +3,13 @@
 --     IsOutcome config cycles workers traces held run      the outcome of a run over what the named files hold
 --     IsRunDone config cycles workers out traces old new      its tables are in the folder
 --     IsUnfinished refusal config cycles workers out traces has_folder old new before after      what is left of a run that is refused
---     IsAnswer ask status old new      what is asked has been done
+--     IsAnswer ask done old new      what is asked has been done
+--     IsQuiet ask warning      nothing is warned of but pages
 --     IsLeft refusal ask old new      what is left where it has not been done
---     IsAnswered words status old new, IsRefusedBy refusal words old new, IsRefused words old new      the same for the words of a command line
-use Rattle.std.specs.Prelude.{◌≡◌, ◌⊎◌, ℕ, Bool, true, List, [], ◌∷◌, ◌++◌, map, option_map, string_bytes, Option, Some}
+--     IsAnswered words status old new has_refused before after      what the words of a command line ask for has been done, and its warning told
+--     IsRefusedBy refusal words old new, IsRefused words old new      what is left where it has not been done
+--     AskForPage words      the words ask for a page
+use Rattle.std.specs.Prelude.{◌≡◌, ◌⊎◌, ⊤, ℕ, Bool, true, List, [], ◌∷◌, ◌++◌, map, option_map, string_bytes, Option, Some, None}
 use Rattle.std.specs.Io.KnownBytes.{Appends}
 use Rattle.statistics.specs.Values.{RunOutcome}
 use Rattle.simulation.specs.Runs.{IsRunOf, IsJudgedLegal}
@@ -14,6 +17,9 @@ use Rattle.command_line.specs.Ask.{IsAskedBy}
 use Rattle.whole_files.specs.Files.{Held, IsUntouched}
 use Rattle.whole_files.specs.WholeFile.{part_of, IsUnwritten}
 use Rattle.refusal.specs.Refusals.{IsKept}
+use Rattle.refusal.specs.Warnings.{IsWarned}
+use Rattle.refusal.specs.declared.warning.LargePage.{LargePage}
+use Rattle.program.specs.declared.done.Done.{Done}
 use Rattle.whole_files.specs.Tables.{parts, IsWritten, LeavesAll, IsUnplaced}
 use Rattle.answers.specs.Answers.{IsChecked, IsMapped, IsShown}
 use Rattle.answers.specs.Pages.{IsPageDone}
@@ -86,9 +92,9 @@ pub record IsShowAnswer (dir : List ℕ) (config : Option (List ℕ)) (status : 
   pub untouched : IsUntouched old.held new.held old.opened new.opened
 
 -- a page has been made: it prints nothing, and opens just one file
-pub record IsPageAnswer (dir file : List ℕ) (config : Option (List ℕ)) (status : ℕ) (old new : Seen) : Type 0 where
-  pub status_is : status ≡ 0
-  pub done : IsPageDone dir file config old.held new.held
+pub record IsPageAnswer (dir file : List ℕ) (config : Option (List ℕ)) (done : Done) (old new : Seen) : Type 0 where
+  pub status_is : done.status ≡ 0
+  pub page : IsPageDone dir file config done.warning old.held new.held
   pub opened_is : new.opened ≡ old.opened ++ part_of file ∷ []
   pub silent : new.printed ≡ old.printed
 
@@ -104,15 +110,25 @@ pub record IsHelpAnswer (text : List ℕ) (status : ℕ) (old new : Seen) : Type
   pub untouched : IsUntouched old.held new.held old.opened new.opened
 
 -- what is asked has been done
-abbrev pub IsAnswer : Ask → ℕ → Seen → Seen → Type 0
-IsAnswer (Run config cycles workers share out traces) status old new =
-    IsRunAnswer config.now cycles workers out.now (map (λ t. t.now) traces.items) status old new
-IsAnswer (Check config commands) status old new = IsCheckAnswer config.now commands.now status old new
-IsAnswer (Map config address) status old new = IsMapAnswer config.now address status old new
-IsAnswer (Show dir all config) status old new = IsShowAnswer dir.now (option_map (λ c. c.now) config) status old new
-IsAnswer (Page dir file config from cycles) status old new = IsPageAnswer dir.now file.now (option_map (λ c. c.now) config) status old new
-IsAnswer (Help text) status old new = IsHelpAnswer (string_bytes text) status old new
-IsAnswer (Version text) status old new = IsHelpAnswer (string_bytes text) status old new
+abbrev pub IsAnswer : Ask → Done → Seen → Seen → Type 0
+IsAnswer (Run config cycles workers share out traces) done old new =
+    IsRunAnswer config.now cycles workers out.now (map (λ t. t.now) traces.items) done.status old new
+IsAnswer (Check config commands) done old new = IsCheckAnswer config.now commands.now done.status old new
+IsAnswer (Map config address) done old new = IsMapAnswer config.now address done.status old new
+IsAnswer (Show dir all config) done old new = IsShowAnswer dir.now (option_map (λ c. c.now) config) done.status old new
+IsAnswer (Page dir file config from cycles) done old new = IsPageAnswer dir.now file.now (option_map (λ c. c.now) config) done old new
+IsAnswer (Help text) done old new = IsHelpAnswer (string_bytes text) done.status old new
+IsAnswer (Version text) done old new = IsHelpAnswer (string_bytes text) done.status old new
+
+-- it is a page
+abbrev pub IsForPage : Ask → Type 0
+IsForPage (Page dir file config from cycles) = ⊤
+IsForPage _ = ⊥
+
+-- nothing is warned of but pages
+abbrev pub IsQuiet : Ask → Option LargePage → Type 0
+IsQuiet (Page dir file config from cycles) warning = ⊤
+IsQuiet _ warning = warning ≡ None
 
 -- what is left where it has not been done: nothing was touched, or a run is left undone after its outcome was there, or a page
 abbrev pub IsLeft : Refusal → Ask → Seen → Seen → Type 0
@@ -121,11 +137,25 @@ IsLeft refusal (Run config cycles workers share out traces) old new =
 IsLeft refusal (Page dir file config from cycles) old new = IsPageLeft refusal file.now old new
 IsLeft refusal _ old new = LeavesAll refusal old.held new.held old.opened new.opened
 
--- what the words ask for has been done
-pub record IsAnswered (words : List (List ℕ)) (status : ℕ) (old new : Seen) : Type 0 where
+-- the same for what words ask for
+pub record IsDone (words : List (List ℕ)) (done : Done) (old new : Seen) : Type 0 where
   pub ask : Ask
   pub asked : IsAskedBy words ask
-  pub answer : IsAnswer ask status old new
+  pub answer : IsAnswer ask done old new
+
+-- what the words ask for has been done with this status; and the stream of errors took the line that warns of a page of more than 50 MB, or a
+-- beginning of it where it has refused, and nothing where there is no such page
+pub record IsAnswered (words : List (List ℕ)) (status : ℕ) (old new : Seen) (has_refused : Bool) (before after : Option (List ℕ)) : Type 0 where
+  pub done : Done
+  pub status_is : status ≡ done.status
+  pub is_done : IsDone words done old new
+  pub warned : IsWarned done.warning has_refused before after
+
+-- the words ask for a page
+pub record AskForPage (words : List (List ℕ)) : Type 0 where
+  pub ask : Ask
+  pub asked : IsAskedBy words ask
+  pub for_page : IsForPage ask
 
 -- what the words ask for has not been done
 pub record IsUndone (refusal : Refusal) (words : List (List ℕ)) (old new : Seen) : Type 0 where

@@ -1,12 +1,13 @@
 //! What the program does, over files and streams that are handed in.
 
-ghost use Rattle.std.specs.Prelude.{◌≡◌, ◌≢◌, ◌≤◌, map, IfOk, IfErr};
-ghost use Rattle.program.specs.Answered.{seen, IsAnswer, IsLeft, IsAnswered, IsRefusedBy, IsRefused};
+ghost use Rattle.std.specs.Prelude.{◌≡◌, ◌≢◌, ◌⊎◌, ◌≤◌, None, map, IfOk, IfErr};
+ghost use Rattle.program.specs.Answered.{seen, AskForPage, IsAnswer, IsDone, IsQuiet, IsLeft, IsAnswered, IsRefusedBy, IsRefused};
 ghost use Rattle.program.specs.Refused.{IsAskFault, IsFaultOf};
 ghost use Rattle.program.specs.Told.{IsTold};
 ghost use Rattle.refusal.specs.Refusals.{fault_of};
 ghost use Rattle.refusal.specs.Streams.{has_refused, stream_of};
 
+use crate::done::Done;
 use crate::host::Host;
 use crate::runs::perform_run;
 use answers::pages::perform_page;
@@ -20,6 +21,7 @@ use refusal::error_stream::ErrorStream;
 use refusal::lines::write_lines;
 use refusal::refusal::Refusal;
 use refusal::status::{DONE, REFUSED};
+use refusal::warning::write_warning;
 use std::alloc::Global;
 use std::io::Write;
 use std::sync::Wait;
@@ -36,16 +38,17 @@ fn sharing_of(share: Share) -> Sharing {
     }
 }
 
-// Does what is asked, and gives the status.
+// Does what is asked.
 fn answer<R: Threads + Wait + Sync, W: Watch, F: FileSet, P: Write>(
     host: &mut Host<'_, R, W>,
     alloc: Global,
     ask: &Ask<'_>,
     files: &mut F,
     output: &mut P,
-) -> Result<u8, Refusal>
-    ensures answered { IfOk result (λ status. F.tells → IsAnswer ask.now status (seen (F.held files.old) (F.has_folder files.old) (F.opened files.old) (P.contents output.old)) (seen (F.held files.new) (F.has_folder files.new) (F.opened files.new) (P.contents output.new))) }
-    ensures status { IfOk result (λ status. status ≤ 1) }
+) -> Result<Done, Refusal>
+    ensures answered { IfOk result (λ done. F.tells → IsAnswer ask.now done (seen (F.held files.old) (F.has_folder files.old) (F.opened files.old) (P.contents output.old)) (seen (F.held files.new) (F.has_folder files.new) (F.opened files.new) (P.contents output.new))) }
+    ensures status { IfOk result (λ done. done.status ≤ 1) }
+    ensures quiet { IfOk result (λ done. IsQuiet ask.now done.warning) }
     ensures refused { IfErr result (λ e. F.tells → IsLeft e ask.now (seen (F.held files.old) (F.has_folder files.old) (F.opened files.old) (P.contents output.old)) (seen (F.held files.new) (F.has_folder files.new) (F.opened files.new) (P.contents output.new))) }
     ensures fault { IfErr result (λ e. IsAskFault F.tells (F.held files.old) ask.now (fault_of e)) }
 {
@@ -63,18 +66,19 @@ fn answer<R: Threads + Wait + Sync, W: Watch, F: FileSet, P: Write>(
                 sharing: sharing_of(*share),
             };
             perform_run(host, alloc, files, config, *cycles, workers, out, traces)?;
-            Ok(DONE)
+            Ok(Done::quiet())
         }
         Ask::Check { config, commands } => {
-            Ok(perform_check(alloc, files, output, config, commands)?)
+            let status = perform_check(alloc, files, output, config, commands)?;
+            Ok(Done::with_status(status))
         }
         Ask::Map { config, address } => {
             perform_map(alloc, files, output, config, *address)?;
-            Ok(DONE)
+            Ok(Done::quiet())
         }
         Ask::Show { dir, all, config } => {
             perform_show(alloc, files, output, dir, *all, *config)?;
-            Ok(DONE)
+            Ok(Done::quiet())
         }
         Ask::Page {
             dir,
@@ -87,26 +91,30 @@ fn answer<R: Threads + Wait + Sync, W: Watch, F: FileSet, P: Write>(
                 from: *from,
                 cycles: *cycles,
             };
-            perform_page(alloc, files, dir, file, *config, window)?;
-            Ok(DONE)
+            let warning = perform_page(alloc, files, dir, file, *config, window)?;
+            Ok(Done {
+                status: DONE,
+                warning,
+            })
         }
         Ask::Help(text) | Ask::Version(text) => {
             print_text(alloc, output, text.as_str())?;
-            Ok(DONE)
+            Ok(Done::quiet())
         }
     }
 }
 
-// Does what the words ask for, and gives the status.
+// Does what the words ask for.
 fn answer_words<R: Threads + Wait + Sync, W: Watch, F: FileSet, P: Write>(
     host: &mut Host<'_, R, W>,
     alloc: Global,
     words: &[&str],
     files: &mut F,
     output: &mut P,
-) -> Result<u8, Refusal>
-    ensures answered { IfOk result (λ status. F.tells → IsAnswered (map (λ w. w.now) words.now) status (seen (F.held files.old) (F.has_folder files.old) (F.opened files.old) (P.contents output.old)) (seen (F.held files.new) (F.has_folder files.new) (F.opened files.new) (P.contents output.new))) }
-    ensures status { IfOk result (λ status. status ≤ 1) }
+) -> Result<Done, Refusal>
+    ensures answered { IfOk result (λ done. F.tells → IsDone (map (λ w. w.now) words.now) done (seen (F.held files.old) (F.has_folder files.old) (F.opened files.old) (P.contents output.old)) (seen (F.held files.new) (F.has_folder files.new) (F.opened files.new) (P.contents output.new))) }
+    ensures status { IfOk result (λ done. done.status ≤ 1) }
+    ensures quiet { IfOk result (λ done. (done.warning ≡ None) ⊎ AskForPage (map (λ w. w.now) words.now)) }
     ensures refused { IfErr result (λ e. F.tells → IsRefusedBy e (map (λ w. w.now) words.now) (seen (F.held files.old) (F.has_folder files.old) (F.opened files.old) (P.contents output.old)) (seen (F.held files.new) (F.has_folder files.new) (F.opened files.new) (P.contents output.new))) }
     ensures fault { IfErr result (λ e. IsFaultOf F.tells (F.held files.old) (map (λ w. w.now) words.now) (fault_of e)) }
 {
@@ -121,7 +129,7 @@ fn answer_words<R: Threads + Wait + Sync, W: Watch, F: FileSet, P: Write>(
 /// explain it after them. It is told whole, unless the stream refuses (`ErrorStream::has_refused`): then the stream has a beginning of
 /// it. The fault is the first in this order: the words, the files that they name, what stands in these (the configuration, and then
 /// as `simulate` and `check` say), whether a run's folder is there, and what cannot be written. Memory may be refused at any time. With another status, nothing is
-/// told.
+/// told, but of a page of more than 50 MB one line that warns of it, with its length in bytes.
 ///
 /// Promises about files are made only where the set of files tells what it holds. A run whose status is 0 has put the tables of its
 /// outcome into the folder. Where it is 2, either the run had no outcome, and nothing was opened; or the places of the
@@ -136,13 +144,16 @@ pub fn perform<R: Threads + Wait + Sync, W: Watch, F: FileSet, P: Write, E: Writ
     errors: &mut ErrorStream<E>,
 ) -> u8
     ensures status { result ≤ 2 }
-    ensures answered { result ≢ 2 → F.tells → IsAnswered (map (λ w. w.now) words.now) result (seen (F.held files.old) (F.has_folder files.old) (F.opened files.old) (P.contents output.old)) (seen (F.held files.new) (F.has_folder files.new) (F.opened files.new) (P.contents output.new)) }
+    ensures answered { result ≢ 2 → F.tells → IsAnswered (map (λ w. w.now) words.now) result (seen (F.held files.old) (F.has_folder files.old) (F.opened files.old) (P.contents output.old)) (seen (F.held files.new) (F.has_folder files.new) (F.opened files.new) (P.contents output.new)) (has_refused errors.new) (E.contents (stream_of errors.old)) (E.contents (stream_of errors.new)) }
     ensures refused { result ≡ 2 → F.tells → IsRefused (map (λ w. w.now) words.now) (seen (F.held files.old) (F.has_folder files.old) (F.opened files.old) (P.contents output.old)) (seen (F.held files.new) (F.has_folder files.new) (F.opened files.new) (P.contents output.new)) }
     ensures told { result ≡ 2 → IsTold F.tells (map (λ w. w.now) words.now) (seen (F.held files.old) (F.has_folder files.old) (F.opened files.old) (P.contents output.old)) (seen (F.held files.new) (F.has_folder files.new) (F.opened files.new) (P.contents output.new)) (has_refused errors.new) (E.contents (stream_of errors.old)) (E.contents (stream_of errors.new)) }
-    ensures silent { result ≢ 2 → errors.new ≡ errors.old }
+    ensures silent { result ≢ 2 → (errors.new ≡ errors.old) ⊎ AskForPage (map (λ w. w.now) words.now) }
 {
     match answer_words(host, alloc, words, files, output) {
-        Ok(status) => status,
+        Ok(done) => {
+            write_warning(errors, done.warning);
+            done.status
+        }
         Err(refusal) => {
             let _ = write_lines(errors, &refusal);
             REFUSED

@@ -103,7 +103,7 @@ fn perform_told<R: Threads + Wait + Sync>(
     output: &mut Vec<u8>,
     errors: &mut ErrorStream<Vec<u8>>,
 ) -> u8
-    ensures answered { result ≢ 2 → IsAnswered (map (λ w. w.now) words.now) result (seen (⟦<ToldFiles as FileSet>⟧.held files.old) (⟦<ToldFiles as FileSet>⟧.has_folder files.old) (⟦<ToldFiles as FileSet>⟧.opened files.old) (Some output.old.items)) (seen (⟦<ToldFiles as FileSet>⟧.held files.new) (⟦<ToldFiles as FileSet>⟧.has_folder files.new) (⟦<ToldFiles as FileSet>⟧.opened files.new) (Some output.new.items)) }
+    ensures answered { result ≢ 2 → IsAnswered (map (λ w. w.now) words.now) result (seen (⟦<ToldFiles as FileSet>⟧.held files.old) (⟦<ToldFiles as FileSet>⟧.has_folder files.old) (⟦<ToldFiles as FileSet>⟧.opened files.old) (Some output.old.items)) (seen (⟦<ToldFiles as FileSet>⟧.held files.new) (⟦<ToldFiles as FileSet>⟧.has_folder files.new) (⟦<ToldFiles as FileSet>⟧.opened files.new) (Some output.new.items)) (has_refused errors.new) (Some (stream_of errors.old).items) (Some (stream_of errors.new).items) }
     ensures told { result ≡ 2 → IsTold (Unit {0}) (map (λ w. w.now) words.now) (seen (⟦<ToldFiles as FileSet>⟧.held files.old) (⟦<ToldFiles as FileSet>⟧.has_folder files.old) (⟦<ToldFiles as FileSet>⟧.opened files.old) (Some output.old.items)) (seen (⟦<ToldFiles as FileSet>⟧.held files.new) (⟦<ToldFiles as FileSet>⟧.has_folder files.new) (⟦<ToldFiles as FileSet>⟧.opened files.new) (Some output.new.items)) (has_refused errors.new) (Some (stream_of errors.old).items) (Some (stream_of errors.new).items) }
 {
     let mut host = Host {

@@ -1,4 +1,4 @@
-//! Why the program refuses, the lines that tell it, and the statuses that it ends with.
+//! Why the program refuses, the lines that tell it, what it warns of, and the statuses that it ends with.
 #![tactic(auto)]
 
 pub mod error_stream;
@@ -7,3 +7,4 @@ pub mod lines;
 pub mod reason;
 pub mod refusal;
 pub mod status;
+pub mod warning;

@@ -74,7 +74,7 @@ fn lines_of(refusal: &Refusal) -> LineBuffer
 }
 
 // Writes a text, as far as the stream takes it.
-fn put<E: Write>(errors: &mut ErrorStream<E>, text: &[u8]) -> io::Result<()>
+pub(crate) fn put<E: Write>(errors: &mut ErrorStream<E>, text: &[u8]) -> io::Result<()>
     ensures whole { OnOk result (Appends (E.contents (stream_of errors.old)) (E.contents (stream_of errors.new)) text.now) }
     ensures part { AppendsBeginning (E.contents (stream_of errors.old)) (E.contents (stream_of errors.new)) text.now }
     ensures refused { OnErr result (IsTrue (has_refused errors.new)) }

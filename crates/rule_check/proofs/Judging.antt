@@ -4,32 +4,32 @@ use Rattle.sim_base.specs.declared.config.Config.{Config}
 use Rattle.sim_base.specs.declared.command.IssuedCommand.{IssuedCommand}
 use Rattle.sim_base.specs.declared.fault.Fault.{Fault}
 use Rattle.sim_base.specs.declared.fault.Fault.TheVariants.{CheckRow, Memory}
-use Rattle.rule_check.specs.Fields.{is_header, row_in}
+use Rattle.rule_check.specs.Fields.{limits_of, is_header, row_in}
 use Rattle.rule_check.specs.Broken.{lowest_broken}
 use Rattle.rule_check.specs.Verdict.{verdict, verdict_after, decided_by_row, decided_by_rule}
 use Rattle.rule_check.specs.declared.verdict.Verdict.{Verdict}
 use Rattle.rule_check.specs.declared.verdict.Verdict.TheVariants.{Legal, Broken}
 
 -- the verdict is decided by what the next record means
-next_is : (s : Config) (rows : List IssuedCommand) (number : ℕ) (fields : List (List ℕ)) (others : List (List (List ℕ))) (found : Option IssuedCommand) → row_in s fields ≡ found
+next_is : (s : Config) (rows : List IssuedCommand) (number : ℕ) (fields : List (List ℕ)) (others : List (List (List ℕ))) (found : Option IssuedCommand) → row_in (limits_of s) fields ≡ found
     → verdict_after s rows number (fields ∷ others)
     ≡ decided_by_row number (lowest_broken s rows) (λ row. verdict_after s (rows ++ row ∷ []) (number + 1) others) found
 unfolding verdict_after
 next_is s rows number fields others found e =
     ap (decided_by_row number (lowest_broken s rows) (λ row. verdict_after s (rows ++ row ∷ []) (number + 1) others)) e
 
-pub malformed : (s : Config) (rows : List IssuedCommand) (number : ℕ) (fields : List (List ℕ)) (others : List (List (List ℕ))) → row_in s fields ≡ None
+pub malformed : (s : Config) (rows : List IssuedCommand) (number : ℕ) (fields : List (List ℕ)) (others : List (List (List ℕ))) → row_in (limits_of s) fields ≡ None
     → verdict_after s rows number (fields ∷ others) ≡ Err (CheckRow number)
 malformed s rows number fields others e = next_is s rows number fields others None e
 
 pub broken_by : (s : Config) (rows : List IssuedCommand) (number : ℕ) (fields : List (List ℕ)) (others : List (List (List ℕ))) (row : IssuedCommand) (rule : ℕ)
-    → row_in s fields ≡ Some row → lowest_broken s rows row ≡ Some rule → verdict_after s rows number (fields ∷ others) ≡ Ok (Broken number rule)
+    → row_in (limits_of s) fields ≡ Some row → lowest_broken s rows row ≡ Some rule → verdict_after s rows number (fields ∷ others) ≡ Ok (Broken number rule)
 broken_by s rows number fields others row rule e b =
     next_is s rows number fields others (Some row) e
     ∙ ap (λ o. decided_by_rule number o (verdict_after s (rows ++ row ∷ []) (number + 1) others)) b
 
 pub goes_on_after : (s : Config) (rows : List IssuedCommand) (number : ℕ) (fields : List (List ℕ)) (others : List (List (List ℕ))) (row : IssuedCommand)
-    → row_in s fields ≡ Some row → lowest_broken s rows row ≡ None
+    → row_in (limits_of s) fields ≡ Some row → lowest_broken s rows row ≡ None
     → verdict_after s rows number (fields ∷ others) ≡ verdict_after s (rows ++ row ∷ []) (number + 1) others
 goes_on_after s rows number fields others row e b =
     next_is s rows number fields others (Some row) e

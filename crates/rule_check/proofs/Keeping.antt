@@ -17,7 +17,7 @@ use Rattle.sim_base.specs.declared.command.Command.{Command}
 use Rattle.sim_base.specs.declared.command.Command.TheVariants.{Act, Rd, Wr, Pre, Prea, Ref}
 use Rattle.sim_base.specs.declared.command.IssuedCommand.{IssuedCommand}
 use Rattle.sim_base.specs.Rules.{rules, is_kind, kind_of, rank_of, bank_of, relation_of, relation_in_rank, covers, row_after, open_row, has_open_bank, has_open_bank_in_group, is_row, finds_its_banks}
-use Rattle.rule_check.specs.Fields.{BankFits, CommandFits, RowFits}
+use Rattle.rule_check.specs.Fields.{limits_of, BankFits, CommandFits, RowFits}
 use Rattle.rule_check.specs.Broken.{is_too_close, breaks_distance, breaks_window, breaks_refresh, is_overdue, breaks_in_channel}
 use Rattle.rule_check.specs.Kept.{lies, any_bank, nothing, latest_of, noted_where, latest_where, window_where, window_from, activates, deadline_where, deadline_from}
 use Rattle.rule_check.specs.Kept.{bank_past, bank_after, group_past, group_after, rank_past, rank_after, number_of, bank_numbered, group_number, IsKept}
@@ -109,7 +109,7 @@ bank_numbered-number_of bank g b =
     let last : number_of bank % 4 ≡ bank.bank = omega arith in
     λ i. record { rank = rank i; group = group i; bank = last i }
 
-bank-read : (c : Channel) (s : Config) (history : List IssuedCommand) (b : BankId) → IsKept c s history → BankFits s b
+bank-read : (c : Channel) (s : Config) (history : List IssuedCommand) (b : BankId) → IsKept c s history → BankFits (limits_of s) b
     → slice_get c.banks.items (number_of b) ≡ Some (bank_past history b)
 bank-read c s history b k f =
     let few = s.memory_in_range.groups_in.1 in
@@ -121,7 +121,7 @@ bank-read c s history b k f =
     slice_get-get_or c.banks.items (number_of b) d (omega (arith, k.bank_count))
     ∙ ap Some (k.banks (number_of b) d inside ∙ ap (bank_past history) (bank_numbered-number_of b (omega arith) last))
 
-group-read : (c : Channel) (s : Config) (history : List IssuedCommand) (b : BankId) → IsKept c s history → BankFits s b
+group-read : (c : Channel) (s : Config) (history : List IssuedCommand) (b : BankId) → IsKept c s history → BankFits (limits_of s) b
     → slice_get c.groups.items (group_number b) ≡ Some (group_past history b.rank b.group)
 group-read c s history b k f =
     let few = s.memory_in_range.groups_in.1 in
@@ -271,24 +271,24 @@ across_ranks-kept : (c : Channel) (s : Config) (history : List IssuedCommand) (w
     → kept_across_ranks c.ranks.items rank which ≡ latest_of (latest_where (lies AcrossRanks rank None) history) which
 across_ranks-kept c s history which rank k l = ap (option_and_then (λ (state : Rank). latest_of state.across which)) (rank-read c s history rank k l)
 
-in_bank-kept : (c : Channel) (s : Config) (history : List IssuedCommand) (which : Kind) (b : BankId) → IsKept c s history → BankFits s b
+in_bank-kept : (c : Channel) (s : Config) (history : List IssuedCommand) (which : Kind) (b : BankId) → IsKept c s history → BankFits (limits_of s) b
     → kept_in_bank c.banks.items b which ≡ latest_of (latest_where (lies InBank b.rank (Some b)) history) which
 in_bank-kept c s history which b k f = ap (option_and_then (λ (state : Bank). latest_of state.latest which)) (bank-read c s history b k f)
 
-in_group-kept : (c : Channel) (s : Config) (history : List IssuedCommand) (which : Kind) (b : BankId) → IsKept c s history → BankFits s b
+in_group-kept : (c : Channel) (s : Config) (history : List IssuedCommand) (which : Kind) (b : BankId) → IsKept c s history → BankFits (limits_of s) b
     → kept_in_group c.groups.items b which ≡ latest_of (latest_where (lies InGroup b.rank (Some b)) history) which
 in_group-kept c s history which b k f =
     ap (option_and_then (λ (state : Group). latest_of state.within which)) (group-read c s history b k f)
     ∙ ap (λ l. latest_of l which) (latest_where-same _ _ history (lies-in_group b.rank b))
 
-across_groups-kept : (c : Channel) (s : Config) (history : List IssuedCommand) (which : Kind) (b : BankId) → IsKept c s history → BankFits s b
+across_groups-kept : (c : Channel) (s : Config) (history : List IssuedCommand) (which : Kind) (b : BankId) → IsKept c s history → BankFits (limits_of s) b
     → kept_across_groups c.groups.items b which ≡ latest_of (latest_where (lies AcrossGroups b.rank (Some b)) history) which
 across_groups-kept c s history which b k f =
     ap (option_and_then (λ (state : Group). latest_of state.across which)) (group-read c s history b k f)
     ∙ ap (λ l. latest_of l which) (latest_where-same _ _ history (lies-across_groups b.rank b))
 
 -- of a command that names a bank
-kept-bank : (c : Channel) (s : Config) (history : List IssuedCommand) (scope : Scope) (which : Kind) (b : BankId) → IsKept c s history → BankFits s b
+kept-bank : (c : Channel) (s : Config) (history : List IssuedCommand) (scope : Scope) (which : Kind) (b : BankId) → IsKept c s history → BankFits (limits_of s) b
     → kept c scope which b.rank (Some b) ≡ latest_of (latest_where (lies scope b.rank (Some b)) history) which
 unfolding kept
 kept-bank c s history InBank which b k f = in_bank-kept c s history which b k f
@@ -312,12 +312,12 @@ kept-none c s history AcrossGroups which rank k l =
 kept-none c s history InRank which rank k l = in_rank-kept c s history which rank k l
 kept-none c s history AcrossRanks which rank k l = across_ranks-kept c s history which rank k l
 
-bank-fits : (s : Config) (b : BankId) (command : Command) → CommandFits s command → rank_of command ≡ b.rank → bank_of command ≡ Some b → BankFits s b
+bank-fits : (s : Config) (b : BankId) (command : Command) → CommandFits (limits_of s) command → rank_of command ≡ b.rank → bank_of command ≡ Some b → BankFits (limits_of s) b
 bank-fits s b command f same named =
     let parts = rw named at f.bank_in_range in
     record { rank_in_range = rw same at f.rank_in_range; group_in_range = parts.0; bank_in_range = parts.1 }
 
-kept-is : (c : Channel) (s : Config) (history : List IssuedCommand) (scope : Scope) (which : Kind) (command : Command) → IsKept c s history → CommandFits s command
+kept-is : (c : Channel) (s : Config) (history : List IssuedCommand) (scope : Scope) (which : Kind) (command : Command) → IsKept c s history → CommandFits (limits_of s) command
     → kept c scope which (rank_of command) (bank_of command) ≡ latest_of (latest_where (λ e. covers scope (relation_of e command)) history) which
 kept-is c s history scope which (Act bank row source) k f = kept-bank c s history scope which bank k (bank-fits s bank (Act bank row source) f refl refl)
 kept-is c s history scope which (Rd bank row column source) k f = kept-bank c s history scope which bank k (bank-fits s bank (Rd bank row column source) f refl refl)
@@ -328,20 +328,20 @@ kept-is c s history scope which (Ref rank) k f = kept-none c s history scope whi
 
 -- THE RULES
 
-too_soon-is : (c : Channel) (s : Config) (history : List IssuedCommand) (row : IssuedCommand) (r : Rule) → IsKept c s history → RowFits s row
+too_soon-is : (c : Channel) (s : Config) (history : List IssuedCommand) (row : IssuedCommand) (r : Rule) → IsKept c s history → RowFits (limits_of s) row
     → is_too_soon c r row ≡ list_any (λ e. is_too_close r e row) history
 unfolding is_too_soon
 too_soon-is c s history row r k f =
     ap (λ o. is_kind r.later (kind_of row.command) && is_ahead row.cycle r.cycles o) (kept-is c s history r.scope r.earlier row.command k f.command_in_range)
     ∙ too_close-any r row history
 
-distance-is : (c : Channel) (s : Config) (history : List IssuedCommand) (row : IssuedCommand) (number : ℕ) → IsKept c s history → RowFits s row
+distance-is : (c : Channel) (s : Config) (history : List IssuedCommand) (row : IssuedCommand) (number : ℕ) → IsKept c s history → RowFits (limits_of s) row
     → kept_breaks_distance (rules s.timing) c row number ≡ breaks_distance s.timing number history row
 unfolding kept_breaks_distance breaks_distance
 distance-is c s history row number k f =
     λ x. list_any (λ (r : Rule). (r.number == number) && too_soon-is c s history row r k f x) (rules s.timing)
 
-window-is : (c : Channel) (s : Config) (history : List IssuedCommand) (row : IssuedCommand) → IsKept c s history → RowFits s row
+window-is : (c : Channel) (s : Config) (history : List IssuedCommand) (row : IssuedCommand) → IsKept c s history → RowFits (limits_of s) row
     → kept_breaks_window c row ≡ breaks_window s.timing history row
 window-is c s history row k f =
     ap (λ o. is_kind (kind_of row.command) kind.Act && nat_lt row.cycle (unwrap_or (option_map (λ (state : Rank). state.window.fourth) o) 0))
@@ -355,7 +355,7 @@ any-range p q a (suc n) h =
     ap (λ b. b || list_any p (range_with_len (a + 1) n)) (h a (omega arith) (omega arith))
     ∙ ap (λ b. q a || b) (any-range p q (a + 1) n (λ k l m. h k (omega arith) (omega arith)))
 
-refresh-is : (c : Channel) (s : Config) (history : List IssuedCommand) (row : IssuedCommand) → IsKept c s history → RowFits s row
+refresh-is : (c : Channel) (s : Config) (history : List IssuedCommand) (row : IssuedCommand) → IsKept c s history → RowFits (limits_of s) row
     → kept_breaks_refresh s c row ≡ breaks_refresh s history row
 refresh-is c s history row k f =
     ap (λ b. nat_lt 0 s.timing.n_refi && b)
@@ -364,7 +364,7 @@ refresh-is c s history row k f =
     ap (λ o. unwrap_or (option_map (λ (state : Rank). nat_lt state.deadline row.cycle) o) false) (rank-read c s history rank k (omega arith))
     ∙ deadline-overdue s rank row.cycle history f.cycle_in_range))
 
-row-is : (c : Channel) (s : Config) (history : List IssuedCommand) (b : BankId) → IsKept c s history → BankFits s b → kept_row c.banks.items b ≡ open_row b history
+row-is : (c : Channel) (s : Config) (history : List IssuedCommand) (b : BankId) → IsKept c s history → BankFits (limits_of s) b → kept_row c.banks.items b ≡ open_row b history
 row-is c s history b k f = ap (option_and_then (λ (state : Bank). state.row)) (bank-read c s history b k f)
 
 open-is : (c : Channel) (s : Config) (history : List IssuedCommand) (rank : ℕ) → IsKept c s history → rank < s.ranks → has_kept_open s c.banks.items rank ≡ has_open_bank s history rank
@@ -375,7 +375,7 @@ open-is c s history rank k f =
     any-range _ _ 0 4
     (λ bank i j. ap is_some (row-is c s history (record { rank = rank; group = group; bank = bank }) k (record { rank_in_range = f; group_in_range = omega arith; bank_in_range = omega arith }))))
 
-banks-is : (c : Channel) (s : Config) (history : List IssuedCommand) (command : Command) → IsKept c s history → CommandFits s command
+banks-is : (c : Channel) (s : Config) (history : List IssuedCommand) (command : Command) → IsKept c s history → CommandFits (limits_of s) command
     → kept_finds_banks s c.banks.items command ≡ finds_its_banks s history command
 banks-is c s history (Act bank row source) k f = ap (λ o. not (is_some o)) (row-is c s history bank k (bank-fits s bank (Act bank row source) f refl refl))
 banks-is c s history (Rd bank row column source) k f = ap (is_row row) (row-is c s history bank k (bank-fits s bank (Rd bank row column source) f refl refl))
@@ -385,7 +385,7 @@ banks-is c s history (Prea rank) k f = refl
 banks-is c s history (Ref rank) k f = ap not (open-is c s history rank k f.rank_in_range)
 
 -- a row breaks just the rules that it breaks by what is kept
-pub breaks-is : (c : Channel) (s : Config) (history : List IssuedCommand) (row : IssuedCommand) (number : ℕ) → IsKept c s history → RowFits s row
+pub breaks-is : (c : Channel) (s : Config) (history : List IssuedCommand) (row : IssuedCommand) (number : ℕ) → IsKept c s history → RowFits (limits_of s) row
     → kept_breaks s (rules s.timing) c row number ≡ breaks_in_channel s history row number
 unfolding kept_breaks
 breaks-is c s history row number k f =

@@ -7,7 +7,7 @@ use Rattle.sim_base.specs.declared.config.Config.{Config}
 use Rattle.sim_base.specs.declared.command.IssuedCommand.{IssuedCommand}
 use Rattle.sim_base.specs.declared.fault.Fault.{Fault}
 use Rattle.sim_base.specs.declared.fault.Fault.TheVariants.{CheckRow}
-use Rattle.rule_check.specs.Fields.{is_header, row_in}
+use Rattle.rule_check.specs.Fields.{limits_of, is_header, row_in}
 use Rattle.rule_check.specs.Broken.{breaks, lowest_broken}
 use Rattle.rule_check.specs.Verdict.{verdict, verdict_after, decided_by_row, decided_by_rule, IsLegalTable}
 use Rattle.rule_check.specs.declared.verdict.Verdict.{Verdict}
@@ -63,13 +63,13 @@ keep-tail s before row rows k i number d l a b =
 
 -- some records write rows that keep every rule after others
 abbrev AreKept : Config → List IssuedCommand → List (List (List ℕ)) → Type 0
-AreKept s before others = (rows : List IssuedCommand) × (map (row_in s) others ≡ map Some rows) × KeepAll s before rows
+AreKept s before others = (rows : List IssuedCommand) × (map (row_in (limits_of s)) others ≡ map Some rows) × KeepAll s before rows
 
 rule-none : (n : ℕ) (o : Option ℕ) (rest : Result Verdict Fault) → decided_by_rule n o rest ≡ Ok Legal → (o ≡ None) × (rest ≡ Ok Legal)
 rule-none n None rest h = (refl, h)
 rule-none n (Some rule) rest h = cc h
 
-row-kept : (s : Config) (before : List IssuedCommand) (n : ℕ) (fields : List (List ℕ)) (others : List (List (List ℕ))) (o : Option IssuedCommand) → row_in s fields ≡ o
+row-kept : (s : Config) (before : List IssuedCommand) (n : ℕ) (fields : List (List ℕ)) (others : List (List (List ℕ))) (o : Option IssuedCommand) → row_in (limits_of s) fields ≡ o
     → decided_by_row n (lowest_broken s before) (λ row. verdict_after s (before ++ row ∷ []) (n + 1) others) o ≡ Ok Legal
     → ((row : IssuedCommand) → verdict_after s (before ++ row ∷ []) (n + 1) others ≡ Ok Legal → AreKept s (before ++ row ∷ []) others) → AreKept s before (fields ∷ others)
 row-kept s before n fields others None e h more = cc h
@@ -81,17 +81,17 @@ row-kept s before n fields others (Some row) e h more =
 legal-kept : (s : Config) (before : List IssuedCommand) (n : ℕ) (others : List (List (List ℕ))) → verdict_after s before n others ≡ Ok Legal → AreKept s before others
 unfolding verdict_after
 legal-kept s before n [] h = ([], refl, λ i number d l a b. absurd (omega arith))
-legal-kept s before n (fields ∷ others) h = row-kept s before n fields others (row_in s fields) refl h (λ row e. legal-kept s (before ++ row ∷ []) (n + 1) others e)
+legal-kept s before n (fields ∷ others) h = row-kept s before n fields others (row_in (limits_of s) fields) refl h (λ row e. legal-kept s (before ++ row ∷ []) (n + 1) others e)
 
-kept-legal : (s : Config) (before : List IssuedCommand) (n : ℕ) (others : List (List (List ℕ))) (rows : List IssuedCommand) → map (row_in s) others ≡ map Some rows → KeepAll s before rows
+kept-legal : (s : Config) (before : List IssuedCommand) (n : ℕ) (others : List (List (List ℕ))) (rows : List IssuedCommand) → map (row_in (limits_of s)) others ≡ map Some rows → KeepAll s before rows
     → verdict_after s before n others ≡ Ok Legal
 unfolding verdict_after
 kept-legal s before n [] rows e k = refl
 kept-legal s before n (fields ∷ others) [] e k = cc e
 kept-legal s before n (fields ∷ others) (row ∷ rows) e k =
     let rest = verdict_after s (before ++ row ∷ []) (n + 1) others in
-    let head : row_in s fields ≡ Some row = cc e in
-    let tail : map (row_in s) others ≡ map Some rows = cc e in
+    let head : row_in (limits_of s) fields ≡ Some row = cc e in
+    let tail : map (row_in (limits_of s)) others ≡ map Some rows = cc e in
     ap (decided_by_row n (lowest_broken s before) (λ r. verdict_after s (before ++ r ∷ []) (n + 1) others)) head
     ∙ ap (λ o. decided_by_rule n o rest) (keeps-none s before row (keep-head s before row rows k))
     ∙ kept-legal s (before ++ row ∷ []) (n + 1) others rows tail (keep-tail s before row rows k)

@@ -10,7 +10,7 @@ use Rattle.std.proofs.lemmas.List.Sums.{fold-append}
 use Rattle.sim_base.specs.declared.config.Config.{Config}
 use Rattle.sim_base.specs.declared.command.IssuedCommand.{IssuedCommand}
 use Rattle.sim_base.specs.Rules.{rules}
-use Rattle.rule_check.specs.Fields.{RowFits}
+use Rattle.rule_check.specs.Fields.{limits_of, RowFits}
 use Rattle.rule_check.specs.Broken.{rows_on, last_row, stands_wrongly, breaks, lowest_broken}
 use Rattle.rule_check.specs.Kept.{IsKept}
 use Rattle.rule_check.specs.Past.{IsPast, past_breaks}
@@ -18,12 +18,12 @@ use Rattle.rule_check.specs.declared.state.Channel.{Channel}
 use Rattle.rule_check.specs.declared.state.Past.{Past}
 use Rattle.rule_check.proofs.Keeping.{breaks-is}
 
-channel-kept : (past : Past) (s : Config) (rows : List IssuedCommand) (row : IssuedCommand) (c : Channel) → IsPast past s rows → RowFits s row
+channel-kept : (past : Past) (s : Config) (rows : List IssuedCommand) (row : IssuedCommand) (c : Channel) → IsPast past s rows → RowFits (limits_of s) row
     → c ≡ get_or past.channels.items row.channel c → IsKept c s (rows_on row.channel rows)
 channel-kept past s rows row c h f read = subst (λ (x : Channel). IsKept x s (rows_on row.channel rows)) (sym read) (h.channels row.channel c f.channel_in_range)
 
 -- the lowest rule by what is kept is the lowest rule
-pub lowest-is : (past : Past) (s : Config) (rows : List IssuedCommand) (row : IssuedCommand) (c : Channel) → IsPast past s rows → RowFits s row
+pub lowest-is : (past : Past) (s : Config) (rows : List IssuedCommand) (row : IssuedCommand) (c : Channel) → IsPast past s rows → RowFits (limits_of s) row
     → c ≡ get_or past.channels.items row.channel c
     → find (past_breaks s (rules s.timing) past.last c row) (range_with_len 1 21) ≡ lowest_broken s rows row
 unfolding lowest_broken breaks
@@ -47,7 +47,7 @@ rows_on-other rows row k h =
     ∙ append-nil (rows_on k rows)
 
 -- one row more
-pub past-more : (past after : Past) (s : Config) (rows : List IssuedCommand) (row : IssuedCommand) (c c' : Channel) → IsPast past s rows → RowFits s row
+pub past-more : (past after : Past) (s : Config) (rows : List IssuedCommand) (row : IssuedCommand) (c c' : Channel) → IsPast past s rows → RowFits (limits_of s) row
     → c ≡ get_or past.channels.items row.channel c → after.last ≡ Some row → after.channels.items ≡ set past.channels.items row.channel c'
     → ((history : List IssuedCommand) → IsKept c s history → IsKept c' s (history ++ row ∷ [])) → IsPast after s (rows ++ row ∷ [])
 past-more past after s rows row c c' h f read last put more =

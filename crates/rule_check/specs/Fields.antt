@@ -1,13 +1,15 @@
 -- What the records of a table of commands mean. A table has a column for the rank only under a configuration with several.
 --     column_count ranks      how many columns a table has
 --     is_header ranks fields      a record has the names of the columns
---     command_in s fields      the command that a record writes, if its fields are those of one
---     row_in s fields      the row that a record writes, if it is well-formed
---     BankFits s bank, CommandFits s command, RowFits s row      they are of the configuration
+--     limits_of s      the limits of a configuration
+--     command_in limits fields      the command that a record writes, if its fields are those of one
+--     row_in limits fields      the row that a record writes, if it is well-formed
+--     BankFits limits bank, CommandFits limits command, RowFits limits row      their numbers are below the limits
 use Rattle.std.specs.Prelude.{ℕ, ◌<◌, IfSome, ◌+◌, ◌==◌, nat_lt, Bool, true, ◌&&◌, List, length, [], codes, Option, Some, None, unwrap_or, if◌then◌else◌}
 use Rattle.std.specs.Str.{bytes_eq}
 use Rattle.csv.specs.Records.{field_at}
 use Rattle.sim_base.specs.declared.config.Config.{Config}
+use Rattle.rule_check.specs.declared.limits.Limits.{Limits}
 use Rattle.sim_base.specs.declared.place.BankId.{BankId}
 use Rattle.sim_base.specs.declared.command.Command.{Command}
 use Rattle.sim_base.specs.declared.command.Command.TheVariants.{Act, Rd, Wr, Pre, Prea, Ref}
@@ -16,10 +18,22 @@ use Rattle.sim_base.specs.declared.command.Source.{Source}
 use Rattle.rule_check.specs.Numbers.{number_limit, number_below}
 use Rattle.sim_base.specs.Rules.{rank_of, bank_of}
 
--- a bank of the configuration
-pub record BankFits (s : Config) (bank : BankId) : Type 0 where
-  pub rank_in_range : bank.rank < s.ranks
-  pub group_in_range : bank.group < s.groups
+-- what the numbers of a table are below, under a configuration
+abbrev pub limits_of : Config → Limits
+limits_of s = record {
+  channels = s.channels;
+  ranks = s.ranks;
+  groups = s.groups;
+  rows = s.rows;
+  columns = s.columns;
+  cores = s.cores;
+  has_rank = s.memory_in_range.ranks_in.0;
+}
+
+-- a bank below the limits
+pub record BankFits (limits : Limits) (bank : BankId) : Type 0 where
+  pub rank_in_range : bank.rank < limits.ranks
+  pub group_in_range : bank.group < limits.groups
   pub bank_in_range : bank.bank < 4
 
 -- a value that may be missing, and what is made of it
@@ -81,56 +95,56 @@ abbrev pub is_empty : List ℕ → Bool
 is_empty text = length text == 0
 
 -- the rank that a record names; the only rank where there is just one
-unfoldable pub rank_in : Config → List (List ℕ) → Option ℕ
-rank_in s fields = if names_ranks s.ranks then number_below s.ranks (text_at fields 3) else Some 0
+unfoldable pub rank_in : Limits → List (List ℕ) → Option ℕ
+rank_in limits fields = if names_ranks limits.ranks then number_below limits.ranks (text_at fields 3) else Some 0
 
 -- the bank that a record names
-unfoldable pub bank_in : Config → List (List ℕ) → Option BankId
-bank_in s fields = do
-  rank ← rank_in s fields
-  group ← number_below s.groups (group_text s.ranks fields)
-  bank ← number_below 4 (bank_text s.ranks fields)
+unfoldable pub bank_in : Limits → List (List ℕ) → Option BankId
+bank_in limits fields = do
+  rank ← rank_in limits fields
+  group ← number_below limits.groups (group_text limits.ranks fields)
+  bank ← number_below 4 (bank_text limits.ranks fields)
   Some (record { rank = rank; group = group; bank = bank })
 
--- the entry in whose name a record's command is issued
-unfoldable pub source_in : Config → List (List ℕ) → Option Source
-source_in s fields = do
-  core ← number_below s.cores (core_text s.ranks fields)
-  entry ← number_below number_limit (entry_text s.ranks fields)
+-- the entry in whose name a record'limits command is issued
+unfoldable pub source_in : Limits → List (List ℕ) → Option Source
+source_in limits fields = do
+  core ← number_below limits.cores (core_text limits.ranks fields)
+  entry ← number_below number_limit (entry_text limits.ranks fields)
   Some (record { core = core; entry = entry })
 
 -- an ACT names a bank, a row and an entry, and no column
-unfoldable pub act_in : Config → List (List ℕ) → Option Command
-act_in s fields = do
-  bank ← bank_in s fields
-  row ← number_below s.rows (row_text s.ranks fields)
-  source ← source_in s fields
-  if is_empty (column_text s.ranks fields) then Some (Act bank row source) else None
+unfoldable pub act_in : Limits → List (List ℕ) → Option Command
+act_in limits fields = do
+  bank ← bank_in limits fields
+  row ← number_below limits.rows (row_text limits.ranks fields)
+  source ← source_in limits fields
+  if is_empty (column_text limits.ranks fields) then Some (Act bank row source) else None
 
 -- a RD names a bank, a row, a column and an entry
-unfoldable pub rd_in : Config → List (List ℕ) → Option Command
-rd_in s fields = do
-  bank ← bank_in s fields
-  row ← number_below s.rows (row_text s.ranks fields)
-  column ← number_below s.columns (column_text s.ranks fields)
-  source ← source_in s fields
+unfoldable pub rd_in : Limits → List (List ℕ) → Option Command
+rd_in limits fields = do
+  bank ← bank_in limits fields
+  row ← number_below limits.rows (row_text limits.ranks fields)
+  column ← number_below limits.columns (column_text limits.ranks fields)
+  source ← source_in limits fields
   Some (Rd bank row column source)
 
 -- so does a WR
-unfoldable pub wr_in : Config → List (List ℕ) → Option Command
-wr_in s fields = do
-  bank ← bank_in s fields
-  row ← number_below s.rows (row_text s.ranks fields)
-  column ← number_below s.columns (column_text s.ranks fields)
-  source ← source_in s fields
+unfoldable pub wr_in : Limits → List (List ℕ) → Option Command
+wr_in limits fields = do
+  bank ← bank_in limits fields
+  row ← number_below limits.rows (row_text limits.ranks fields)
+  column ← number_below limits.columns (column_text limits.ranks fields)
+  source ← source_in limits fields
   Some (Wr bank row column source)
 
 -- a PRE names a bank and an entry, and neither row nor column
-unfoldable pub pre_in : Config → List (List ℕ) → Option Command
-pre_in s fields = do
-  bank ← bank_in s fields
-  source ← source_in s fields
-  if is_empty (row_text s.ranks fields) && is_empty (column_text s.ranks fields) then Some (Pre bank source) else None
+unfoldable pub pre_in : Limits → List (List ℕ) → Option Command
+pre_in limits fields = do
+  bank ← bank_in limits fields
+  source ← source_in limits fields
+  if is_empty (row_text limits.ranks fields) && is_empty (column_text limits.ranks fields) then Some (Pre bank source) else None
 
 -- no field but that of the rank is filled
 unfoldable pub has_no_operands : ℕ → List (List ℕ) → Bool
@@ -139,46 +153,46 @@ has_no_operands ranks fields =
     && is_empty (column_text ranks fields) && is_empty (core_text ranks fields) && is_empty (entry_text ranks fields)
 
 -- a PREA names a rank alone
-unfoldable pub prea_in : Config → List (List ℕ) → Option Command
-prea_in s fields = do
-  rank ← rank_in s fields
-  if has_no_operands s.ranks fields then Some (Prea rank) else None
+unfoldable pub prea_in : Limits → List (List ℕ) → Option Command
+prea_in limits fields = do
+  rank ← rank_in limits fields
+  if has_no_operands limits.ranks fields then Some (Prea rank) else None
 
 -- so does a REF
-unfoldable pub ref_in : Config → List (List ℕ) → Option Command
-ref_in s fields = do
-  rank ← rank_in s fields
-  if has_no_operands s.ranks fields then Some (Ref rank) else None
+unfoldable pub ref_in : Limits → List (List ℕ) → Option Command
+ref_in limits fields = do
+  rank ← rank_in limits fields
+  if has_no_operands limits.ranks fields then Some (Ref rank) else None
 
 -- the command that a record writes, by its word
-unfoldable pub command_in : Config → List (List ℕ) → Option Command
-command_in s fields =
-    if bytes_eq (text_at fields 2) (codes "ACT") then act_in s fields else
-    if bytes_eq (text_at fields 2) (codes "RD") then rd_in s fields else
-    if bytes_eq (text_at fields 2) (codes "WR") then wr_in s fields else
-    if bytes_eq (text_at fields 2) (codes "PRE") then pre_in s fields else
-    if bytes_eq (text_at fields 2) (codes "PREA") then prea_in s fields else
-    if bytes_eq (text_at fields 2) (codes "REF") then ref_in s fields else None
+unfoldable pub command_in : Limits → List (List ℕ) → Option Command
+command_in limits fields =
+    if bytes_eq (text_at fields 2) (codes "ACT") then act_in limits fields else
+    if bytes_eq (text_at fields 2) (codes "RD") then rd_in limits fields else
+    if bytes_eq (text_at fields 2) (codes "WR") then wr_in limits fields else
+    if bytes_eq (text_at fields 2) (codes "PRE") then pre_in limits fields else
+    if bytes_eq (text_at fields 2) (codes "PREA") then prea_in limits fields else
+    if bytes_eq (text_at fields 2) (codes "REF") then ref_in limits fields else None
 
--- the rank and the bank of a command are of the configuration
-pub record CommandFits (s : Config) (command : Command) : Type 0 where
-  pub rank_in_range : rank_of command < s.ranks
-  pub bank_in_range : IfSome (bank_of command) (λ bank. (bank.group < s.groups) × (bank.bank < 4))
+-- the rank and the bank of a command are below the limits
+pub record CommandFits (limits : Limits) (command : Command) : Type 0 where
+  pub rank_in_range : rank_of command < limits.ranks
+  pub bank_in_range : IfSome (bank_of command) (λ bank. (bank.group < limits.groups) × (bank.bank < 4))
 
 -- the row that a record of the right number of fields writes
-unfoldable pub row_from : Config → List (List ℕ) → Option IssuedCommand
-row_from s fields = do
+unfoldable pub row_from : Limits → List (List ℕ) → Option IssuedCommand
+row_from limits fields = do
   cycle ← number_below number_limit (text_at fields 0)
-  channel ← number_below s.channels (text_at fields 1)
-  command ← command_in s fields
+  channel ← number_below limits.channels (text_at fields 1)
+  command ← command_in limits fields
   Some (record { cycle = cycle; channel = channel; command = command })
 
 -- the row that a record writes, if it is well-formed
-unfoldable pub row_in : Config → List (List ℕ) → Option IssuedCommand
-row_in s fields = if length fields == column_count s.ranks then row_from s fields else None
+unfoldable pub row_in : Limits → List (List ℕ) → Option IssuedCommand
+row_in limits fields = if length fields == column_count limits.ranks then row_from limits fields else None
 
--- a row is one of the configuration, in a cycle below the limit of numbers
-pub record RowFits (s : Config) (row : IssuedCommand) : Type 0 where
+-- the numbers of a row are below the limits, and its cycle is below the limit of numbers
+pub record RowFits (limits : Limits) (row : IssuedCommand) : Type 0 where
   pub cycle_in_range : row.cycle < number_limit
-  pub channel_in_range : row.channel < s.channels
-  pub command_in_range : CommandFits s row.command
+  pub channel_in_range : row.channel < limits.channels
+  pub command_in_range : CommandFits limits row.command

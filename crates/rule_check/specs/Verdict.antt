@@ -9,7 +9,7 @@ use Rattle.sim_base.specs.declared.config.Config.{Config}
 use Rattle.sim_base.specs.declared.command.IssuedCommand.{IssuedCommand}
 use Rattle.sim_base.specs.declared.fault.Fault.{Fault}
 use Rattle.sim_base.specs.declared.fault.Fault.TheVariants.{CheckRow, Memory}
-use Rattle.rule_check.specs.Fields.{is_header, row_in}
+use Rattle.rule_check.specs.Fields.{limits_of, is_header, row_in}
 use Rattle.rule_check.specs.Broken.{breaks, lowest_broken}
 use Rattle.rule_check.specs.declared.verdict.Verdict.{Verdict}
 use Rattle.rule_check.specs.declared.verdict.Verdict.TheVariants.{Legal, Broken}
@@ -33,7 +33,7 @@ decided_by_row number broken rest (Some row) = decided_by_rule number (broken ro
 unfoldable pub verdict_after : Config → List IssuedCommand → ℕ → List (List (List ℕ)) → Result Verdict Fault
 verdict_after s rows number [] = Ok Legal
 verdict_after s rows number (fields ∷ others) =
-    decided_by_row number (lowest_broken s rows) (λ row. verdict_after s (rows ++ row ∷ []) (number + 1) others) (row_in s fields)
+    decided_by_row number (lowest_broken s rows) (λ row. verdict_after s (rows ++ row ∷ []) (number + 1) others) (row_in (limits_of s) fields)
 
 -- The verdict on a table with these records. The first is the header, and those after it are counted from 1.
 unfoldable pub verdict : Config → List (List (List ℕ)) → Result Verdict Fault
@@ -58,5 +58,5 @@ pub record IsLegalTable (s : Config) (table : List (List (List ℕ))) : Type 0 w
   pub rows : List IssuedCommand
   pub parts : table ≡ header ∷ others
   pub is_header : IsTrue (is_header s.ranks header)
-  pub well_formed : map (row_in s) others ≡ map Some rows
+  pub well_formed : map (row_in (limits_of s)) others ≡ map Some rows
   pub keeps_rules : KeepsRules s rows

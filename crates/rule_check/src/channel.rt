@@ -6,7 +6,7 @@ ghost use Rattle.sim_base.specs.declared.command.IssuedCommand.{IssuedCommand};
 ghost use Rattle.sim_base.specs.Rules.{bank_of};
 ghost use Rattle.sim_base.specs.Scheduling.{refreshes};
 ghost use Rattle.rule_check.specs.Numbers.{number_limit};
-ghost use Rattle.rule_check.specs.Fields.{RowFits};
+ghost use Rattle.rule_check.specs.Fields.{limits_of, RowFits};
 ghost use Rattle.rule_check.specs.Kept.{activates, deadline_after, first_deadline, bank_after, group_after, rank_after, number_of, bank_numbered, group_number, IsKept};
 
 use crate::latest;
@@ -196,7 +196,7 @@ pub(crate) fn start(alloc: Global, config: &Config) -> Result<Channel, AllocErro
 
 /// Notes a row of the channel.
 pub(crate) fn note(channel: &mut Channel, config: &Config, row: IssuedCommand)
-    requires fits { RowFits config.now row }
+    requires fits { RowFits (limits_of config.now) row }
     requires ranks { length channel.old.ranks.items ≡ config.now.ranks }
     ensures { (history : List IssuedCommand) → IsKept channel.old config.now history → IsKept channel.new config.now (history ++ row ∷ []) }
 {

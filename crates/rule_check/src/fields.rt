@@ -3,14 +3,31 @@
 ghost use Rattle.std.specs.Prelude.{◌≡◌, ◌+◌, ◌<◌, ◌==◌, IfSome, if◌then◌else◌};
 ghost use Rattle.std.specs.Str.{bytes_eq};
 ghost use Rattle.csv.specs.Records.{fields_of};
-ghost use Rattle.rule_check.specs.Fields.{column_count, text_at, operand, is_header, rank_is_named, is_empty, rank_in, bank_in, source_in, act_in, rd_in, wr_in, pre_in, has_no_operands, prea_in, ref_in, command_in, row_in};
+ghost use Rattle.rule_check.specs.Fields.{limits_of, column_count, text_at, operand, is_header, rank_is_named, is_empty, rank_in, bank_in, source_in, act_in, rd_in, wr_in, pre_in, has_no_operands, prea_in, ref_in, command_in, row_in};
 ghost use Rattle.rule_check.specs.Fields.{BankFits, CommandFits, RowFits};
 
+use crate::limits::Limits;
 use crate::numbers::{NUMBER_LIMIT, number_below, small_number};
 use csv::ByteRecord;
 use sim_base::command::{Command, IssuedCommand, Source};
 use sim_base::config::Config;
 use sim_base::place::BankId;
+
+impl Limits {
+    /// Those of a configuration.
+    pub fn of(config: &Config) -> Limits
+        ensures { result ≡ limits_of config.now }
+    {
+        Limits {
+            channels: config.channels,
+            ranks: config.ranks,
+            groups: config.groups,
+            rows: config.rows,
+            columns: config.columns,
+            cores: config.cores,
+        }
+    }
+}
 
 /// The text of a field, counted from 0; the empty text where there is no such field.
 #[tactic(auto, unfolding(crate::specs::Fields::text_at))]
@@ -71,9 +88,9 @@ fn is_rank_named(ranks: u32, fields: &ByteRecord) -> bool
     }
 }
 
-/// Whether a record has the names of the columns, and nothing else.
+/// Whether a record has the names of the columns of a table of so many ranks, and nothing else.
 #[tactic(auto, unfolding(crate::specs::Fields::is_header))]
-pub(crate) fn is_header(ranks: u32, fields: &ByteRecord) -> bool
+pub fn is_header(ranks: u32, fields: &ByteRecord) -> bool
     ensures { result ≡ is_header ranks (fields_of fields.now) }
 {
     fields.len() == column_count(ranks)
@@ -90,47 +107,47 @@ pub(crate) fn is_header(ranks: u32, fields: &ByteRecord) -> bool
 }
 
 #[tactic(auto, unfolding(crate::specs::Fields::rank_in))]
-fn rank_in(config: &Config, fields: &ByteRecord) -> Option<u32>
-    ensures value { result ≡ rank_in config.now (fields_of fields.now) }
-    ensures fits { IfSome result (λ rank. rank < config.now.ranks) }
+fn rank_in(limits: Limits, fields: &ByteRecord) -> Option<u32>
+    ensures value { result ≡ rank_in limits (fields_of fields.now) }
+    ensures fits { IfSome result (λ rank. rank < limits.ranks) }
 {
-    if config.ranks > 1 {
-        small_number(config.ranks, text_at(fields, 3))
+    if limits.ranks > 1 {
+        small_number(limits.ranks, text_at(fields, 3))
     } else {
         Some(0)
     }
 }
 
 #[tactic(auto, unfolding(crate::specs::Fields::bank_in))]
-fn bank_in(config: &Config, fields: &ByteRecord) -> Option<BankId>
-    ensures value { result ≡ bank_in config.now (fields_of fields.now) }
-    ensures fits { IfSome result (BankFits config.now) }
+fn bank_in(limits: Limits, fields: &ByteRecord) -> Option<BankId>
+    ensures value { result ≡ bank_in limits (fields_of fields.now) }
+    ensures fits { IfSome result (BankFits limits) }
 {
-    let rank = rank_in(config, fields)?;
-    let group = small_number(config.groups, operand(config.ranks, fields, GROUP))?;
-    let bank = small_number(4, operand(config.ranks, fields, BANK))?;
+    let rank = rank_in(limits, fields)?;
+    let group = small_number(limits.groups, operand(limits.ranks, fields, GROUP))?;
+    let bank = small_number(4, operand(limits.ranks, fields, BANK))?;
     Some(BankId { rank, group, bank })
 }
 
 #[tactic(auto, unfolding(crate::specs::Fields::source_in))]
-fn source_in(config: &Config, fields: &ByteRecord) -> Option<Source>
-    ensures { result ≡ source_in config.now (fields_of fields.now) }
+fn source_in(limits: Limits, fields: &ByteRecord) -> Option<Source>
+    ensures { result ≡ source_in limits (fields_of fields.now) }
 {
-    let core = number_below(u64::from(config.cores), operand(config.ranks, fields, CORE))?;
-    let entry = number_below(NUMBER_LIMIT, operand(config.ranks, fields, ENTRY))?;
+    let core = number_below(u64::from(limits.cores), operand(limits.ranks, fields, CORE))?;
+    let entry = number_below(NUMBER_LIMIT, operand(limits.ranks, fields, ENTRY))?;
     let core = core as u16;
     Some(Source { core, entry })
 }
 
 #[tactic(auto, unfolding(crate::specs::Fields::act_in))]
-fn act_in(config: &Config, fields: &ByteRecord) -> Option<Command>
-    ensures value { result ≡ act_in config.now (fields_of fields.now) }
-    ensures fits { IfSome result (CommandFits config.now) }
+fn act_in(limits: Limits, fields: &ByteRecord) -> Option<Command>
+    ensures value { result ≡ act_in limits (fields_of fields.now) }
+    ensures fits { IfSome result (CommandFits limits) }
 {
-    let bank = bank_in(config, fields)?;
-    let row = small_number(config.rows, operand(config.ranks, fields, ROW))?;
-    let source = source_in(config, fields)?;
-    if operand(config.ranks, fields, COLUMN).is_empty() {
+    let bank = bank_in(limits, fields)?;
+    let row = small_number(limits.rows, operand(limits.ranks, fields, ROW))?;
+    let source = source_in(limits, fields)?;
+    if operand(limits.ranks, fields, COLUMN).is_empty() {
         Some(Command::Act { bank, row, source })
     } else {
         None
@@ -139,14 +156,14 @@ fn act_in(config: &Config, fields: &ByteRecord) -> Option<Command>
 
 // The WR or the RD that a record writes.
 #[tactic(auto, unfolding(crate::specs::Fields::rd_in, crate::specs::Fields::wr_in))]
-fn access_in(config: &Config, fields: &ByteRecord, writes: bool) -> Option<Command>
-    ensures value { result ≡ (if writes then wr_in config.now (fields_of fields.now) else rd_in config.now (fields_of fields.now)) }
-    ensures fits { IfSome result (CommandFits config.now) }
+fn access_in(limits: Limits, fields: &ByteRecord, writes: bool) -> Option<Command>
+    ensures value { result ≡ (if writes then wr_in limits (fields_of fields.now) else rd_in limits (fields_of fields.now)) }
+    ensures fits { IfSome result (CommandFits limits) }
 {
-    let bank = bank_in(config, fields)?;
-    let row = small_number(config.rows, operand(config.ranks, fields, ROW))?;
-    let column = small_number(config.columns, operand(config.ranks, fields, COLUMN))?;
-    let source = source_in(config, fields)?;
+    let bank = bank_in(limits, fields)?;
+    let row = small_number(limits.rows, operand(limits.ranks, fields, ROW))?;
+    let column = small_number(limits.columns, operand(limits.ranks, fields, COLUMN))?;
+    let source = source_in(limits, fields)?;
     if writes {
         Some(Command::Wr {
             bank,
@@ -165,14 +182,14 @@ fn access_in(config: &Config, fields: &ByteRecord, writes: bool) -> Option<Comma
 }
 
 #[tactic(auto, unfolding(crate::specs::Fields::pre_in))]
-fn pre_in(config: &Config, fields: &ByteRecord) -> Option<Command>
-    ensures value { result ≡ pre_in config.now (fields_of fields.now) }
-    ensures fits { IfSome result (CommandFits config.now) }
+fn pre_in(limits: Limits, fields: &ByteRecord) -> Option<Command>
+    ensures value { result ≡ pre_in limits (fields_of fields.now) }
+    ensures fits { IfSome result (CommandFits limits) }
 {
-    let bank = bank_in(config, fields)?;
-    let source = source_in(config, fields)?;
-    if operand(config.ranks, fields, ROW).is_empty()
-        && operand(config.ranks, fields, COLUMN).is_empty()
+    let bank = bank_in(limits, fields)?;
+    let source = source_in(limits, fields)?;
+    if operand(limits.ranks, fields, ROW).is_empty()
+        && operand(limits.ranks, fields, COLUMN).is_empty()
     {
         Some(Command::Pre { bank, source })
     } else {
@@ -194,12 +211,12 @@ fn has_no_operands(ranks: u32, fields: &ByteRecord) -> bool
 
 // The REF or the PREA that a record writes.
 #[tactic(auto, unfolding(crate::specs::Fields::prea_in, crate::specs::Fields::ref_in))]
-fn whole_rank_in(config: &Config, fields: &ByteRecord, refreshes: bool) -> Option<Command>
-    ensures value { result ≡ (if refreshes then ref_in config.now (fields_of fields.now) else prea_in config.now (fields_of fields.now)) }
-    ensures fits { IfSome result (CommandFits config.now) }
+fn whole_rank_in(limits: Limits, fields: &ByteRecord, refreshes: bool) -> Option<Command>
+    ensures value { result ≡ (if refreshes then ref_in limits (fields_of fields.now) else prea_in limits (fields_of fields.now)) }
+    ensures fits { IfSome result (CommandFits limits) }
 {
-    let rank = rank_in(config, fields)?;
-    if !has_no_operands(config.ranks, fields) {
+    let rank = rank_in(limits, fields)?;
+    if !has_no_operands(limits.ranks, fields) {
         None
     } else if refreshes {
         Some(Command::Ref { rank })
@@ -210,40 +227,40 @@ fn whole_rank_in(config: &Config, fields: &ByteRecord, refreshes: bool) -> Optio
 
 // The command that a record writes, by its word.
 #[tactic(auto, unfolding(crate::specs::Fields::command_in))]
-fn command_in(config: &Config, fields: &ByteRecord) -> Option<Command>
-    ensures value { result ≡ command_in config.now (fields_of fields.now) }
-    ensures fits { IfSome result (CommandFits config.now) }
+fn command_in(limits: Limits, fields: &ByteRecord) -> Option<Command>
+    ensures value { result ≡ command_in limits (fields_of fields.now) }
+    ensures fits { IfSome result (CommandFits limits) }
 {
     let word = text_at(fields, 2);
     if is_word(word, b"ACT") {
-        act_in(config, fields)
+        act_in(limits, fields)
     } else if is_word(word, b"RD") {
-        access_in(config, fields, false)
+        access_in(limits, fields, false)
     } else if is_word(word, b"WR") {
-        access_in(config, fields, true)
+        access_in(limits, fields, true)
     } else if is_word(word, b"PRE") {
-        pre_in(config, fields)
+        pre_in(limits, fields)
     } else if is_word(word, b"PREA") {
-        whole_rank_in(config, fields, false)
+        whole_rank_in(limits, fields, false)
     } else if is_word(word, b"REF") {
-        whole_rank_in(config, fields, true)
+        whole_rank_in(limits, fields, true)
     } else {
         None
     }
 }
 
-/// The row that a record writes, if it is well-formed.
+/// The row that a record writes, if it is well-formed and its numbers are below the limits.
 #[tactic(auto, unfolding(crate::specs::Fields::row_from, crate::specs::Fields::row_in))]
-pub(crate) fn row_in(config: &Config, fields: &ByteRecord) -> Option<IssuedCommand>
-    ensures value { result ≡ row_in config.now (fields_of fields.now) }
-    ensures fits { IfSome result (RowFits config.now) }
+pub fn row_in(limits: Limits, fields: &ByteRecord) -> Option<IssuedCommand>
+    ensures value { result ≡ row_in limits (fields_of fields.now) }
+    ensures fits { IfSome result (RowFits limits) }
 {
-    if fields.len() != column_count(config.ranks) {
+    if fields.len() != column_count(limits.ranks) {
         return None;
     }
     let cycle = number_below(NUMBER_LIMIT, text_at(fields, 0))?;
-    let channel = small_number(u32::from(config.channels), text_at(fields, 1))?;
-    let command = command_in(config, fields)?;
+    let channel = small_number(u32::from(limits.channels), text_at(fields, 1))?;
+    let command = command_in(limits, fields)?;
     Some(IssuedCommand {
         cycle,
         channel,

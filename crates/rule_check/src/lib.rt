@@ -6,6 +6,7 @@ mod broken;
 mod channel;
 pub mod fields;
 mod latest;
+pub mod limits;
 pub mod numbers;
 mod past;
 pub mod reading;

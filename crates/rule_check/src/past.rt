@@ -4,7 +4,7 @@ ghost use Rattle.std.specs.Prelude.{◌≡◌, ◌+◌, ◌*◌, ◌<◌, ◌++�
 ghost use Rattle.std.specs.List.{range_with_len};
 ghost use Rattle.sim_base.specs.declared.command.IssuedCommand.{IssuedCommand};
 ghost use Rattle.sim_base.specs.Rules.{rules};
-ghost use Rattle.rule_check.specs.Fields.{RowFits};
+ghost use Rattle.rule_check.specs.Fields.{limits_of, RowFits};
 ghost use Rattle.rule_check.specs.Broken.{stands_before, stands_wrongly, lowest_broken};
 ghost use Rattle.rule_check.specs.Kept.{IsKept};
 ghost use Rattle.rule_check.specs.Past.{IsPast, past_breaks};
@@ -106,7 +106,7 @@ pub(crate) fn lowest_broken(
     table: &[Rule],
     row: IssuedCommand,
 ) -> Option<u8>
-    requires fits { RowFits config.now row }
+    requires fits { RowFits (limits_of config.now) row }
     requires table { table.now ≡ rules config.now.timing }
     requires stands { (rows : List IssuedCommand) × IsPast past.now config.now rows }
     ensures { (rows : List IssuedCommand) → IsPast past.now config.now rows → result ≡ lowest_broken config.now rows row }
@@ -117,7 +117,7 @@ pub(crate) fn lowest_broken(
 
 /// Keeps one more row.
 pub(crate) fn note(past: &mut Past, config: &Config, row: IssuedCommand)
-    requires fits { RowFits config.now row }
+    requires fits { RowFits (limits_of config.now) row }
     requires stands { (rows : List IssuedCommand) × IsPast past.old config.now rows }
     ensures { (rows : List IssuedCommand) → IsPast past.old config.now rows → IsPast past.new config.now (rows ++ row ∷ []) }
 {

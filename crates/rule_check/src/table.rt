@@ -10,6 +10,7 @@ ghost use Rattle.rule_check.specs.Past.{IsPast};
 ghost use Rattle.rule_check.specs.Verdict.{records_of, verdict, verdict_after, IsCheckFault, IsLegalTable};
 
 use crate::fields::{is_header, row_in};
+use crate::limits::Limits;
 use crate::past::{lowest_broken, note, start};
 use crate::reading::{open, read_next};
 use crate::state::Past;
@@ -36,7 +37,7 @@ fn judge(
     ensures kept { result ≡ None → (rows : List IssuedCommand) → IsPast past.old config.now rows → IsKeptRow past.new config.now rows number (fields_of fields.now) }
     ensures fault { IfSome result (λ answer. IfErr answer IsCheckFault) }
 {
-    let Some(row) = row_in(config, fields) else {
+    let Some(row) = row_in(Limits::of(config), fields) else {
         return Some(Err(Fault::CheckRow(number)));
     };
     if let Some(rule) = lowest_broken(past, config, table, row) {

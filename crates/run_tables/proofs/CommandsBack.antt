@@ -10,7 +10,7 @@ use Rattle.command_table.specs.Tables.{IsRising}
 use Rattle.laws.specs.Tables.{IsOrdered, stands_before}
 use Rattle.laws.proofs.Tabled.{tables_are_ordered}
 use Rattle.reports.specs.Commands.{header, command_fields, commands_text}
-use Rattle.rule_check.specs.Fields.{is_header, row_in}
+use Rattle.rule_check.specs.Fields.{limits_of, is_header, row_in}
 use Rattle.rule_check.specs.Verdict.{records_of}
 use Rattle.table_laws.specs.Written.{RowIsOf}
 use Rattle.table_laws.proofs.FieldsBack.{header-read, rows-back}
@@ -20,17 +20,17 @@ use Rattle.run_tables.specs.Commands.{IsCommandTable}
 use Rattle.run_tables.proofs.Wider.{rows-wider, header-wider}
 
 -- records that are well-formed under a configuration are those rows
-pub well_formed-read : (s : Config) (header : List (List ℕ)) (others : List (List (List ℕ))) (rows : List IssuedCommand) → IsTrue (is_header s.ranks header) → map (row_in s) others ≡ map Some rows
+pub well_formed-read : (s : Config) (header : List (List ℕ)) (others : List (List (List ℕ))) (rows : List IssuedCommand) → IsTrue (is_header s.ranks header) → map (row_in (limits_of s)) others ≡ map Some rows
     → IsRising rows → IsCommandTable (header ∷ others) rows
 well_formed-read s header others rows named read rising =
     let wide = header-wider s header named in
     record {
       header = header;
       others = others;
-      ranks = wide.ranks;
+      limits = wide.limits;
       parts = refl;
       columns = wide.told;
-      read = rows-wider s wide.ranks others rows wide.tells read;
+      read = rows-wider (limits_of s) wide.limits others rows wide.within read;
       rising = rising;
     }
 

@@ -2,28 +2,29 @@
 use Rattle.std.proofs.Common.{◌≡◌, ◌+◌, ◌<◌, ◌≤◌, ◌∙◌, ℕ, suc, List, [], ◌∷◌, ◌++◌, length, map, take, drop, Option, Some, None, IfSome, refl, sym, ap, subst, arith, append_assoc, append-nil, length-append}
 use Rattle.std.proofs.lemmas.List.{map-append, take-map, take_at}
 use Rattle.sim_base.specs.declared.command.IssuedCommand.{IssuedCommand}
+use Rattle.rule_check.specs.Fields.{row_in}
+use Rattle.rule_check.specs.declared.limits.Limits.{Limits}
 use Rattle.command_table.specs.Tables.{IsRising}
-use Rattle.run_tables.specs.Columns.{first_told, first_read}
-use Rattle.run_tables.specs.Commands.{ranks_told, row_read, IsCommandTable, HoldsCommands}
+use Rattle.run_tables.specs.Commands.{limits_told, first_told, first_read, IsCommandTable, HoldsCommands}
 use Rattle.run_tables.specs.Records.{IsFirstWrong}
 use Rattle.run_tables.proofs.RisingRows.{AreUntil, rising_push, until_push, rising_take, rising_last}
 
 -- the header and some records were taken, and gave these rows; the next row is of this cycle or a later one
-pub record ReadSoFar (all : List (List (List ℕ))) (ranks : ℕ) (rows : List IssuedCommand) (earliest row : ℕ) (left : List (List (List ℕ))) : Type 0 where
+pub record ReadSoFar (all : List (List (List ℕ))) (limits : Limits) (rows : List IssuedCommand) (earliest row : ℕ) (left : List (List (List ℕ))) : Type 0 where
   pub header : List (List ℕ)
   pub taken : List (List (List ℕ))
   pub parts : all ≡ (header ∷ taken) ++ left
   pub count : row ≡ length taken + 1
-  pub columns : ranks_told header ≡ Some ranks
-  pub read : map (row_read ranks) taken ≡ map Some rows
+  pub columns : limits_told header ≡ Some limits
+  pub read : map (row_in limits) taken ≡ map Some rows
   pub rising : IsRising rows
   pub until : AreUntil earliest rows
   pub least : (next : IssuedCommand) → IsRising (rows ++ next ∷ []) → earliest ≤ next.cycle
 
 -- the header alone
-pub header_read : (all left : List (List (List ℕ))) (ranks row : ℕ) → first_told all ≡ Some ranks → left ≡ drop 1 all → row ≡ 0 + 1 → ReadSoFar all ranks [] 0 row left
-header_read [] left ranks row told rest count = cc told
-header_read (h ∷ others) left ranks row told rest count =
+pub header_read : (all left : List (List (List ℕ))) (limits : Limits) (row : ℕ) → first_told all ≡ Some limits → left ≡ drop 1 all → row ≡ 0 + 1 → ReadSoFar all limits [] 0 row left
+header_read [] left limits row told rest count = cc told
+header_read (h ∷ others) left limits row told rest count =
     record {
       header = h;
       taken = [];
@@ -37,13 +38,13 @@ header_read (h ∷ others) left ranks row told rest count =
     }
 
 -- one row more
-pub row_more : (all left rest : List (List (List ℕ))) (ranks : ℕ) (rows more : List IssuedCommand) (earliest row number : ℕ) (next : IssuedCommand) → ReadSoFar all ranks rows earliest row left
-    → first_read ranks left ≡ Some next → earliest ≤ next.cycle → rest ≡ drop 1 left → number ≡ row + 1 → more ≡ rows ++ next ∷ [] → ReadSoFar all ranks more next.cycle number rest
-row_more all [] rest ranks rows more earliest row number next h read later taken count pushed = cc read
-row_more all (fields ∷ others) rest ranks rows more earliest row number next h read later taken count pushed =
+pub row_more : (all left rest : List (List (List ℕ))) (limits : Limits) (rows more : List IssuedCommand) (earliest row number : ℕ) (next : IssuedCommand) → ReadSoFar all limits rows earliest row left
+    → first_read limits left ≡ Some next → earliest ≤ next.cycle → rest ≡ drop 1 left → number ≡ row + 1 → more ≡ rows ++ next ∷ [] → ReadSoFar all limits more next.cycle number rest
+row_more all [] rest limits rows more earliest row number next h read later taken count pushed = cc read
+row_more all (fields ∷ others) rest limits rows more earliest row number next h read later taken count pushed =
     let size : length (h.taken ++ fields ∷ []) ≡ length h.taken + 1 = length-append h.taken (fields ∷ []) in
     let before = h.count in
-    subst (λ list. ReadSoFar all ranks list next.cycle number rest) (sym pushed) (record {
+    subst (λ list. ReadSoFar all limits list next.cycle number rest) (sym pushed) (record {
       header = h.header;
       taken = h.taken ++ fields ∷ [];
       parts = h.parts
@@ -51,8 +52,8 @@ row_more all (fields ∷ others) rest ranks rows more earliest row number next h
           ∙ ap (λ (t : List (List (List ℕ))). h.header ∷ t) (sym (append_assoc h.taken (fields ∷ []) rest));
       count = omega (arith, size, before, count);
       columns = h.columns;
-      read = map-append (row_read ranks) h.taken (fields ∷ [])
-          ∙ ap (λ (t : List (Option IssuedCommand)). t ++ row_read ranks fields ∷ []) h.read
+      read = map-append (row_in limits) h.taken (fields ∷ [])
+          ∙ ap (λ (t : List (Option IssuedCommand)). t ++ row_in limits fields ∷ []) h.read
           ∙ ap (λ (o : Option IssuedCommand). map Some rows ++ o ∷ []) read
           ∙ sym (map-append Some rows (next ∷ []));
       rising = rising_push rows next earliest h.rising h.until later;
@@ -61,12 +62,12 @@ row_more all (fields ∷ others) rest ranks rows more earliest row number next h
     })
 
 -- all of it
-pub rows_read : (all left : List (List (List ℕ))) (ranks : ℕ) (rows : List IssuedCommand) (earliest row : ℕ) → ReadSoFar all ranks rows earliest row left → left ≡ [] → IsCommandTable all rows
-rows_read all left ranks rows earliest row h none =
+pub rows_read : (all left : List (List (List ℕ))) (limits : Limits) (rows : List IssuedCommand) (earliest row : ℕ) → ReadSoFar all limits rows earliest row left → left ≡ [] → IsCommandTable all rows
+rows_read all left limits rows earliest row h none =
     record {
       header = h.header;
       others = h.taken;
-      ranks = ranks;
+      limits = limits;
       parts = h.parts ∙ ap (λ t. (h.header ∷ h.taken) ++ t) none ∙ append-nil (h.header ∷ h.taken);
       columns = h.columns;
       read = h.read;
@@ -90,29 +91,29 @@ last_read (r ∷ rows) (row ∷ more) read e =
     record { row = rest.row; is = rest.is; whole = ap (λ (t : List IssuedCommand). row ∷ t) rest.whole ∙ ap (λ (x : IssuedCommand). x ∷ (rows ++ rest.row ∷ [])) same }
 
 -- a table that goes on with this record has a row for it, and none of an earlier cycle
-other_row : (header : List (List ℕ)) (taken other : List (List (List ℕ))) (fields : List (List ℕ)) (ranks row earliest : ℕ) (rows others : List IssuedCommand)
-    → ranks_told header ≡ Some ranks → map (row_read ranks) taken ≡ map Some rows → ((next : IssuedCommand) → IsRising (rows ++ next ∷ []) → earliest ≤ next.cycle)
-    → IsCommandTable other others → take (row + 1) other ≡ header ∷ (taken ++ fields ∷ []) → (next : IssuedCommand) × (row_read ranks fields ≡ Some next) × (earliest ≤ next.cycle)
-other_row header taken other fields ranks row earliest rows others told read least t same =
+other_row : (header : List (List ℕ)) (taken other : List (List (List ℕ))) (fields : List (List ℕ)) (limits : Limits) (row earliest : ℕ) (rows others : List IssuedCommand)
+    → limits_told header ≡ Some limits → map (row_in limits) taken ≡ map Some rows → ((next : IssuedCommand) → IsRising (rows ++ next ∷ []) → earliest ≤ next.cycle)
+    → IsCommandTable other others → take (row + 1) other ≡ header ∷ (taken ++ fields ∷ []) → (next : IssuedCommand) × (row_in limits fields ≡ Some next) × (earliest ≤ next.cycle)
+other_row header taken other fields limits row earliest rows others told read least t same =
     let number : row + 1 ≡ suc row = omega arith in
     let front : t.header ∷ take row t.others ≡ header ∷ (taken ++ fields ∷ []) = ap (λ k. take k (t.header ∷ t.others)) (sym number) ∙ ap (take (row + 1)) (sym t.parts) ∙ same in
     let header_same : t.header ≡ header = cc front in
     let others_same : take row t.others ≡ taken ++ fields ∷ [] = cc front in
-    let named : ranks_told t.header ≡ ranks_told header = ap ranks_told header_same in
+    let named : limits_told t.header ≡ limits_told header = ap limits_told header_same in
     let columns = t.columns in
-    let ranks_same : t.ranks ≡ ranks = cc (named, columns, told) in
-    let all : map Some (take row others) ≡ map Some rows ++ row_read ranks fields ∷ [] =
+    let limits_same : t.limits ≡ limits = cc (named, columns, told) in
+    let all : map Some (take row others) ≡ map Some rows ++ row_in limits fields ∷ [] =
     sym (take-map Some row others)
     ∙ ap (take row) (sym t.read)
-    ∙ take-map (row_read t.ranks) row t.others
-    ∙ ap (λ (k : ℕ). map (row_read k) (take row t.others)) ranks_same
-    ∙ ap (map (row_read ranks)) others_same
-    ∙ map-append (row_read ranks) taken (fields ∷ [])
-    ∙ ap (λ (list : List (Option IssuedCommand)). list ++ row_read ranks fields ∷ []) read in
-    let last = last_read rows (take row others) (row_read ranks fields) all in (
+    ∙ take-map (row_in t.limits) row t.others
+    ∙ ap (λ (k : Limits). map (row_in k) (take row t.others)) limits_same
+    ∙ ap (map (row_in limits)) others_same
+    ∙ map-append (row_in limits) taken (fields ∷ [])
+    ∙ ap (λ (list : List (Option IssuedCommand)). list ++ row_in limits fields ∷ []) read in
+    let last = last_read rows (take row others) (row_in limits fields) all in (
       last.row,
       last.is,
-      least last.row (subst IsRising last.whole (rising_take row others t.rising)),
+      least last.row (subst IsRising {y = rows ++ last.row ∷ []} last.whole (rising_take row others t.rising)),
     )
 
 too_early : (o : Option IssuedCommand) (next : IssuedCommand) (earliest : ℕ) → IfSome o (λ row. row.cycle < earliest) → o ≡ Some next → earliest ≤ next.cycle → ⊥
@@ -120,10 +121,10 @@ too_early None next earliest early is later = cc is
 too_early (Some row) next earliest early is later = let same : row.cycle ≡ next.cycle = cc is in omega (arith, early, same, later)
 
 -- a record that writes no row, or one of an earlier cycle, is the first that is wrong
-pub row_wrong : (all left : List (List (List ℕ))) (ranks : ℕ) (rows : List IssuedCommand) (earliest row : ℕ) → ReadSoFar all ranks rows earliest row left → 0 < length left
-    → IfSome (first_read ranks left) (λ next. next.cycle < earliest) → IsFirstWrong HoldsCommands all row
-row_wrong all [] ranks rows earliest row h some early = absurd (omega (arith, some))
-row_wrong all (fields ∷ others) ranks rows earliest row h some early =
+pub row_wrong : (all left : List (List (List ℕ))) (limits : Limits) (rows : List IssuedCommand) (earliest row : ℕ) → ReadSoFar all limits rows earliest row left → 0 < length left
+    → IfSome (first_read limits left) (λ next. next.cycle < earliest) → IsFirstWrong HoldsCommands all row
+row_wrong all [] limits rows earliest row h some early = absurd (omega (arith, some))
+row_wrong all (fields ∷ others) limits rows earliest row h some early =
     let front = h.header ∷ h.taken in
     let count = h.count in
     let size : length front ≡ row = omega (arith, count) in
@@ -131,9 +132,9 @@ row_wrong all (fields ∷ others) ranks rows earliest row h some early =
     let goes : take (row + 1) all ≡ front ++ fields ∷ [] = ap (take (row + 1)) (h.parts ∙ sym (append_assoc front (fields ∷ []) others)) ∙ take_at (front ++ fields ∷ []) others (row + 1) longer in
     record {
       table = front;
-      is_table = (rows, record { header = h.header; others = h.taken; ranks = ranks; parts = refl; columns = h.columns; read = h.read; rising = h.rising });
+      is_table = (rows, record { header = h.header; others = h.taken; limits = limits; parts = refl; columns = h.columns; read = h.read; rising = h.rising });
       agrees = ap (take row) (sym (append-nil front)) ∙ take_at front [] row size ∙ sym (ap (take row) h.parts ∙ take_at front (fields ∷ others) row size);
       differs = λ other t same.
-          let next = other_row h.header h.taken other fields ranks row earliest rows t.0 h.columns h.read h.least t.1 (same ∙ goes) in
-          too_early (row_read ranks fields) next.0 earliest early next.1 next.2;
+          let next = other_row h.header h.taken other fields limits row earliest rows t.0 h.columns h.read h.least t.1 (same ∙ goes) in
+          too_early (row_in limits fields) next.0 earliest early next.1 next.2;
     }

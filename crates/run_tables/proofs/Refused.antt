@@ -7,10 +7,9 @@ use Rattle.sim_base.specs.declared.command.IssuedCommand.{IssuedCommand}
 use Rattle.sim_base.specs.declared.fault.Fault.{Fault}
 use Rattle.sim_base.specs.declared.fault.Fault.TheVariants.{CheckRow, Memory}
 use Rattle.reports.specs.Commands.{header}
-use Rattle.rule_check.specs.Fields.{is_header, operand, text_at}
+use Rattle.rule_check.specs.Fields.{is_header, operand, text_at, row_in}
 use Rattle.csv.specs.Records.{field_at}
-use Rattle.run_tables.specs.Columns.{first_told}
-use Rattle.run_tables.specs.Commands.{ranks_told, row_read, IsCommandTable, HoldsCommands}
+use Rattle.run_tables.specs.Commands.{limits_told, without_rank, first_told, IsCommandTable, HoldsCommands}
 use Rattle.run_tables.specs.Records.{IsTableFault, IsFirstWrong, IsRefusedFor}
 
 -- the fault is for a row or for memory
@@ -37,15 +36,15 @@ only_memory IsTable all _ table refused = absurd refused
 
 -- records that do not begin with a header are wrong from the first on
 first_header : IsCommandTable (header 1 ∷ []) []
-unfolding ranks_told is_header operand text_at field_at
-first_header = record { header = header 1; others = []; ranks = 1; parts = refl; columns = refl; read = refl; rising = λ i j d before within. absurd (omega (arith, within)) }
+unfolding limits_told is_header operand text_at field_at
+first_header = record { header = header 1; others = []; limits = without_rank; parts = refl; columns = refl; read = refl; rising = λ i j d before within. absurd (omega (arith, within)) }
 
 header-differs : (all other : List (List (List ℕ))) (rows : List IssuedCommand) → first_told all ≡ None → IsCommandTable other rows → take (0 + 1) other ≢ take (0 + 1) all
 header-differs [] other rows told t same = let front : t.header ∷ [] ≡ [] = ap (take 1) (sym t.parts) ∙ same in cc front
 header-differs (h ∷ rest) other rows told t same =
     let front : t.header ∷ [] ≡ h ∷ [] = ap (take 1) (sym t.parts) ∙ same in
     let first : t.header ≡ h = cc front in
-    let named = ap ranks_told first in
+    let named = ap limits_told first in
     let columns = t.columns in
     cc (named, columns, told)
 
@@ -71,13 +70,13 @@ pub one_list : (all : List (List (List ℕ))) (rows others : List IssuedCommand)
 one_list all rows others a b =
     let parts = sym a.parts ∙ b.parts in
     let header_same : a.header ≡ b.header = cc parts in
-    let named = ap ranks_told header_same in
+    let named = ap limits_told header_same in
     let told_a = a.columns in
     let told_b = b.columns in
-    let ranks_same : a.ranks ≡ b.ranks = cc (named, told_a, told_b) in
+    let limits_same : a.limits ≡ b.limits = cc (named, told_a, told_b) in
     let others_same : a.others ≡ b.others = cc parts in
     same_rows rows others
-    (sym a.read ∙ ap (λ k. map (row_read k) a.others) ranks_same ∙ ap (map (row_read b.ranks)) others_same ∙ b.read)
+    (sym a.read ∙ ap (λ k. map (row_in k) a.others) limits_same ∙ ap (map (row_in b.limits)) others_same ∙ b.read)
 
 -- what is read of a table is what it is of
 pub inverse : (all : List (List (List ℕ))) (rows : List IssuedCommand) (result : Result (List IssuedCommand) Fault)
@@ -89,7 +88,7 @@ inverse all rows (Err e) read refused table = only_memory HoldsCommands all e (r
 pub row_count : (all : List (List (List ℕ))) (result : Result (List IssuedCommand) Fault) → IfOk result (λ found. IsCommandTable all found) → IfOk result (λ found. length all ≡ length found + 1)
 row_count all (Ok found) t =
     let whole = ap length t.parts in
-    let lines = sym (length-map t.others (row_read t.ranks)) ∙ ap length t.read ∙ length-map found Some in
+    let lines = sym (length-map t.others (row_in t.limits)) ∙ ap length t.read ∙ length-map found Some in
     omega (arith, whole, lines)
 row_count all (Err e) t = tt
 

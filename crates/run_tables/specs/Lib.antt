@@ -1,6 +1,5 @@
 pub mod Records
 pub mod Commands
-pub mod Columns
 pub mod Numbers
 pub mod Lines
 pub mod Stats

@@ -8,7 +8,7 @@ ghost use Rattle.sim_base.specs.History.{commands};
 ghost use Rattle.sim_base.specs.Machine.{run};
 ghost use Rattle.command_table.specs.Tables.{IsRising};
 ghost use Rattle.reports.specs.Commands.{commands_text};
-ghost use Rattle.rule_check.specs.Fields.{is_header, row_in};
+ghost use Rattle.rule_check.specs.Fields.{limits_of, is_header, row_in};
 ghost use Rattle.rule_check.specs.Verdict.{records_of};
 ghost use Rattle.table_laws.specs.Written.{RowIsOf};
 ghost use Rattle.reports.specs.Stats.{stats_text};
@@ -25,7 +25,7 @@ pub fn commands_are_read_back()
     ensures run { (s : Config) (traces : List (List Entry)) (n : ℕ) → n ≤ 2 ^ 62 → All (λ t. length t ≤ 2 ^ 62) traces
         → IsCommandTable (records_of (commands_text s.ranks (commands (run s traces n)))) (commands (run s traces n)) }
     ensures well_formed { (s : Config) (header : List (List ℕ)) (others : List (List (List ℕ))) (rows : List IssuedCommand) → IsTrue (is_header s.ranks header)
-        → map (row_in s) others ≡ map Some rows → IsRising rows → IsCommandTable (header ∷ others) rows }
+        → map (row_in (limits_of s)) others ≡ map Some rows → IsRising rows → IsCommandTable (header ∷ others) rows }
 {}
 
 /// A table of statistics in their ranges, of one core and one channel or more, is read as it was written, and so is that of a run.

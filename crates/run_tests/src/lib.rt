@@ -1,4 +1,4 @@
-//! Tests of runs: of a machine from its bytes, of its workers and of their phases.
+//! Tests of runs: of a machine from its bytes, of its workers and of their phases, and of the order in which the results of a phase come.
 #![tactic(auto)]
 
 #[cfg(test)]
@@ -12,6 +12,8 @@ mod generated;
 #[cfg(test)]
 mod little_memory;
 #[cfg(test)]
+mod ordered_runs;
+#[cfg(test)]
 mod outcomes;
 #[cfg(test)]
 mod phase_counts;
@@ -23,3 +25,5 @@ mod same;
 mod shared_out;
 #[cfg(test)]
 mod watchers;
+#[cfg(test)]
+mod worked_orders;

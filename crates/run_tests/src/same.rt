@@ -18,7 +18,7 @@ use std::test::Fail;
 use std::thread::Threads;
 
 /// The texts of a run, with one more link.
-fn texts_with(alloc: Global, row: &Row, link: &str) -> Result<Texts, AllocError> {
+pub(crate) fn texts_with(alloc: Global, row: &Row, link: &str) -> Result<Texts, AllocError> {
     let mut more = String::from_str(alloc, row.more)?;
     more.push_str(link)?;
     Texts::of(alloc, row.changes, more.as_str(), row.traces)

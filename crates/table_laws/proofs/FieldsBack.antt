@@ -14,7 +14,7 @@ use Rattle.sim_base.specs.declared.command.IssuedCommand.{IssuedCommand}
 use Rattle.sim_base.specs.declared.command.Source.{Source}
 use Rattle.reports.specs.Commands.{header, kind_word, operand_fields, command_fields}
 use Rattle.rule_check.specs.Numbers.{number_below, number_limit}
-use Rattle.rule_check.specs.Fields.{text_at, operand, is_header, column_count, rank_in, bank_in, source_in, act_in, rd_in, wr_in, pre_in, prea_in, ref_in, has_no_operands, command_in, row_from, row_in}
+use Rattle.rule_check.specs.Fields.{limits_of, text_at, operand, is_header, column_count, rank_in, bank_in, source_in, act_in, rd_in, wr_in, pre_in, prea_in, ref_in, has_no_operands, command_in, row_from, row_in}
 use Rattle.table_laws.specs.Written.{SourceIsOf, BankIsOf, CommandIsOf, RowIsOf}
 use Rattle.table_laws.proofs.Decimals.{number-back}
 
@@ -36,11 +36,11 @@ header-read ranks = elim (cases_Bool (nat_lt 1 ranks)) [ inl several ↦ rw seve
 -- the fields of a record: as many as there are columns, one for the rank where there are several, and these operands
 record IsRecordOf (s : Config) (fields : List (List ℕ)) (rank : ℕ) (operands : List (List ℕ)) : Type 0 where
   count : (length fields == column_count s.ranks) ≡ true
-  names : rank_in s fields ≡ Some rank
+  names : rank_in (limits_of s) fields ≡ Some rank
   holds : (k : ℕ) → operand s.ranks fields k ≡ text_at operands k
 
 rank-by : (s : Config) (fields : List (List ℕ)) (rank : ℕ) (several : Bool) → nat_lt 1 s.ranks ≡ several → rank < s.ranks
-    → (several ≡ true → text_at fields 3 ≡ decimal rank) → rank_in s fields ≡ Some rank
+    → (several ≡ true → text_at fields 3 ≡ decimal rank) → rank_in (limits_of s) fields ≡ Some rank
 unfolding rank_in
 rank-by s fields rank true e h at =
     let most : s.ranks ≤ 4 = s.memory_in_range.ranks_in.1 in
@@ -68,7 +68,7 @@ record-fields s cycle channel word rank group bank row column core entry h =
 
 -- a bank is read back
 bank-back : (s : Config) (fields : List (List ℕ)) (bank : BankId) (row column core entry : List ℕ) → BankIsOf s bank
-    → IsRecordOf s fields bank.rank (decimal bank.group ∷ decimal bank.bank ∷ row ∷ column ∷ core ∷ entry ∷ []) → bank_in s fields ≡ Some bank
+    → IsRecordOf s fields bank.rank (decimal bank.group ∷ decimal bank.bank ∷ row ∷ column ∷ core ∷ entry ∷ []) → bank_in (limits_of s) fields ≡ Some bank
 unfolding bank_in text_at field_at
 bank-back s fields bank row column core entry h w =
     let most : s.groups ≤ 4 = s.memory_in_range.groups_in.1 in
@@ -76,7 +76,7 @@ bank-back s fields bank row column core entry h w =
 
 -- so is the entry in whose name a command is issued
 source-back : (s : Config) (fields : List (List ℕ)) (rank : ℕ) (source : Source) (group bank row column : List ℕ) → SourceIsOf s source
-    → IsRecordOf s fields rank (group ∷ bank ∷ row ∷ column ∷ decimal source.core ∷ decimal source.entry ∷ []) → source_in s fields ≡ Some source
+    → IsRecordOf s fields rank (group ∷ bank ∷ row ∷ column ∷ decimal source.core ∷ decimal source.entry ∷ []) → source_in (limits_of s) fields ≡ Some source
 unfolding source_in text_at field_at
 source-back s fields rank source group bank row column h w =
     let most : s.cores ≤ 256 = s.machine_in_range.cores_in.1 in
@@ -94,7 +94,7 @@ column-number s column h =
 
 -- each command is read back
 act-back : (s : Config) (fields : List (List ℕ)) (bank : BankId) (row : ℕ) (source : Source) → CommandIsOf s (Act bank row source)
-    → IsRecordOf s fields bank.rank (operand_fields (Act bank row source)) → act_in s fields ≡ Some (Act bank row source)
+    → IsRecordOf s fields bank.rank (operand_fields (Act bank row source)) → act_in (limits_of s) fields ≡ Some (Act bank row source)
 unfolding act_in text_at field_at
 act-back s fields bank row source h w =
     rw (
@@ -106,7 +106,7 @@ act-back s fields bank row source h w =
     ) refl
 
 rd-back : (s : Config) (fields : List (List ℕ)) (bank : BankId) (row column : ℕ) (source : Source) → CommandIsOf s (Rd bank row column source)
-    → IsRecordOf s fields bank.rank (operand_fields (Rd bank row column source)) → rd_in s fields ≡ Some (Rd bank row column source)
+    → IsRecordOf s fields bank.rank (operand_fields (Rd bank row column source)) → rd_in (limits_of s) fields ≡ Some (Rd bank row column source)
 unfolding rd_in text_at field_at
 rd-back s fields bank row column source h w =
     rw (
@@ -119,7 +119,7 @@ rd-back s fields bank row column source h w =
     ) refl
 
 wr-back : (s : Config) (fields : List (List ℕ)) (bank : BankId) (row column : ℕ) (source : Source) → CommandIsOf s (Wr bank row column source)
-    → IsRecordOf s fields bank.rank (operand_fields (Wr bank row column source)) → wr_in s fields ≡ Some (Wr bank row column source)
+    → IsRecordOf s fields bank.rank (operand_fields (Wr bank row column source)) → wr_in (limits_of s) fields ≡ Some (Wr bank row column source)
 unfolding wr_in text_at field_at
 wr-back s fields bank row column source h w =
     rw (
@@ -132,7 +132,7 @@ wr-back s fields bank row column source h w =
     ) refl
 
 pre-back : (s : Config) (fields : List (List ℕ)) (bank : BankId) (source : Source) → CommandIsOf s (Pre bank source)
-    → IsRecordOf s fields bank.rank (operand_fields (Pre bank source)) → pre_in s fields ≡ Some (Pre bank source)
+    → IsRecordOf s fields bank.rank (operand_fields (Pre bank source)) → pre_in (limits_of s) fields ≡ Some (Pre bank source)
 unfolding pre_in text_at field_at
 pre-back s fields bank source h w =
     rw (
@@ -146,17 +146,17 @@ empty-back : (s : Config) (fields : List (List ℕ)) (rank : ℕ) → IsRecordOf
 unfolding has_no_operands text_at field_at
 empty-back s fields rank w = rw (w.holds 0, w.holds 1, w.holds 2, w.holds 3, w.holds 4, w.holds 5) refl
 
-prea-back : (s : Config) (fields : List (List ℕ)) (rank : ℕ) → IsRecordOf s fields rank (operand_fields (Prea rank)) → prea_in s fields ≡ Some (Prea rank)
+prea-back : (s : Config) (fields : List (List ℕ)) (rank : ℕ) → IsRecordOf s fields rank (operand_fields (Prea rank)) → prea_in (limits_of s) fields ≡ Some (Prea rank)
 unfolding prea_in
 prea-back s fields rank w = rw (w.names, empty-back s fields rank w) refl
 
-ref-back : (s : Config) (fields : List (List ℕ)) (rank : ℕ) → IsRecordOf s fields rank (operand_fields (Ref rank)) → ref_in s fields ≡ Some (Ref rank)
+ref-back : (s : Config) (fields : List (List ℕ)) (rank : ℕ) → IsRecordOf s fields rank (operand_fields (Ref rank)) → ref_in (limits_of s) fields ≡ Some (Ref rank)
 unfolding ref_in
 ref-back s fields rank w = rw (w.names, empty-back s fields rank w) refl
 
 -- the word of a command says which one to look for
 command-by : (s : Config) (fields : List (List ℕ)) (command : Command) → CommandIsOf s command → text_at fields 2 ≡ kind_word (kind_of command)
-    → IsRecordOf s fields (rank_of command) (operand_fields command) → command_in s fields ≡ Some command
+    → IsRecordOf s fields (rank_of command) (operand_fields command) → command_in (limits_of s) fields ≡ Some command
 unfolding command_in
 command-by s fields (Act bank row source) h word w = rw word (act-back s fields bank row source h w)
 command-by s fields (Rd bank row column source) h word w = rw word (rd-back s fields bank row column source h w)
@@ -183,7 +183,7 @@ record-is s cycle channel (Prea rank) h = record-fields s cycle channel _ rank _
 record-is s cycle channel (Ref rank) h = record-fields s cycle channel _ rank _ _ _ _ _ _ h
 
 -- a row is read back
-pub row-back : (s : Config) (row : IssuedCommand) → RowIsOf s row → row_in s (command_fields s.ranks row) ≡ Some row
+pub row-back : (s : Config) (row : IssuedCommand) → RowIsOf s row → row_in (limits_of s) (command_fields s.ranks row) ≡ Some row
 unfolding row_in row_from
 row-back s row h =
     let fields = command_fields s.ranks row in
@@ -202,9 +202,9 @@ row-back s row h =
     ) refl
 
 -- so are the rows of a table
-rows-by : (s : Config) (rows : List IssuedCommand) → Each (RowIsOf s) rows → map (row_in s) (map (command_fields s.ranks) rows) ≡ map Some rows
+rows-by : (s : Config) (rows : List IssuedCommand) → Each (RowIsOf s) rows → map (row_in (limits_of s)) (map (command_fields s.ranks) rows) ≡ map Some rows
 rows-by s [] h = refl
 rows-by s (row ∷ rows) h = rw (row-back s row h.0, rows-by s rows h.1) refl
 
-pub rows-back : (s : Config) (rows : List IssuedCommand) → All (RowIsOf s) rows → map (row_in s) (map (command_fields s.ranks) rows) ≡ map Some rows
+pub rows-back : (s : Config) (rows : List IssuedCommand) → All (RowIsOf s) rows → map (row_in (limits_of s)) (map (command_fields s.ranks) rows) ≡ map Some rows
 rows-back s rows h = rows-by s rows (recursion_from_All (RowIsOf s) rows h)

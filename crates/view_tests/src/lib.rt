@@ -1,10 +1,25 @@
-//! Tests of what is read of a run's tables, and of how it is shown; and of the line that tells how far a run is.
+//! Tests of what users see: what is read of a run's tables and how it is shown, the page of a run and its pictures, the line that tells how far
+//! a run is, and the texts that explain a refusal. The texts were written by hand.
 #![tactic(auto)]
 
 #[cfg(test)]
 mod command_lists;
 #[cfg(test)]
+mod drawn;
+#[cfg(test)]
 mod expect;
+#[cfg(test)]
+mod explained;
+#[cfg(test)]
+mod explained_configs;
+#[cfg(test)]
+mod explained_others;
+#[cfg(test)]
+mod failing_pages;
+#[cfg(test)]
+mod page_runs;
+#[cfg(test)]
+mod pages;
 #[cfg(test)]
 mod progress_lines;
 #[cfg(test)]

@@ -1,20 +1,18 @@
 use Rattle.std.proofs.Common.{rules, ◌≡◌, Err}
-use Rattle.std.proofs.lemmas.Result.{on_ok_weaker}
 use Rattle.answers.proofs.PageFacts.{whole_from, text_refused}
 use Rattle.answers.proofs.pages.perform_page.Goals as goal
 
 pub returns-clause-done : goal.returns-clause-done
-returns-clause-done g c = on_ok_weaker c.write_whole.result
-    (λ h tells. record {
-      stats = c.in_ok-found.found.run.stats;
-      commands = c.in_ok-found.found.commands;
-      text = c.deref.result.now;
-      tables = c.in_ok-found.ensures.tables tells;
-      configured = c.in_ok-found.ensures.configured tells;
-      of_run = c.in_ok-text.ensures.of_run;
-      written = whole_from _ _ _ _ _ (c.tables_in.ensures.same tells) (h tells);
-    })
-    c.write_whole.ensures.whole
+returns-clause-done g c = λ tells. record {
+  stats = c.in_ok-found.found.run.stats;
+  commands = c.in_ok-found.found.commands;
+  text = c.in_ok-text.text.items;
+  tables = c.in_ok-found.ensures.tables tells;
+  configured = c.in_ok-found.ensures.configured tells;
+  of_run = c.in_ok-text.ensures.of_run;
+  written = whole_from _ _ _ _ _ (c.tables_in.ensures.same tells) (rw c.deref-2.ensures.value at c.in_ok-write_whole.ensures.whole tells);
+  warned = rw c.deref.ensures.value at c.warning_of-warning.ensures;
+}
 
 pub returns-in_err-text-clause-fault : goal.returns-in_err-text-clause-fault
 returns-in_err-text-clause-fault g c =

@@ -1,4 +1,4 @@
-use Rattle.std.proofs.Common.{◌≡◌, Some, sym, ap, ◌∙◌}
+use Rattle.std.proofs.Common.{Some, sym, ap, ◌∙◌}
 use Rattle.std.proofs.lemmas.Result.{IfOk-weaker, IfErr-weaker}
 use Rattle.answers.proofs.NamedFacts.{configured_from, both_ok, ready_page, fault_page}
 use Rattle.answers.proofs.pages.tables_at.Goals as goal

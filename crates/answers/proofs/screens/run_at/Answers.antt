@@ -1,7 +1,7 @@
-use Rattle.std.proofs.Common.{◌≡◌, Some, Err, sym, ap, ◌∙◌, rules}
+use Rattle.std.proofs.Common.{Some, sym, ap, ◌∙◌}
 use Rattle.std.proofs.lemmas.Result.{IfOk-weaker, IfErr-weaker}
 use Rattle.rule_check.specs.Verdict.{records_of}
-use Rattle.answers.proofs.NamedFacts.{text_later, configured_from, both_ok, ready_show, fault_show, unread_named, unread_first}
+use Rattle.answers.proofs.NamedFacts.{text_later, configured_from, both_ok, ready_show, fault_show}
 use Rattle.answers.proofs.screens.run_at.Goals as goal
 
 pub returns-clause-stats : goal.returns-clause-stats

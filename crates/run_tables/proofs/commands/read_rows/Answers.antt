@@ -2,29 +2,29 @@
 use Rattle.std.proofs.Common.{◌≡◌, [], ◌∷◌, ◌++◌, ◌+◌, ◌∙◌, drop, rules, Err, ap, sym}
 use Rattle.sim_base.specs.declared.fault.Fault.TheVariants.{CheckRow}
 use Rattle.rule_check.specs.Verdict.{records_of}
-use Rattle.run_tables.specs.Columns.{ranks_of, first_told}
+use Rattle.run_tables.specs.Commands.{first_told}
 use Rattle.run_tables.specs.Commands.{HoldsCommands}
-use Rattle.run_tables.proofs.ReadRows.{header_read, row_more, row_wrong}
+use Rattle.run_tables.proofs.ReadRows.{header_read, row_more, row_wrong, rows_read}
 use Rattle.run_tables.proofs.Refused.{refused_for, header_wrong}
 use Rattle.run_tables.proofs.commands.read_rows.Goals as goal
 
-pub returns-in_err-columns-clause-refused : goal.returns-in_err-columns-clause-refused
-returns-in_err-columns-clause-refused c =
-    let gives : c.from_residual-in_err-columns.result ≡ Err c.in_err-columns.field-0.0 = search rules in
+pub returns-in_err-limits-clause-refused : goal.returns-in_err-limits-clause-refused
+returns-in_err-limits-clause-refused c =
+    let gives : c.from_residual-in_err-limits.result ≡ Err c.in_err-limits.field-0.0 = search rules in
     let all = c.in_ok-records.ensures.all in
-    let refused = c.in_err-columns.ensures.refused in
+    let refused = c.in_err-limits.ensures.refused in
     rw gives
-    (refused_for HoldsCommands (records_of c.args.table.now) c.in_err-columns.field-0.0 0
+    (refused_for HoldsCommands (records_of c.args.table.now) c.in_err-limits.field-0.0 0
     (λ n. ((refused n).0 ∙ ap CheckRow c.in_ok-records.ensures.header, header_wrong (records_of c.args.table.now) (ap first_told (sym all) ∙ (refused n).1)))
-    c.in_err-columns.ensures.fault)
+    c.in_err-limits.ensures.fault)
 
-pub loop-columns-init : goal.loop-columns-init
-loop-columns-init c =
+pub loop-limits-init : goal.loop-limits-init
+loop-limits-init c =
     let all = c.in_ok-records.ensures.all in
     let none : c.new-rows.result ≡ [] = search rules in
-    let row = c.in_ok-columns.ensures.row ∙ ap (λ k. k + 1) c.in_ok-records.ensures.header in
-    let rest = c.in_ok-columns.ensures.rest ∙ ap (drop 1) all in
-    rw none (header_read (records_of c.args.table.now) c.take_header.new.records.records (ranks_of c.in_ok-columns.columns) c.take_header.new.records.row (ap first_told (sym all) ∙ c.in_ok-columns.ensures.header) rest row)
+    let row = c.in_ok-limits.ensures.row ∙ ap (λ k. k + 1) c.in_ok-records.ensures.header in
+    let rest = c.in_ok-limits.ensures.rest ∙ ap (drop 1) all in
+    rw none (header_read (records_of c.args.table.now) c.take_header.new.records.records c.in_ok-limits.limits c.take_header.new.records.row (ap first_told (sym all) ∙ c.in_ok-limits.ensures.header) rest row)
 
 pub returns-in_err-row-clause-refused : goal.returns-in_err-row-clause-refused
 returns-in_err-row-clause-refused c =
@@ -32,12 +32,17 @@ returns-in_err-row-clause-refused c =
     let refused = c.in_err-row.ensures.refused in
     let all = records_of c.args.table.now in
     rw gives
-    (refused_for HoldsCommands all c.in_err-row.field-0.0 c.loop-columns.records.row
-    (λ n. ((refused n).0, row_wrong all c.loop-columns.records.records (ranks_of c.in_ok-columns.columns) c.loop-columns.rows c.loop-columns.earliest c.loop-columns.records.row c.loop-columns.invariant (search rules) (refused n).1))
+    (refused_for HoldsCommands all c.in_err-row.field-0.0 c.loop-limits.records.row
+    (λ n. ((refused n).0, row_wrong all c.loop-limits.records.records c.in_ok-limits.limits c.loop-limits.rows c.loop-limits.earliest c.loop-limits.records.row c.loop-limits.invariant (search rules) (refused n).1))
     c.in_err-row.ensures.fault)
 
-pub loop-columns-preserved : goal.loop-columns-preserved
-loop-columns-preserved c =
-    let pushed : c.push.new.self ≡ c.loop-columns.rows ++ c.in_ok-row.row ∷ [] = search rules in
-    row_more (records_of c.args.table.now) c.loop-columns.records.records c.take_row.new.records.records (ranks_of c.in_ok-columns.columns) c.loop-columns.rows c.push.new.self c.loop-columns.earliest
-    c.loop-columns.records.row c.take_row.new.records.row c.in_ok-row.row c.loop-columns.invariant c.in_ok-row.ensures.read c.in_ok-row.ensures.later c.in_ok-row.ensures.rest c.in_ok-row.ensures.row pushed
+pub loop-limits-preserved : goal.loop-limits-preserved
+loop-limits-preserved c =
+    let pushed : c.push.new.self ≡ c.loop-limits.rows ++ c.in_ok-row.row ∷ [] = search rules in
+    row_more (records_of c.args.table.now) c.loop-limits.records.records c.take_row.new.records.records c.in_ok-limits.limits c.loop-limits.rows c.push.new.self c.loop-limits.earliest
+    c.loop-limits.records.row c.take_row.new.records.row c.in_ok-row.row c.loop-limits.invariant c.in_ok-row.ensures.read c.in_ok-row.ensures.later c.in_ok-row.ensures.rest c.in_ok-row.ensures.row pushed
+
+pub returns-clause-read : goal.returns-clause-read
+returns-clause-read c =
+    let none : c.loop-limits.records.records ≡ [] = search rules in
+    rows_read (records_of c.args.table.now) c.loop-limits.records.records c.in_ok-limits.limits c.loop-limits.rows c.loop-limits.earliest c.loop-limits.records.row c.loop-limits.invariant none

@@ -1,0 +1,48 @@
+use Rattle.std.proofs.Common.{◌≡◌, ◌++◌, ◌∙◌, take, drop, refl, sym, subst, ap}
+use Rattle.channel_step.specs.Fit.{IsFit}
+use Rattle.channel_step.specs.Runs.{CanRun, IsDone}
+use Rattle.channel_session.specs.Keeps.{steps_of}
+use Rattle.channel_session.proofs.Advancing.{keeps-at, keeps-fit, can-run, has-gone}
+use Rattle.channel_session.proofs.Answering.{cut-at, ran-session}
+use Rattle.channel_session.proofs.session.Session.advance.Goals as goal
+
+pub run-requires-clause-can_run : goal.run-requires-clause-can_run
+run-requires-clause-can_run c =
+    let session = c.args.self.now in
+    let p = c.requires.open.past in
+    let k = c.requires.open.is_session.keeps in
+    let count = c.due_count-due.result in
+    let until = c.args.until in
+    let inbox = take count session.coming.items in
+    let rest = drop count session.coming.items in
+    let cut = cut-at until session.coming.items count k.by_age c.due_count-due.ensures in
+    subst (λ x. CanRun session.channel (take count x) session.cycle until) (sym c.deref.ensures.value)
+    (can-run session.channel p.s p.channel session.cycle session.firsts.items p.sent session.coming.items inbox rest until k cut c.requires.span)
+
+pub returns-clause-done : goal.returns-clause-done
+returns-clause-done c p h =
+    let session = c.args.self.now in
+    let k = h.keeps in
+    let count = c.due_count-due.result in
+    let until = c.args.until in
+    let inbox = take count session.coming.items in
+    let rest = drop count session.coming.items in
+    let steps = steps_of p.s p.channel p.sent session.cycle in
+    let cut = cut-at until session.coming.items count k.by_age c.due_count-due.ensures in
+    let fit = keeps-fit session.channel p.s p.channel session.cycle session.firsts.items p.sent session.coming.items inbox rest until k cut c.requires.span in
+    let lent : take count c.deref.result.now ≡ inbox = ap (take count) c.deref.ensures.value in
+    let done = (c.in_ok-run.ensures {u = tt}) p.s p.channel steps k.mail k.stands (keeps-at p.s p.channel session.cycle p.sent)
+    (subst (λ x. IsFit p.s p.channel steps k.mail x session.cycle until) (sym lent) fit) in
+    let gone = has-gone session.channel c.run.new.self p.s p.channel session.cycle session.firsts.items p.sent session.coming.items inbox rest until c.new-issued.result c.run.new.commands c.new-replies.result.items c.run.new.messages.items k cut c.requires.span c.requires.until
+    (subst (λ x. IsDone c.run.new.self p.s p.channel steps k.mail x session.cycle until c.new-issued.result c.run.new.commands c.new-replies.result.items c.run.new.messages.items) lent done) c.new-issued.ensures c.new-replies.ensures.items in
+    ran-session session _ p until rest c.run.new.commands c.run.new.messages.items h
+    (record {
+      config_is = refl;
+      number_is = refl;
+      cycle_is = refl;
+      firsts_are = refl;
+      coming_are = c.remove_front.ensures;
+      commands_are = (c.in_ok-put_behind.ensures {u = tt}) ∙ ap (λ x. session.commands.items ++ x) (c.deref-2.ensures.value ∙ c.in_ok-to_vec.ensures {u = tt});
+      replies_are = (c.in_ok-put_behind-2.ensures {u = tt}) ∙ ap (λ x. session.replies.items ++ x) c.deref-3.ensures.value;
+    })
+    gone

@@ -1,0 +1,7 @@
+//! A channel as a session: it is sent requests, run up to a cycle, and gives its commands and replies one after the other.
+#![tactic(auto)]
+
+pub mod fault;
+pub mod requests;
+mod rows;
+pub mod session;

@@ -1,0 +1,289 @@
+//! A channel as a session.
+
+ghost use Rattle.std.specs.Prelude.{◌≡◌, ◌≢◌, ◌+◌, ◌-◌, ◌<◌, ◌≤◌, ◌^◌, nat_lt, nat_le, length, take_while, slice_get, IfOk, IfErr, OnOk, OnErr, ◌++◌};
+ghost use Rattle.std.specs.List.{list_all};
+ghost use Rattle.statistics.specs.Channels.{channel_stats};
+ghost use Rattle.sim_base.specs.History.{is_before};
+ghost use Rattle.channel_step.specs.Fit.{queue_room};
+ghost use Rattle.channel_session.specs.Sent.{message_of, is_unasked};
+ghost use Rattle.channel_session.specs.Keeps.{steps_of, waiting};
+ghost use Rattle.channel_session.specs.Sessions.{Past, IsSession, IsOpen, no_past, commands_of, replies_of, with_sent, with_command, with_reply, number_refusal, refusal, end_refusal, IsAnswer, HasTaken};
+ghost use Rattle.channel_session.specs.declared.fault.SessionFault.TheVariants.{Memory};
+
+use crate::fault::SessionFault;
+use crate::requests::{SentRequest, message_of};
+use crate::rows::{put_behind, queue_room, remove_front};
+use address_map::place_of;
+use channel_step::channel::Channel;
+use command_table::list::CommandList;
+use sim_base::command::IssuedCommand;
+use sim_base::config::Config;
+use sim_base::message::{ChannelId, Cycle, Message};
+use statistics::channels::ChannelStats;
+use std::alloc::{AllocError, Global};
+use std::collections::VecDeque;
+
+/// The last cycle at which a session may stand: 2^62.
+const LAST_CYCLE: Cycle = 1 << 62;
+
+/// A channel that is sent requests, run up to a cycle, and gives its commands and replies one after the other. It keeps nothing of
+/// its past but what is not taken yet: its contracts are about every past that it may have.
+#[derive(Drop)]
+pub struct Session {
+    channel: Channel,
+    config: Config,
+    number: ChannelId,
+    /// The cycle where it stands: this many are over.
+    cycle: Cycle,
+    /// For each core the first entry that may be asked for.
+    firsts: Vec<u64>,
+    /// What was sent and has not arrived, by arrival and then by link.
+    coming: Vec<Message>,
+    /// The commands that were issued and are not taken.
+    commands: VecDeque<IssuedCommand>,
+    /// The replies and credits that were sent and are not taken.
+    replies: VecDeque<Message>,
+}
+
+impl Session {
+    /// The channel with a number, of a machine with this configuration, before its first cycle. It is refused as `NoSuchChannel`
+    /// where the machine has none with this number.
+    pub fn open(alloc: Global, config: &Config, number: ChannelId) -> Result<Session, SessionFault>
+        ensures answer { IsAnswer (number_refusal config.now number) result }
+        ensures opened { IfOk result (λ session. IsSession session (no_past config.now number)) }
+        ensures now { IfOk result (λ session. session.cycle ≡ 0) }
+        ensures open { IfOk result IsOpen }
+    {
+        if u32::from(config.channels) <= number {
+            return Err(SessionFault::NoSuchChannel);
+        }
+        Ok(Session::start(alloc, config, number)?)
+    }
+
+    /// The same, whether the machine has that channel or not. The only error is out of memory.
+    fn start(alloc: Global, config: &Config, number: ChannelId) -> Result<Session, AllocError>
+        ensures opened { IfOk result (λ session. IsSession session (no_past config.now number)) }
+        ensures now { IfOk result (λ session. session.cycle ≡ 0) }
+    {
+        let cores = usize::from(config.cores);
+        Ok(Session {
+            channel: Channel::start(alloc, config, number)?,
+            config: config.copy(alloc)?,
+            number,
+            cycle: 0,
+            firsts: vec![in alloc; 0; cores]?,
+            coming: Vec::new(alloc),
+            commands: VecDeque::new(alloc),
+            replies: VecDeque::new(alloc),
+        })
+    }
+
+    /// The cycle where the session stands, at most 2^62: this many are over.
+    pub fn now(&self) -> Cycle
+        ensures { result ≡ self.now.cycle }
+    {
+        self.cycle
+    }
+
+    /// The statistics of the cycles that are over.
+    pub fn stats(&self) -> ChannelStats
+        ensures { (p : Past) → IsSession self.now p
+            → result ≡ channel_stats p.s p.channel (steps_of p.s p.channel p.sent self.now.cycle) p.sent }
+    {
+        self.channel.stats()
+    }
+
+    /// Whether a message goes behind all that are on their way.
+    fn is_last(&self, message: &Message) -> bool
+        ensures { result ≡ list_all (λ n. is_before n message.now) self.now.coming.items }
+    {
+        self.coming.iter().all(|sent| sent.is_before(message))
+    }
+
+    /// Whether the entry of a request may be asked for.
+    fn is_unasked(&self, request: &SentRequest) -> bool
+        ensures { result ≡ is_unasked self.now.firsts.items request.now.core request.now.entry }
+    {
+        let core = usize::from(request.core);
+        core < self.firsts.len() && self.firsts[core] <= request.entry && request.entry < u64::MAX
+    }
+
+    /// Whether there is no credit, where so many requests wait.
+    fn has_no_credit(&self, waits: usize) -> bool
+        ensures { result
+            ≡ nat_le (queue_room self.now.config) (waits + length self.now.coming.items) }
+    {
+        queue_room(&self.config).saturating_sub(waits) <= self.coming.len()
+    }
+
+    /// Why a request is refused where so many requests wait, if it is.
+    fn refusal(&self, request: &SentRequest, waits: usize) -> Option<SessionFault>
+        ensures { result ≡ refusal self.now waits request.now }
+    {
+        let place = place_of(&self.config, request.address);
+        let message = message_of(&self.config, self.number, request);
+        if self.config.cores <= request.core {
+            Some(SessionFault::NoSuchCore)
+        } else if place.channel != self.number {
+            Some(SessionFault::OtherChannel)
+        } else if request.arrival < self.cycle {
+            Some(SessionFault::InThePast)
+        } else if !self.is_last(&message) {
+            Some(SessionFault::OutOfOrder)
+        } else if !self.is_unasked(request) {
+            Some(SessionFault::EntryPassed)
+        } else if self.has_no_credit(waits) {
+            Some(SessionFault::NoCredit)
+        } else {
+            None
+        }
+    }
+
+    /// Puts a request behind those on their way: it was asked for then. The only error is out of memory.
+    fn take(&mut self, request: &SentRequest) -> Result<(), SessionFault>
+        requires core { request.now.core < length self.old.firsts.items }
+        requires entry { request.now.entry < 2 ^ 64 - 1 }
+        ensures taken { OnOk result (HasTaken self.old self.new request.now) }
+        ensures left { (p : Past) → IsSession self.old p → OnErr result (IsSession self.new p) }
+        ensures memory { IfErr result (λ e. e ≡ Memory) }
+        ensures now { self.new.cycle ≡ self.old.cycle }
+    {
+        let core = usize::from(request.core);
+        let message = message_of(&self.config, self.number, request);
+        self.coming.push(message)?;
+        self.firsts[core] = request.entry + 1;
+        Ok(())
+    }
+
+    /// Sends a request. Its core and channel must be there; it arrives at the cycle where the session stands or later, after all that
+    /// are on their way; neither its entry nor a later one of its core was asked for; and there is a credit for it. A refusal leaves
+    /// the session as it was.
+    pub fn send(&mut self, request: &SentRequest) -> Result<(), SessionFault>
+        ensures answer { (p : Past) → IsSession self.old p
+            → IsAnswer (refusal self.old (waiting p.s p.channel p.sent self.old.cycle) request.now) result }
+        ensures sent { (p : Past) → IsSession self.old p
+            → OnOk result (IsSession self.new (with_sent p (message_of p.s p.channel request.now))) }
+        ensures left { (p : Past) → IsSession self.old p → OnErr result (IsSession self.new p) }
+        ensures same { IfErr result (λ e. e ≢ Memory → self.new ≡ self.old) }
+        ensures now { self.new.cycle ≡ self.old.cycle }
+        ensures open { IsOpen self.old → IsOpen self.new }
+    {
+        let waits = self.channel.requests().len();
+        match self.refusal(request, waits) {
+            Some(fault) => Err(fault),
+            None => self.take(request),
+        }
+    }
+
+    /// Why a run up to a cycle is refused, if it is.
+    fn end_refusal(&self, until: Cycle) -> Option<SessionFault>
+        ensures { result ≡ end_refusal self.now until }
+    {
+        if until < self.cycle {
+            Some(SessionFault::EndPassed)
+        } else if LAST_CYCLE < until {
+            Some(SessionFault::EndTooLate)
+        } else {
+            None
+        }
+    }
+
+    /// How many of the messages on their way arrive before a cycle.
+    fn due_count(&self, until: Cycle) -> usize
+        ensures { result
+            ≡ length (take_while (λ m. nat_lt m.arrival until) self.now.coming.items) }
+    {
+        self.coming
+            .iter()
+            .take_while(|message| message.arrival < until)
+            .count()
+    }
+
+    /// Runs the channel up to a cycle that is not over, and no later than 2^62. The only error is out of memory.
+    fn advance(&mut self, alloc: Global, until: Cycle) -> Result<(), AllocError>
+        requires open { IsOpen self.old }
+        requires span { self.old.cycle ≤ until }
+        requires until { until ≤ 2 ^ 62 }
+        ensures done { (p : Past) → IsSession self.old p → OnOk result (IsSession self.new p) }
+        ensures now { OnOk result (self.new.cycle ≡ until) }
+    {
+        let due = self.due_count(until);
+        let mut issued = CommandList::new(alloc);
+        let mut replies = Vec::new(alloc);
+        self.channel.run(
+            &self.coming[..due],
+            self.cycle,
+            until,
+            &mut issued,
+            &mut replies,
+        )?;
+        put_behind(&mut self.commands, &issued.to_vec(alloc)?)?;
+        put_behind(&mut self.replies, &replies)?;
+        remove_front(&mut self.coming, due);
+        self.cycle = until;
+        Ok(())
+    }
+
+    /// Runs the channel over the cycles before `until`. It is refused where that cycle is over or after 2^62, which leaves the session
+    /// as it was. Where memory is refused, what the session holds is not known, and it can only be closed.
+    pub fn run(&mut self, alloc: Global, until: Cycle) -> Result<(), SessionFault>
+        requires open { IsOpen self.old }
+        ensures answer { IsAnswer (end_refusal self.old until) result }
+        ensures done { (p : Past) → IsSession self.old p → OnOk result (IsSession self.new p) }
+        ensures now { OnOk result (self.new.cycle ≡ until) }
+        ensures same { IfErr result (λ e. e ≢ Memory → self.new ≡ self.old) }
+        ensures open { OnOk result (IsOpen self.new) }
+    {
+        if let Some(fault) = self.end_refusal(until) {
+            return Err(fault);
+        }
+        Ok(self.advance(alloc, until)?)
+    }
+
+    /// Takes out the first command that it holds, if there is one.
+    fn pop_command(&mut self) -> Option<IssuedCommand>
+        ensures next { (p : Past) → IsSession self.old p
+            → result ≡ slice_get (commands_of p self.old.cycle) (length p.commands) }
+        ensures taken { (p : Past) → IsSession self.old p
+            → IsSession self.new (with_command p result) }
+        ensures now { self.new.cycle ≡ self.old.cycle }
+    {
+        self.commands.pop_front()
+    }
+
+    /// The next command of the cycles that are over, if there is one: the first that was not taken. It is taken then.
+    pub fn next_command(&mut self) -> Option<IssuedCommand>
+        ensures next { (p : Past) → IsSession self.old p
+            → result ≡ slice_get (commands_of p self.old.cycle) (length p.commands) }
+        ensures taken { (p : Past) → IsSession self.old p
+            → IsSession self.new (with_command p result) }
+        ensures now { self.new.cycle ≡ self.old.cycle }
+        ensures open { IsOpen self.old → IsOpen self.new }
+    {
+        self.pop_command()
+    }
+
+    /// Takes out the first reply that it holds, if there is one.
+    fn pop_reply(&mut self) -> Option<Message>
+        ensures next { (p : Past) → IsSession self.old p
+            → result ≡ slice_get (replies_of p self.old.cycle) (length p.replies) }
+        ensures taken { (p : Past) → IsSession self.old p
+            → IsSession self.new (with_reply p result) }
+        ensures now { self.new.cycle ≡ self.old.cycle }
+    {
+        self.replies.pop_front()
+    }
+
+    /// The next reply with the data of a Read, or the next credit, that the channel sent in the cycles that are over, if there is one:
+    /// the first that was not taken. It is taken then.
+    pub fn next_reply(&mut self) -> Option<Message>
+        ensures next { (p : Past) → IsSession self.old p
+            → result ≡ slice_get (replies_of p self.old.cycle) (length p.replies) }
+        ensures taken { (p : Past) → IsSession self.old p
+            → IsSession self.new (with_reply p result) }
+        ensures now { self.new.cycle ≡ self.old.cycle }
+        ensures open { IsOpen self.old → IsOpen self.new }
+    {
+        self.pop_reply()
+    }
+}

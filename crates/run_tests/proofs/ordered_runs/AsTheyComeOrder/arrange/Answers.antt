@@ -1,0 +1,5 @@
+use Rattle.ordered.proofs.Given.{each-given}
+use Rattle.run_tests.proofs.ordered_runs.AsTheyComeOrder.arrange.Goals as goal
+
+pub returns-clause-given : goal.returns-clause-given
+returns-clause-given c = each-given c.args.results.items
