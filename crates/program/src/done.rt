@@ -18,7 +18,18 @@ impl Done {
         ensures status { result.status ≡ 0 }
         ensures warning { result.warning ≡ None }
     {
-        Done::with_status(DONE)
+        Done::with_warning(None)
+    }
+
+    /// Done, with this to warn of, if there is something.
+    pub(crate) fn with_warning(warning: Option<LargePage>) -> Done
+        ensures status { result.status ≡ 0 }
+        ensures warning { result.warning ≡ warning }
+    {
+        Done {
+            status: DONE,
+            warning,
+        }
     }
 
     /// Done with a status, and nothing to warn of.

@@ -20,7 +20,7 @@ use page::window::Window;
 use refusal::error_stream::ErrorStream;
 use refusal::lines::write_lines;
 use refusal::refusal::Refusal;
-use refusal::status::{DONE, REFUSED};
+use refusal::status::REFUSED;
 use refusal::warning::write_warning;
 use std::alloc::Global;
 use std::io::Write;
@@ -30,12 +30,15 @@ use whole_files::files::FileSet;
 use workers::sharing::{Sharing, Workers};
 use workers::watch::Watch;
 
-// When the words say that workers share a machine out.
-fn sharing_of(share: Share) -> Sharing {
-    match share {
+// So many workers, which share a machine out when the words say.
+fn workers_of(count: u64, share: Share) -> Workers
+    ensures { result.count ≡ count }
+{
+    let sharing = match share {
         Share::Auto => Sharing::default(),
         Share::Always => Sharing::always(),
-    }
+    };
+    Workers { count, sharing }
 }
 
 // Does what is asked.
@@ -61,10 +64,7 @@ fn answer<R: Threads + Wait + Sync, W: Watch, F: FileSet, P: Write>(
             out,
             traces,
         } => {
-            let workers = Workers {
-                count: *workers,
-                sharing: sharing_of(*share),
-            };
+            let workers = workers_of(*workers, *share);
             perform_run(host, alloc, files, config, *cycles, workers, out, traces)?;
             Ok(Done::quiet())
         }
@@ -92,10 +92,7 @@ fn answer<R: Threads + Wait + Sync, W: Watch, F: FileSet, P: Write>(
                 cycles: *cycles,
             };
             let warning = perform_page(alloc, files, dir, file, *config, window)?;
-            Ok(Done {
-                status: DONE,
-                warning,
-            })
+            Ok(Done::with_warning(warning))
         }
         Ask::Help(text) | Ask::Version(text) => {
             print_text(alloc, output, text.as_str())?;

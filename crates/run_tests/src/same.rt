@@ -48,7 +48,7 @@ fn assert_run<R: Abort + Threads + Wait + Sync>(
     assert_limits(rt, alloc, &texts, row.cycles)
 }
 
-static ROWS: [Row; 28] = [
+pub(crate) static ROWS: [Row; 28] = [
     READ_IN_FLIGHT,
     HITS,
     GROUPS,

@@ -6,13 +6,10 @@ ghost use Rattle.std.specs.Prelude.{◌<◌};
 use crate::expect::expect_at;
 use crate::ordered_runs::{AsTheyCome, Reversed};
 use crate::outcomes::{Run, plain_tables, tables_of};
-use crate::same::texts_with;
+use crate::same::{ROWS, texts_with};
 use crate::shared_out::{LONGEST, started};
 use fixtures::small::small;
-use fixtures::worked_runs::{
-    CONFLICT, EIGHT_CREDITS, FAST_LINK, GROUPS, HIGH, HITS, NARROW_WINDOW, NOTHING, ONE_CREDIT,
-    PLAIN, READ_IN_FLIGHT, Run as Row, SAME_LINE, WRITE,
-};
+use fixtures::worked_runs::{FAST_LINK, Run as Row};
 use ordered::order::Order;
 use ordered::run::run_in_order;
 use shards::job::Done;
@@ -106,21 +103,6 @@ fn units_of(alloc: Global, row: &Row) -> Result<usize, Fault> {
     Ok(usize::from(config.cores) + usize::from(config.channels))
 }
 
-static RUNS: [Row; 12] = [
-    READ_IN_FLIGHT,
-    HITS,
-    GROUPS,
-    HIGH,
-    CONFLICT,
-    WRITE,
-    SAME_LINE,
-    NOTHING,
-    PLAIN,
-    EIGHT_CREDITS,
-    ONE_CREDIT,
-    NARROW_WINDOW,
-];
-
 /// A run with one more link has the tables of the plain machine in shards.
 fn assert_linked<R: Abort + Threads + Wait + Sync>(
     rt: &R,
@@ -139,7 +121,7 @@ fn assert_linked<R: Abort + Threads + Wait + Sync>(
 
 #[test]
 fn orders_of_worked_runs_do_not_matter(rt: HostRuntime) -> Result<(), Fail> {
-    for row in &RUNS {
+    for row in ROWS.iter().take(12) {
         assert_linked(&rt, rt.alloc(), row, "")?;
         assert_linked(&rt, rt.alloc(), row, FAST_LINK)?;
     }

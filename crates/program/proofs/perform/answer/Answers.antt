@@ -5,7 +5,7 @@ use Rattle.program.proofs.perform.answer.Goals as goal
 pub returns-in_err-perform_run-in-Run-clause-fault : goal.returns-in_err-perform_run-in-Run-clause-fault
 returns-in_err-perform_run-in-Run-clause-fault g c =
     let kept : c.from_residual.result ≡ Err c.in_err-perform_run-in-Run.field-0.0 = search rules in
-    rw (kept, c.in-Run.is) (rw c.deref.ensures.value at c.in_err-perform_run-in-Run.ensures.fault)
+    rw (kept, c.in-Run.is) (rw (c.deref.ensures.value, c.workers_of-workers.ensures) at c.in_err-perform_run-in-Run.ensures.fault)
 
 pub returns-in_err-status-in-Check-clause-fault : goal.returns-in_err-status-in-Check-clause-fault
 returns-in_err-status-in-Check-clause-fault g c =
