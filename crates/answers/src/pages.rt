@@ -153,7 +153,7 @@ fn in_proportion(cycles: u64, bytes: u64) -> u64 {
     }
 }
 
-// The window with a number of cycles, of those that were tried, that gives a page of at most 50 MB. None where memory is refused.
+// The window with a number of cycles, of those that were tried, that gives a page of at most 50 MB. None where none of them does, or memory is refused.
 fn cycles_that_fit(
     alloc: Global,
     dir: &str,

@@ -137,7 +137,7 @@ IsLeft refusal (Run config cycles workers share out traces) old new =
 IsLeft refusal (Page dir file config from cycles) old new = IsPageLeft refusal file.now old new
 IsLeft refusal _ old new = LeavesAll refusal old.held new.held old.opened new.opened
 
--- the same for what words ask for
+-- what the words ask for has been done, with this status and this warning
 pub record IsDone (words : List (List ℕ)) (done : Done) (old new : Seen) : Type 0 where
   pub ask : Ask
   pub asked : IsAskedBy words ask

@@ -1,5 +1,5 @@
 -- What the program warns of, although it does what it is asked (this project).
---     LARGE_PAGE      the greatest length of a page, in bytes, that is made without a warning
+--     large_page      the greatest length of a page, in bytes, that is made without a warning
 --     IsWarningOf text warning      a page is warned of that is longer, with its length
 --     warning_line page      the line of a warning
 --     IsLine has_refused old new line, IsWarned warning has_refused old new      it was told

@@ -106,7 +106,7 @@ bank_in limits fields = do
   bank ← number_below 4 (bank_text limits.ranks fields)
   Some (record { rank = rank; group = group; bank = bank })
 
--- the entry in whose name a record'limits command is issued
+-- the entry in whose name a record's command is issued
 unfoldable pub source_in : Limits → List (List ℕ) → Option Source
 source_in limits fields = do
   core ← number_below limits.cores (core_text limits.ranks fields)
