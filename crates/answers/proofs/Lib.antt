@@ -1,3 +1,4 @@
+pub mod ManyFiles
 pub mod NamedFacts
 pub mod PageFacts
 pub mod RefusedFacts

@@ -1,4 +1,4 @@
--- What `check`, `map` and `show` answer, from what the files hold that they name.
+-- What `check`, `map`, `show` and `compare` answer, from what the files hold that they name.
 --     IsVerdict config commands held found      what a table of commands is found to be
 --     verdict_line found, verdict_status found      the line and the status that tell it
 --     IsChecked config commands status held before after      it was told
@@ -7,7 +7,11 @@
 --     IsMapped config address held before after      it was told
 --     IsStatsOf path held stats      the statistics whose table a file holds
 --     IsShown dir config held before after      their screen was printed
-use Rattle.std.specs.Prelude.{◌≡◌, ℕ, nat_lt, List, [], ◌∷◌, ◌++◌, codes, decimal, Option, Some, Ok, if◌then◌else◌}
+--     stats_path dir      the file of the statistics in a folder
+--     stats_table stats      the records of their table
+--     AreStatsOf dirs held runs      the statistics whose tables are in folders
+--     IsCompared dirs layout held before after      their comparison was printed
+use Rattle.std.specs.Prelude.{◌≡◌, ℕ, nat_lt, List, [], ◌∷◌, ◌++◌, codes, decimal, map, Option, Some, Ok, if◌then◌else◌}
 use Rattle.std.specs.Io.KnownBytes.{Appends}
 use Rattle.sim_base.specs.declared.config.Config.{Config}
 use Rattle.sim_base.specs.declared.place.Place.{Place}
@@ -20,6 +24,8 @@ use Rattle.rule_check.specs.Verdict.{records_of, verdict}
 use Rattle.rule_check.specs.declared.verdict.Verdict.{Verdict}
 use Rattle.rule_check.specs.declared.verdict.Verdict.TheVariants.{Legal, Broken}
 use Rattle.show.specs.Screen.{IsScreen}
+use Rattle.compare.specs.Comparison.{comparison_text}
+use Rattle.compare.specs.declared.layout.Layout.{Layout}
 use Rattle.whole_files.specs.Files.{Held}
 use Rattle.whole_files.specs.Tables.{path_in, stats_name}
 use Rattle.answers.specs.Named.{IsConfigured}
@@ -91,3 +97,23 @@ pub record IsShown (dir : List ℕ) (config : Option (List ℕ)) (held : Held) (
   pub configured : IsConfigured config held stats
   pub screen : IsScreen stats text
   pub printed : Appends before after text
+
+-- the file of the statistics in a folder
+abbrev pub stats_path : List ℕ → List ℕ
+stats_path dir = path_in dir stats_name
+
+-- the records of a table of statistics
+abbrev pub stats_table : RunStats → List (List (List ℕ))
+stats_table stats = stats_header ∷ stats_rows stats
+
+-- the statistics whose tables are in folders
+pub record AreStatsOf (dirs : List (List ℕ)) (held : Held) (runs : List RunStats) : Type 0 where
+  pub tables : List (List ℕ)
+  pub tables_are : map held (map stats_path dirs) ≡ map Some tables
+  pub rows_are : map records_of tables ≡ map stats_table runs
+
+-- each folder has the table of statistics, and their comparison was printed
+pub record IsCompared (dirs : List (List ℕ)) (layout : Layout) (held : Held) (before after : Option (List ℕ)) : Type 0 where
+  pub runs : List RunStats
+  pub runs_are : AreStatsOf dirs held runs
+  pub printed : Appends before after (comparison_text layout dirs runs)

@@ -2,8 +2,8 @@
 -- read; what these files hold, a configuration before all else; and last, whether the answer can be written.
 --     LacksOne tells held paths      one of the files is not there
 --     AreTexts tells held paths texts      they hold these texts
---     IsTableFault, IsMapFault, IsShowFault, IsPageFault texts fault      what is wrong with the texts of a `check`, a `map`, a `show`, a `page`
---     IsRightTable, IsRightMap, IsRightShow, IsRightPage texts      nothing is
+--     IsTableFault, IsMapFault, IsShowFault, IsPageFault, IsCompareFault texts fault      what is wrong with the texts of an answer
+--     IsRightTable, IsRightMap, IsRightShow, IsRightPage, IsRightCompare texts      nothing is
 --     IsFilesFault tells held paths fault      why files are not read
 --     IsFoundFault, IsReady tells held paths ..      what was read has a fault, or none
 --     IsInputFault, IsAnswerFault tells held paths ..      why the input, or the whole, is refused
@@ -133,6 +133,15 @@ abbrev pub IsRightPage : List (List ℕ) → Type 0
 IsRightPage (stats_table ∷ commands_table ∷ []) = AreRunTables stats_table commands_table
 IsRightPage (document ∷ stats_table ∷ commands_table ∷ []) = IsStatsUnder document stats_table × AreRunTables stats_table commands_table
 IsRightPage _ = ⊥
+
+-- what is wrong with the tables of a comparison: a row of one of them
+abbrev pub IsCompareFault : List (List ℕ) → Fault → Type 0
+IsCompareFault texts fault = IsRowRefusal fault
+
+-- the records of each table are just those of statistics
+pub record IsRightCompare (texts : List (List ℕ)) : Type 0 where
+  pub runs : List RunStats
+  pub rows_are : map records_of texts ≡ map (λ stats. stats_header ∷ stats_rows stats) runs
 
 -- memory was refused, or one of the files cannot be read
 abbrev pub IsFilesFault : Type 0 → Held → List (List ℕ) → Fault → Type 0

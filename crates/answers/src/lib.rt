@@ -1,6 +1,7 @@
-//! What `check`, `map`, `show` and `page` answer, over files and a stream that are handed in.
+//! What `check`, `map`, `show`, `page` and `compare` answer, over files and a stream that are handed in.
 #![tactic(auto)]
 
+pub mod comparisons;
 mod described;
 mod explained;
 pub mod pages;

@@ -10,6 +10,7 @@ ghost use Rattle.whole_files.specs.Tables.{path_in, stats_name};
 use crate::described::{RunRecord, described, document_at};
 use crate::print::print_text;
 use refusal::reason::Reason;
+use show::options::Options;
 use show::show_text;
 use std::alloc::Global;
 use std::io::Write;
@@ -53,8 +54,8 @@ fn run_in<F: FileSet>(
     run_at(alloc, files, config, path.as_str())
 }
 
-/// `show DIR [--all] [--config FILE]`: prints what the run did whose tables are in a folder, with what its configuration adds. It opens and
-/// changes no file.
+/// `show DIR [--all] [--config FILE] [--mhz N]`: prints what the run did whose tables are in a folder, with what its configuration and its clock
+/// add. It opens and changes no file.
 ///
 /// # Errors
 ///
@@ -65,7 +66,7 @@ pub fn perform_show<F: FileSet, P: Write>(
     files: &mut F,
     output: &mut P,
     dir: &str,
-    all: bool,
+    options: Options,
     config: Option<&str>,
 ) -> Result<(), Reason>
     ensures shown { OnOk result (F.tells → IsShown dir.now (option_map (λ c. c.now) config.entry) (F.held files.old) (P.contents output.old) (P.contents output.new)) }
@@ -74,6 +75,6 @@ pub fn perform_show<F: FileSet, P: Write>(
     ensures unopened { F.tells → F.opened files.new ≡ F.opened files.old }
 {
     let run = run_in(alloc, files, config, dir)?;
-    let screen = show_text(alloc, &run.stats, all, run.config.as_ref())?;
+    let screen = show_text(alloc, &run.stats, options, run.config.as_ref())?;
     print_text(alloc, output, screen.as_str())
 }

@@ -3,6 +3,7 @@ use Rattle.std.proofs.Common.{◌≡◌, ℕ, ◌+◌, ◌<◌, ◌≤◌, Bool,
 use Rattle.std.proofs.lemmas.Bool.{cases_lt}
 use Rattle.std.proofs.lemmas.List.{get_or_default}
 use Rattle.std.proofs.lemmas.Slice.Zip.{get_or-zip}
+use Rattle.std.specs.List.{All}
 use Rattle.sim_base.specs.declared.message.Request.{Request}
 use Rattle.queue_columns.specs.Marks.{is_marked}
 use Rattle.queue_columns.specs.Columns.{eligible_column}
@@ -73,6 +74,18 @@ pub tested : (test : Request → Bool) (rs xs : List Request) (marks : List ℕ)
 tested test rs xs marks slot e wanted within same marks_are is d =
     here_is test rs marks slot (get_or xs slot e) d within marks_are (get_or_default rs slot d.0 e within ∙ ap (λ ys. get_or ys slot e) (sym same))
     ∙ ap (λ b. is_marked (get_or marks slot 0) && b) (sym is)
+
+-- where no request passes a test, none that may be served does
+pub none_at_all : (test : Request → Bool) (rs : List Request) → All (λ r. test r ≡ false) rs → None ≡ first_place test rs
+none_at_all test rs fails =
+    found_none test rs (length rs) (omega arith)
+    (λ k d sooner exists.
+    let m = is_marked (get_or (eligible_column rs) k 0) in
+    here_is test rs (eligible_column rs) k (get_or rs k d.0) d exists refl refl ∙ ap (λ b. m && b) (fails k d.0 exists) ∙ never m)
+  where
+    never : (t : Bool) → (t && false) ≡ false
+    never true = refl
+    never false = refl
 
 pub none_everywhere : (test : Request → Bool) (rs : List Request) → ((x : Request) → test x ≡ false) → None ≡ first_place test rs
 none_everywhere test rs fails = found_none test rs (length rs) (omega arith) (λ k d sooner exists. let e = get_or (entries rs) k d in ap (λ b. is_marked e.1 && b) (fails e.0) ∙ never (is_marked e.1))

@@ -1,6 +1,6 @@
 //! Searches for the first request of a bank and an access.
 
-ghost use Rattle.std.specs.Prelude.{◌≡◌, ℕ, ◌-◌, ◌<◌, ◌^◌, ◌==◌, true, List, length, remove, Option, Some, IfSome};
+ghost use Rattle.std.specs.Prelude.{◌≡◌, ℕ, ◌-◌, ◌<◌, ◌^◌, ◌==◌, true, false, List, All, length, remove, Option, Some, IfSome};
 ghost use Rattle.sim_base.specs.declared.message.Request.{Request};
 ghost use Rattle.bank_candidates.specs.Candidates.{asks, wants, first_place, access_number};
 ghost use Rattle.bank_candidates.specs.Moves.{past, NoneBefore, OnlyMoves};
@@ -55,6 +55,17 @@ fn asks_for_row(request: Request, row: u32) -> bool
     request.place.row == row
 }
 
+/// Whether some request may be of a bank and an access, and ask for a row if one is given: false only where none is and does.
+#[inline(always)]
+fn may_be_wanted(queue: &Columns<'_>, bank: usize, write: bool, row: Option<u32>) -> bool
+    ensures { result ≡ false → All (λ r. wants bank write row r ≡ false) queue.now.requests.now }
+{
+    match row {
+        Some(row) => queue.may_ask(bank, write, row),
+        None => true,
+    }
+}
+
 /// The first request from a place on that may be served, is of a bank and an access, and asks for a row if one is given. Each
 /// such request has the tag that is searched for, and most others do not.
 pub(crate) fn first_from(
@@ -67,6 +78,9 @@ pub(crate) fn first_from(
     ensures first { NoneBefore (wants bank write row) queue.now.requests.now from → result ≡ first_place (wants bank write row) queue.now.requests.now }
     ensures within { IfSome result (λ k. k < length queue.now.requests.now) }
 {
+    if !may_be_wanted(queue, bank, write, row) {
+        return None;
+    }
     let requests = queue.requests();
     let tags = queue.tags();
     let tag = tag_word(true, write, bank as u64);

@@ -3,12 +3,13 @@
 --     commands_of p now, replies_of p now      all that the definition's channel gives before a cycle
 --     IsSession session p      a session has this past
 --     IsOpen session      it has some past
+--     core_of s reply      the core that a reply goes to
 --     with_sent p m, with_command p o, with_reply p o      a past with one message more that was sent, or that was taken
 --     number_refusal s channel      why no session is opened, if none is
 --     refusal session waits request, end_refusal session until      why a request or a run is refused, if it is
 --     IsAnswer refusal result      the answer of a call that is refused so, if at all
 --     HasTaken old new request      a request was taken
-use Rattle.std.specs.Prelude.{◌≡◌, ℕ, ◌+◌, ◌^◌, ◌==◌, nat_lt, nat_le, not, if◌then◌else◌, List, [], ◌∷◌, ◌++◌, length, Option, Some, None, Result, Err, IfErr}
+use Rattle.std.specs.Prelude.{◌≡◌, ℕ, ◌+◌, ◌/◌, ◌^◌, ◌==◌, nat_lt, nat_le, not, if◌then◌else◌, List, [], ◌∷◌, ◌++◌, length, Option, Some, None, Result, Err, IfErr}
 use Rattle.std.specs.List.{list_all}
 use Rattle.sim_base.specs.History.{issued_commands, channel_messages, is_before}
 use Rattle.sim_base.specs.Places.{place_of}
@@ -53,6 +54,10 @@ pub record IsSession (session : Session) (p : Past) : Type 0 where
 pub record IsOpen (session : Session) : Type 0 where
   pub past : Past
   pub is_session : IsSession session past
+
+-- the core that a reply or a credit goes to, by the number of its link: three for each pair of a core and a channel
+abbrev pub core_of : Config → Message → ℕ
+core_of s reply = reply.link / 3 / s.channels
 
 -- nothing was sent to a channel, and nothing was taken from it
 abbrev pub no_past : Config → ℕ → Past

@@ -4,10 +4,11 @@ ghost use Rattle.std.specs.Prelude.{◌≡◌, ◌≢◌, ◌+◌, ◌-◌, ◌<
 ghost use Rattle.std.specs.List.{list_all};
 ghost use Rattle.statistics.specs.Channels.{channel_stats};
 ghost use Rattle.sim_base.specs.History.{is_before};
+ghost use Rattle.sim_base.specs.Places.{place_of};
 ghost use Rattle.channel_step.specs.Fit.{queue_room};
 ghost use Rattle.channel_session.specs.Sent.{message_of, is_unasked};
 ghost use Rattle.channel_session.specs.Keeps.{steps_of, waiting};
-ghost use Rattle.channel_session.specs.Sessions.{Past, IsSession, IsOpen, no_past, commands_of, replies_of, with_sent, with_command, with_reply, number_refusal, refusal, end_refusal, IsAnswer, HasTaken};
+ghost use Rattle.channel_session.specs.Sessions.{core_of, Past, IsSession, IsOpen, no_past, commands_of, replies_of, with_sent, with_command, with_reply, number_refusal, refusal, end_refusal, IsAnswer, HasTaken};
 ghost use Rattle.channel_session.specs.declared.fault.SessionFault.TheVariants.{Memory};
 
 use crate::fault::SessionFault;
@@ -19,6 +20,7 @@ use command_table::list::CommandList;
 use sim_base::command::IssuedCommand;
 use sim_base::config::Config;
 use sim_base::message::{ChannelId, Cycle, Message};
+use sim_base::place::Place;
 use statistics::channels::ChannelStats;
 use std::alloc::{AllocError, Global};
 use std::collections::VecDeque;
@@ -238,6 +240,20 @@ impl Session {
             return Err(fault);
         }
         Ok(self.advance(alloc, until)?)
+    }
+
+    /// Where the line of 64 bytes at an address lies in the memory of the session's machine: its channel first of all.
+    pub fn place_of(&self, address: u64) -> Place
+        ensures { result ≡ place_of self.now.config address }
+    {
+        place_of(&self.config, address)
+    }
+
+    /// The number of the core that a reply or a credit of this channel goes to: that of its link.
+    pub fn core_of(&self, reply: &Message) -> u64
+        ensures { result ≡ core_of self.now.config reply.now }
+    {
+        reply.link / 3 / u64::from(self.config.channels)
     }
 
     /// Takes out the first command that it holds, if there is one.

@@ -282,6 +282,7 @@ impl Channel {
 
     /// Counts the cycles from this one on and before `until`, at most 2^62, in which nothing is issued, and nothing arrives except in
     /// the first. The channel is in the cycle `until` then.
+    #[inline(always)]
     fn wait(&mut self, until: Cycle)
         requires in_cycle { IsInSomeCycle self.old self.old.cycle }
         requires span { self.old.cycle ≤ until }

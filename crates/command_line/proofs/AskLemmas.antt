@@ -12,7 +12,7 @@ use Rattle.sim_base.specs.declared.fault.Fault.TheVariants.{Memory, CommandLine}
 use Rattle.command_line.specs.CommandLine.{program_app}
 use Rattle.command_line.specs.Ask.{is_taken, command_of, kinds_of_fault, IsCommandOf, IsCallForHelp, IsCallForVersion, IsCommandFault, IsHelp, IsVersion, IsShown, IsHelpUnlessMemory, IsVersionUnlessMemory, IsNoHelp, IsAskedBy, IsAnswerTo}
 use Rattle.command_line.specs.declared.words.Ask.{Ask}
-use Rattle.command_line.specs.declared.words.Ask.TheVariants.{Run, Check, Map, Show, Page, Help, Version}
+use Rattle.command_line.specs.declared.words.Ask.TheVariants.{Run, Check, Map, Show, Page, Compare, Help, Version}
 
 -- the command line is one whose matches and faults `clap` defines
 simple : is_simple program_app ≡ true
@@ -41,8 +41,9 @@ asked_from words None ask e h = absurd h
 asked_from words (Some p) (Run config cycles workers share out traces) e h = rw (← e) h
 asked_from words (Some p) (Check config commands) e h = rw (← e) h
 asked_from words (Some p) (Map config address) e h = rw (← e) h
-asked_from words (Some p) (Show dir all config) e h = rw (← e) h
+asked_from words (Some p) (Show dir all config khz) e h = rw (← e) h
 asked_from words (Some p) (Page dir file config from cycles) e h = rw (← e) h
+asked_from words (Some p) (Compare dirs csv) e h = rw (← e) h
 asked_from words (Some p) (Help t) e h = absurd h
 asked_from words (Some p) (Version t) e h = absurd h
 
@@ -51,8 +52,9 @@ answered_from words None (Ok ask) e ok err = absurd ok
 answered_from words (Some p) (Ok (Run config cycles workers share out traces)) e ok err = tt
 answered_from words (Some p) (Ok (Check config commands)) e ok err = tt
 answered_from words (Some p) (Ok (Map config address)) e ok err = tt
-answered_from words (Some p) (Ok (Show dir all config)) e ok err = tt
+answered_from words (Some p) (Ok (Show dir all config khz)) e ok err = tt
 answered_from words (Some p) (Ok (Page dir file config from cycles)) e ok err = tt
+answered_from words (Some p) (Ok (Compare dirs csv)) e ok err = tt
 answered_from words (Some p) (Ok (Help t)) e ok err = absurd ok
 answered_from words (Some p) (Ok (Version t)) e ok err = absurd ok
 answered_from words o (Err fault) e ok err = subst (λ command. IsCommandFault command fault) e err
@@ -66,8 +68,9 @@ pub help_from : (words : List Text) (e : Error) (ask : Ask) → HasKind (kinds_o
 help_from words e (Run config cycles workers share out traces) has h = absurd h
 help_from words e (Check config commands) has h = absurd h
 help_from words e (Map config address) has h = absurd h
-help_from words e (Show dir all config) has h = absurd h
+help_from words e (Show dir all config khz) has h = absurd h
 help_from words e (Page dir file config from cycles) has h = absurd h
+help_from words e (Compare dirs csv) has h = absurd h
 help_from words e (Help t) has h = among_shown words e DisplayHelp has h (λ other. cc)
 help_from words e (Version t) has h = among_shown words e DisplayVersion has h (λ other. cc)
 
@@ -75,8 +78,9 @@ not_for_memory : (ask : Ask) (k : ErrorKind) → k ≡ OutOfMemory → IsShown a
 not_for_memory (Run config cycles workers share out traces) k memory h = h
 not_for_memory (Check config commands) k memory h = h
 not_for_memory (Map config address) k memory h = h
-not_for_memory (Show dir all config) k memory h = h
+not_for_memory (Show dir all config khz) k memory h = h
 not_for_memory (Page dir file config from cycles) k memory h = h
+not_for_memory (Compare dirs csv) k memory h = h
 not_for_memory (Help t) k memory h = let both : OutOfMemory ≡ DisplayHelp = sym memory ∙ h in cc
 not_for_memory (Version t) k memory h = let both : OutOfMemory ≡ DisplayVersion = sym memory ∙ h in cc
 
@@ -84,8 +88,9 @@ shown_help : (ask : Ask) (k : ErrorKind) → k ≡ DisplayHelp → IsShown ask k
 shown_help (Run config cycles workers share out traces) k is h = h
 shown_help (Check config commands) k is h = h
 shown_help (Map config address) k is h = h
-shown_help (Show dir all config) k is h = h
+shown_help (Show dir all config khz) k is h = h
 shown_help (Page dir file config from cycles) k is h = h
+shown_help (Compare dirs csv) k is h = h
 shown_help (Help t) k is h = tt
 shown_help (Version t) k is h = let both : DisplayHelp ≡ DisplayVersion = sym is ∙ h in cc
 
@@ -93,8 +98,9 @@ shown_version : (ask : Ask) (k : ErrorKind) → k ≡ DisplayVersion → IsShown
 shown_version (Run config cycles workers share out traces) k is h = h
 shown_version (Check config commands) k is h = h
 shown_version (Map config address) k is h = h
-shown_version (Show dir all config) k is h = h
+shown_version (Show dir all config khz) k is h = h
 shown_version (Page dir file config from cycles) k is h = h
+shown_version (Compare dirs csv) k is h = h
 shown_version (Help t) k is h = let both : DisplayVersion ≡ DisplayHelp = sym is ∙ h in cc
 shown_version (Version t) k is h = tt
 

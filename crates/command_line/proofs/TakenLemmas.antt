@@ -13,8 +13,8 @@ use Rattle.clap.specs.Walk.{Row, Rule, Text, answers_to, nothing_held, one_of, r
 use Rattle.clap.specs.ValueTests.{accepts}
 use Rattle.clap.specs.Takes.{built_takes, entered_passes, is_given, level_passes, settle_passes, walk_passes}
 use Rattle.clap.specs.declared.builder.value_parser.ValueParser.TheVariants.{Unsigned}
-use Rattle.command_line.specs.CommandLine.{program_app, run_app, check_app, map_app, show_app, page_app}
-use Rattle.command_line.specs.Ask.{is_taken, command_of, GivesAll, GivesRun, GivesCheck, GivesMap, GivesShow, GivesPage, IsCountText, IsNoneOrCount}
+use Rattle.command_line.specs.CommandLine.{program_app, run_app, check_app, map_app, show_app, page_app, compare_app}
+use Rattle.command_line.specs.Ask.{is_taken, command_of, GivesAll, GivesRun, GivesCheck, GivesMap, GivesShow, GivesPage, GivesCompare, IsCountText, IsNoneOrCount}
 use Rattle.command_line.proofs.RowFacts.{AreFit, FitRows, passes_for}
 use Rattle.command_line.proofs.LevelFacts.{StopsOn, given, level-gives, optional, walk-stop}
 
@@ -92,6 +92,9 @@ show_leaf = built_leaf (inherited above show_app.top)
 abbrev page_leaf : Shape
 page_leaf = built_leaf (inherited above page_app.top)
 
+abbrev compare_leaf : Shape
+compare_leaf = built_leaf (inherited above compare_app.top)
+
 abbrev help_leaf : Shape
 help_leaf = built_leaf help_shape
 
@@ -144,7 +147,8 @@ unfolding clap_on_literals
 show_gives words pass =
     let rules = show_leaf.rules in
     let rows = rows_after rules [] words in
-    let level = level-gives show_leaf words ((refl, refl), ((refl, refl), ((refl, refl), ((refl, refl), tt)))) (refl, (refl, (refl, (refl, tt)))) pass in
+    let fit : AreFit rules = ((refl, refl), ((refl, refl), ((refl, refl), ((refl, refl), ((refl, refl), tt))))) in
+    let level = level-gives show_leaf words fit (refl, (refl, (refl, (refl, (refl, tt))))) pass in
     let needs : (is_given (codes "dir") rows && true) ≡ true = level.1 in
     let dir = given rules (codes "dir") rows level.0 (both _ _ needs).0 in
     record { dir = is_there _ _ dir.first }
@@ -172,21 +176,34 @@ page_gives words pass =
       cycles = none_or_count rules (codes "cycles") rows level.0 (λ text pass. is_count text (Some text) refl pass);
     }
 
+compare_gives : (words : List Text) → level_passes compare_leaf [] nothing_held words false ≡ true → GivesCompare (rows_after compare_leaf.rules [] words)
+unfolding clap_on_literals
+compare_gives words pass =
+    let rules = compare_leaf.rules in
+    let rows = rows_after rules [] words in
+    let level = level-gives compare_leaf words ((refl, refl), ((refl, refl), ((refl, refl), tt))) (refl, (refl, (refl, tt))) pass in
+    let needs : (is_given (codes "dir") rows && true) ≡ true = level.1 in
+    let dirs = given rules (codes "dir") rows level.0 (both _ _ needs).0 in
+    record { dirs = is_there _ _ dirs.all.1 }
+
 -- ---- which of them the words name
 
-abbrev IsAmongFive : Shape → Shape → Shape → Shape → Shape → Shape → Type 0
-IsAmongFive x y z w v s = (s ≡ x) ⊎ ((s ≡ y) ⊎ ((s ≡ z) ⊎ ((s ≡ w) ⊎ (s ≡ v))))
+abbrev IsAmongSix : Shape → Shape → Shape → Shape → Shape → Shape → Shape → Type 0
+IsAmongSix x y z w v u s = (s ≡ x) ⊎ ((s ≡ y) ⊎ ((s ≡ z) ⊎ ((s ≡ w) ⊎ ((s ≡ v) ⊎ (s ≡ u)))))
 
-among_five : (p : Shape → Bool) (x y z w v last s : Shape) → p last ≡ false → find p (x ∷ y ∷ z ∷ w ∷ v ∷ last ∷ []) ≡ Some s → IsAmongFive x y z w v s
-among_five p x y z w v last s not_last found = go (p x) (p y) (p z) (p w) (p v) refl refl refl refl refl
+among_six : (p : Shape → Bool) (x y z w v u last s : Shape) → p last ≡ false → find p (x ∷ y ∷ z ∷ w ∷ v ∷ u ∷ last ∷ []) ≡ Some s → IsAmongSix x y z w v u s
+among_six p x y z w v u last s not_last found = go (p x) (p y) (p z) (p w) (p v) (p u) refl refl refl refl refl refl
   where
-    go : (a b c d f : Bool) → p x ≡ a → p y ≡ b → p z ≡ c → p w ≡ d → p v ≡ f → IsAmongFive x y z w v s
-    go true b c d f is_x is_y is_z is_w is_v = let e : Some x ≡ Some s = rw is_x at found in inl (cc e)
-    go false true c d f is_x is_y is_z is_w is_v = let e : Some y ≡ Some s = rw (is_x, is_y) at found in inr (inl (cc e))
-    go false false true d f is_x is_y is_z is_w is_v = let e : Some z ≡ Some s = rw (is_x, is_y, is_z) at found in inr (inr (inl (cc e)))
-    go false false false true f is_x is_y is_z is_w is_v = let e : Some w ≡ Some s = rw (is_x, is_y, is_z, is_w) at found in inr (inr (inr (inl (cc e))))
-    go false false false false true is_x is_y is_z is_w is_v = let e : Some v ≡ Some s = rw (is_x, is_y, is_z, is_w, is_v) at found in inr (inr (inr (inr (cc e))))
-    go false false false false false is_x is_y is_z is_w is_v = let e : None ≡ Some s = rw (is_x, is_y, is_z, is_w, is_v, not_last) at found in cc
+    go : (a b c d f g : Bool) → p x ≡ a → p y ≡ b → p z ≡ c → p w ≡ d → p v ≡ f → p u ≡ g → IsAmongSix x y z w v u s
+    go true b c d f g is_x is_y is_z is_w is_v is_u = let e : Some x ≡ Some s = rw is_x at found in inl (cc e)
+    go false true c d f g is_x is_y is_z is_w is_v is_u = let e : Some y ≡ Some s = rw (is_x, is_y) at found in inr (inl (cc e))
+    go false false true d f g is_x is_y is_z is_w is_v is_u = let e : Some z ≡ Some s = rw (is_x, is_y, is_z) at found in inr (inr (inl (cc e)))
+    go false false false true f g is_x is_y is_z is_w is_v is_u = let e : Some w ≡ Some s = rw (is_x, is_y, is_z, is_w) at found in inr (inr (inr (inl (cc e))))
+    go false false false false true g is_x is_y is_z is_w is_v is_u = let e : Some v ≡ Some s = rw (is_x, is_y, is_z, is_w, is_v) at found in inr (inr (inr (inr (inl (cc e)))))
+    go false false false false false true is_x is_y is_z is_w is_v is_u =
+        let e : Some u ≡ Some s = rw (is_x, is_y, is_z, is_w, is_v, is_u) at found in inr (inr (inr (inr (inr (cc e)))))
+    go false false false false false false is_x is_y is_z is_w is_v is_u =
+        let e : None ≡ Some s = rw (is_x, is_y, is_z, is_w, is_v, is_u, not_last) at found in cc
 
 not_help : (name : Text) → bytes_eq name (codes "help") ≡ false → answers_to name (label_of help_leaf) ≡ false
 not_help name named = go (bytes_eq (codes "help") name) refl
@@ -198,7 +215,7 @@ not_help name named = go (bytes_eq (codes "help") name) refl
         let is_help : bytes_eq name (codes "help") ≡ true = (bytes_eq-Decides name (codes "help")).1 same in
         cc
 
-shape_gives : (s : Shape) (words : List Text) → IsAmongFive run_leaf check_leaf map_leaf show_leaf page_leaf s → level_passes s [] nothing_held words false ≡ true
+shape_gives : (s : Shape) (words : List Text) → IsAmongSix run_leaf check_leaf map_leaf show_leaf page_leaf compare_leaf s → level_passes s [] nothing_held words false ≡ true
     → GivesAll (Some (s.name, rows_after s.rules [] words))
 shape_gives s words which pass =
     let P : Shape → Type 0 = λ s. level_passes s [] nothing_held words false ≡ true → GivesAll (Some (s.name, rows_after s.rules [] words)) in
@@ -210,7 +227,10 @@ shape_gives s words which pass =
           | inl is_map ↦ subst P (sym is_map) (λ pass. inr (inr (inl (refl, map_gives words pass)))) pass
           | inr last ↦ elim last [
             | inl is_show ↦ subst P (sym is_show) (λ pass. inr (inr (inr (inl (refl, show_gives words pass))))) pass
-            | inr is_page ↦ subst P (sym is_page) (λ pass. inr (inr (inr (inr (refl, page_gives words pass))))) pass
+            | inr end ↦ elim end [
+              | inl is_page ↦ subst P (sym is_page) (λ pass. inr (inr (inr (inr (inl (refl, page_gives words pass)))))) pass
+              | inr is_compare ↦ subst P (sym is_compare) (λ pass. inr (inr (inr (inr (inr (refl, compare_gives words pass)))))) pass
+            ]
           ]
         ]
       ]
@@ -221,5 +241,5 @@ unfolding is_taken command_of
 taken_gives_all words taken =
     let pass = (both (is_simple program_app) _ taken).1 in
     let sub = enters (built program_app) (argument_words program_app words) refl refl pass in
-    let which = among_five (λ s. answers_to sub.name (label_of s)) run_leaf check_leaf map_leaf show_leaf page_leaf help_leaf sub.shape (not_help sub.name sub.named) sub.found in
+    let which = among_six (λ s. answers_to sub.name (label_of s)) run_leaf check_leaf map_leaf show_leaf page_leaf compare_leaf help_leaf sub.shape (not_help sub.name sub.named) sub.found in
     subst GivesAll (sym sub.is) (shape_gives sub.shape sub.words which sub.passes)

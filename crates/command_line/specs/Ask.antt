@@ -5,19 +5,20 @@
 --     IsCallForHelp words, IsCallForVersion words      they call for help, or for the version
 --     IsAskedBy words ask      they ask for this
 --     GivesAll command      each argument that the command needs is there
---     HasBadWord command      a `map` of something that is not a number, or a `run` whose `--share` is no word that it knows
+--     HasBadWord command      a word of the command means nothing where it stands, or a `compare` has one run alone
 --     IsAnswerTo words result      an answer to words that the command line takes
-use Rattle.std.specs.Prelude.{◌≡◌, ◌≢◌, ◌⊎◌, ℕ, ◌<◌, ◌^◌, ⊤, Bool, true, false, List, [], ◌∷◌, map, option_map, codes, Option, Some, None, Result, Ok, Err, IsSome, IsErr}
+use Rattle.std.specs.Prelude.{◌≡◌, ◌≢◌, ◌⊎◌, ℕ, ◌<◌, ◌≤◌, ◌^◌, ⊤, Bool, true, false, List, [], ◌∷◌, length, map, option_map, codes, Option, Some, None, Result, Ok, Err, IsSome, IsErr}
 use Rattle.std.specs.Str.Parse.{IsNumeral, digits_value, without_leading_plus}
 use Rattle.clap.specs.Words.{Row, Text, all_of, fault_of, first_of, one_of, subcommand_of, takes, Kinds, IsAmong}
 use Rattle.clap.specs.declared.error.kind.ErrorKind.{ErrorKind}
 use Rattle.clap.specs.declared.error.kind.ErrorKind.TheVariants.{DisplayHelp, DisplayVersion, OutOfMemory}
 use Rattle.sim_base.specs.declared.fault.Fault.{Fault}
 use Rattle.sim_base.specs.declared.fault.Fault.TheVariants.{Memory, CommandLine}
+use Rattle.command_line.specs.Clock.{clock_of}
 use Rattle.command_line.specs.CommandLine.{program_app}
 use Rattle.sim_base.specs.TraceText.{number_of}
 use Rattle.command_line.specs.declared.words.Ask.{Ask}
-use Rattle.command_line.specs.declared.words.Ask.TheVariants.{Run, Check, Map, Show, Page, Help, Version}
+use Rattle.command_line.specs.declared.words.Ask.TheVariants.{Run, Check, Map, Show, Page, Compare, Help, Version}
 use Rattle.command_line.specs.declared.words.Share.{Share}
 use Rattle.command_line.specs.declared.words.Share.TheVariants.{Auto, Always}
 
@@ -62,6 +63,11 @@ IsShare None share = share ≡ Auto
 IsShare (Some word) Auto = word ≡ codes "auto"
 IsShare (Some word) Always = word ≡ codes "always"
 
+-- the frequency of a clock in kHz, if there is a text, which must state it
+abbrev pub IsClock : Option Text → Option ℕ → Type 0
+IsClock None khz = khz ≡ None
+IsClock (Some text) khz = (khz ≡ clock_of text) × IsSome khz
+
 -- whether a flag is set, as its text says
 pub record IsFlag (o : Option Text) (set : Bool) : Type 0 where
   pub none : o ≡ None → set ≡ false
@@ -88,10 +94,11 @@ pub record IsMap (rows : List Row) (config : Text) (address : ℕ) : Type 0 wher
   pub address_is : IsAddress (first_of (codes "address") rows) address
 
 -- a show with these values
-pub record IsShow (rows : List Row) (dir : Text) (all : Bool) (config : Option Text) : Type 0 where
+pub record IsShow (rows : List Row) (dir : Text) (all : Bool) (config : Option Text) (khz : Option ℕ) : Type 0 where
   pub dir_is : first_of (codes "dir") rows ≡ Some dir
   pub all_is : IsFlag (one_of (codes "all") rows) all
   pub config_is : first_of (codes "config") rows ≡ config
+  pub clock_is : IsClock (first_of (codes "mhz") rows) khz
 
 -- a page with these values: its timeline is of the first 2,000 cycles unless the words say otherwise
 pub record IsPage (rows : List Row) (dir file : Text) (config : Option Text) (from cycles : ℕ) : Type 0 where
@@ -101,14 +108,25 @@ pub record IsPage (rows : List Row) (dir file : Text) (config : Option Text) (fr
   pub from_is : IsCountOr 0 (one_of (codes "from") rows) from
   pub cycles_is : IsCountOr 2000 (one_of (codes "cycles") rows) cycles
 
+-- the folders of runs, two or more
+pub record AreRuns (texts : Option (List Text)) (dirs : List Text) : Type 0 where
+  pub texts_are : texts ≡ Some dirs
+  pub several : 1 < length dirs
+
+-- a comparison with these values
+pub record IsCompare (rows : List Row) (dirs : List Text) (csv : Bool) : Type 0 where
+  pub dirs_are : AreRuns (all_of (codes "dir") rows) dirs
+  pub csv_is : IsFlag (one_of (codes "csv") rows) csv
+
 -- the command of this name, with these rows, is what is asked for
 abbrev pub IsCommand : Text → List Row → Ask → Type 0
 IsCommand name rows (Run config cycles workers share out traces) =
     (name ≡ codes "run") × IsRun rows config.now cycles workers share out.now (map (λ t. t.now) traces.items)
 IsCommand name rows (Check config commands) = (name ≡ codes "check") × IsCheck rows config.now commands.now
 IsCommand name rows (Map config address) = (name ≡ codes "map") × IsMap rows config.now address
-IsCommand name rows (Show dir all config) = (name ≡ codes "show") × IsShow rows dir.now all (option_map (λ c. c.now) config)
+IsCommand name rows (Show dir all config khz) = (name ≡ codes "show") × IsShow rows dir.now all (option_map (λ c. c.now) config) khz
 IsCommand name rows (Page dir file config from cycles) = (name ≡ codes "page") × IsPage rows dir.now file.now (option_map (λ c. c.now) config) from cycles
+IsCommand name rows (Compare dirs csv) = (name ≡ codes "compare") × IsCompare rows (map (λ t. t.now) dirs.items) csv
 IsCommand name rows (Help text) = ⊥
 IsCommand name rows (Version text) = ⊥
 
@@ -193,6 +211,10 @@ pub record GivesPage (rows : List Row) : Type 0 where
   pub from : IsNoneOrCount (one_of (codes "from") rows)
   pub cycles : IsNoneOrCount (one_of (codes "cycles") rows)
 
+-- the folders that a comparison needs are there
+pub record GivesCompare (rows : List Row) : Type 0 where
+  pub dirs : IsSome (all_of (codes "dir") rows)
+
 -- the text of an address is no number of a trace
 abbrev pub IsNoAddress : Option Text → Type 0
 IsNoAddress None = ⊥
@@ -203,12 +225,25 @@ abbrev pub IsNoShare : Option Text → Type 0
 IsNoShare None = ⊥
 IsNoShare (Some word) = (word ≢ codes "auto") × (word ≢ codes "always")
 
--- the command is a `map` of something that is not a number, or a `run` whose `--share` is no word that it knows
+-- the word of `--mhz` is there, and states no frequency
+abbrev pub IsNoClock : Option Text → Type 0
+IsNoClock None = ⊥
+IsNoClock (Some word) = clock_of word ≡ None
+
+-- there are no two folders
+abbrev pub IsAlone : Option (List Text) → Type 0
+IsAlone None = ⊤
+IsAlone (Some dirs) = length dirs ≤ 1
+
+-- the command is a `map` of something that is not a number, a `run` whose `--share` is no word that it knows, a `show` whose `--mhz` states no
+-- frequency, or a `compare` of one run
 abbrev pub HasBadWord : Option (Text × List Row) → Type 0
 HasBadWord None = ⊥
 HasBadWord (Some command) =
     ((command.0 ≡ codes "map") × IsNoAddress (first_of (codes "address") command.1))
     ⊎ ((command.0 ≡ codes "run") × IsNoShare (first_of (codes "share") command.1))
+    ⊎ ((command.0 ≡ codes "show") × IsNoClock (first_of (codes "mhz") command.1))
+    ⊎ ((command.0 ≡ codes "compare") × IsAlone (all_of (codes "dir") command.1))
 
 -- each argument that the command needs is there
 abbrev pub GivesAll : Option (Text × List Row) → Type 0
@@ -216,7 +251,7 @@ GivesAll None = ⊥
 GivesAll (Some command) =
     ((command.0 ≡ codes "run") × GivesRun command.1) ⊎ ((command.0 ≡ codes "check") × GivesCheck command.1)
     ⊎ ((command.0 ≡ codes "map") × GivesMap command.1) ⊎ ((command.0 ≡ codes "show") × GivesShow command.1)
-    ⊎ ((command.0 ≡ codes "page") × GivesPage command.1)
+    ⊎ ((command.0 ≡ codes "page") × GivesPage command.1) ⊎ ((command.0 ≡ codes "compare") × GivesCompare command.1)
 
 -- why a command is refused that has each argument: out of memory, or a word that means nothing
 abbrev pub IsCommandFault : Option (Text × List Row) → Fault → Type 0

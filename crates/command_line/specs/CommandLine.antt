@@ -1,6 +1,6 @@
 -- The command line, as `clap` sees it.
 --     text_rule id, texts_rule id, option_rule id, number_rule id, word_rule id, count_rule id, flag_rule id      one argument
---     run_app, check_app, map_app, show_app, page_app      one command
+--     run_app, check_app, map_app, show_app, page_app, compare_app      one command
 --     program_app      the whole
 use Rattle.std.specs.Prelude.{true, codes, Some, List, [], ◌∷◌, fold}
 use Rattle.clap.specs.Words.{App, Rule, Text, new_app, new_rule, with_rule, with_subcommand}
@@ -57,14 +57,18 @@ check_app = command_app (codes "check") (config_rule ∷ text_rule (codes "comma
 abbrev pub map_app : App
 map_app = command_app (codes "map") (config_rule ∷ text_rule (codes "address") ∷ [])
 
--- `show DIR [--all] [--config FILE]`
+-- `show DIR [--all] [--config FILE] [--mhz N]`
 abbrev pub show_app : App
-show_app = command_app (codes "show") (text_rule (codes "dir") ∷ flag_rule (codes "all") ∷ word_rule (codes "config") ∷ [])
+show_app = command_app (codes "show") (text_rule (codes "dir") ∷ flag_rule (codes "all") ∷ word_rule (codes "config") ∷ word_rule (codes "mhz") ∷ [])
 
 -- `page DIR FILE [--config FILE] [--from N] [--cycles N]`
 abbrev pub page_app : App
 page_app = command_app (codes "page") (
     text_rule (codes "dir") ∷ text_rule (codes "file") ∷ word_rule (codes "config") ∷ count_rule (codes "from") ∷ count_rule (codes "cycles") ∷ [])
+
+-- `compare DIR DIR... [--csv]`
+abbrev pub compare_app : App
+compare_app = command_app (codes "compare") (texts_rule (codes "dir") ∷ flag_rule (codes "csv") ∷ [])
 
 -- a command that tells its version
 abbrev pub with_version : App → App
@@ -77,5 +81,6 @@ with_subcommand_required app = record app { top = record app.top { subcommand_re
 -- the program's command line
 abbrev pub program_app : App
 program_app =
-    with_subcommand (with_subcommand (with_subcommand (with_subcommand (with_subcommand (with_subcommand_required (with_version (new_app (codes "dramsim")))) run_app.top) check_app.top)
-    map_app.top) show_app.top) page_app.top
+    with_subcommand (with_subcommand (with_subcommand (with_subcommand (with_subcommand (with_subcommand
+    (with_subcommand_required (with_version (new_app (codes "dramsim")))) run_app.top) check_app.top)
+    map_app.top) show_app.top) page_app.top) compare_app.top

@@ -2,7 +2,7 @@
 
 ghost use Rattle.std.specs.Prelude.{◌≡◌, IfOk, IsOkAnd, false, codes};
 ghost use Rattle.clap.specs.Words.{AddsSubcommand, app_of, new_app, rule_of};
-ghost use Rattle.command_line.specs.CommandLine.{text_rule, config_rule, option_rule, number_rule, word_rule, count_rule, texts_rule, flag_rule, run_app, check_app, map_app, show_app, page_app, program_app};
+ghost use Rattle.command_line.specs.CommandLine.{text_rule, config_rule, option_rule, number_rule, word_rule, count_rule, texts_rule, flag_rule, run_app, check_app, map_app, show_app, page_app, compare_app, program_app};
 
 use clap::{Arg, ArgAction, Command, value_parser};
 use std::alloc::{AllocError, Global};
@@ -24,6 +24,9 @@ const SHOW_EXAMPLE: &str = "Example, after that of run:
 
 const PAGE_EXAMPLE: &str = "Example, after that of run:
   ./dramsim page build build/page.html --from 0 --cycles 2000";
+
+const COMPARE_EXAMPLE: &str = "Example, after runs into two folders:
+  ./dramsim compare build other";
 
 // A word that has to be given.
 fn text_arg<'a>(alloc: Global, id: &'a str, name: &'a str, help: &'a str) -> Arg<'a>
@@ -169,6 +172,18 @@ fn all_arg<'a>(alloc: Global) -> Arg<'a>
     flag_arg(alloc, "all", "Tells of each core, however many there are")
 }
 
+fn mhz_arg<'a>(alloc: Global) -> Arg<'a>
+    ensures rule { rule_of result ≡ word_rule (codes "mhz") }
+    ensures own { result.global ≡ false }
+{
+    word_arg(
+        alloc,
+        "mhz",
+        "N",
+        "The clock in MHz, for times and data rates",
+    )
+}
+
 fn file_arg<'a>(alloc: Global) -> Arg<'a>
     ensures rule { rule_of result ≡ text_rule (codes "file") }
     ensures own { result.global ≡ false }
@@ -198,6 +213,21 @@ fn shown_cycles_arg<'a>(alloc: Global) -> Arg<'a>
 {
     let help = "How many cycles it shows [default: 2000]";
     count_arg(alloc, "cycles", "N", help)
+}
+
+fn dirs_arg<'a>(alloc: Global) -> Arg<'a>
+    ensures rule { rule_of result ≡ texts_rule (codes "dir") }
+    ensures own { result.global ≡ false }
+{
+    let help = "The folders with the tables of two runs or more";
+    texts_arg(alloc, "dir", "DIR", help)
+}
+
+fn csv_arg<'a>(alloc: Global) -> Arg<'a>
+    ensures rule { rule_of result ≡ flag_rule (codes "csv") }
+    ensures own { result.global ≡ false }
+{
+    flag_arg(alloc, "csv", "Prints a table of CSV in place of a screen")
 }
 
 // A command with no argument yet, and an example of it.
@@ -240,14 +270,15 @@ fn map_command<'a>(alloc: Global) -> Result<Command<'a>, AllocError>
         .arg(address_arg(alloc))
 }
 
-// `show DIR [--all] [--config FILE]`
+// `show DIR [--all] [--config FILE] [--mhz N]`
 fn show_command<'a>(alloc: Global) -> Result<Command<'a>, AllocError>
     ensures { IfOk result (λ c. app_of c ≡ show_app) }
 {
     command(alloc, "show", "Prints what a run did", SHOW_EXAMPLE)
         .arg(dir_arg(alloc))?
         .arg(all_arg(alloc))?
-        .arg(known_config_arg(alloc))
+        .arg(known_config_arg(alloc))?
+        .arg(mhz_arg(alloc))
 }
 
 // `page DIR FILE [--config FILE] [--from N] [--cycles N]`
@@ -261,6 +292,16 @@ fn page_command<'a>(alloc: Global) -> Result<Command<'a>, AllocError>
         .arg(known_config_arg(alloc))?
         .arg(from_arg(alloc))?
         .arg(shown_cycles_arg(alloc))
+}
+
+// `compare DIR DIR... [--csv]`
+fn compare_command<'a>(alloc: Global) -> Result<Command<'a>, AllocError>
+    ensures { IfOk result (λ c. app_of c ≡ compare_app) }
+{
+    let about = "Compares runs with the first of them";
+    command(alloc, "compare", about, COMPARE_EXAMPLE)
+        .arg(dirs_arg(alloc))?
+        .arg(csv_arg(alloc))
 }
 
 // A command with one more below it, unless that was refused memory.
@@ -284,5 +325,6 @@ pub fn program<'a>(alloc: Global) -> Result<Command<'a>, AllocError>
     let two = with_command(one, check_command(alloc))?;
     let three = with_command(two, map_command(alloc))?;
     let four = with_command(three, show_command(alloc))?;
-    with_command(four, page_command(alloc))
+    let five = with_command(four, page_command(alloc))?;
+    with_command(five, compare_command(alloc))
 }

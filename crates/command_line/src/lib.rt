@@ -1,5 +1,6 @@
 //! What the words of a call mean: the command that they name, with its values, as `clap` reads them.
 #![tactic(auto)]
 
+pub mod clock;
 pub mod command_line;
 pub mod words;

@@ -3,8 +3,9 @@
 ghost use Rattle.std.specs.Prelude.{◌≡◌, ◌⊎◌, true, Some, None, Ok, IfOk, IfErr, IsOk, IsErr, map, option_map, codes};
 ghost use Rattle.clap.specs.Words.{all_of, first_of, found_of, kind_of, one_of, rows_of, subcommand_rows_of};
 ghost use Rattle.sim_base.specs.TraceText.{number_of};
-ghost use Rattle.command_line.specs.Ask.{is_taken, IsCallForHelp, IsCallForVersion, IsCount, IsCountText, IsCountOr, IsNoneOrCount, IsFlag, IsShare, IsNoShare, IsNoAddress, IsCommand, IsCommandOf, IsCommandFault, IsShown, IsHelpUnlessMemory, IsVersionUnlessMemory, IsNoHelp, IsAskedBy, IsAnswerTo, IsWordsFault, GivesRun, GivesCheck, GivesMap, GivesShow, GivesPage, GivesAll};
+ghost use Rattle.command_line.specs.Ask.{is_taken, IsCallForHelp, IsCallForVersion, IsCount, IsCountText, IsCountOr, IsNoneOrCount, IsFlag, IsShare, IsNoShare, IsClock, IsNoClock, IsNoAddress, IsCommand, IsCommandOf, IsCommandFault, IsShown, IsHelpUnlessMemory, IsVersionUnlessMemory, IsNoHelp, IsAskedBy, IsAnswerTo, IsWordsFault, GivesRun, GivesCheck, GivesMap, GivesShow, GivesPage, GivesCompare, GivesAll, AreRuns, IsAlone};
 
+use crate::clock::read_clock;
 use crate::command_line::program;
 use clap::error::{Error, ErrorKind};
 use clap::{ArgMatches, Command};
@@ -15,7 +16,7 @@ use std::alloc::{AllocError, Global};
 use strsim::osa_distance;
 
 // The names of the commands.
-const COMMANDS: [&str; 6] = ["run", "check", "map", "show", "page", "help"];
+const COMMANDS: [&str; 7] = ["run", "check", "map", "show", "page", "compare", "help"];
 
 /// When the workers of a run share a machine out.
 #[derive(Clone, Copy, PartialEq, Eq, Debug)]
@@ -48,11 +49,13 @@ pub enum Ask<'a> {
         config: &'a str,
         address: u64,
     },
-    /// `show DIR [--all] [--config FILE]`: tells what the run did whose tables are in a folder, with what its configuration adds.
+    /// `show DIR [--all] [--config FILE] [--mhz N]`: tells what the run did whose tables are in a folder, with what its configuration adds, and its
+    /// clock, here in kHz.
     Show {
         dir: &'a str,
         all: bool,
         config: Option<&'a str>,
+        khz: Option<u64>,
     },
     /// `page DIR FILE [--config FILE] [--from N] [--cycles N]`: draws the run whose tables are in a folder, and its commands in a window of
     /// cycles, with what its configuration adds.
@@ -62,6 +65,11 @@ pub enum Ask<'a> {
         config: Option<&'a str>,
         from: u64,
         cycles: u64,
+    },
+    /// `compare DIR DIR... [--csv]`: compares the runs whose tables are in folders with the first of them, as a screen or as a table.
+    Compare {
+        dirs: Vec<&'a str>,
+        csv: bool,
     },
     /// A call for help, with the text that answers it.
     Help(String),
@@ -198,15 +206,38 @@ fn map_ask<'a>(found: &ArgMatches<'a>) -> Result<Ask<'a>, Fault>
     })
 }
 
+// The frequency of a clock, by its word.
+fn clock_named(word: &str) -> Result<Option<u64>, Fault>
+    ensures named { IfOk result (IsClock (Some word.now)) }
+    ensures refused { IfErr result (λ e. (e ≡ Fault.CommandLine) × IsNoClock (Some word.now)) }
+{
+    match read_clock(word) {
+        Some(khz) => Ok(Some(khz)),
+        None => Err(Fault::CommandLine),
+    }
+}
+
+// The frequency of a clock, if it is given.
+fn clock_of(found: &ArgMatches<'_>) -> Result<Option<u64>, Fault>
+    ensures given { IfOk result (IsClock (first_of (codes "mhz") (rows_of (found_of found.now)))) }
+    ensures refused { IfErr result (λ e. (e ≡ Fault.CommandLine) × IsNoClock (first_of (codes "mhz") (rows_of (found_of found.now)))) }
+{
+    match found.get_str("mhz") {
+        Some(word) => clock_named(word),
+        None => Ok(None),
+    }
+}
+
 fn show_ask<'a>(found: &ArgMatches<'a>) -> Result<Ask<'a>, Fault>
     ensures asked { IfOk result (IsCommand (codes "show") (rows_of (found_of found.now))) }
-    ensures refused { GivesShow (rows_of (found_of found.now)) → IsOk result }
+    ensures refused { GivesShow (rows_of (found_of found.now)) → IfErr result (λ e. IsNoClock (first_of (codes "mhz") (rows_of (found_of found.now)))) }
     ensures fault { IfErr result (λ e. e ≡ Fault.CommandLine) }
 {
     Ok(Ask::Show {
         dir: text_of(found, "dir")?,
         all: is_set(found, "all"),
         config: text_if_given(found, "config"),
+        khz: clock_of(found)?,
     })
 }
 
@@ -224,6 +255,29 @@ fn page_ask<'a>(found: &ArgMatches<'a>) -> Result<Ask<'a>, Fault>
     })
 }
 
+// The folders of two runs or more.
+fn dirs_of<'a>(alloc: Global, found: &ArgMatches<'a>) -> Result<Vec<&'a str>, Fault>
+    ensures given { IfOk result (λ v. AreRuns (all_of (codes "dir") (rows_of (found_of found.now))) (map (λ t. t.now) v.items)) }
+    ensures missing { IfErr result (λ e. (e ≡ Fault.Memory) ⊎ ((e ≡ Fault.CommandLine) × IsAlone (all_of (codes "dir") (rows_of (found_of found.now))))) }
+{
+    let dirs = texts_of(alloc, found, "dir")?;
+    if dirs.len() < 2 {
+        return Err(Fault::CommandLine);
+    }
+    Ok(dirs)
+}
+
+fn compare_ask<'a>(alloc: Global, found: &ArgMatches<'a>) -> Result<Ask<'a>, Fault>
+    ensures asked { IfOk result (IsCommand (codes "compare") (rows_of (found_of found.now))) }
+    ensures refused { GivesCompare (rows_of (found_of found.now)) → IfErr result (λ e. e ≡ Fault.CommandLine → IsAlone (all_of (codes "dir") (rows_of (found_of found.now)))) }
+    ensures fault { IfErr result (λ e. IsWordsFault e) }
+{
+    Ok(Ask::Compare {
+        dirs: dirs_of(alloc, found)?,
+        csv: is_set(found, "csv"),
+    })
+}
+
 // What the matches of a command line ask for.
 fn ask_of<'a>(alloc: Global, matches: &ArgMatches<'a>) -> Result<Ask<'a>, Fault>
     ensures asked { IfOk result (IsCommandOf (subcommand_rows_of matches.now)) }
@@ -236,18 +290,27 @@ fn ask_of<'a>(alloc: Global, matches: &ArgMatches<'a>) -> Result<Ask<'a>, Fault>
         Some(("map", found)) => map_ask(found),
         Some(("show", found)) => show_ask(found),
         Some(("page", found)) => page_ask(found),
+        Some(("compare", found)) => compare_ask(alloc, found),
         _ => Err(Fault::CommandLine),
     }
 }
 
-// What explains a word that means nothing where it stands: an address, or when workers share.
+// What explains a word that means nothing where it stands: an address, the frequency of a clock, when workers share, or a folder alone.
 fn explain_word(alloc: Global, matches: &ArgMatches<'_>) -> Result<String, AllocError> {
-    let Some((_, found)) = matches.subcommand() else {
+    let Some((name, found)) = matches.subcommand() else {
         return Ok(String::new(alloc));
     };
+    if name == "compare" {
+        return String::from_str(alloc, "compare takes the folders of two runs or more\n");
+    }
     if let Some(text) = found.get_str("address") {
         return format!(in alloc;
             "'{text}' is no ADDRESS: a decimal number, or a hexadecimal one after 0x, at most 18446744073709551615\n"
+        );
+    }
+    if let Some(text) = found.get_str("mhz") {
+        return format!(in alloc;
+            "'{text}' is no N of --mhz: a decimal number such as 1200 or 1333.333, above 0 and below a million\n"
         );
     }
     match found.get_str("share") {
@@ -312,8 +375,8 @@ fn help_of<'a>(alloc: Global, error: Error, words: &[&str]) -> Result<Ask<'a>, R
 ///
 /// # Errors
 ///
-/// `Fault::CommandLine` where the words are no command of `Ask`, the address of a `map` is no number, or the word of `--share` is neither
-/// `auto` nor `always`, and `Fault::Memory`.
+/// `Fault::CommandLine` where the words are no command of `Ask`, the address of a `map` is no number, the word of `--share` is neither
+/// `auto` nor `always`, the one of `--mhz` states no frequency, or a `compare` has one folder alone, and `Fault::Memory`.
 pub fn read_words<'a>(alloc: Global, words: &'a [&'a str]) -> Result<Ask<'a>, Reason>
     ensures asked { IfOk result (IsAskedBy (map (λ w. w.now) words.entry.now)) }
     ensures answered { is_taken (map (λ w. w.now) words.entry.now) ≡ true → IsAnswerTo (map (λ w. w.now) words.entry.now) result }

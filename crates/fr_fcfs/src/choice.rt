@@ -33,7 +33,7 @@ pub struct Choice {
 }
 
 /// What a request at a place of the queue needs, as a choice.
-#[inline]
+#[inline(always)]
 fn choice_at(bank_candidates: &BankCandidates, requests: &[Request], slot: usize) -> Choice
     requires places { All (λ r. IsAmong bank_candidates.now (bank_in r.place)) requests.now }
     requires within { slot < length requests.now }
@@ -50,7 +50,7 @@ fn choice_at(bank_candidates: &BankCandidates, requests: &[Request], slot: usize
 }
 
 /// The first cycle from now on in which a command that some request needs may be issued, and that command.
-#[inline]
+#[inline(always)]
 fn next_of_requests(
     queue: &Queue,
     bank_candidates: &BankCandidates,
@@ -113,6 +113,7 @@ fn with_refresh(
 /// The first cycle with a command from `now` on, if the queue stays as it is, and that command; None where there is none. `groups`
 /// is the number of groups of each rank. What a rank that is to be refreshed needs goes first, and holds the requests back; of
 /// these, row hits go first, and then the oldest.
+#[inline(always)]
 pub fn next(
     queue: &Queue,
     bank_candidates: &BankCandidates,

@@ -249,6 +249,7 @@ fn with_banks(
 }
 
 /// The offer that goes first of all banks, from now on, of the accesses that go.
+#[inline(always)]
 pub(crate) fn first_of(
     queue: &Queue,
     bank_candidates: &BankCandidates,

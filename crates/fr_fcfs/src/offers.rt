@@ -84,6 +84,7 @@ pub(crate) fn row_kind(row: Option<u32>) -> Kind
 }
 
 /// The offer that goes first of all banks, from now on.
+#[inline(always)]
 pub(crate) fn first_offer(
     queue: &Queue,
     bank_candidates: &BankCandidates,

@@ -20,18 +20,18 @@ use Rattle.sim_base.proofs.LinkNumbers.{override_in_range}
 use Rattle.links.specs.Latencies.{has_usual, usual_or_longest, least_own}
 
 -- whether an override is of a link
-abbrev is_of : ℕ → Override → Bool
+abbrev pub is_of : ℕ → Override → Bool
 is_of link o = eqb o.link link
 
 -- whether an override is of a link of some kind
-abbrev is_kind : ℕ → Override → Bool
+abbrev pub is_kind : ℕ → Override → Bool
 is_kind kind o = eqb (o.link % 3) kind
 
 -- the pairs of units between which the links of a kind with an override run
 abbrev pairs : ℕ → List Override → List ℕ
 pairs kind os = map (λ (o : Override). o.link / 3) (filter (is_kind kind) os)
 
-Each-from_all : {X : Type 0} (P : X → Type 0) (xs : List X) → All P xs → Each P xs
+pub Each-from_all : {X : Type 0} (P : X → Type 0) (xs : List X) → All P xs → Each P xs
 Each-from_all P [] h = tt
 Each-from_all P (x ∷ xs) h = (All-head P x xs h, Each-from_all P xs (All-tail P x xs h))
 
@@ -152,11 +152,11 @@ least_from-start : (a : ℕ) (os : List Override) → least_from a os ≤ a
 least_from-start a [] = omega arith
 least_from-start a (o ∷ os) = omega (arith, least_from-start (min a o.latency) os)
 
-least_from-each : (a : ℕ) (os : List Override) → Each (λ (o : Override). least_from a os ≤ o.latency) os
+pub least_from-each : (a : ℕ) (os : List Override) → Each (λ (o : Override). least_from a os ≤ o.latency) os
 least_from-each a [] = tt
 least_from-each a (o ∷ os) = (omega (arith, least_from-start (min a o.latency) os), least_from-each (min a o.latency) os)
 
-find_none : (p : Override → Bool) (os : List Override) → find p os ≡ None → list_any p os ≡ false
+pub find_none : (p : Override → Bool) (os : List Override) → find p os ≡ None → list_any p os ≡ false
 find_none p [] h = refl
 find_none p (o ∷ os) h = by (cases_Bool (p o)) (find_none p os)
   where
@@ -168,11 +168,11 @@ none_found : (p : Override → Bool) (os : List Override) → list_any p os ≡ 
 none_found p [] h = refl
 none_found p (o ∷ os) h = cond-false _ _ _ (or_parts (p o) (list_any p os) h).0 ∙ none_found p os (or_parts (p o) (list_any p os) h).1
 
-latency_free : (s : Config) (link : ℕ) → list_any (is_of link) s.overrides ≡ false → latency s link ≡ usual_latency s link
+pub latency_free : (s : Config) (link : ℕ) → list_any (is_of link) s.overrides ≡ false → latency s link ≡ usual_latency s link
 unfolding latency
 latency_free s link h = ap (λ o. unwrap_or (option_map (λ (o : Override). o.latency) o) (usual_latency s link)) (none_found (is_of link) s.overrides h)
 
-latency_own : (s : Config) (link : ℕ) (o : Override) → find (is_of link) s.overrides ≡ Some o → latency s link ≡ o.latency
+pub latency_own : (s : Config) (link : ℕ) (o : Override) → find (is_of link) s.overrides ≡ Some o → latency s link ≡ o.latency
 unfolding latency
 latency_own s link o h = ap (λ x. unwrap_or (option_map (λ (o : Override). o.latency) x) (usual_latency s link)) h
 
@@ -191,7 +191,7 @@ abbrev pub least_of : Config → ℕ
 least_of s = min (min (min (least_own s) (usual_or_longest s 0 s.request_latency)) (usual_or_longest s 1 s.reply_latency)) (usual_or_longest s 2 s.credit_latency)
 
 -- the latency of a kind
-abbrev kind_latency : Config → ℕ → ℕ
+abbrev pub kind_latency : Config → ℕ → ℕ
 kind_latency s kind = cond (eqb kind 0) s.request_latency (cond (eqb kind 1) s.reply_latency s.credit_latency)
 
 least_of-kind : (s : Config) (kind : ℕ) → kind < 3 → least_of s ≤ usual_or_longest s kind (kind_latency s kind)
@@ -208,7 +208,7 @@ least_of-meets s link l =
     (Each-weaker (λ (o : Override). least_own s ≤ o.latency) (λ (o : Override). least_of s ≤ o.latency) (λ o h. omega (arith, own_low, h)) s.overrides (least_from-each 1000000 s.overrides))
     (λ free. subst (λ x. least_of s ≤ x) (cond-true _ _ _ (usual_counts s link l free)) (least_of-kind s (link % 3) (omega arith)))
 
-latency_in_range : (s : Config) (link : ℕ) → LatencyInRange (latency s link)
+pub latency_in_range : (s : Config) (link : ℕ) → LatencyInRange (latency s link)
 latency_in_range s link = by (find (is_of link) s.overrides) refl
   where
     usual_in_range : LatencyInRange (usual_latency s link)
@@ -239,7 +239,7 @@ links_apart link [] h = tt
 links_apart link (o ∷ os) h = (h.0, links_apart link os h.1)
 
 -- the least latency of an override is that of the one which is found for its link
-found_least : (a : ℕ) (os : List Override) → IsDistinct eqb (map (λ (o : Override). o.link) os)
+pub found_least : (a : ℕ) (os : List Override) → IsDistinct eqb (map (λ (o : Override). o.link) os)
     → (least_from a os ≡ a) ⊎ ((o : Override) × (find (is_of o.link) os ≡ Some o) × (o.latency ≡ least_from a os))
 unfolding IsDistinct
 found_least a [] d = inl refl

@@ -3,7 +3,7 @@ use Rattle.std.proofs.Common.{◌≡◌, ◌⊎◌, inl, inr, ℕ, List, Option,
 use Rattle.refusal.specs.declared.warning.LargePage.{LargePage}
 use Rattle.command_line.specs.Ask.{IsAskedBy}
 use Rattle.command_line.specs.declared.words.Ask.{Ask}
-use Rattle.command_line.specs.declared.words.Ask.TheVariants.{Run, Check, Map, Show, Page, Help, Version}
+use Rattle.command_line.specs.declared.words.Ask.TheVariants.{Run, Check, Map, Show, Page, Compare, Help, Version}
 use Rattle.program.specs.Answered.{IsQuiet, AskForPage}
 
 -- nothing is warned of, unless the words ask for a page
@@ -13,6 +13,7 @@ quiet_unless_page words (Page dir file config from cycles) warning asked quiet =
 quiet_unless_page words (Run config cycles workers share out traces) warning asked quiet = inl quiet
 quiet_unless_page words (Check config commands) warning asked quiet = inl quiet
 quiet_unless_page words (Map config address) warning asked quiet = inl quiet
-quiet_unless_page words (Show dir all config) warning asked quiet = inl quiet
+quiet_unless_page words (Show dir all config khz) warning asked quiet = inl quiet
+quiet_unless_page words (Compare dirs csv) warning asked quiet = inl quiet
 quiet_unless_page words (Help text) warning asked quiet = inl quiet
 quiet_unless_page words (Version text) warning asked quiet = inl quiet

@@ -1,5 +1,5 @@
 -- Why a run is refused, from the refusals of its steps.
-use Rattle.std.proofs.Common.{◌≡◌, ◌≢◌, inl, inr, ℕ, zero, suc, ◌<◌, List, [], ◌∷◌, length, map, get_or, Some, None, Result, Ok, Err, sym, ap, ap₂, ◌∙◌, arith}
+use Rattle.std.proofs.Common.{◌≡◌, ◌≢◌, inl, inr, ℕ, List, [], ◌∷◌, length, map, Some, Result, Ok, Err, sym, ap, ap₂, ◌∙◌, arith}
 use Rattle.std.specs.Result.{is_ok}
 use Rattle.std.specs.Prelude.{IsOk, OnOk}
 use Rattle.std.proofs.lemmas.List.{length-map}
@@ -7,11 +7,11 @@ use Rattle.sim_base.specs.declared.fault.Fault.{Fault}
 use Rattle.sim_base.specs.declared.fault.Fault.TheVariants.{Memory}
 use Rattle.simulation.specs.Runs.{input_of, IsRefusal, IsRunOf}
 use Rattle.statistics.specs.Values.{RunOutcome}
-use Rattle.whole_files.specs.Files.{Held, SameFiles, IsReadFault}
+use Rattle.whole_files.specs.Files.{Held, SameFiles}
 use Rattle.answers.specs.Refused.{LacksOne, AreTexts, IsFilesFault, IsAnswerFault}
 use Rattle.program.specs.Refused.{IsRunRefusal, IsRunFault, IsRightRun}
+use Rattle.answers.proofs.ManyFiles.{texts_held}
 use Rattle.answers.proofs.RefusedFacts.{unless_memory}
-use Rattle.program.proofs.HeldTexts.{texts_held}
 
 -- ---- files that are not read
 
@@ -19,16 +19,6 @@ lacks_same : (tells : Type 0) (old mid : Held) (paths : List (List ℕ)) → (te
 lacks_same tells old mid [] same lacks = absurd lacks
 lacks_same tells old mid (path ∷ paths) same (inl none) = inl (λ t. sym (same t path) ∙ none t)
 lacks_same tells old mid (path ∷ paths) same (inr later) = inr (lacks_same tells old mid paths same later)
-
-lacks_at : {A : Type 0} (tells : Type 0) (held : Held) (name : A → List ℕ) (xs : List A) (k : ℕ) (d : A) → k < length xs → (tells → held (name (get_or xs k d)) ≡ None) → LacksOne tells held (map name xs)
-lacks_at tells held name [] k d below none = absurd (omega arith)
-lacks_at tells held name (x ∷ xs) zero d below none = inl none
-lacks_at tells held name (x ∷ xs) (suc k) d below none = inr (lacks_at tells held name xs k d (omega arith) none)
-
-pub not_read_at : {A : Type 0} (tells : Type 0) (old mid : Held) (name : A → List ℕ) (xs : List A) (k : ℕ) (d : A) (fault : Fault) → k < length xs
-    → (tells → SameFiles old mid) → IsReadFault tells (mid (name (get_or xs k d))) fault → IsFilesFault tells old (map name xs) fault
-not_read_at tells old mid name xs k d fault below same (inl memory) = inl memory
-not_read_at tells old mid name xs k d fault below same (inr none) = inr (none.0, lacks_at tells old name xs k d below (λ t. sym (same t (name (get_or xs k d))) ∙ none.1 t))
 
 pub not_read_later : (tells : Type 0) (old mid : Held) (path : List ℕ) (paths : List (List ℕ)) (fault : Fault) → (tells → SameFiles old mid) → IsFilesFault tells mid paths fault
     → IsFilesFault tells old (path ∷ paths) fault

@@ -9,7 +9,7 @@
 --     IsAnswered words status old new has_refused before after      what the words of a command line ask for has been done, and its warning told
 --     IsRefusedBy refusal words old new, IsRefused words old new      what is left where it has not been done
 --     AskForPage words      the words ask for a page
-use Rattle.std.specs.Prelude.{◌≡◌, ◌⊎◌, ⊤, ℕ, Bool, true, List, [], ◌∷◌, ◌++◌, map, option_map, string_bytes, Option, Some, None}
+use Rattle.std.specs.Prelude.{◌≡◌, ◌⊎◌, ⊤, ℕ, Bool, true, List, [], ◌∷◌, ◌++◌, map, option_map, string_bytes, Option, Some, None, if◌then◌else◌}
 use Rattle.std.specs.Io.KnownBytes.{Appends}
 use Rattle.statistics.specs.Values.{RunOutcome}
 use Rattle.simulation.specs.Runs.{IsRunOf, IsJudgedLegal}
@@ -21,11 +21,13 @@ use Rattle.refusal.specs.Warnings.{IsWarned}
 use Rattle.refusal.specs.declared.warning.LargePage.{LargePage}
 use Rattle.program.specs.declared.done.Done.{Done}
 use Rattle.whole_files.specs.Tables.{parts, IsWritten, LeavesAll, IsUnplaced}
-use Rattle.answers.specs.Answers.{IsChecked, IsMapped, IsShown}
+use Rattle.answers.specs.Answers.{IsChecked, IsMapped, IsShown, IsCompared}
+use Rattle.compare.specs.declared.layout.Layout.{Layout}
+use Rattle.compare.specs.declared.layout.Layout.TheVariants.{Screen, Csv}
 use Rattle.answers.specs.Pages.{IsPageDone}
 use Rattle.refusal.specs.declared.refusal.Refusal.{Refusal}
 use Rattle.command_line.specs.declared.words.Ask.{Ask}
-use Rattle.command_line.specs.declared.words.Ask.TheVariants.{Run, Check, Map, Show, Page, Help, Version}
+use Rattle.command_line.specs.declared.words.Ask.TheVariants.{Run, Check, Map, Show, Page, Compare, Help, Version}
 
 -- what the paths hold, where folders stand, which paths were opened to be written, and what the stream of answers holds, where that is told
 pub record Seen : Type 0 where
@@ -103,6 +105,16 @@ pub record IsPageLeft (refusal : Refusal) (file : List ℕ) (old new : Seen) : T
   pub kept : IsKept refusal
   pub unwritten : IsUnwritten file old.held new.held old.opened new.opened
 
+-- a screen, or a table of CSV where that is asked for
+abbrev pub layout_of : Bool → Layout
+layout_of csv = if csv then Csv else Screen
+
+-- runs have been compared
+pub record IsCompareAnswer (dirs : List (List ℕ)) (csv : Bool) (status : ℕ) (old new : Seen) : Type 0 where
+  pub status_is : status ≡ 0
+  pub compared : IsCompared dirs (layout_of csv) old.held old.printed new.printed
+  pub untouched : IsUntouched old.held new.held old.opened new.opened
+
 -- help has been given, or the version
 pub record IsHelpAnswer (text : List ℕ) (status : ℕ) (old new : Seen) : Type 0 where
   pub status_is : status ≡ 0
@@ -115,8 +127,9 @@ IsAnswer (Run config cycles workers share out traces) done old new =
     IsRunAnswer config.now cycles workers out.now (map (λ t. t.now) traces.items) done.status old new
 IsAnswer (Check config commands) done old new = IsCheckAnswer config.now commands.now done.status old new
 IsAnswer (Map config address) done old new = IsMapAnswer config.now address done.status old new
-IsAnswer (Show dir all config) done old new = IsShowAnswer dir.now (option_map (λ c. c.now) config) done.status old new
+IsAnswer (Show dir all config khz) done old new = IsShowAnswer dir.now (option_map (λ c. c.now) config) done.status old new
 IsAnswer (Page dir file config from cycles) done old new = IsPageAnswer dir.now file.now (option_map (λ c. c.now) config) done old new
+IsAnswer (Compare dirs csv) done old new = IsCompareAnswer (map (λ d. d.now) dirs.items) csv done.status old new
 IsAnswer (Help text) done old new = IsHelpAnswer (string_bytes text) done.status old new
 IsAnswer (Version text) done old new = IsHelpAnswer (string_bytes text) done.status old new
 

@@ -14,12 +14,13 @@ use Rattle.simulation.specs.Runs.{input_of, IsRefusal}
 use Rattle.command_line.specs.Ask.{is_taken, command_of, IsCallForHelp, IsCallForVersion, HasBadWord, IsAskedBy}
 use Rattle.whole_files.specs.Files.{Held}
 use Rattle.whole_files.specs.Tables.{path_in, stats_name, commands_name}
+use Rattle.answers.specs.Answers.{stats_path}
 use Rattle.answers.specs.Named.{with_config}
-use Rattle.answers.specs.Refused.{IsTableFault, IsRightTable, IsMapFault, IsRightMap, IsShowFault, IsRightShow, IsPageFault, IsRightPage, IsAnswerFault}
+use Rattle.answers.specs.Refused.{IsTableFault, IsRightTable, IsMapFault, IsRightMap, IsShowFault, IsRightShow, IsPageFault, IsRightPage, IsCompareFault, IsRightCompare, IsAnswerFault}
 use Rattle.command_line.specs.declared.words.Ask.{Ask}
-use Rattle.command_line.specs.declared.words.Ask.TheVariants.{Run, Check, Map, Show, Page, Help, Version}
+use Rattle.command_line.specs.declared.words.Ask.TheVariants.{Run, Check, Map, Show, Page, Compare, Help, Version}
 
--- the words call for no help and no version, and the command line does not take them, unless they are a `map` of something that is not a number
+-- the words call for no help and no version, and the command line does not take them, unless a word of theirs is bad
 pub record HasNoAsk (words : List Text) : Type 0 where
   pub no_help : ¬ (IsCallForHelp words)
   pub no_version : ¬ (IsCallForVersion words)
@@ -30,9 +31,10 @@ abbrev pub named : Ask → List (List ℕ)
 named (Run config cycles workers share out traces) = config.now ∷ map (λ t. t.now) traces.items
 named (Check config commands) = config.now ∷ commands.now ∷ []
 named (Map config address) = config.now ∷ []
-named (Show dir all config) = with_config (option_map (λ c. c.now) config) (path_in dir.now stats_name ∷ [])
+named (Show dir all config khz) = with_config (option_map (λ c. c.now) config) (path_in dir.now stats_name ∷ [])
 named (Page dir file config from cycles) =
     with_config (option_map (λ c. c.now) config) (path_in dir.now stats_name ∷ path_in dir.now commands_name ∷ [])
+named (Compare dirs csv) = map (λ d. stats_path d.now) dirs.items
 named (Help text) = []
 named (Version text) = []
 
@@ -56,8 +58,9 @@ abbrev pub IsFaultIn : Ask → List (List ℕ) → Fault → Type 0
 IsFaultIn (Run config cycles workers share out traces) = IsRunFault cycles workers
 IsFaultIn (Check config commands) = IsTableFault
 IsFaultIn (Map config address) = IsMapFault
-IsFaultIn (Show dir all config) = IsShowFault
+IsFaultIn (Show dir all config khz) = IsShowFault
 IsFaultIn (Page dir file config from cycles) = IsPageFault
+IsFaultIn (Compare dirs csv) = IsCompareFault
 IsFaultIn (Help text) = λ _ _. ⊥
 IsFaultIn (Version text) = λ _ _. ⊥
 
@@ -66,8 +69,9 @@ abbrev pub IsRight : Ask → List (List ℕ) → Type 0
 IsRight (Run config cycles workers share out traces) = IsRightRun cycles workers
 IsRight (Check config commands) = IsRightTable
 IsRight (Map config address) = IsRightMap
-IsRight (Show dir all config) = IsRightShow
+IsRight (Show dir all config khz) = IsRightShow
 IsRight (Page dir file config from cycles) = IsRightPage
+IsRight (Compare dirs csv) = IsRightCompare
 IsRight (Help text) = λ _. ⊤
 IsRight (Version text) = λ _. ⊤
 

@@ -1,7 +1,7 @@
 //! What the program does, over files and streams that are handed in.
 
 ghost use Rattle.std.specs.Prelude.{◌≡◌, ◌≢◌, ◌⊎◌, ◌≤◌, None, map, IfOk, IfErr};
-ghost use Rattle.program.specs.Answered.{seen, AskForPage, IsAnswer, IsDone, IsQuiet, IsLeft, IsAnswered, IsRefusedBy, IsRefused};
+ghost use Rattle.program.specs.Answered.{seen, layout_of, AskForPage, IsAnswer, IsDone, IsQuiet, IsLeft, IsAnswered, IsRefusedBy, IsRefused};
 ghost use Rattle.program.specs.Refused.{IsAskFault, IsFaultOf};
 ghost use Rattle.program.specs.Told.{IsTold};
 ghost use Rattle.refusal.specs.Refusals.{fault_of};
@@ -10,18 +10,21 @@ ghost use Rattle.refusal.specs.Streams.{has_refused, stream_of};
 use crate::done::Done;
 use crate::host::Host;
 use crate::runs::perform_run;
+use answers::comparisons::perform_compare;
 use answers::pages::perform_page;
 use answers::places::perform_map;
 use answers::print::print_text;
 use answers::screens::perform_show;
 use answers::verdicts::perform_check;
 use command_line::words::{Ask, Share, read_words};
+use compare::layout::Layout;
 use page::window::Window;
 use refusal::error_stream::ErrorStream;
 use refusal::lines::write_lines;
 use refusal::refusal::Refusal;
 use refusal::status::REFUSED;
 use refusal::warning::write_warning;
+use show::options::Options;
 use std::alloc::Global;
 use std::io::Write;
 use std::sync::Wait;
@@ -39,6 +42,12 @@ fn workers_of(count: u64, share: Share) -> Workers
         Share::Always => Sharing::always(),
     };
     Workers { count, sharing }
+}
+
+fn layout_of(csv: bool) -> Layout
+    ensures { result ≡ layout_of csv }
+{
+    if csv { Layout::Csv } else { Layout::Screen }
 }
 
 // Does what is asked.
@@ -76,8 +85,17 @@ fn answer<R: Threads + Wait + Sync, W: Watch, F: FileSet, P: Write>(
             perform_map(alloc, files, output, config, *address)?;
             Ok(Done::quiet())
         }
-        Ask::Show { dir, all, config } => {
-            perform_show(alloc, files, output, dir, *all, *config)?;
+        Ask::Show {
+            dir,
+            all,
+            config,
+            khz,
+        } => {
+            let options = Options {
+                all: *all,
+                khz: *khz,
+            };
+            perform_show(alloc, files, output, dir, options, *config)?;
             Ok(Done::quiet())
         }
         Ask::Page {
@@ -93,6 +111,10 @@ fn answer<R: Threads + Wait + Sync, W: Watch, F: FileSet, P: Write>(
             };
             let warning = perform_page(alloc, files, dir, file, *config, window)?;
             Ok(Done::with_warning(warning))
+        }
+        Ask::Compare { dirs, csv } => {
+            perform_compare(alloc, files, output, dirs, layout_of(*csv))?;
+            Ok(Done::quiet())
         }
         Ask::Help(text) | Ask::Version(text) => {
             print_text(alloc, output, text.as_str())?;

@@ -96,9 +96,25 @@ const SHOW_ALL: &[&str] = &["dramsim", "show", "--all", "tables"];
 
 const SHOW_CONFIGURED: &[&str] = &["dramsim", "show", "tables", "--config", "c.toml"];
 
-fn is_show(ask: &Ask<'_>, each: bool, wanted: Option<&str>) -> bool {
+const SHOW_CLOCKED: &[&str] = &["dramsim", "show", "tables", "--mhz", "1333.33"];
+
+fn is_show(ask: &Ask<'_>, each: bool, wanted: Option<&str>, clock: Option<u64>) -> bool {
     match ask {
-        Ask::Show { dir, all, config } => (*dir, *all, *config) == ("tables", each, wanted),
+        Ask::Show {
+            dir,
+            all,
+            config,
+            khz,
+        } => (*dir, *all, *config, *khz) == ("tables", each, wanted, clock),
+        _ => false,
+    }
+}
+
+const COMPARE: &[&str] = &["dramsim", "compare", "tables", "--csv", "others"];
+
+fn is_compare(ask: &Ask<'_>) -> bool {
+    match ask {
+        Ask::Compare { dirs, csv } => { dirs.as_slice() == ["tables", "others"].as_slice() && *csv }
         _ => false,
     }
 }
@@ -127,8 +143,10 @@ enum Want {
     Show,
     ShowAll,
     ShowConfigured,
+    ShowClocked,
     Page,
     PageLater,
+    Compare,
     Help,
     Version,
 }
@@ -139,17 +157,19 @@ fn is_right(ask: &Ask<'_>, want: Want) -> bool {
         Want::RunShared => is_run(ask, Share::Always),
         Want::Check => is_check(ask),
         Want::Map => is_map(ask),
-        Want::Show => is_show(ask, false, None),
-        Want::ShowAll => is_show(ask, true, None),
-        Want::ShowConfigured => is_show(ask, false, Some("c.toml")),
+        Want::Show => is_show(ask, false, None, None),
+        Want::ShowAll => is_show(ask, true, None, None),
+        Want::ShowConfigured => is_show(ask, false, Some("c.toml"), None),
+        Want::ShowClocked => is_show(ask, false, None, Some(1_333_330)),
         Want::Page => is_page(ask, (0, 2_000)),
         Want::PageLater => is_page(ask, (7, 40)),
+        Want::Compare => is_compare(ask),
         Want::Help => is_help(ask),
         Want::Version => is_version(ask),
     }
 }
 
-static WORDS: [(&[&str], Want); 13] = [
+static WORDS: [(&[&str], Want); 15] = [
     (RUN, Want::Run),
     (RUN_SHARED, Want::RunShared),
     (CHECK, Want::Check),
@@ -157,8 +177,10 @@ static WORDS: [(&[&str], Want); 13] = [
     (SHOW, Want::Show),
     (SHOW_ALL, Want::ShowAll),
     (SHOW_CONFIGURED, Want::ShowConfigured),
+    (SHOW_CLOCKED, Want::ShowClocked),
     (PAGE, Want::Page),
     (PAGE_LATER, Want::PageLater),
+    (COMPARE, Want::Compare),
     (&["dramsim", "--help"], Want::Help),
     (&["dramsim", "help", "run"], Want::Help),
     (&["dramsim", "--version"], Want::Version),
@@ -174,7 +196,7 @@ fn reads_words(rt: HostRuntime) -> Result<(), Fail> {
     Ok(())
 }
 
-static NO_WORDS: [(&str, &[&str]); 6] = [
+static NO_WORDS: [(&str, &[&str]); 11] = [
     ("no command", &["dramsim"]),
     ("no folder", &["dramsim", "show", "--all"]),
     (
@@ -195,6 +217,20 @@ static NO_WORDS: [(&str, &[&str]); 6] = [
         "a word for a cycle",
         &["dramsim", "page", "tables", "run.html", "--from", "one"],
     ),
+    (
+        "two points",
+        &["dramsim", "show", "tables", "--mhz", "1.3.3"],
+    ),
+    (
+        "four places",
+        &["dramsim", "show", "tables", "--mhz", "1.3333"],
+    ),
+    ("no hertz", &["dramsim", "show", "tables", "--mhz", "0.000"]),
+    (
+        "a million",
+        &["dramsim", "show", "tables", "--mhz", "1000000"],
+    ),
+    ("a unit", &["dramsim", "show", "tables", "--mhz", "1200M"]),
     ("a bad address", &["dramsim", "map", "c.toml", "+8192"]),
     (
         "a large address",

@@ -1,4 +1,4 @@
-//! Screens of a run's tables, through the whole program.
+//! Screens of the tables of runs, of one and of two side by side, through the whole program.
 
 use crate::files_in_memory::files_with;
 use crate::program_runs::said_to;
@@ -34,13 +34,54 @@ Usage: dramsim show [OPTIONS] <DIR>
 For more information, try '--help'.
 ";
 
-static FILES: [(&str, &str); 2] = [
+// The same run twice. One entry in 16 cycles is 0.0625 a cycle; nothing is measured by what is 0.
+const TWICE: &str = "run 1: out
+run 2: again
+
+                               run 1         run 2  change 2 %
+cycles                            16            16         0.0
+entries/cycle                  0.063         0.063         0.0
+entries/cycle least            0.063         0.063         0.0
+entries/cycle greatest         0.063         0.063         0.0
+reads                              1             1         0.0
+writes                             0             0           -
+row hits %                       0.0           0.0           -
+data bus %                      25.0          25.0         0.0
+read latency                    15.0          15.0         0.0
+queue mean                     0.250         0.250         0.0
+queue max                          1             1         0.0
+refresh due %                    0.0           0.0           -
+drain %                            -             -           -
+core that gained most              -             -           -
+core that lost most                -             -           -
+";
+
+const TWICE_CSV: &str = "measure,run 1,run 2,change 2 %
+cycles,16,16,0.0
+entries/cycle,0.063,0.063,0.0
+entries/cycle least,0.063,0.063,0.0
+entries/cycle greatest,0.063,0.063,0.0
+reads,1,1,0.0
+writes,0,0,
+row hits %,0.0,0.0,
+data bus %,25.0,25.0,0.0
+read latency,15.0,15.0,0.0
+queue mean,0.250,0.250,0.0
+queue max,1,1,0.0
+refresh due %,0.0,0.0,
+drain %,,,
+core that gained most,,,
+core that lost most,,,
+";
+
+static FILES: [(&str, &str); 3] = [
     ("out/stats.csv", STATS),
+    ("again/stats.csv", STATS),
     ("cut/stats.csv", "scope,id,name,value\n"),
 ];
 
 // Words, and what the program says to them: its status, what it prints, and what it tells of errors.
-static SHOWN: [(&str, (u8, &str, &str)); 8] = [
+static SHOWN: [(&str, (u8, &str, &str)); 14] = [
     ("dramsim show out", (0, SCREEN, "")),
     ("dramsim show out --all", (0, SCREEN, "")),
     ("dramsim show --all out", (0, SCREEN, "")),
@@ -59,6 +100,26 @@ static SHOWN: [(&str, (u8, &str, &str)); 8] = [
     ),
     ("dramsim show", (2, "", NO_FOLDER)),
     ("dramsim show out cut", (2, "", TWO_FOLDERS)),
+    ("dramsim compare out again", (0, TWICE, "")),
+    ("dramsim compare --csv out again", (0, TWICE_CSV, "")),
+    ("dramsim compare out none", (2, "", "fault 13: read\n")),
+    ("dramsim compare cut none", (2, "", "fault 13: read\n")),
+    (
+        "dramsim compare out cut",
+        (
+            2,
+            "",
+            "fault 15: check row 1\ncut/stats.csv: row 1 is missing\n",
+        ),
+    ),
+    (
+        "dramsim compare out",
+        (
+            2,
+            "",
+            "fault 14: command line\ncompare takes the folders of two runs or more\n",
+        ),
+    ),
 ];
 
 #[test]

@@ -5,7 +5,7 @@ use Rattle.std.specs.List.{remove, position_or_len}
 use Rattle.sim_base.specs.Places.{is_line}
 use Rattle.sim_base.specs.declared.message.Request.{Request}
 use Rattle.queue.specs.declared.Queue.TheInside.{Inside}
-use Rattle.queue_columns.specs.Columns.{eligible_column, blocked_count, slot_count, AreCounted}
+use Rattle.queue_columns.specs.Columns.{eligible_column, blocked_count, slot_of_line, slot_of_row, slot_count, AreCounted}
 use Rattle.queue.specs.Kept.{AreKept}
 use Rattle.queue.specs.View.{drains_by}
 use Rattle.queue_columns.proofs.Eligible.{served}
@@ -28,7 +28,10 @@ pub record IsServed (q s : Inside) (n : ℕ) (r : Request) (word done : ℕ) : T
   pub still_blocked : eqb word 1 ≡ false → s.aged.marks ≡ remove q.aged.marks n
   pub mask : s.mask ≡ q.mask
   pub long : length s.lines.items ≡ length q.lines.items
-  pub counted : AreCounted q.mask s.lines.items (remove q.aged.requests n)
+  pub counted : AreCounted (slot_of_line q.mask) s.lines.items (remove q.aged.requests n)
+  pub rows_long : length s.rows.items ≡ length q.rows.items
+  pub row_mask : s.row_mask ≡ q.row_mask
+  pub rows_counted : AreCounted (slot_of_row q.row_mask) s.rows.items (remove q.aged.requests n)
   pub waited : blocked_count s.aged.marks + done ≡ s.blocked
 
 eligible_left : (q s : Inside) (n : ℕ) (r : Request) (word done : ℕ) → AreKept q → IsServed q s n r word done → s.aged.marks ≡ eligible_column s.aged.requests
@@ -47,7 +50,9 @@ served_kept q s n r word done writes drains kept left fewer drains_is = record {
   eligible_are = eligible_left q s n r word done kept left;
   blocked_are = omega (arith, left.waited);
   masked = omega (arith, kept.masked, left.mask, left.long);
-  lines_are = λ slot below. left.counted slot below ∙ (λ i. slot_count (sym left.mask i) (sym left.requests i) slot);
+  lines_are = λ slot below. left.counted slot below ∙ (λ i. slot_count (slot_of_line (sym left.mask i)) (sym left.requests i) slot);
+  rows_masked = omega (arith, kept.rows_masked, left.row_mask, left.rows_long);
+  rows_are = λ slot below. left.rows_counted slot below ∙ (λ i. slot_count (slot_of_row (sym left.row_mask i)) (sym left.requests i) slot);
   writes_are = omega (arith, writes_removed q.aged.requests s.aged.requests r n q.writes left.exists left.request kept.writes_are left.requests, fewer, left.writes);
   drains_are = drains_is;
   within = omega (arith, ap length left.requests, length-remove q.aged.requests n left.exists, kept.within, left.room);

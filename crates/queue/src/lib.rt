@@ -4,18 +4,21 @@
 mod aged;
 mod lines;
 
-ghost use Rattle.std.specs.Prelude.{◌≡◌, ◌+◌, ◌-◌, ◌^◌, ◌<◌, ◌++◌, [], ◌∷◌, false, IfOk, length, remove, slice_index_or};
+ghost use Rattle.std.specs.Prelude.{◌≡◌, ◌+◌, ◌-◌, ◌^◌, ◌<◌, ◌≤◌, ◌++◌, [], ◌∷◌, false, IfOk, length, remove, slice_index_or};
 ghost use Rattle.sim_base.specs.declared.message.Request.{Request};
-ghost use Rattle.queue_columns.specs.Columns.{eligible_column, tag_column};
+ghost use Rattle.queue_columns.specs.Columns.{eligible_column, tag_column, slot_of_row};
 ghost use Rattle.queue.specs.View.{QueueView, drains_by, is_draining};
 
 use crate::aged::Aged;
 use crate::lines::{counters, is_line_asked, unblock_next};
 use queue_columns::Columns;
-use queue_columns::words::line_slot;
+use queue_columns::words::{bank_number, line_slot, row_slot};
 use sim_base::message::Request;
 use std::alloc::{AllocError, Global};
 use std::marker::Model;
+
+/// There are counters of rows for no more requests than these, so that those of a large queue take little memory.
+const ROOM_OF_ROWS: usize = 2048;
 
 /// Whether a queue with `writes` writes drains, given whether it drained before.
 #[inline(always)]
@@ -25,6 +28,16 @@ fn drains(high: u32, low: u32, drain_decided: bool, writes: usize) -> bool
     let high = high as usize;
     let low = low as usize;
     (0 < high && high <= writes) || (drain_decided && low < writes)
+}
+
+/// The counter of a request among those of rows, which go up to `mask`.
+#[inline(always)]
+fn row_slot_of(request: Request, mask: usize) -> usize
+    ensures value { result ≡ slot_of_row mask request }
+    ensures within { result ≤ mask }
+{
+    let bank = bank_number(request.place);
+    row_slot(bank, request.write, request.place.row, mask)
 }
 
 /// The requests that wait in a channel, by age.
@@ -44,10 +57,14 @@ pub struct Queue {
     /// Requests that are blocked by an older one of the same line.
     blocked: usize,
     aged: Aged,
-    /// How many requests are for the lines of each counter.
+    /// How many requests are for the lines of each counter. There are so many counters that few count two lines.
     lines: Vec<u16>,
-    /// The highest counter.
+    /// The highest of these counters.
     mask: usize,
+    /// How many requests are for the rows of each counter, to write or to read.
+    rows: Vec<u16>,
+    /// The highest of these.
+    row_mask: usize,
 }
 
 impl Model for Queue {
@@ -71,6 +88,7 @@ impl Queue {
         ensures { IfOk result (λ queue. queue ≡ record { room = room; high = high; low = low; requests = []; drain_decided = false }) }
     {
         let (lines, mask) = counters(alloc, room)?;
+        let (rows, row_mask) = counters(alloc, room.min(ROOM_OF_ROWS))?;
         Ok(Queue {
             room,
             high,
@@ -82,6 +100,8 @@ impl Queue {
             aged: Aged::with_room(alloc, room)?,
             lines,
             mask,
+            rows,
+            row_mask,
         })
     }
 
@@ -103,6 +123,9 @@ impl Queue {
         let asked = is_line_asked(request.place, alike, self.aged.requests());
         self.aged.push(request, !asked);
         self.lines[line] = alike + 1;
+        let row = row_slot_of(request, self.row_mask);
+        let others = self.rows[row];
+        self.rows[row] = others + 1;
         self.blocked += usize::from(asked);
         if request.write {
             self.writes += 1;
@@ -122,6 +145,9 @@ impl Queue {
         let line = line_slot(request.place, self.mask);
         let alike = self.lines[line] - 1;
         self.lines[line] = alike;
+        let row = row_slot_of(request, self.row_mask);
+        let others = self.rows[row] - 1;
+        self.rows[row] = others;
         let waited = if was_first {
             unblock_next(request.place, slot, self.blocked, alike, &mut self.aged)
         } else {
@@ -171,6 +197,13 @@ impl Queue {
     pub fn columns(&self) -> Columns<'_>
         ensures { result.requests.now ≡ self.now.requests }
     {
-        Columns::new(self.aged.requests(), self.aged.eligible(), self.aged.tags())
+        let aged = &self.aged;
+        Columns::new(
+            aged.requests(),
+            aged.eligible(),
+            aged.tags(),
+            &self.rows,
+            self.row_mask,
+        )
     }
 }

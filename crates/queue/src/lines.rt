@@ -1,10 +1,10 @@
-//! Which requests ask for the same line.
+//! Which requests ask for the same line, and counters.
 
 ghost use Rattle.std.specs.Prelude.{◌≡◌, ◌+◌, ◌<◌, ◌≤◌, [], false, IfOk, length, drop, position, slice_set};
 ghost use Rattle.std.specs.List.{position_or_len};
 ghost use Rattle.sim_base.specs.Places.{is_line};
 ghost use Rattle.sim_base.specs.Scheduling.{asks_for_line};
-ghost use Rattle.queue_columns.specs.Columns.{blocked_count, AreCounted};
+ghost use Rattle.queue_columns.specs.Columns.{blocked_count, slot_of_line, slot_of_row, AreCounted};
 ghost use Rattle.queue_columns.specs.Marks.{mark};
 
 use crate::aged::Aged;
@@ -29,10 +29,11 @@ pub(crate) fn is_line_asked(place: Place, alike: u16, requests: &[Request]) -> b
     alike != 0 && first_for_line(place, requests).is_some()
 }
 
-/// Counters for the lines of `room` requests, and the highest of them: 16 to 32 per request if these are many, so that few count two lines.
+/// Counters that count nothing, 16 to 32 for each of `room` requests if these are many, and the highest of them.
 pub(crate) fn counters(alloc: Global, room: usize) -> Result<(Vec<u16>, usize), AllocError>
     ensures masked { IfOk result (λ made. made.1 < length made.0.items) }
-    ensures counts { IfOk result (λ made. AreCounted made.1 made.0.items []) }
+    ensures lines { IfOk result (λ made. AreCounted (slot_of_line made.1) made.0.items []) }
+    ensures rows { IfOk result (λ made. AreCounted (slot_of_row made.1) made.0.items []) }
 {
     let wanted = room.min(1 << 20) * 16;
     let mut mask = 255;

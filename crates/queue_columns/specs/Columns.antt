@@ -6,10 +6,13 @@
 --     tag_column requests      the tags of all
 --     blocked_count marks      how many words are not marks
 --     line_slot mask place      the counter of the requests for the line of a place, and for some other lines
---     slot_count mask requests slot, AreCounted mask counts requests      how many requests a counter counts, and that each counter says so
+--     row_slot mask bank write row      the counter of the requests for a row of a bank, to write or to read, and for some other rows
+--     slot_of_line mask r, slot_of_row mask r      the counters of a request
+--     slot_count slot_of requests slot, AreCounted slot_of counts requests      how many requests a counter counts, and that each counter says so
+--     asks_for_row bank write row r      a request asks for a row of a bank, to write or to read
 --     marked_items items marks      the items at the places that are marked
 --     write_count requests      how many of them are writes
-use Rattle.std.specs.Prelude.{ℕ, ◌≡◌, ◌<◌, ◌+◌, ◌*◌, ◌/◌, ◌%◌, ◌^◌, bit_and, length, slice_index_or, ◌==◌, Bool, not, List, map, filter, take, count_by}
+use Rattle.std.specs.Prelude.{ℕ, ◌≡◌, ◌<◌, ◌+◌, ◌*◌, ◌/◌, ◌%◌, ◌^◌, bit_and, length, slice_index_or, ◌==◌, Bool, not, ◌&&◌, List, map, filter, take, count_by, if◌then◌else◌}
 use Rattle.std.specs.List.{zip, enumerate_from}
 use Rattle.std.specs.Simd.Lanes.{zip2}
 use Rattle.sim_base.specs.Scheduling.{asks_for_line}
@@ -49,13 +52,29 @@ blocked_count marks = count_by (λ word. not (is_marked word)) marks
 unfoldable pub line_slot : ℕ → Place → ℕ
 line_slot mask place = bit_and ((((place.row * 128 + bank_number place) * 1024 + place.column) * 11400714819323198485) % 2 ^ 64 / 2 ^ 32) mask
 
+-- one of the counters up to `mask`, the same for all requests for a row of a bank, to write or to read
+unfoldable pub row_slot : ℕ → ℕ → Bool → ℕ → ℕ
+row_slot mask bank write row = bit_and (((row * 128 + bank) % 2 ^ 64 * 11400714819323198485) % 2 ^ 64 / 2 ^ 32 + mark write) mask
+
+-- the counter of a request among those of lines
+abbrev pub slot_of_line : ℕ → Request → ℕ
+slot_of_line mask r = line_slot mask r.place
+
+-- the counter of a request among those of rows
+abbrev pub slot_of_row : ℕ → Request → ℕ
+slot_of_row mask r = row_slot mask (bank_number r.place) r.write r.place.row
+
 -- how many requests a counter counts
-abbrev pub slot_count : ℕ → List Request → ℕ → ℕ
-slot_count mask requests slot = count_by (λ r. line_slot mask r.place == slot) requests
+abbrev pub slot_count : (Request → ℕ) → List Request → ℕ → ℕ
+slot_count slot_of requests slot = count_by (λ r. slot_of r == slot) requests
 
 -- each counter says how many requests it counts
-abbrev pub AreCounted : ℕ → List ℕ → List Request → Type 0
-AreCounted mask counts requests = (slot : ℕ) → slot < length counts → slice_index_or counts slot 0 ≡ slot_count mask requests slot
+abbrev pub AreCounted : (Request → ℕ) → List ℕ → List Request → Type 0
+AreCounted slot_of counts requests = (slot : ℕ) → slot < length counts → slice_index_or counts slot 0 ≡ slot_count slot_of requests slot
+
+-- a request asks for a row of a bank, to write or to read
+abbrev pub asks_for_row : ℕ → Bool → ℕ → Request → Bool
+asks_for_row bank write row r = (bank_number r.place == bank) && (if write then r.write else not r.write) && (r.place.row == row)
 
 -- the items at the places that are marked
 abbrev pub marked_items : {X : Type 0} → List X → List ℕ → List X

@@ -2,7 +2,7 @@
 
 ghost use Rattle.std.specs.Prelude.{◌≡◌, ◌<◌, ◌≤◌, ◌^◌};
 ghost use Rattle.queue_columns.specs.Marks.{mark};
-ghost use Rattle.queue_columns.specs.Columns.{bank_number, tag_word, tag_of, line_slot};
+ghost use Rattle.queue_columns.specs.Columns.{bank_number, tag_word, tag_of, line_slot, row_slot};
 
 use sim_base::message::Request;
 use sim_base::place::Place;
@@ -50,4 +50,17 @@ pub fn line_slot(place: Place, mask: usize) -> usize
     let bank = bank_number(place) as u64;
     let line = (u64::from(place.row) * 128 + bank) * 1024 + u64::from(place.column);
     (line.wrapping_mul(11_400_714_819_323_198_485) >> 32) as usize & mask
+}
+
+/// One of the counters up to `mask`, the same for all requests for a row of a bank, to write or to read: those to write have the
+/// counter behind that of those to read.
+#[tactic(auto, unfolding(crate::specs::Columns::row_slot))]
+#[inline(always)]
+pub fn row_slot(bank: usize, write: bool, row: u32, mask: usize) -> usize
+    ensures value { result ≡ row_slot mask bank write row }
+    ensures within { result ≤ mask }
+{
+    let row = (u64::from(row) * 128).wrapping_add(bank as u64);
+    let slot = (row.wrapping_mul(11_400_714_819_323_198_485) >> 32) + mark(write);
+    slot as usize & mask
 }

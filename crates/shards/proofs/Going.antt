@@ -1,108 +1,130 @@
--- The links while units are taken over a phase, one after the other.
-use Rattle.std.proofs.Common.{◌≡◌, ℕ, suc, ◌+◌, ◌-◌, ◌<◌, ◌≤◌, Bool, true, false, ◌&&◌, leb, ltb, not, List, [], sym, ap, ◌∙◌, add-suc, arith}
+-- The links while units are taken over a span, one after the other.
+use Rattle.std.proofs.Common.{◌≡◌, ℕ, zero, suc, ◌+◌, ◌≤◌, Bool, true, false, ◌||◌, ltb, not, List, [], ◌∷◌, ◌++◌, inr, refl, sym, ap, ap₂, subst, ◌∙◌, arith}
+use Rattle.std.proofs.lemmas.Bool.{cond-true, cond-false}
 use Rattle.std.proofs.lemmas.Bool.Decides.{nat_tests}
+use Rattle.std.proofs.lemmas.List.Folds.{list_any-append}
 use Rattle.std.specs.Prelude.{filter}
 use Rattle.sim_base.specs.declared.config.Config.{Config}
-use Rattle.sim_base.specs.Counts.{in_flight}
-use Rattle.sim_base.specs.Locality.{TravelsFor}
-use Rattle.sim_base.specs.Machine.{run}
+use Rattle.sim_base.specs.History.{is_unit}
 use Rattle.sim_base.specs.declared.message.Message.{Message}
 use Rattle.sim_base.specs.declared.message.Unit.{Unit as MachineUnit}
+use Rattle.sim_base.specs.declared.message.Unit.TheVariants.{Core, Channel}
 use Rattle.sim_base.specs.declared.trace.Entry.{Entry}
-use Rattle.sim_base.specs.History.{is_unit, messages, by_age}
-use Rattle.sim_base.proofs.Each.{Each-all}
-use Rattle.sim_base.proofs.Ordered.{filter-by_age}
-use Rattle.links.specs.InFlight.{InFlight, receiver_of, is_due, is_due_before}
-use Rattle.links.proofs.Ages.{by_age-nil}
+use Rattle.links.specs.InFlight.{InFlight, is_due, is_due_before}
 use Rattle.links.proofs.Due.{none_overdue}
-use Rattle.span_laws.proofs.Flights.{not_before, in_flight-late}
+use Rattle.span_laws.specs.Flight.{has_unit, left_after}
 use Rattle.span_laws.specs.Mail.{mail_in}
-use Rattle.units.specs.Flight.{left, goes_among, among}
-use Rattle.units.specs.Units.{unit_at, Exists}
-use Rattle.shards.specs.Wakes.{HoldsFor, Sleeper, Waits}
-use Rattle.units.proofs.Due.{due-mail, left-due, left-more}
-use Rattle.units.proofs.Filters.{filter-filter, filter-none}
-use Rattle.shards.proofs.Sharing.{due-among, filters-commute}
-use Rattle.shards.proofs.Waiting.{untouched, untouched-none, none-taken}
+use Rattle.span_laws.proofs.Flights.{due-left}
+use Rattle.units.specs.Flight.{is_at_places}
+use Rattle.units.specs.Units.{unit_at}
+use Rattle.shards.specs.Wakes.{Sleeper, Waits, IsBrought, units_from, links_after}
+use Rattle.shards.proofs.Sharing.{at-places, not_there}
+use Rattle.shards.proofs.Waiting.{untouched-none, none-taken}
 
--- the links of so many units, at places from one on, when the first of them have taken what is due at them in a phase
-abbrev pub links_left : Config → List (List Entry) → ℕ → ℕ → ℕ → ℕ → ℕ → InFlight
-links_left s traces first count now until k =
-    record { channels = s.channels; messages = among s first (first + count) (left s now until (first + k) (in_flight s traces (run s traces now))) }
+or-false : (b : Bool) → (b || false) ≡ b
+or-false true = refl
+or-false false = refl
 
--- what they hold for the next one is what is in flight to it
-pub left-holds : (s : Config) (traces : List (List Entry)) (first count now until k : ℕ) (links : InFlight) → k < count → links ≡ links_left s traces first count now until k
-    → HoldsFor s traces now (unit_at s (first + k)) links
-left-holds s traces first count now until k links l e =
-    record {
-      channels_are = ap (λ (x : InFlight). x.channels) e;
-      due = λ a b. ap {A = InFlight} (λ x. filter (is_due s.channels (unit_at s (first + k)) a b) x.messages) e
-          ∙ due-among s first (first + count) a b (first + k) (left s now until (first + k) (in_flight s traces (run s traces now))) (omega arith) (omega (arith, l))
-          ∙ left-due s now until a b (first + k) (in_flight s traces (run s traces now));
-    }
+-- one place more
+more-places : (s : Config) (first k : ℕ) (u : MachineUnit) → (is_at_places s first (first + k) u || is_unit u (unit_at s (first + k))) ≡ is_at_places s first (first + suc k) u
+more-places s first k u = by u (ltb (first + k) s.cores) refl
+  where
+    by : (u : MachineUnit) (b : Bool) → ltb (first + k) s.cores ≡ b → (is_at_places s first (first + k) u || is_unit u (unit_at s (first + k))) ≡ is_at_places s first (first + suc k) u
+    by (Core core) true e = ap (λ v. is_at_places s first (first + k) (Core core) || is_unit (Core core) v) (cond-true _ _ _ e) ∙ grind (arith, nat_tests)
+    by (Core core) false e = ap (λ v. is_at_places s first (first + k) (Core core) || is_unit (Core core) v) (cond-false _ _ _ e) ∙ grind (arith, nat_tests)
+    by (Channel channel) true e = ap (λ v. is_at_places s first (first + k) (Channel channel) || is_unit (Channel channel) v) (cond-true _ _ _ e) ∙ grind (arith, nat_tests)
+    by (Channel channel) false e = ap (λ v. is_at_places s first (first + k) (Channel channel) || is_unit (Channel channel) v) (cond-false _ _ _ e) ∙ grind (arith, nat_tests)
 
-overdue : (now arrival : ℕ) (to : Bool) → (leb now arrival && (to && (leb 0 arrival && ltb arrival now))) ≡ false
-overdue now arrival true = grind (arith, nat_tests)
-overdue now arrival false = grind (arith, nat_tests)
+no-places : (s : Config) (first : ℕ) (u : MachineUnit) → is_at_places s first (first + 0) u ≡ false
+no-places s first (Core core) = grind (arith, nat_tests)
+no-places s first (Channel channel) = grind (arith, nat_tests)
 
--- nothing in flight is overdue
-none-in_flight : (s : Config) (traces : List (List Entry)) (now : ℕ) (u : MachineUnit) → filter (is_due s.channels u 0 now) (in_flight s traces (run s traces now)) ≡ []
-none-in_flight s traces now u =
-    let p = is_due s.channels u 0 now in
-    let sent = messages s traces (run s traces now) in
-    ap (filter p) (in_flight-late s traces now)
-    ∙ filter-by_age p (filter (not_before now) sent)
-    ∙ ap by_age (filter-filter p (not_before now) sent
-    ∙ filter-none (λ m. not_before now m && p m) sent (Each-all _ (λ m. overdue now m.arrival (is_unit (receiver_of s.channels m.link) u)) sent))
-    ∙ by_age-nil
+-- a unit is one of those from a place on where it stands at one of their places
+pub units-places : (s : Config) (first count : ℕ) (u : MachineUnit) → has_unit (units_from s first count) u ≡ is_at_places s first (first + count) u
+unfolding units_from
+units-places s first zero u = sym (no-places s first u)
+units-places s first (suc k) u =
+    list_any-append (λ v. is_unit u v) (units_from s first k) (unit_at s (first + k) ∷ [])
+    ∙ ap₂ (λ a b. a || b) (units-places s first k u) (or-false (is_unit u (unit_at s (first + k))))
+    ∙ more-places s first k u
 
--- so for a unit that they hold what is in flight to, what links give before a cycle is what is due up to it
-pub held-due : (s : Config) (traces : List (List Entry)) (now until : ℕ) (u : MachineUnit) (links : InFlight) → HoldsFor s traces now u links
-    → (filter (is_due_before s.channels u until) links.messages ≡ filter (is_due s.channels u now until) links.messages)
-    × (filter (λ m. not (is_due_before s.channels u until m)) links.messages ≡ filter (λ m. not (is_due s.channels u now until m)) links.messages)
-held-due s traces now until u links h = none_overdue s.channels now until u links.messages (h.due 0 now ∙ none-in_flight s traces now u)
+-- the next one is not among them
+pub not-yet : (s : Config) (first k : ℕ) → has_unit (units_from s first k) (unit_at s (first + k)) ≡ false
+not-yet s first k = units-places s first k (unit_at s (first + k)) ∙ at-places s first (first + k) (first + k) ∙ not_there first (first + k) (first + k) (inr (omega arith))
 
--- what a unit takes out of links that hold what is in flight to it is its mail
-pub held-mail : (s : Config) (traces : List (List Entry)) (now until : ℕ) (u unit : MachineUnit) (links : InFlight) (inbox : List Message) → now ≤ until → TravelsFor s (until - now)
-    → HoldsFor s traces now u links → unit ≡ u → inbox ≡ filter (is_due_before links.channels unit until) links.messages → inbox ≡ mail_in s traces until u now until
-held-mail s traces now until u unit links inbox l t h e m =
+left-then : (channels from until : ℕ) (units : List MachineUnit) (u : MachineUnit) (ms : List Message)
+    → left_after channels from until (units ++ u ∷ []) ms ≡ filter (λ m. not (is_due channels u from until m)) (left_after channels from until units ms)
+left-then channels from until [] u ms = refl
+left-then channels from until (v ∷ units) u ms = left-then channels from until units u (filter (λ m. not (is_due channels v from until m)) ms)
+
+-- when no unit has taken anything, the links are as they were
+pub after-none : (s : Config) (from until first : ℕ) (links : InFlight) → links ≡ links_after s from until first 0 links
+unfolding units_from
+after-none s from until first links = refl
+
+-- when one unit more has
+after-more : (s : Config) (from until first k : ℕ) (ms : List Message)
+    → filter (λ m. not (is_due s.channels (unit_at s (first + k)) from until m)) (left_after s.channels from until (units_from s first k) ms) ≡ left_after s.channels from until (units_from s first (suc k)) ms
+unfolding units_from
+after-more s from until first k ms = sym (left-then s.channels from until (units_from s first k) (unit_at s (first + k)) ms)
+
+-- what links hold for a unit they hold still when those before it have taken theirs
+pub left-brought : (s : Config) (traces : List (List Entry)) (first here there until k : ℕ) (old links : InFlight) → IsBrought s traces here there until (unit_at s (first + k)) old
+    → links ≡ links_after s here until first k old → IsBrought s traces here there until (unit_at s (first + k)) links
+left-brought s traces first here there until k old links h e =
+    subst (IsBrought s traces here there until u) (sym e)
+    (record {
+      channels_are = h.channels_are;
+      overdue = same 0 here ∙ h.overdue;
+      due = λ from to l. same from to ∙ h.due from to l;
+      known = h.known;
+    })
+  where
+    u : MachineUnit
+    u = unit_at s (first + k)
+
+    same : (a b : ℕ) → filter (is_due s.channels u a b) (left_after s.channels here until (units_from s first k) old.messages) ≡ filter (is_due s.channels u a b) old.messages
+    same a b = due-left s.channels here until a b u (units_from s first k) old.messages (not-yet s first k)
+
+-- for a unit that they are brought to, what links give before a cycle is what is due from where its kind stands
+pub held-due : (s : Config) (traces : List (List Entry)) (here there until : ℕ) (u : MachineUnit) (links : InFlight) → IsBrought s traces here there until u links
+    → (filter (is_due_before s.channels u until) links.messages ≡ filter (is_due s.channels u here until) links.messages)
+    × (filter (λ m. not (is_due_before s.channels u until m)) links.messages ≡ filter (λ m. not (is_due s.channels u here until m)) links.messages)
+held-due s traces here there until u links h = none_overdue s.channels here until u links.messages h.overdue
+
+-- what a unit takes out of them is its mail
+pub held-mail : (s : Config) (traces : List (List Entry)) (here there until : ℕ) (u unit : MachineUnit) (links : InFlight) (inbox : List Message)
+    → IsBrought s traces here there until u links → unit ≡ u → inbox ≡ filter (is_due_before links.channels unit until) links.messages → inbox ≡ mail_in s traces there u here until
+held-mail s traces here there until u unit links inbox h e m =
     m
     ∙ ap (λ c. filter (is_due_before c unit until) links.messages) h.channels_are
     ∙ ap {A = MachineUnit} (λ v. filter (is_due_before s.channels v until) links.messages) e
-    ∙ (held-due s traces now until u links h).0
-    ∙ h.due now until
-    ∙ due-mail s traces now until u l t
+    ∙ (held-due s traces here there until u links h).0
+    ∙ h.due here until (omega arith)
 
-pub held-links : (s : Config) (traces : List (List Entry)) (now until : ℕ) (u unit : MachineUnit) (links after : InFlight) → HoldsFor s traces now u links → unit ≡ u
+pub held-links : (s : Config) (traces : List (List Entry)) (here there until : ℕ) (u unit : MachineUnit) (links after : InFlight) → IsBrought s traces here there until u links → unit ≡ u
     → after ≡ record links { messages = filter (λ m. not (is_due_before links.channels unit until m)) links.messages }
-    → after ≡ record links { messages = filter (λ m. not (is_due s.channels u now until m)) links.messages }
-held-links s traces now until u unit links after h e a =
+    → after ≡ record links { messages = filter (λ m. not (is_due s.channels u here until m)) links.messages }
+held-links s traces here there until u unit links after h e a =
     a
     ∙ ap {B = InFlight} (λ c. record links { messages = filter (λ m. not (is_due_before c unit until m)) links.messages }) h.channels_are
     ∙ ap {A = MachineUnit} {B = InFlight} (λ v. record links { messages = filter (λ m. not (is_due_before s.channels v until m)) links.messages }) e
-    ∙ ap {B = InFlight} (λ ms. record links { messages = ms }) (held-due s traces now until u links h).1
+    ∙ ap {B = InFlight} (λ ms. record links { messages = ms }) (held-due s traces here there until u links h).1
 
 -- and leaves the others
-pub taken-links : (s : Config) (traces : List (List Entry)) (first count now until k : ℕ) (links after : InFlight) → links ≡ links_left s traces first count now until k
-    → after ≡ record links { messages = filter (λ m. not (is_due s.channels (unit_at s (first + k)) now until m)) links.messages } → after ≡ links_left s traces first count now until (suc k)
-taken-links s traces first count now until k links after e a =
-    let ms = in_flight s traces (run s traces now) in
+pub taken-links : (s : Config) (first here until k : ℕ) (old links after : InFlight) → links ≡ links_after s here until first k old
+    → after ≡ record links { messages = filter (λ m. not (is_due s.channels (unit_at s (first + k)) here until m)) links.messages } → after ≡ links_after s here until first (suc k) old
+taken-links s first here until k old links after e a =
     a
-    ∙ ap {A = InFlight} {B = InFlight} (λ x. record x { messages = filter (λ m. not (is_due s.channels (unit_at s (first + k)) now until m)) x.messages }) e
-    ∙ ap {B = InFlight} (λ z. record { channels = s.channels; messages = z })
-    (filters-commute (λ m. not (is_due s.channels (unit_at s (first + k)) now until m)) (goes_among s first (first + count)) (left s now until (first + k) ms)
-    ∙ ap (among s first (first + count)) (left-more s now until (first + k) ms)
-    ∙ ap (λ n. among s first (first + count) (left s now until n ms)) (sym (add-suc first k)))
+    ∙ ap {A = InFlight} {B = InFlight} (λ x. record x { messages = filter (λ m. not (is_due s.channels (unit_at s (first + k)) here until m)) x.messages }) e
+    ∙ ap {B = InFlight} (λ z. record old { messages = z }) (after-more s here until first k old.messages)
 
 -- a unit that is left alone has nothing in them that is due
-pub left-alone : (s : Config) (traces : List (List Entry)) (first count now until k : ℕ) (slot : Sleeper) → Exists s (unit_at s (first + k)) → now ≤ until → TravelsFor s (until - now)
-    → until ≤ slot.wake → Waits s traces (unit_at s (first + k)) now slot → links_left s traces first count now until k ≡ links_left s traces first count now until (suc k)
-left-alone s traces first count now until k slot e l t w h =
+pub left-alone : (s : Config) (traces : List (List Entry)) (first here there until k : ℕ) (old : InFlight) (slot : Sleeper) → here ≤ until → IsBrought s traces here there until (unit_at s (first + k)) old
+    → until ≤ slot.wake → Waits s traces (unit_at s (first + k)) here there slot → links_after s here until first k old ≡ links_after s here until first (suc k) old
+left-alone s traces first here there until k old slot l brought w h =
     let u = unit_at s (first + k) in
-    let ms = in_flight s traces (run s traces now) in
-    let none : filter (is_due s.channels u now until) (left s now until (first + k) ms) ≡ [] =
-    left-due s now until now until (first + k) ms ∙ due-mail s traces now until u l t ∙ untouched-none s traces u now until slot (untouched s traces u now until slot e l t w h) h in
-    ap {B = InFlight} (λ z. record { channels = s.channels; messages = among s first (first + count) z })
-    (sym (none-taken (is_due s.channels u now until) (left s now until (first + k) ms) none)
-    ∙ left-more s now until (first + k) ms
-    ∙ ap (λ n. left s now until n ms) (sym (add-suc first k)))
+    let left = left_after s.channels here until (units_from s first k) old.messages in
+    let none : filter (is_due s.channels u here until) left ≡ [] =
+    (left-brought s traces first here there until k old (links_after s here until first k old) brought refl).due here until (omega arith) ∙ untouched-none s traces u here there until slot w h in
+    ap {B = InFlight} (λ z. record old { messages = z }) (sym (none-taken (is_due s.channels u here until) left none) ∙ after-more s here until first k old.messages)

@@ -58,7 +58,7 @@ taken-up s traces bounds index now shard inbound words links h low e =
           (ap (fold insert_by_age _) h.inbound_are ∙ among-joins s traces first past h.began h.last h.order h.travels ∙ ap (among s first past) (sym h.still.flight));
     }
   where
-    before : WaitAll s traces shard.first h.last shard.slots.items words
+    before : WaitAll s traces shard.first h.last h.last shard.slots.items words
     before = lowered-wait_all s traces shard.first h.began h.last shard.slots.items shard.words.items words (lists_of inbound) h.order h.travels h.gone.words_count h.gone.between h.inbound_are low
 
     later : (k : ℕ) → k < length shard.slots.items → now ≤ get_or words k 0

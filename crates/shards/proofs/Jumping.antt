@@ -1,5 +1,5 @@
 -- A machine goes on to a cycle that is not past any of its wake words: no unit is touched, and the links stay as they are.
-use Rattle.std.proofs.Common.{◌≡◌, ℕ, zero, suc, ◌+◌, ◌-◌, ◌^◌, ◌<◌, ◌≤◌, List, [], ◌∷◌, ◌++◌, length, replicate, get_or, ◌⊎◌, inl, inr, refl, sym, ap, ap₂, subst, ◌∙◌, add-zero, append-nil, arith}
+use Rattle.std.proofs.Common.{◌≡◌, ℕ, zero, suc, ◌+◌, ◌-◌, ◌<◌, ◌≤◌, List, [], ◌∷◌, ◌++◌, length, replicate, get_or, ◌⊎◌, inl, inr, refl, sym, ap, ap₂, subst, ◌∙◌, add-zero, append-nil, arith}
 use Rattle.std.specs.Prelude.{filter, flat_map, fold, All}
 use Rattle.std.proofs.lemmas.Bool.{cases_lt}
 use Rattle.std.proofs.lemmas.List.{length-replicate, get_or-replicate, get_or_append_left}
@@ -12,26 +12,26 @@ use Rattle.sim_base.specs.History.{below, by_age, insert_by_age, is_to, messages
 use Rattle.sim_base.specs.declared.message.Unit.{Unit as MachineUnit}
 use Rattle.span_laws.proofs.Arrivals.{mail-sent}
 use Rattle.span_laws.specs.Mail.{arriving}
+use Rattle.span_laws.specs.Units.{sent_of}
 use Rattle.sim_base.specs.Locality.{TravelsFor}
 use Rattle.sim_base.specs.Machine.{run}
 use Rattle.sim_base.specs.declared.message.Message.{Message}
 use Rattle.sim_base.specs.declared.trace.Entry.{Entry}
 use Rattle.sim_base.proofs.Below.{flat_map_below_more, flat_map_below_same}
-use Rattle.sim_base.proofs.Spans.{has_channels}
 use Rattle.statistics.proofs.RunSteps.{travels}
 use Rattle.links.specs.InFlight.{InFlight, is_due}
 use Rattle.units.specs.Flight.{fresh, left, among}
-use Rattle.units.specs.Parts.{late, IsPart, IsSim, sent_of}
+use Rattle.units.specs.Parts.{late, IsPart, IsSim}
 use Rattle.units.specs.declared.part.UnitState.{UnitState}
 use Rattle.shards.specs.Shards.{IsStill}
 use Rattle.units.specs.Units.{unit_at, unit_count}
-use Rattle.units.proofs.Due.{due-mail, left-all, left-none, left-more, exists-at}
+use Rattle.units.proofs.Due.{left-all, left-none, left-more, exists-at}
 use Rattle.units.proofs.Joining.{all-sent, fresh-is, join-flight}
 use Rattle.shards.specs.Wakes.{IsAsleep, HasGoneOn, AreSlots, Sleeper, Waits, sleeper, sleeper_at}
 use Rattle.shards.specs.declared.slot.Slot.{Slot}
 use Rattle.shards.proofs.Sharing.{among-all}
 use Rattle.units.proofs.Standing.{same-default}
-use Rattle.shards.proofs.Waiting.{awake-waits, none-taken, untouched, untouched-none}
+use Rattle.shards.proofs.Waiting.{awake-waits, due-flight, known-phase, none-taken, untouched, untouched-none}
 
 -- a unit of a machine that has one
 pub some-slot : (slots : List Slot) → 0 < length slots → Slot
@@ -46,7 +46,7 @@ all-none f (suc n) h = flat_map_below_more f n ∙ ap₂ (λ x y. x ++ y) (all-n
 pub record RestsTo (s : Config) (traces : List (List Entry)) (now until : ℕ) (u : MachineUnit) : Type 0 where
   pub slot : Sleeper
   pub wakes : until ≤ slot.wake
-  pub waits : Waits s traces u now slot
+  pub waits : Waits s traces u now now slot
 
 -- so do all units of a machine
 abbrev pub AllRest : Config → List (List Entry) → ℕ → ℕ → Type 0
@@ -60,8 +60,8 @@ still-messages s traces now then h =
     ∙ all-sent s traces now
 
 -- a unit that waits waits on, up to its word, where nothing is sent
-pub still-waits : (s : Config) (traces : List (List Entry)) (u : MachineUnit) (now then : ℕ) (slot : Sleeper) → Waits s traces u now slot → IsStill s traces now then → now ≤ then → then ≤ slot.wake
-    → Waits s traces u then slot
+pub still-waits : (s : Config) (traces : List (List Entry)) (u : MachineUnit) (now then : ℕ) (slot : Sleeper) → Waits s traces u now now slot → IsStill s traces now then → now ≤ then → then ≤ slot.wake
+    → Waits s traces u then then slot
 still-waits s traces u now then slot h still l w =
     record {
       behind = omega (arith, h.behind, l);
@@ -84,14 +84,14 @@ sleep-span s traces now then until h l m t =
     flying : List Message
     flying = in_flight s traces (run s traces now)
 
-    gone : (k : ℕ) (less : k < unit_count s) → HasGoneOn s traces (unit_at s k) now then (h k less).slot []
-    gone k less = untouched s traces (unit_at s k) now then (h k less).slot (exists-at s k less) l t (omega (arith, m, (h k less).wakes)) (h k less).waits
+    gone : (k : ℕ) (less : k < unit_count s) → HasGoneOn s traces (unit_at s k) now now then (h k less).slot []
+    gone k less = untouched s traces (unit_at s k) now now then (h k less).slot (exists-at s k less) l (known-phase s traces now then (unit_at s k) l t) (omega (arith, m, (h k less).wakes)) (h k less).waits
 
     sends-none : (k : ℕ) → k < unit_count s → fresh s traces now then k ≡ []
     sends-none k less = fresh-is s traces now then k [] (gone k less).sent
 
     none-comes : (k : ℕ) → k < unit_count s → filter (is_due s.channels (unit_at s k) now then) flying ≡ []
-    none-comes k less = due-mail s traces now then (unit_at s k) l t ∙ untouched-none s traces (unit_at s k) now then (h k less).slot (gone k less) (h k less).waits
+    none-comes k less = due-flight s traces now now then (unit_at s k) (omega arith) ∙ untouched-none s traces (unit_at s k) now now then (h k less).slot (omega (arith, m, (h k less).wakes)) (h k less).waits
 
     none-left : (k : ℕ) → k ≤ unit_count s → left s now then k flying ≡ flying
     none-left zero less = left-none s now then flying
@@ -134,38 +134,6 @@ asleep-until s traces first now slots words links h k d less =
 none-first_of : (k : ℕ) → 0 + k ≡ k
 none-first_of k = omega arith
 
--- a whole machine goes on to a cycle that is not past any word
-pub asleep-on : (s : Config) (traces : List (List Entry)) (now then : ℕ) (slots : List Slot) (words : List ℕ) (links : InFlight) → IsAsleep s traces 0 now slots words links → length slots ≡ unit_count s → now ≤ then → then ≤ 10 ^ 12
-    → All (λ w. then ≤ w) words → IsAsleep s traces 0 then slots words links
-asleep-on s traces now then slots words links h whole l early sleep =
-    record {
-      early = early;
-      within = h.within;
-      words_count = h.words_count;
-      wait = λ k d less.
-          still-waits s traces (unit_at s (0 + k)) now then (sleeper_at slots words k d) (h.wait k d less) still l (sleep k 0 (omega (arith, less, h.words_count)));
-      flight = h.flight ∙ ap {B = InFlight} (λ z. record { channels = s.channels; messages = among s 0 (0 + length slots) z }) (sym still.flight);
-    }
-  where
-    some : Slot
-    some = some-slot slots (let c = has_channels s in omega (arith, whole, c))
-
-    still : IsStill s traces now then
-    still =
-        sleep-on s traces now then
-        (λ k less. record {
-          slot = sleeper_at slots words k some;
-          wakes = sleep k 0 (omega (arith, less, whole, h.words_count));
-          waits = subst (λ i. Waits s traces (unit_at s i) now (sleeper_at slots words k some)) (none-first_of k) (h.wait k some (omega (arith, less, whole)));
-        }) l
-
--- so it goes on to the least word before a limit, or to the limit
-pub at-wake : (s : Config) (traces : List (List Entry)) (now begin limit : ℕ) (slots : List Slot) (words : List ℕ) (links : InFlight) → IsAsleep s traces 0 now slots words links → length slots ≡ unit_count s → now ≤ limit → limit ≤ 10 ^ 12
-    → begin ≤ limit → All (λ w. begin ≤ w) words → ((cycle : ℕ) → cycle ≤ limit → All (λ w. cycle ≤ w) words → cycle ≤ begin) → IsAsleep s traces 0 begin slots words links × (now ≤ begin)
-at-wake s traces now begin limit slots words links h whole l early within sleep since =
-    let k = since now l (asleep-until s traces 0 now slots words links h) in
-    (asleep-on s traces now begin slots words links h whole k (omega (arith, within, early)) sleep, k)
-
 -- all units stand where the machine does, and are asked in the next phase
 pub awake-sim : (s : Config) (traces : List (List Entry)) (now phase : ℕ) (parts : List UnitState) (links : InFlight) (slots : List Slot) (words : List ℕ) → IsSim s traces now phase parts links
     → AreSlots now parts slots → words ≡ replicate (length parts) now → IsAsleep s traces 0 now slots words links
@@ -179,7 +147,7 @@ awake-sim s traces now phase parts links slots words h e f =
           let p = some-part parts (omega (arith, less)) in
           let word : get_or words k 0 ≡ now = ap (λ z. get_or z k 0) f ∙ get_or-replicate (length parts) k now 0 less in
           let stands = subst (IsPart s traces (unit_at s k) now) (sym (e.parts_are k d p less)) (h.stand k (get_or parts k p) (slice_get-get_or parts k p less)) in
-          subst (λ i. Waits s traces (unit_at s i) now (sleeper_at slots words k d)) (sym (none-first_of k))
+          subst (λ i. Waits s traces (unit_at s i) now now (sleeper_at slots words k d)) (sym (none-first_of k))
           (awake-waits s traces (unit_at s k) now (sleeper (get_or slots k d) (get_or words k 0)) stands (e.stand k d less) word);
       flight = h.flight
           ∙ ap {B = InFlight} (λ z. record { channels = s.channels; messages = z }) (sym (among-all s traces now))

@@ -3,6 +3,8 @@ pub mod Lowering
 pub mod Jumping
 pub mod Going
 pub mod Passing
+pub mod Spanning
+pub mod Turning
 pub mod Sharing
 pub mod Jobs
 pub mod Posting

@@ -17,16 +17,18 @@ use Rattle.sim_base.proofs.Each.{Each-all, Each-filter, Each-flat_map_below}
 use Rattle.sim_base.proofs.Ordered.{filter-puts}
 use Rattle.links.specs.InFlight.{is_due, receiver_of, arrives_within}
 use Rattle.span_laws.specs.Mail.{mail_in}
+use Rattle.span_laws.specs.Quiet.{IsSilent}
 use Rattle.span_laws.proofs.Lists.{Sorted-filter}
 use Rattle.units.specs.Flight.{fresh, goes_among, among}
 use Rattle.units.specs.Parts.{late, IsPart}
 use Rattle.units.specs.Units.{unit_at, unit_count}
-use Rattle.shards.specs.Wakes.{Sleeper, IsSilent, Waits, WaitAll, IsBetween, BetweenAll, AreLowered, sleeper_at, sent_in}
+use Rattle.shards.specs.Wakes.{Sleeper, Waits, WaitAll, AreLowered, sleeper_at, sent_in}
 use Rattle.shards.specs.declared.slot.Slot.{Slot}
 use Rattle.units.proofs.Filters.{filter-filter, filter-same, implied}
 use Rattle.units.proofs.Joining.{join-flight, fresh-late}
 use Rattle.shards.proofs.Sharing.{due-among, filters-commute, flight-sorted}
-use Rattle.shards.proofs.Waiting.{silent-sooner, none-stronger, none-first, none-due, due-flight, part-sooner}
+use Rattle.span_laws.proofs.Silent.{silent-sooner, none-part, none-first}
+use Rattle.shards.proofs.Waiting.{none-due, due-flight, known-mail, known-phase}
 
 -- what is sent in a phase arrives no sooner than at its end
 pub sent-late : (s : Config) (traces : List (List Entry)) (now until : ℕ) → now ≤ until → TravelsFor s (until - now) → All (λ m. until ≤ m.arrival) (sent_in s traces now until)
@@ -36,15 +38,16 @@ sent-late s traces now until l t =
 
 -- a unit waits on, once its word is lowered to what was sent to it in the phase
 pub lowered-waits : (s : Config) (traces : List (List Entry)) (u : MachineUnit) (now until : ℕ) (slot after : Sleeper) → now ≤ until → TravelsFor s (until - now)
-    → IsBetween s traces u now until slot → after.part ≡ slot.part → after.at ≡ slot.at → until ≤ after.wake → after.wake ≤ slot.wake
-    → filter (is_due s.channels u until after.wake) (sent_in s traces now until) ≡ [] → Waits s traces u until after
+    → Waits s traces u until now slot → after.part ≡ slot.part → after.at ≡ slot.at → until ≤ after.wake → after.wake ≤ slot.wake
+    → filter (is_due s.channels u until after.wake) (sent_in s traces now until) ≡ [] → Waits s traces u until until after
 lowered-waits s traces u now until slot after l t h part at since within none-new =
     let old = in_flight s traces (run s traces now) in
     let new = sent_in s traces now until in
     let w = after.wake in
     let p = is_due s.channels u until w in
-    let none-old : filter p old ≡ [] =
-    none-stronger p (is_due s.channels u until slot.wake) old (λ m k. part-sooner until until w slot.wake m.arrival (is_unit (receiver_of s.channels m.link) u) (omega arith) within k) h.rest in
+    let none-old : filter p old ≡ [] = due-flight s traces now until w u l ∙ none-part s traces now slot.at slot.wake until w u h.behind within h.may.none in
+    let none-before : mail_in s traces until u slot.at until ≡ [] =
+    known-mail s traces now slot.at until u (known-phase s traces now until u l t) ∙ none-part s traces now slot.at slot.wake slot.at until u (omega arith) h.ahead h.may.none in
     let none-late : filter p (late until old) ≡ [] = filters-commute p (λ m. not (ltb m.arrival until)) old ∙ ap (late until) none-old in
     let none : filter p (in_flight s traces (run s traces until)) ≡ [] =
     ap (filter p) (sym (join-flight s traces now until l t) ∙ fold-puts (late until old) new)
@@ -55,10 +58,10 @@ lowered-waits s traces u now until slot after l t h part at since within none-ne
       ahead = since;
       stands = subst (λ n. IsPart s traces u n after.part) (sym at) (subst (IsPart s traces u slot.at) (sym part) h.stands);
       may = record {
-        silent = subst (λ n. IsSilent s traces n w u) (sym at) (silent-sooner s traces slot.at w slot.wake u within h.silent);
+        silent = subst (λ n. IsSilent s traces n w u) (sym at) (silent-sooner s traces slot.at w slot.wake u within h.may.silent);
         none = ap (λ n. mail n w) at
-            ∙ none-first s traces until slot.at until w u h.behind since h.none
-            ∙ sym (due-flight s traces until w u)
+            ∙ none-first s traces until slot.at until w u h.behind since none-before
+            ∙ sym (due-flight s traces until until w u (omega arith))
             ∙ none;
       };
     }
@@ -68,8 +71,8 @@ lowered-waits s traces u now until slot after l t h part at since within none-ne
 
 -- so do all units, once their words are lowered to what goes to them of what was sent
 pub lowered-wait_all : (s : Config) (traces : List (List Entry)) (first now until : ℕ) (slots : List Slot) (old new : List ℕ) (sent : List Message) → now ≤ until → TravelsFor s (until - now)
-    → length old ≡ length slots → BetweenAll s traces first now until slots old → sent ≡ among s first (first + length slots) (sent_in s traces now until)
-    → AreLowered s first sent old new → WaitAll s traces first until slots new
+    → length old ≡ length slots → WaitAll s traces first until now slots old → sent ≡ among s first (first + length slots) (sent_in s traces now until)
+    → AreLowered s first sent old new → WaitAll s traces first until until slots new
 lowered-wait_all s traces first now until slots old new sent l t words between are low k d less =
     let b = between k d less in
     let i : k < length old = omega (arith, less, words) in

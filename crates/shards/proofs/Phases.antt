@@ -20,13 +20,14 @@ use Rattle.sim_base.proofs.Below.{flat_map_below_more}
 use Rattle.sim_base.proofs.Each.{Each-flat_map_below}
 use Rattle.sim_base.proofs.Ordered.{Each-weaker}
 use Rattle.links.specs.InFlight.{InFlight}
+use Rattle.span_laws.specs.Units.{sent_of}
 use Rattle.units.specs.Flight.{fresh, among, goes_among, sent_by}
 use Rattle.shards.specs.Shards.{IsSplit, IsShard, IsStill, IsAtRest, IsUpTo, IsSharded, AreFor, AreShards, lists_of, bound, sent_of_shard}
 use Rattle.shards.specs.Jobs.{job_at, jobs_at}
 use Rattle.shards.specs.Phases.{IsPhase, AreUnloaded}
-use Rattle.units.specs.Parts.{late, sent_of}
+use Rattle.units.specs.Parts.{late}
 use Rattle.units.specs.Units.{unit_at, unit_count}
-use Rattle.shards.specs.Wakes.{Sleeper, HaveGone, IsAsleep, IsBetween, sent_in, sleeper_at}
+use Rattle.shards.specs.Wakes.{Sleeper, HaveGone, IsAsleep, Waits, sent_in, sleeper_at}
 use Rattle.shards.specs.declared.shard.Shard.{Shard}
 use Rattle.shards.specs.declared.slot.Slot.{Slot}
 use Rattle.units.proofs.Joining.{flat-split, fresh-is}
@@ -35,7 +36,7 @@ use Rattle.units.proofs.Filters.{filter-all}
 use Rattle.shards.proofs.Jumping.{AllRest, all-none, asleep-until, sleep-on, some-slot}
 use Rattle.units.proofs.Travelling.{Goes}
 use Rattle.shards.proofs.Lowering.{lowered-waits}
-use Rattle.shards.proofs.Waiting.{none-due, waits-none, waits-rest}
+use Rattle.shards.proofs.Waiting.{none-due}
 
 some-of : {X : Type 0} (xs : List X) → 0 < length xs → X
 some-of [] l = absurd (omega (arith, l))
@@ -132,7 +133,7 @@ sharded-still s traces bounds now phase wake then shards inbound h l w = sleep-o
         let slot = sleeper_at shard.slots.items shard.words.items k d in
         let e : shard.first + k ≡ place = omega (arith, at.since, r.is.first_is) in
         let u = unit_at s place in
-        let b = subst (λ n. IsBetween s traces (unit_at s n) h.began now slot) e (r.gone.between k d i) in
+        let b = subst (λ n. Waits s traces (unit_at s n) now h.began slot) e (r.gone.between k d i) in
         let later = r.sleep k 0 (omega (arith, i, r.gone.words_count)) in
         let after : Sleeper = record { part = slot.part; at = slot.at; wake = then } in
         record {
@@ -275,18 +276,7 @@ asleep-gone s traces first now slots words links h =
     record {
       within = h.within;
       words_count = h.words_count;
-      between = λ k d less.
-          let u = unit_at s (first + k) in
-          let slot = sleeper_at slots words k d in
-          let w = h.wait k d less in
-          record {
-            behind = w.behind;
-            ahead = w.ahead;
-            stands = w.stands;
-            silent = w.may.silent;
-            none = waits-none s traces u now slot w;
-            rest = waits-rest s traces u now now slot (omega arith) w;
-          };
+      between = h.wait;
       flight = h.flight ∙ ap {B = InFlight} (λ ms. record { channels = s.channels; messages = among s first (first + length slots) ms }) (sym (late-now s traces now));
     }
 

@@ -1,5 +1,5 @@
 -- Messages in flight that are shared out by the places of the units that they go to.
-use Rattle.std.proofs.Common.{◌≡◌, ℕ, zero, suc, ◌+◌, ◌-◌, ◌<◌, ◌≤◌, Bool, true, false, ltb, leb, not, ◌&&◌, List, [], ◌⊎◌, inl, inr, refl, sym, ap, subst, ◌∙◌, add-zero, add-suc, arith}
+use Rattle.std.proofs.Common.{◌≡◌, ℕ, ◌+◌, ◌-◌, ◌<◌, ◌≤◌, Bool, true, false, ltb, leb, not, ◌&&◌, List, [], ◌⊎◌, inl, inr, refl, sym, ap, subst, ◌∙◌, arith}
 use Rattle.std.specs.Prelude.{filter, fold}
 use Rattle.std.proofs.lemmas.Bool.{cond-true, cond-false, and_parts}
 use Rattle.std.proofs.lemmas.Bool.Decides.{nat_tests}
@@ -13,19 +13,19 @@ use Rattle.sim_base.specs.declared.message.Unit.{Unit as MachineUnit}
 use Rattle.sim_base.specs.declared.message.Unit.TheVariants.{Core, Channel}
 use Rattle.sim_base.specs.declared.trace.Entry.{Entry}
 use Rattle.sim_base.proofs.Arrived.{by_age-puts, fold-puts}
-use Rattle.sim_base.proofs.Below.{flat_map_below_same}
-use Rattle.sim_base.proofs.Each.{Each-all, Each-flat_map_below}
+use Rattle.sim_base.proofs.Each.{Each-all}
 use Rattle.sim_base.proofs.Ordered.{Sorted, Sorted-puts, Each-weaker, filter-puts}
 use Rattle.span_laws.proofs.Flights.{not_before, in_flight-late}
 use Rattle.span_laws.proofs.Lists.{Sorted-filter}
+use Rattle.span_laws.specs.Units.{Exists}
 use Rattle.links.specs.InFlight.{receiver_of, is_due}
-use Rattle.units.specs.Flight.{left, fresh, is_at_places, goes_among, among, sent_by}
+use Rattle.units.specs.Flight.{is_at_places, goes_among, among}
 use Rattle.units.specs.Parts.{late}
-use Rattle.units.specs.Units.{unit_at, unit_count, Exists}
-use Rattle.units.proofs.Due.{same_unit, left-all, left-none, left-more, flight-each}
+use Rattle.units.specs.Units.{unit_at, unit_count}
+use Rattle.units.proofs.Due.{same_unit, flight-each}
 use Rattle.shards.specs.Wakes.{sent_in}
 use Rattle.units.proofs.Filters.{filter-filter, filter-same, filter-all, implied}
-use Rattle.units.proofs.Joining.{join-flight, fresh-goes}
+use Rattle.units.proofs.Joining.{join-flight}
 use Rattle.units.proofs.Travelling.{Goes}
 
 -- a unit of a place stands among places where the place is one of them
@@ -42,7 +42,7 @@ at-places s first past k = by (ltb k s.cores) refl
 pub there : (first past k : ℕ) → first ≤ k → k < past → (leb first k && ltb k past) ≡ true
 there first past k l m = grind (arith, nat_tests)
 
-not_there : (first past k : ℕ) → (k < first) ⊎ (past ≤ k) → (leb first k && ltb k past) ≡ false
+pub not_there : (first past k : ℕ) → (k < first) ⊎ (past ≤ k) → (leb first k && ltb k past) ≡ false
 not_there first past k (inl l) = grind (arith, nat_tests)
 not_there first past k (inr l) = grind (arith, nat_tests)
 
@@ -71,43 +71,6 @@ pub filters-commute : (p q : Message → Bool) (ms : List Message) → filter p 
 filters-commute p q ms =
     filter-filter p q ms ∙ filter-same _ _ ms (Each-all _ (λ m. and-swap (q m) (p m)) ms) ∙ sym (filter-filter q p ms)
 
--- what another unit takes does not go to these
-among-other : (s : Config) (first past from until k : ℕ) (ms : List Message) → (k < first) ⊎ (past ≤ k)
-    → among s first past (filter (λ m. not (is_due s.channels (unit_at s k) from until m)) ms) ≡ among s first past ms
-among-other s first past from until k ms h =
-    filter-filter (goes_among s first past) (λ m. not (is_due s.channels (unit_at s k) from until m)) ms
-    ∙ filter-same _ _ ms (Each-all _ (λ x. implied (not (is_due s.channels (unit_at s k) from until x)) _ (λ e. spared x e (is_due s.channels (unit_at s k) from until x) refl)) ms)
-  where
-    spared : (x : Message) → goes_among s first past x ≡ true → (b : Bool) → is_due s.channels (unit_at s k) from until x ≡ b → not (is_due s.channels (unit_at s k) from until x) ≡ true
-    spared x e false f = ap not f
-    spared x e true f = let bad : true ≡ false = sym e ∙ due-goes s first past from until k x f ∙ not_there first past k h in cc
-
--- those before them leave what goes to them
-pub among-before : (s : Config) (first past from until k : ℕ) (ms : List Message) → k ≤ first → among s first past (left s from until k ms) ≡ among s first past ms
-among-before s first past from until zero ms l = ap (among s first past) (left-none s from until ms)
-among-before s first past from until (suc k) ms l =
-    ap (among s first past) (sym (left-more s from until k ms))
-    ∙ among-other s first past from until k (left s from until k ms) (inl (omega (arith, l)))
-    ∙ among-before s first past from until k ms (omega (arith, l))
-
-among-behind : (s : Config) (first past from until n : ℕ) (ms : List Message) → among s first past (left s from until (past + n) ms) ≡ among s first past (left s from until past ms)
-among-behind s first past from until zero ms = ap (λ k. among s first past (left s from until k ms)) (add-zero past)
-among-behind s first past from until (suc n) ms =
-    ap (λ k. among s first past (left s from until k ms)) (add-suc past n)
-    ∙ ap (among s first past) (sym (left-more s from until (past + n) ms))
-    ∙ among-other s first past from until (past + n) (left s from until (past + n) ms) (inr (omega arith))
-    ∙ among-behind s first past from until n ms
-
--- when they have taken what is due at them, what comes later is left
-pub among-late : (s : Config) (traces : List (List Entry)) (first past from until : ℕ) → past ≤ unit_count s
-    → among s first past (left s from until past (in_flight s traces (run s traces from))) ≡ among s first past (late until (in_flight s traces (run s traces from)))
-among-late s traces first past from until l =
-    let ms = in_flight s traces (run s traces from) in
-    let e : past + (unit_count s - past) ≡ unit_count s = omega (arith, l) in
-    sym (among-behind s first past from until (unit_count s - past) ms)
-    ∙ ap (λ k. among s first past (left s from until k ms)) e
-    ∙ ap (among s first past) (left-all s traces from until)
-
 goes-all : (s : Config) (u : MachineUnit) → Exists s u → is_at_places s 0 (unit_count s) u ≡ true
 goes-all s (Core core) l = grind (arith, nat_tests)
 goes-all s (Channel channel) l = grind (arith, nat_tests)
@@ -118,14 +81,6 @@ among-all s traces now =
     let ms = in_flight s traces (run s traces now) in
     filter-all (goes_among s 0 (unit_count s)) ms
     (Each-weaker (λ (m : Message). Goes s m × (now ≤ m.arrival)) (λ (m : Message). goes_among s 0 (unit_count s) m ≡ true) (λ m h. goes-all s (receiver_of s.channels m.link) h.0) ms (flight-each s traces now))
-
--- so does all that is sent in a phase
-pub among-sent : (s : Config) (traces : List (List Entry)) (now until : ℕ) → now ≤ until → TravelsFor s (until - now) → among s 0 (unit_count s) (sent_in s traces now until) ≡ sent_in s traces now until
-among-sent s traces now until l t =
-    let ms = sent_in s traces now until in
-    filter-all (goes_among s 0 (unit_count s)) ms
-    (Each-weaker (Goes s) (λ (m : Message). goes_among s 0 (unit_count s) m ≡ true) (λ m h. goes-all s (receiver_of s.channels m.link) h) ms
-    (Each-flat_map_below (Goes s) (fresh s traces now until) (unit_count s) (λ place k. fresh-goes s traces now until place k l t)))
 
 pub flight-sorted : (s : Config) (traces : List (List Entry)) (now : ℕ) → Sorted (in_flight s traces (run s traces now))
 flight-sorted s traces now =
@@ -142,8 +97,3 @@ among-joins s traces first past now until l t =
     fold-puts (among s first past old) (among s first past new)
     ∙ sym (filter-puts (goes_among s first past) old new (Sorted-filter (λ m. not (ltb m.arrival until)) _ (flight-sorted s traces now)))
     ∙ ap (among s first past) (sym (fold-puts old new) ∙ join-flight s traces now until l t)
-
--- what all units send, from the first on
-pub sent-whole : (s : Config) (traces : List (List Entry)) (now until : ℕ) → sent_by s traces now until 0 (unit_count s) ≡ sent_in s traces now until
-sent-whole s traces now until =
-    flat_map_below_same (λ i. fresh s traces now until (0 + i)) (fresh s traces now until) (unit_count s) (λ i l. let e : 0 + i ≡ i = omega arith in ap (fresh s traces now until) e)

@@ -22,12 +22,13 @@ use Rattle.sim_base.proofs.Arrived.{puts, put, by_age-puts, fold-puts}
 use Rattle.sim_base.proofs.Each.{Each-all}
 use Rattle.sim_base.proofs.Ordered.{Sorted, Each-weaker, puts-swap}
 use Rattle.span_laws.proofs.Lists.{Sorted-filter}
+use Rattle.span_laws.specs.Units.{Exists}
 use Rattle.links.specs.InFlight.{InFlight, receiver_of}
 use Rattle.links.proofs.Ages.{by_age-same}
 use Rattle.units.specs.Flight.{is_at_places, goes_among, among}
 use Rattle.shards.specs.Shards.{IsSplit, IsShard, AreShards}
 use Rattle.units.specs.Parts.{IsPart, StandAt}
-use Rattle.units.specs.Units.{unit_count, unit_at, Exists}
+use Rattle.units.specs.Units.{unit_count, unit_at}
 use Rattle.shards.specs.Wakes.{AreSlots, IsAsleep, Waits, sleeper}
 use Rattle.units.specs.declared.part.UnitState.{UnitState}
 use Rattle.shards.specs.declared.shard.Shard.{Shard}
@@ -180,7 +181,7 @@ among-nothing s (m ∷ ms) = cond-false _ _ _ (none (receiver_of s.channels m.li
 
 -- units that all stand at a cycle sleep, with what goes to them of the messages in flight
 pub shard-asleep : (s : Config) (traces : List (List Entry)) (first past now : ℕ) (slots : List Slot) (words : List ℕ) (links : InFlight) → now ≤ 10 ^ 12 → first + length slots ≡ past → past ≤ unit_count s
-    → ((k : ℕ) (d : Slot) → k < length slots → Waits s traces (unit_at s (first + k)) now (sleeper (get_or slots k d) now)) → words ≡ replicate (length slots) now
+    → ((k : ℕ) (d : Slot) → k < length slots → Waits s traces (unit_at s (first + k)) now now (sleeper (get_or slots k d) now)) → words ≡ replicate (length slots) now
     → links ≡ record { channels = s.channels; messages = fold insert_by_age [] (among s first past (in_flight s traces (run s traces now))) } → IsAsleep s traces first now slots words links
 shard-asleep s traces first past now slots words links early count within wait fill flight = record {
   early = early;
@@ -188,7 +189,7 @@ shard-asleep s traces first past now slots words links early count within wait f
   words_count = ap length fill ∙ length-replicate (length slots) now;
   wait = λ k d l.
       let word : get_or words k 0 ≡ now = ap (λ z. get_or z k 0) fill ∙ get_or-replicate (length slots) k now 0 l in
-      subst (λ w. Waits s traces (unit_at s (first + k)) now (sleeper (get_or slots k d) w)) (sym word) (wait k d l);
+      subst (λ w. Waits s traces (unit_at s (first + k)) now now (sleeper (get_or slots k d) w)) (sym word) (wait k d l);
   flight = flight
       ∙ ap {B = InFlight} (λ z. record { channels = s.channels; messages = z }) (flight-share s traces now first past)
       ∙ ap {B = InFlight} (λ n. record { channels = s.channels; messages = among s first n (in_flight s traces (run s traces now)) }) (sym count);
@@ -196,13 +197,13 @@ shard-asleep s traces first past now slots words links early count within wait f
 
 -- so many of the units at places from one on
 pub front-waits : (s : Config) (traces : List (List Entry)) (now first n : ℕ) (slots left own : List Slot) → left ≡ drop first slots → own ≡ take n left → first + n ≤ length slots
-    → ((k : ℕ) (d : Slot) → k < length slots → Waits s traces (unit_at s k) now (sleeper (get_or slots k d) now))
-    → (k : ℕ) (d : Slot) → k < length own → Waits s traces (unit_at s (first + k)) now (sleeper (get_or own k d) now)
+    → ((k : ℕ) (d : Slot) → k < length slots → Waits s traces (unit_at s k) now now (sleeper (get_or slots k d) now))
+    → (k : ℕ) (d : Slot) → k < length own → Waits s traces (unit_at s (first + k)) now now (sleeper (get_or own k d) now)
 front-waits s traces now first n slots left own e f l h k d m =
     let size : length own ≤ n = omega (arith, ap length f, length-take n left) in
     let less : k < n = omega (arith, m, size) in
     let at : get_or own k d ≡ get_or slots (first + k) d = ap (λ z. get_or z k d) (f ∙ ap (take n) e) ∙ get_or-take n (drop first slots) k d less ∙ get_or-drop first slots k d in
-    subst (λ (x : Slot). Waits s traces (unit_at s (first + k)) now (sleeper x now)) (sym at) (h (first + k) d (omega (arith, less, l)))
+    subst (λ (x : Slot). Waits s traces (unit_at s (first + k)) now now (sleeper x now)) (sym at) (h (first + k) d (omega (arith, less, l)))
 
 -- a shard with its number
 abbrev pub IsMade : Config → List (List Entry) → List ℕ → ℕ → ℕ → Box Shard Global → Type 0
@@ -246,7 +247,7 @@ shards-early s traces bounds now (x ∷ xs) h = (h.asleep 0 x (omega arith)).ear
 
 -- units that all stand at a cycle are asked in the next phase
 pub slots-wait : (s : Config) (traces : List (List Entry)) (now : ℕ) (parts : List UnitState) (slots : List Slot) → StandAt s traces now parts → AreSlots now parts slots
-    → (k : ℕ) (d : Slot) → k < length slots → Waits s traces (unit_at s k) now (sleeper (get_or slots k d) now)
+    → (k : ℕ) (d : Slot) → k < length slots → Waits s traces (unit_at s k) now now (sleeper (get_or slots k d) now)
 slots-wait s traces now parts slots h e k d l =
     let less : k < length parts = omega (arith, l, e.count) in
     let p = some-part parts (omega (arith, less)) in

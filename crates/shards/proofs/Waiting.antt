@@ -5,9 +5,9 @@ use Rattle.std.proofs.lemmas.Bool.Decides.{nat_tests}
 use Rattle.std.proofs.lemmas.List.{append-nil}
 use Rattle.sim_base.specs.declared.config.Config.{Config}
 use Rattle.sim_base.specs.Counts.{in_flight}
-use Rattle.sim_base.specs.History.{is_unit, trace_of, core_messages, channel_messages, messages_of_core, messages_of_channel, inbox}
+use Rattle.sim_base.specs.History.{is_unit, trace_of, core_messages, channel_messages, inbox}
 use Rattle.sim_base.specs.Locality.{TravelsFor}
-use Rattle.sim_base.specs.Machine.{run, core_run, channel_run}
+use Rattle.sim_base.specs.Machine.{run}
 use Rattle.sim_base.specs.declared.history.CoreStep.{CoreStep}
 use Rattle.sim_base.specs.declared.message.Message.{Message}
 use Rattle.sim_base.specs.declared.message.Unit.{Unit as MachineUnit}
@@ -25,23 +25,19 @@ use Rattle.core_window.specs.declared.core_unit.Core.{Core as CoreUnit}
 use Rattle.links.specs.InFlight.{is_due, receiver_of}
 use Rattle.span_laws.specs.Cores.{core_steps_of}
 use Rattle.span_laws.specs.Mail.{arriving, mail_before, mail_in}
-use Rattle.span_laws.specs.Quiet.{RestsAlone}
+use Rattle.span_laws.specs.Quiet.{RestsAlone, IsSilent}
+use Rattle.statistics.proofs.Messages.{arrived-sooner}
 use Rattle.span_laws.proofs.Arrivals.{arriving-arrived, mail-settled}
-use Rattle.span_laws.proofs.ChannelSpans.{channels-run_alone}
-use Rattle.span_laws.proofs.CoreSpans.{cores-run_alone}
-use Rattle.span_laws.proofs.Flights.{links-bring}
+use Rattle.horizon_laws.proofs.Flights.{flights-meet}
+use Rattle.horizon_laws.proofs.Bringing.{unit-due}
+use Rattle.span_laws.proofs.Silent.{silent-sooner, none-part, none-first, silent-sent}
 use Rattle.span_laws.proofs.Idle.{rest-messages, rests-sooner}
-use Rattle.units.specs.Units.{Exists}
-use Rattle.units.specs.Parts.{sent_of, IsPart, IsReadyFor, HasRun}
+use Rattle.span_laws.specs.Units.{Exists, sent_of}
+use Rattle.units.specs.Parts.{IsPart, IsReadyFor, HasRun}
 use Rattle.units.specs.Quiet.{IsNextActOf}
 use Rattle.units.specs.declared.part.UnitState.TheVariants as part
 use Rattle.units.proofs.Resting.{core-rows_length, rests-in_none}
-use Rattle.shards.specs.Wakes.{Sleeper, IsSilent, Waits, HasGoneOn}
-
--- who is silent in a span is silent in a shorter one
-pub silent-sooner : (s : Config) (traces : List (List Entry)) (from sooner until : ℕ) (u : MachineUnit) → sooner ≤ until → IsSilent s traces from until u → IsSilent s traces from sooner u
-silent-sooner s traces from sooner until (Core core) k h = λ n l. h n (omega (arith, k, l))
-silent-sooner s traces from sooner until (Channel channel) k h = λ n l. h n (omega (arith, k, l))
+use Rattle.shards.specs.Wakes.{Sleeper, Waits, IsKnown, HasGoneOn}
 
 -- who rests is silent
 pub rests-silent : (s : Config) (traces : List (List Entry)) (from until : ℕ) (u : MachineUnit) → RestsAlone s traces from until u → IsSilent s traces from until u
@@ -58,136 +54,62 @@ rests-silent s traces from until (Channel channel) h = λ n l.
     ap (channel_messages s channel) (idle-run s channel steps mail n (λ k m. h k (omega (arith, l, m))))
     ∙ idle-messages s channel steps n
 
--- what arrives up to the end of a phase is known at its beginning, also from an earlier cycle on
-pub mail-lag : (s : Config) (traces : List (List Entry)) (at now until : ℕ) (u : MachineUnit) → now ≤ until → TravelsFor s (until - now)
-    → mail_in s traces until u at until ≡ mail_in s traces now u at until
-mail-lag s traces at now until u l t =
+-- what arrives up to the end of a phase is known at its beginning
+pub known-phase : (s : Config) (traces : List (List Entry)) (now until : ℕ) (u : MachineUnit) → now ≤ until → TravelsFor s (until - now) → IsKnown s traces now until u
+known-phase s traces now until u l t =
     let e : until ≡ now + (until - now) = omega arith in
-    let same : arrived (inbox s traces (run s traces until) u) until ≡ arrived (inbox s traces (run s traces now) u) until =
-    ap (λ i. arrived (inbox s traces (run s traces i) u) until) e ∙ inbox-run s traces now (until - now) u until (has_channels s) t (omega arith) (until - now) in
-    sym (arriving-arrived at until (inbox s traces (run s traces until) u)) ∙ ap (arriving at until) same ∙ arriving-arrived at until (inbox s traces (run s traces now) u)
+    ap (λ i. arrived (inbox s traces (run s traces i) u) until) e ∙ inbox-run s traces now (until - now) u until (has_channels s) t (omega arith) (until - now)
 
--- what arrived before a cycle does not change
-pub mail-past : (s : Config) (traces : List (List Entry)) (at now until : ℕ) (u : MachineUnit) → now ≤ until → mail_in s traces until u at now ≡ mail_in s traces now u at now
-mail-past s traces at now until u l =
-    sym (arriving-arrived at now (inbox s traces (run s traces until) u))
-    ∙ ap (arriving at now) (mail-settled s traces now until u l)
-    ∙ arriving-arrived at now (inbox s traces (run s traces now) u)
+-- what is known up to a cycle is known up to each before it
+pub known-sooner : (s : Config) (traces : List (List Entry)) (there here until : ℕ) (u : MachineUnit) → here ≤ until → IsKnown s traces there until u → IsKnown s traces there here u
+known-sooner s traces there here until u l h =
+    sym (mail-settled s traces here until u l) ∙ arrived-sooner here until l (inbox s traces (run s traces until) u) (inbox s traces (run s traces there) u) h
 
--- where none passes a test, none passes a stronger one
-pub none-stronger : (p q : Message → Bool) (ms : List Message) → ((m : Message) → p m ≡ true → q m ≡ true) → filter q ms ≡ [] → filter p ms ≡ []
-none-stronger p q [] f h = refl
-none-stronger p q (m ∷ ms) f h = go (q m) refl h (p m) refl (none-stronger p q ms f)
-  where
-    go : (b : Bool) → q m ≡ b → cond b (m ∷ filter q ms) (filter q ms) ≡ [] → (c : Bool) → p m ≡ c → (filter q ms ≡ [] → filter p ms ≡ []) → cond c (m ∷ filter p ms) (filter p ms) ≡ []
-    go true e k c g rest = cc
-    go false e k true g rest = let bad : true ≡ false = sym (f m g) ∙ e in cc
-    go false e k false g rest = rest k
+-- so is what arrives in a span
+pub known-mail : (s : Config) (traces : List (List Entry)) (there from until : ℕ) (u : MachineUnit) → IsKnown s traces there until u → mail_in s traces until u from until ≡ mail_in s traces there u from until
+known-mail s traces there from until u h =
+    sym (arriving-arrived from until (inbox s traces (run s traces until) u)) ∙ ap (arriving from until) h ∙ arriving-arrived from until (inbox s traces (run s traces there) u)
 
--- where none passes one test, two others take the same that agree on the rest
-pub none-else : (o p q : Message → Bool) (ms : List Message) → ((m : Message) → o m ≡ false → p m ≡ q m) → filter o ms ≡ [] → filter p ms ≡ filter q ms
-none-else o p q [] f h = refl
-none-else o p q (m ∷ ms) f h = go (o m) refl h (none-else o p q ms f)
-  where
-    go : (b : Bool) → o m ≡ b → cond b (m ∷ filter o ms) (filter o ms) ≡ [] → (filter o ms ≡ [] → filter p ms ≡ filter q ms)
-        → cond (p m) (m ∷ filter p ms) (filter p ms) ≡ cond (q m) (m ∷ filter q ms) (filter q ms)
-    go true e k rest = cc
-    go false e k rest = ap₂ (λ b z. cond b (m ∷ z) z) (f m e) (rest k)
+-- as far as is known nothing arrived at a unit that waits
+pub waits-none : (s : Config) (traces : List (List Entry)) (u : MachineUnit) (here there : ℕ) (slot : Sleeper) → Waits s traces u here there slot → mail_in s traces there u slot.at here ≡ []
+waits-none s traces u here there slot h = none-part s traces there slot.at slot.wake slot.at here u (omega arith) h.ahead h.may.none
 
-inner : (a b from until arrival : ℕ) → a ≤ from → until ≤ b → (leb from arrival && ltb arrival until) ≡ true → (leb a arrival && ltb arrival b) ≡ true
-inner a b from until arrival k l h = grind (arith, nat_tests)
+-- it has sent nothing since the cycle where it stands
+pub waits-sent : (s : Config) (traces : List (List Entry)) (u : MachineUnit) (here there : ℕ) (slot : Sleeper) → Exists s u → IsKnown s traces there here u → Waits s traces u here there slot
+    → sent_of s traces here u ≡ sent_of s traces slot.at u
+waits-sent s traces u here there slot k known h =
+    silent-sent s traces slot.at here u k h.behind (silent-sooner s traces slot.at here slot.wake u h.ahead h.may.silent)
+    (known-mail s traces there slot.at here u known ∙ waits-none s traces u here there slot h)
 
-outer : (at now until arrival : ℕ) → at ≤ now → now ≤ until → (leb at arrival && ltb arrival now) ≡ false → (leb at arrival && ltb arrival until) ≡ (leb now arrival && ltb arrival until)
-outer at now until arrival k l h = grind (arith, nat_tests)
-
--- where nothing arrives in a span, nothing arrives in a part of it
-pub none-part : (s : Config) (traces : List (List Entry)) (n a b from until : ℕ) (u : MachineUnit) → a ≤ from → until ≤ b → mail_in s traces n u a b ≡ [] → mail_in s traces n u from until ≡ []
-none-part s traces n a b from until u k l h =
-    none-stronger (λ (m : Message). leb from m.arrival && ltb m.arrival until) (λ (m : Message). leb a m.arrival && ltb m.arrival b) (inbox s traces (run s traces n) u)
-    (λ m e. inner a b from until m.arrival k l e) h
-
--- and the mail of a span that begins with it is that of the rest
-pub none-first : (s : Config) (traces : List (List Entry)) (n at now until : ℕ) (u : MachineUnit) → at ≤ now → now ≤ until → mail_in s traces n u at now ≡ []
-    → mail_in s traces n u at until ≡ mail_in s traces n u now until
-none-first s traces n at now until u k l h =
-    none-else (λ (m : Message). leb at m.arrival && ltb m.arrival now) (λ (m : Message). leb at m.arrival && ltb m.arrival until) (λ (m : Message). leb now m.arrival && ltb m.arrival until)
-    (inbox s traces (run s traces n) u) (λ m e. outer at now until m.arrival k l e) h
-
--- THE KEY: a unit that would be silent in a span, in which nothing arrives at it, sends nothing in the run
-pub silent-sent : (s : Config) (traces : List (List Entry)) (at until : ℕ) (u : MachineUnit) → Exists s u → at ≤ until → IsSilent s traces at until u → mail_in s traces until u at until ≡ []
-    → sent_of s traces until u ≡ sent_of s traces at u
-unfolding messages_of_core messages_of_channel
-silent-sent s traces at until (Core core) k l h none =
-    let trace = trace_of traces core in
-    let steps = core_steps_of s traces at core in
-    let n = until - at in
-    ap (core_messages s core trace)
-    (sym (cores-run_alone s traces at until core k l)
-    ∙ ap (λ ms. core_run s core trace steps (mail_before s traces until (Core core) at ++ ms) n) none
-    ∙ ap (λ ms. core_run s core trace steps ms n) (append-nil _ ∙ mail-settled s traces at until (Core core) l))
-    ∙ h n (omega (arith, l))
-silent-sent s traces at until (Channel channel) k l h none =
-    let steps = channel_steps_of s traces at channel in
-    let n = until - at in
-    ap (channel_messages s channel)
-    (sym (channels-run_alone s traces at until channel k l)
-    ∙ ap (λ ms. channel_run s channel steps (mail_before s traces until (Channel channel) at ++ ms) n) none
-    ∙ ap (λ ms. channel_run s channel steps ms n) (append-nil _ ∙ mail-settled s traces at until (Channel channel) l))
-    ∙ h n (omega (arith, l))
-
--- a unit that waits has sent nothing since the cycle where it stands, and nothing arrived at it
-pub waits-sent : (s : Config) (traces : List (List Entry)) (u : MachineUnit) (now : ℕ) (slot : Sleeper) → Exists s u → Waits s traces u now slot → sent_of s traces now u ≡ sent_of s traces slot.at u
-waits-sent s traces u now slot k h =
-    silent-sent s traces slot.at now u k h.behind (silent-sooner s traces slot.at now slot.wake u h.ahead h.may.silent)
-    (none-part s traces now slot.at slot.wake slot.at now u (omega arith) h.ahead h.may.none)
-
-pub waits-none : (s : Config) (traces : List (List Entry)) (u : MachineUnit) (now : ℕ) (slot : Sleeper) → Waits s traces u now slot → mail_in s traces now u slot.at now ≡ []
-waits-none s traces u now slot h = none-part s traces now slot.at slot.wake slot.at now u (omega arith) h.ahead h.may.none
-
--- what is due at a unit of what is in flight
-pub due-flight : (s : Config) (traces : List (List Entry)) (now until : ℕ) (u : MachineUnit) → filter (is_due s.channels u now until) (in_flight s traces (run s traces now)) ≡ mail_in s traces now u now until
-due-flight s traces now until u =
-    links-bring s traces now until (record { channels = s.channels; messages = in_flight s traces (run s traces now) }) [] u (record { channels_are = refl; messages_are = refl }) refl
-
-pub part-sooner : (now until word wake arrival : ℕ) (b : Bool) → now ≤ until → word ≤ wake → (b && (leb until arrival && ltb arrival word)) ≡ true → (b && (leb now arrival && ltb arrival wake)) ≡ true
-part-sooner now until word wake arrival true l k h = grind (arith, nat_tests)
-part-sooner now until word wake arrival false l k h = h
-
--- of what is in flight nothing is due at a unit that waits, up to its word
-pub waits-rest : (s : Config) (traces : List (List Entry)) (u : MachineUnit) (now until : ℕ) (slot : Sleeper) → now ≤ until → Waits s traces u now slot
-    → filter (is_due s.channels u until slot.wake) (in_flight s traces (run s traces now)) ≡ []
-waits-rest s traces u now until slot l h =
-    let before : filter (is_due s.channels u now slot.wake) (in_flight s traces (run s traces now)) ≡ [] =
-    due-flight s traces now slot.wake u ∙ none-part s traces now slot.at slot.wake now slot.wake u h.behind (omega arith) h.may.none in
-    none-stronger (is_due s.channels u until slot.wake) (is_due s.channels u now slot.wake) (in_flight s traces (run s traces now))
-    (λ m k. part-sooner now until slot.wake slot.wake m.arrival (is_unit (receiver_of s.channels m.link) u) l (omega arith) k) before
-
--- so it goes on, untouched, over a phase that ends by its word: it sends nothing, and nothing arrives at it
-pub untouched : (s : Config) (traces : List (List Entry)) (u : MachineUnit) (now until : ℕ) (slot : Sleeper) → Exists s u → now ≤ until → TravelsFor s (until - now)
-    → until ≤ slot.wake → Waits s traces u now slot → HasGoneOn s traces u now until slot []
-untouched s traces u now until slot k l t w h =
+-- it goes on, untouched, up to a cycle that is not past its word: it sends nothing, and nothing arrives at it
+pub untouched : (s : Config) (traces : List (List Entry)) (u : MachineUnit) (here there until : ℕ) (slot : Sleeper) → Exists s u → here ≤ until → IsKnown s traces there until u
+    → until ≤ slot.wake → Waits s traces u here there slot → HasGoneOn s traces u here there until slot []
+untouched s traces u here there until slot k l known w h =
     let none : mail_in s traces until u slot.at until ≡ [] =
-    mail-lag s traces slot.at now until u l t ∙ none-part s traces now slot.at slot.wake slot.at until u (omega arith) w h.may.none in
+    known-mail s traces there slot.at until u known ∙ none-part s traces there slot.at slot.wake slot.at until u (omega arith) w h.may.none in
     record {
-      between = record { behind = omega (arith, h.behind, l); ahead = w; stands = h.stands; silent = h.may.silent; none = none; rest = waits-rest s traces u now until slot l h };
+      waits = record { behind = omega (arith, h.behind, l); ahead = w; stands = h.stands; may = h.may };
       sent = silent-sent s traces slot.at until u k (omega (arith, h.behind, l)) (silent-sooner s traces slot.at until slot.wake u w h.may.silent) none
-          ∙ sym (waits-sent s traces u now slot k h) ∙ sym (append-nil (sent_of s traces now u));
+          ∙ sym (waits-sent s traces u here there slot k (known-sooner s traces there here until u l known) h) ∙ sym (append-nil (sent_of s traces here u));
     }
 
-pub untouched-none : (s : Config) (traces : List (List Entry)) (u : MachineUnit) (now until : ℕ) (slot : Sleeper) → HasGoneOn s traces u now until slot [] → Waits s traces u now slot
-    → mail_in s traces until u now until ≡ []
-untouched-none s traces u now until slot g h = none-part s traces until slot.at until now until u h.behind (omega arith) g.between.none
+-- nothing arrives at it in the span
+pub untouched-none : (s : Config) (traces : List (List Entry)) (u : MachineUnit) (here there until : ℕ) (slot : Sleeper) → until ≤ slot.wake → Waits s traces u here there slot
+    → mail_in s traces there u here until ≡ []
+untouched-none s traces u here there until slot w h = none-part s traces there slot.at slot.wake here until u h.behind w h.may.none
 
--- a unit that is woken is run from its own cycle, however far back that is, with what arrives at it in the phase
-pub woken-ready : (s : Config) (traces : List (List Entry)) (u : MachineUnit) (now until : ℕ) (slot : Sleeper) (inbox : List Message) → Exists s u → now ≤ until → until ≤ 10 ^ 12
-    → Waits s traces u now slot → inbox ≡ mail_in s traces until u now until → IsReadyFor s traces u slot.part inbox slot.at until
-woken-ready s traces u now until slot mail k l early h e =
+-- a unit that is woken is run from its own cycle, however far back that is, with what arrives at it from where its kind stands
+pub woken-ready : (s : Config) (traces : List (List Entry)) (u : MachineUnit) (here there until : ℕ) (slot : Sleeper) (inbox : List Message) → Exists s u → here ≤ until → until ≤ 10 ^ 12
+    → IsKnown s traces there until u → Waits s traces u here there slot → inbox ≡ mail_in s traces there u here until → IsReadyFor s traces u slot.part inbox slot.at until
+woken-ready s traces u here there until slot mail k l early known h e =
     record {
       exists = k;
       order = omega (arith, h.behind, l);
       early = early;
       stands = h.stands;
-      mail = e ∙ sym (none-first s traces until slot.at now until u h.behind l (mail-past s traces slot.at now until u l ∙ waits-none s traces u now slot h));
+      mail = e
+          ∙ sym (none-first s traces there slot.at here until u h.behind l (waits-none s traces u here there slot h))
+          ∙ sym (known-mail s traces there slot.at until u known);
     }
 
 empty-span : (until arrival : ℕ) → (leb until arrival && ltb arrival until) ≡ true → (leb until arrival && ltb arrival until) ≡ false
@@ -201,22 +123,28 @@ span-none until (m ∷ ms) = go (leb until m.arrival && ltb m.arrival until) ref
     go true e rest = let bad : true ≡ false = sym e ∙ empty-span until m.arrival e in cc
     go false e rest = rest
 
--- and it then stands at the end of the phase
-pub woken-gone : (s : Config) (traces : List (List Entry)) (u : MachineUnit) (now until : ℕ) (before after : Sleeper) (sent : List Message) → Exists s u → Waits s traces u now before
-    → HasRun s traces u before.at until after.part sent → after.at ≡ until → until ≤ after.wake → IsSilent s traces until after.wake u
-    → filter (is_due s.channels u until after.wake) (in_flight s traces (run s traces now)) ≡ [] → HasGoneOn s traces u now until after sent
-woken-gone s traces u now until before after sent k h ran at w silent rest =
+-- and it then stands at the end of the span
+pub woken-gone : (s : Config) (traces : List (List Entry)) (u : MachineUnit) (here there until : ℕ) (before after : Sleeper) (sent : List Message) → Exists s u → here ≤ until → IsKnown s traces there until u
+    → Waits s traces u here there before → HasRun s traces u before.at until after.part sent → after.at ≡ until → until ≤ after.wake → IsSilent s traces until after.wake u
+    → mail_in s traces there u until after.wake ≡ [] → HasGoneOn s traces u here there until after sent
+woken-gone s traces u here there until before after sent k l known h ran at w silent none =
     record {
-      between = record {
+      waits = record {
         behind = omega (arith, at);
         ahead = w;
         stands = subst (λ n. IsPart s traces u n after.part) (sym at) ran.stands;
-        silent = subst (λ n. IsSilent s traces n after.wake u) (sym at) silent;
-        none = ap (λ n. mail_in s traces until u n until) at ∙ span-none until _;
-        rest = rest;
+        may = record { silent = subst (λ n. IsSilent s traces n after.wake u) (sym at) silent; none = ap (λ n. mail_in s traces there u n after.wake) at ∙ none };
       };
-      sent = ran.sent ∙ ap (λ z. z ++ sent) (sym (waits-sent s traces u now before k h));
+      sent = ran.sent ∙ ap (λ z. z ++ sent) (sym (waits-sent s traces u here there before k (known-sooner s traces there here until u l known) h));
     }
+
+-- of what is in flight, what is due at a unit later on is what arrives at it of what was sent so far
+pub due-flight : (s : Config) (traces : List (List Entry)) (now from until : ℕ) (u : MachineUnit) → now ≤ from
+    → filter (is_due s.channels u from until) (in_flight s traces (run s traces now)) ≡ mail_in s traces now u from until
+due-flight s traces now from until (Core core) l =
+    ap (filter (is_due s.channels (Core core) from until)) (sym (flights-meet s traces now)) ∙ unit-due s traces now now from until (Core core) l
+due-flight s traces now from until (Channel channel) l =
+    ap (filter (is_due s.channels (Channel channel) from until)) (sym (flights-meet s traces now)) ∙ unit-due s traces now now from until (Channel channel) l
 
 -- what a unit tells of its next act is a word before which it is silent
 pub acts-silent : (s : Config) (traces : List (List Entry)) (u : MachineUnit) (from word : ℕ) → IsNextActOf s traces u from None → from ≤ word → IsSilent s traces from word u
@@ -268,13 +196,13 @@ none-due channels from word least u (m ∷ ms) h l =
     ∙ none-due channels from word least u ms (λ k d i. h (suc k) d (omega (arith, i))) l
 
 -- a unit that waits may be run up to the cycle where the machine stands, where nothing arrives at it
-pub waits-ready : (s : Config) (traces : List (List Entry)) (u : MachineUnit) (now : ℕ) (slot : Sleeper) (none : List Message) → Exists s u → now ≤ 10 ^ 12 → Waits s traces u now slot → none ≡ []
+pub waits-ready : (s : Config) (traces : List (List Entry)) (u : MachineUnit) (now : ℕ) (slot : Sleeper) (none : List Message) → Exists s u → now ≤ 10 ^ 12 → Waits s traces u now now slot → none ≡ []
     → IsReadyFor s traces u slot.part none slot.at now
 waits-ready s traces u now slot none k early h e =
-    record { exists = k; order = h.behind; early = early; stands = h.stands; mail = e ∙ sym (waits-none s traces u now slot h) }
+    record { exists = k; order = h.behind; early = early; stands = h.stands; mail = e ∙ sym (waits-none s traces u now now slot h) }
 
 -- a unit that stands where the machine does may be woken at once
-pub awake-waits : (s : Config) (traces : List (List Entry)) (u : MachineUnit) (now : ℕ) (slot : Sleeper) → IsPart s traces u now slot.part → slot.at ≡ now → slot.wake ≡ now → Waits s traces u now slot
+pub awake-waits : (s : Config) (traces : List (List Entry)) (u : MachineUnit) (now : ℕ) (slot : Sleeper) → IsPart s traces u now slot.part → slot.at ≡ now → slot.wake ≡ now → Waits s traces u now now slot
 awake-waits s traces u now slot h at wake =
     record {
       behind = omega (arith, at);

@@ -1,4 +1,5 @@
 pub mod Wakes
+pub mod Turns
 pub mod Rests
 pub mod Shards
 pub mod Jobs

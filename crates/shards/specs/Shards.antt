@@ -21,8 +21,8 @@ use Rattle.sim_base.specs.declared.trace.Entry.{Entry}
 use Rattle.sim_base.specs.Counts.{in_flight}
 use Rattle.sim_base.specs.Locality.{TravelsFor}
 use Rattle.sim_base.specs.Machine.{run}
+use Rattle.span_laws.specs.Units.{sent_of}
 use Rattle.units.specs.Flight.{among, sent_by}
-use Rattle.units.specs.Parts.{sent_of}
 use Rattle.units.specs.Units.{unit_at, unit_count}
 use Rattle.shards.specs.Wakes.{HaveGone, IsAsleep, sent_in}
 use Rattle.shards.specs.declared.shard.Shard.{Shard}

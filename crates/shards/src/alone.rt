@@ -1,15 +1,21 @@
 //! A machine that is run in place, by the caller alone: only units that wake are touched.
 
-ghost use Rattle.std.specs.Prelude.{◌≡◌, ◌<◌, ◌≤◌, ◌^◌, ◌+◌, ◌-◌, ℕ, true, false, [], length, IfOk, OnOk, IfSome, IfNone, All, slice_index_or};
+ghost use Rattle.std.specs.Prelude.{◌≡◌, ◌<◌, ◌≤◌, ◌^◌, ◌+◌, ◌-◌, ℕ, List, true, false, [], length, IfOk, OnOk, IfSome, IfNone, All, slice_index_or};
 ghost use Rattle.sim_base.specs.History.{is_unit};
 ghost use Rattle.sim_base.specs.Locality.{TravelsFor};
-ghost use Rattle.links.specs.InFlight.{receiver_of};
+ghost use Rattle.sim_base.specs.declared.config.Config.{Config};
+ghost use Rattle.sim_base.specs.declared.trace.Entry.{Entry};
+ghost use Rattle.links.specs.InFlight.{InFlight, receiver_of};
+ghost use Rattle.horizon_laws.specs.Sent.{RequestsTravelFor, AnswersTakeFor};
 ghost use Rattle.units.specs.Flight.{sent_by};
 ghost use Rattle.units.specs.Parts.{StandAt};
 ghost use Rattle.units.specs.Units.{unit_at, unit_count};
-ghost use Rattle.shards.specs.Wakes.{WaitAll, HaveGone, IsAsleep, AreLowered, AreSlots};
+ghost use Rattle.shards.specs.Turns.{AreInTurns};
+ghost use Rattle.shards.specs.Wakes.{WaitAll, AllBrought, HaveGone, IsAsleep, AreLowered, AreSlots, links_after};
+ghost use Rattle.shards.specs.declared.slot.Slot.{Slot};
 
-use crate::slot::Slot;
+use crate::slot::{Slot, Span};
+use horizon_laws::latencies::{least_request_latency, least_way_back};
 use lane_scan::{first_below, least};
 use links::flight::Links;
 use sim_base::config::Config;
@@ -18,7 +24,6 @@ use std::alloc::{AllocError, Global};
 use units::machine::Machine;
 use units::mail::Mail;
 use units::part::UnitState;
-use units::span::end_of_phase;
 
 /// The first place from one on whose word is before a cycle, or the number of words where there is none.
 fn next_waking(words: &[Cycle], from: usize, until: Cycle) -> usize
@@ -34,7 +39,39 @@ fn next_waking(words: &[Cycle], from: usize, until: Cycle) -> usize
     }
 }
 
-/// Takes units, at places from one on, over a phase: those whose word is before its end are run, the others are left as they are.
+/// Takes units, at places from one on, over a span: those whose word is before its end are run, the others are left as they are.
+fn go_on(
+    machine: &Machine,
+    links: &mut Links,
+    mail: &mut Mail,
+    slots: &mut [Slot],
+    words: &mut [Cycle],
+    first: usize,
+    span: &Span,
+) -> Result<(), AllocError>
+    requires within { first + length slots.old ≤ unit_count machine.now.config }
+    requires words { length words.old ≡ length slots.old }
+    requires order { span.now.here ≤ span.now.until }
+    requires early { span.now.until ≤ 10 ^ 12 }
+    requires wait { WaitAll machine.now.config machine.now.traces.items first span.now.here span.now.there slots.old words.old }
+    requires brought { AllBrought machine.now.config machine.now.traces.items first (length slots.old) span.now.here span.now.there span.now.until links.old }
+    requires sent { mail.old.sent.items ≡ [] }
+    ensures count { length slots.new ≡ length slots.old }
+    ensures words { length words.new ≡ length words.old }
+    ensures wait { OnOk result (WaitAll machine.now.config machine.now.traces.items first span.now.until span.now.there slots.new words.new) }
+    ensures links { OnOk result (links.new ≡ links_after machine.now.config span.now.here span.now.until first (length slots.old) links.old) }
+    ensures sent { OnOk result (mail.new.sent.items ≡ sent_by machine.now.config machine.now.traces.items span.now.here span.now.until first (length slots.old)) }
+{
+    let mut place = next_waking(words, 0, span.until);
+    while place < slots.len() {
+        let word = words[place];
+        words[place] = slots[place].woken(machine, links, mail, word, first + place, span)?;
+        place = next_waking(words, place + 1, span.until);
+    }
+    Ok(())
+}
+
+/// Takes units, at places from one on, over a phase of all units, which is no longer than the shortest latency.
 pub(crate) fn go_all(
     machine: &Machine,
     links: &mut Links,
@@ -55,12 +92,12 @@ pub(crate) fn go_all(
     ensures gone { OnOk result (HaveGone machine.now.config machine.now.traces.items first now until slots.new words.new links.new) }
     ensures sent { OnOk result (mail.new.sent.items ≡ sent_by machine.now.config machine.now.traces.items now until first (length slots.old)) }
 {
-    let mut place = next_waking(words, 0, until);
-    while place < slots.len() {
-        let word = words[place];
-        words[place] = slots[place].woken(machine, links, mail, word, first + place, now, until)?;
-        place = next_waking(words, place + 1, until);
-    }
+    let span = Span {
+        here: now,
+        there: now,
+        until,
+    };
+    go_on(machine, links, mail, slots, words, first, &span)?;
     Ok(())
 }
 
@@ -107,27 +144,81 @@ pub(crate) fn lower_all(config: &Config, first: usize, words: &mut [Cycle], sent
     }
 }
 
-/// One phase of a machine: from a cycle on and before another, which is no further away than the shortest latency.
-fn step(
+/// Where the cores of a machine stand, and where its channels do.
+#[derive(Clone, Copy)]
+struct Standing {
+    cores_at: Cycle,
+    channels_at: Cycle,
+}
+
+/// A turn of the channels, up to a cycle that is no further beyond the cores than any request travels.
+fn channels_turn(
     machine: &Machine,
     links: &mut Links,
     mail: &mut Mail,
     slots: &mut [Slot],
     words: &mut [Cycle],
-    now: Cycle,
+    at: Standing,
     until: Cycle,
 ) -> Result<(), AllocError>
-    requires asleep { IsAsleep machine.now.config machine.now.traces.items 0 now slots.old words.old links.old }
-    requires whole { length slots.old ≡ unit_count machine.now.config }
-    requires order { now < until }
+    requires turns { AreInTurns machine.now.config machine.now.traces.items at.cores_at at.channels_at slots.old words.old links.old }
+    requires order { at.channels_at ≤ until }
     requires early { until ≤ 10 ^ 12 }
-    requires travels { TravelsFor machine.now.config (until - now) }
-    ensures asleep { OnOk result (IsAsleep machine.now.config machine.now.traces.items 0 until slots.new words.new links.new) }
+    requires travels { RequestsTravelFor machine.now.config (until - at.cores_at) }
+    ensures turns { OnOk result (AreInTurns machine.now.config machine.now.traces.items at.cores_at until slots.new words.new links.new) }
     ensures count { length slots.new ≡ length slots.old }
 {
+    let cores = usize::from(machine.config.cores);
+    let (_, channel_slots) = slots.split_at_mut(cores);
+    let (core_words, channel_words) = words.split_at_mut(cores);
+    let span = Span {
+        here: at.channels_at,
+        there: at.cores_at,
+        until,
+    };
     mail.sent.clear();
-    go_all(machine, links, mail, slots, words, 0, now, until)?;
-    lower_all(&machine.config, 0, words, &mail.sent);
+    go_on(
+        machine,
+        links,
+        mail,
+        channel_slots,
+        channel_words,
+        cores,
+        &span,
+    )?;
+    lower_all(&machine.config, 0, core_words, &mail.sent);
+    links.accept(&mut mail.sent)?;
+    Ok(())
+}
+
+/// A turn of the cores, up to a cycle that is no further beyond the channels than any credit or reply takes.
+fn cores_turn(
+    machine: &Machine,
+    links: &mut Links,
+    mail: &mut Mail,
+    slots: &mut [Slot],
+    words: &mut [Cycle],
+    at: Standing,
+    until: Cycle,
+) -> Result<(), AllocError>
+    requires turns { AreInTurns machine.now.config machine.now.traces.items at.cores_at at.channels_at slots.old words.old links.old }
+    requires order { at.cores_at ≤ until }
+    requires early { until ≤ 10 ^ 12 }
+    requires takes { AnswersTakeFor machine.now.config (until - at.channels_at) }
+    ensures turns { OnOk result (AreInTurns machine.now.config machine.now.traces.items until at.channels_at slots.new words.new links.new) }
+    ensures count { length slots.new ≡ length slots.old }
+{
+    let cores = usize::from(machine.config.cores);
+    let (core_slots, _) = slots.split_at_mut(cores);
+    let (core_words, channel_words) = words.split_at_mut(cores);
+    let span = Span {
+        here: at.cores_at,
+        there: at.channels_at,
+        until,
+    };
+    mail.sent.clear();
+    go_on(machine, links, mail, core_slots, core_words, 0, &span)?;
+    lower_all(&machine.config, cores, channel_words, &mail.sent);
     links.accept(&mut mail.sent)?;
     Ok(())
 }
@@ -141,7 +232,28 @@ pub(crate) fn next_wake(words: &[Cycle], limit: Cycle) -> Cycle
     least(words).min(limit)
 }
 
-/// A machine up to a limit, phase by phase: each begins at the least word.
+/// Where a machine in turns goes on from: where neither kind is past the least word, or the limit, from there.
+fn later(words: &[Cycle], at: Standing, limit: Cycle) -> Standing
+    requires order { at.channels_at ≤ at.cores_at }
+    requires within { at.cores_at ≤ limit }
+    ensures turns { (s : Config) (traces : List (List Entry)) (slots : List Slot) (links : InFlight) → AreInTurns s traces at.cores_at at.channels_at slots words.now links
+        → AreInTurns s traces result.cores_at result.channels_at slots words.now links }
+    ensures order { result.channels_at ≤ result.cores_at }
+    ensures within { result.cores_at ≤ limit }
+    ensures since { at.channels_at ≤ result.channels_at }
+{
+    let begin = next_wake(words, limit);
+    if begin < at.cores_at {
+        return at;
+    }
+    Standing {
+        cores_at: begin,
+        channels_at: begin,
+    }
+}
+
+/// A machine up to a limit, in turns: the channels go on as far as what the cores may still send allows, and then the cores as far as
+/// what the channels may.
 pub(crate) fn run_to(
     machine: &Machine,
     links: &mut Links,
@@ -158,15 +270,20 @@ pub(crate) fn run_to(
     ensures asleep { OnOk result (IsAsleep machine.now.config machine.now.traces.items 0 limit slots.new words.new links.new) }
     ensures count { length slots.new ≡ length slots.old }
 {
-    let mut now = from;
-    while now < limit {
-        let begin = next_wake(words, limit);
-        if begin == limit {
-            return Ok(());
-        }
-        let until = end_of_phase(&machine.config, begin, limit);
-        step(machine, links, mail, slots, words, begin, until)?;
-        now = until;
+    let request = least_request_latency(&machine.config);
+    let way_back = least_way_back(&machine.config);
+    let mut at = Standing {
+        cores_at: from,
+        channels_at: from,
+    };
+    while at.channels_at < limit {
+        at = later(words, at, limit);
+        let until = at.cores_at + request.min(limit - at.cores_at);
+        channels_turn(machine, links, mail, slots, words, at, until)?;
+        at.channels_at = until;
+        let until = at.channels_at + way_back.min(limit - at.channels_at);
+        cores_turn(machine, links, mail, slots, words, at, until)?;
+        at.cores_at = until;
     }
     Ok(())
 }
@@ -183,7 +300,7 @@ pub(crate) fn bring_up(
     requires within { length parts.old.items + length slots.items ≤ unit_count machine.now.config }
     requires words { length words.now ≡ length slots.items }
     requires early { now ≤ 10 ^ 12 }
-    requires wait { WaitAll machine.now.config machine.now.traces.items (length parts.old.items) now slots.items words.now }
+    requires wait { WaitAll machine.now.config machine.now.traces.items (length parts.old.items) now now slots.items words.now }
     requires stand { StandAt machine.now.config machine.now.traces.items now parts.old.items }
     ensures count { OnOk result (length parts.new.items ≡ length parts.old.items + length slots.items) }
     ensures stand { OnOk result (StandAt machine.now.config machine.now.traces.items now parts.new.items) }

@@ -1,7 +1,6 @@
 //! A unit that stands at a cycle of its own.
 
-ghost use Rattle.std.specs.Prelude.{◌≡◌, ◌<◌, ◌≤◌, ◌^◌, ◌-◌, ℕ, List, [], IfOk, OnOk, filter, not};
-ghost use Rattle.sim_base.specs.Locality.{TravelsFor};
+ghost use Rattle.std.specs.Prelude.{◌≡◌, ◌<◌, ◌≤◌, ◌^◌, ℕ, List, [], IfOk, OnOk, filter, not};
 ghost use Rattle.sim_base.specs.declared.config.Config.{Config};
 ghost use Rattle.sim_base.specs.declared.message.Unit.{Unit as MachineUnit};
 ghost use Rattle.sim_base.specs.declared.trace.Entry.{Entry};
@@ -9,7 +8,8 @@ ghost use Rattle.links.specs.InFlight.{is_due};
 ghost use Rattle.units.specs.Parts.{IsPart, IsReady, IsReadyFor};
 ghost use Rattle.units.specs.Quiet.{IsInSomeRun};
 ghost use Rattle.units.specs.Units.{unit_at, unit_count};
-ghost use Rattle.shards.specs.Wakes.{IsSilent, HasRunAndTells, HoldsFor, Waits, AddsWhatItSent, sleeper};
+ghost use Rattle.span_laws.specs.Quiet.{IsSilent};
+ghost use Rattle.shards.specs.Wakes.{HasRunAndTells, IsBrought, Waits, AddsWhatItSent, sleeper};
 
 use links::flight::Links;
 use sim_base::message::{Cycle, Message, Unit};
@@ -17,6 +17,14 @@ use std::alloc::{AllocError, Global};
 use units::machine::{Machine, unit_at};
 use units::mail::Mail;
 use units::part::UnitState;
+
+/// A span over which units of a kind go on: from where they stand up to a cycle, while those that send to them stand at a cycle of theirs.
+#[derive(Clone, Copy)]
+pub(crate) struct Span {
+    pub here: Cycle,
+    pub there: Cycle,
+    pub until: Cycle,
+}
 
 /// A unit, and the cycle where it stands.
 #[derive(Drop)]
@@ -70,8 +78,8 @@ pub(crate) fn arrival_word(links: &Links, unit: Unit, from: Cycle, send: Cycle) 
 }
 
 impl Slot {
-    /// Runs the unit at a place up to the end of a phase, with what arrives at it, and puts what it sends at the end of a list. Gives its
-    /// next word.
+    /// Runs the unit at a place, whose kind stands at a cycle, up to another, with what arrives at it, and puts what it sends at the end of
+    /// a list. Gives its next word.
     pub(crate) fn woken(
         &mut self,
         machine: &Machine,
@@ -79,18 +87,17 @@ impl Slot {
         mail: &mut Mail,
         word: Cycle,
         place: usize,
-        now: Cycle,
-        until: Cycle,
+        span: &Span,
     ) -> Result<Cycle, AllocError>
         requires place { place < unit_count machine.now.config }
-        requires order { now < until }
-        requires early { until ≤ 10 ^ 12 }
-        requires travels { TravelsFor machine.now.config (until - now) }
-        requires waits { Waits machine.now.config machine.now.traces.items (unit_at machine.now.config place) now (sleeper self.old word) }
-        requires holds { HoldsFor machine.now.config machine.now.traces.items now (unit_at machine.now.config place) links.old }
-        ensures gone { IfOk result (λ wake. AddsWhatItSent machine.now.config machine.now.traces.items (unit_at machine.now.config place) now until (sleeper self.new wake) mail.old.sent.items mail.new.sent.items) }
-        ensures links { OnOk result (links.new ≡ record links.old { messages = filter (λ m. not (is_due machine.now.config.channels (unit_at machine.now.config place) now until m)) links.old.messages }) }
+        requires order { span.now.here ≤ span.now.until }
+        requires early { span.now.until ≤ 10 ^ 12 }
+        requires waits { Waits machine.now.config machine.now.traces.items (unit_at machine.now.config place) span.now.here span.now.there (sleeper self.old word) }
+        requires brought { IsBrought machine.now.config machine.now.traces.items span.now.here span.now.there span.now.until (unit_at machine.now.config place) links.old }
+        ensures gone { IfOk result (λ wake. AddsWhatItSent machine.now.config machine.now.traces.items (unit_at machine.now.config place) span.now.here span.now.there span.now.until (sleeper self.new wake) mail.old.sent.items mail.new.sent.items) }
+        ensures links { OnOk result (links.new ≡ record links.old { messages = filter (λ m. not (is_due machine.now.config.channels (unit_at machine.now.config place) span.now.here span.now.until m)) links.old.messages }) }
     {
+        let until = span.until;
         let unit = unit_at(&machine.config, place);
         let Mail { inbox, sent } = mail;
         inbox.clear();
@@ -111,7 +118,7 @@ impl Slot {
     ) -> Result<UnitState, AllocError>
         requires place { place < unit_count machine.now.config }
         requires early { now ≤ 10 ^ 12 }
-        requires waits { Waits machine.now.config machine.now.traces.items (unit_at machine.now.config place) now (sleeper self word) }
+        requires waits { Waits machine.now.config machine.now.traces.items (unit_at machine.now.config place) now now (sleeper self word) }
         ensures { IfOk result (λ part. IsPart machine.now.config machine.now.traces.items (unit_at machine.now.config place) now part) }
     {
         let Slot { mut part, at, .. } = self;

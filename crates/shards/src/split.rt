@@ -131,7 +131,7 @@ fn shard_of(
     requires exists { suc index < length bounds.now }
     requires count { bound bounds.now index + length slots.items ≡ bound bounds.now (suc index) }
     requires early { now ≤ 10 ^ 12 }
-    requires wait { (k : ℕ) (d : Slot) → k < length slots.items → Waits (arc_value machine.now).config (arc_value machine.now).traces.items (unit_at (arc_value machine.now).config (bound bounds.now index + k)) now (sleeper (slice_index_or slots.items k d) now) }
+    requires wait { (k : ℕ) (d : Slot) → k < length slots.items → Waits (arc_value machine.now).config (arc_value machine.now).traces.items (unit_at (arc_value machine.now).config (bound bounds.now index + k)) now now (sleeper (slice_index_or slots.items k d) now) }
     requires flight { messages.now ≡ in_flight (arc_value machine.now).config (arc_value machine.now).traces.items (run (arc_value machine.now).config (arc_value machine.now).traces.items now) }
     ensures shard { IfOk result (λ shard. IsShard (arc_value machine.now).config (arc_value machine.now).traces.items bounds.now index shard.value) }
     ensures asleep { IfOk result (λ shard. IsAsleep (arc_value machine.now).config (arc_value machine.now).traces.items shard.value.first now shard.value.slots.items shard.value.words.items shard.value.links) }
@@ -173,7 +173,7 @@ fn shards_from(
     requires split { IsSplit (arc_value machine.now).config bounds.now }
     requires count { length slots.items ≡ unit_count (arc_value machine.now).config }
     requires early { now ≤ 10 ^ 12 }
-    requires wait { (k : ℕ) (d : Slot) → k < length slots.items → Waits (arc_value machine.now).config (arc_value machine.now).traces.items (unit_at (arc_value machine.now).config k) now (sleeper (slice_index_or slots.items k d) now) }
+    requires wait { (k : ℕ) (d : Slot) → k < length slots.items → Waits (arc_value machine.now).config (arc_value machine.now).traces.items (unit_at (arc_value machine.now).config k) now now (sleeper (slice_index_or slots.items k d) now) }
     requires flight { messages.now ≡ in_flight (arc_value machine.now).config (arc_value machine.now).traces.items (run (arc_value machine.now).config (arc_value machine.now).traces.items now) }
     ensures { IfOk result (λ shards. AreShards (arc_value machine.now).config (arc_value machine.now).traces.items bounds.now now shards.items) }
 {

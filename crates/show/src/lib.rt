@@ -2,6 +2,7 @@
 #![tactic(auto)]
 
 mod number;
+pub mod options;
 mod rows;
 mod screen;
 mod table;

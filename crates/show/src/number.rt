@@ -162,8 +162,8 @@ impl Number {
         }
     }
 
-    // A quotient; none where the divisor is 0.
-    fn quotient(dividend: u128, divisor: u128, form: Form) -> Number
+    /// A quotient; none where the divisor is 0. A dividend above 2^70 counts as 2^70.
+    pub(crate) fn quotient(dividend: u128, divisor: u128, form: Form) -> Number
         ensures { result ≡ record { halves = halves_of dividend divisor; form = form } }
     {
         let halves = 2_000 * dividend.min(GREATEST_SUM);

@@ -9,7 +9,7 @@ use statistics::cores::CoreStats;
 use std::alloc::{AllocError, Global};
 
 /// The most numbers of a row.
-pub(crate) const COLUMNS: usize = 11;
+pub(crate) const COLUMNS: usize = 13;
 
 /// The numbers of a channel or a core, in the order of their headings; behind them there may be some that are absent.
 pub(crate) type Row = [Number; COLUMNS];
@@ -17,8 +17,8 @@ pub(crate) type Row = [Number; COLUMNS];
 /// The cycles in which the data bus is taken by a RD or a WR.
 const CYCLES_OF_DATA: u128 = 4;
 
-/// The headings of a channel's numbers; the last is shown with a configuration only.
-pub(crate) static CHANNEL_HEADINGS: [&str; 10] = [
+/// The headings of a channel's numbers; the last two are shown with a configuration and with a clock only.
+pub(crate) static CHANNEL_HEADINGS: [&str; 11] = [
     "rd",
     "wr",
     "hits %",
@@ -29,9 +29,24 @@ pub(crate) static CHANNEL_HEADINGS: [&str; 10] = [
     "refresh due %",
     "drain %",
     "ref %",
+    "GB/s",
 ];
 
-/// The headings of a core's numbers.
+/// The same with a clock and no configuration.
+pub(crate) static CLOCKED_CHANNEL_HEADINGS: [&str; 10] = [
+    "rd",
+    "wr",
+    "hits %",
+    "bus %",
+    "queue mean",
+    "queue max",
+    "idle %",
+    "refresh due %",
+    "drain %",
+    "GB/s",
+];
+
+/// The headings of a core's numbers; the last two are shown with a clock only.
 pub(crate) static CORE_HEADINGS: [&str; COLUMNS] = [
     "retired",
     "per cycle",
@@ -44,6 +59,8 @@ pub(crate) static CORE_HEADINGS: [&str; COLUMNS] = [
     "window",
     "memory",
     "credit",
+    "finish ns",
+    "latency ns",
 ];
 
 // How many RDs and WRs there were.
@@ -80,7 +97,51 @@ fn refreshes(cycles: u64, channel: &ChannelStats, config: Option<&Config>) -> Nu
 /// A greater part counts as this one.
 const GREATEST_PART: u128 = 1 << 79;
 
-fn channel_row(cycles: u64, channel: &ChannelStats, config: Option<&Config>) -> Row {
+// A kHz is 1,000 cycles a second, and a RD or WR moves 64 bytes: a GB/s is 15,625 of them in so many cycles as a kHz counts.
+const MOVES_OF_A_GIGABYTE: u128 = 15_625;
+
+// The data that a channel moved, in GB/s.
+fn data_rate(cycles: u64, channel: &ChannelStats, khz: u64) -> Number {
+    Number::quotient(
+        moves(channel).saturating_mul(u128::from(khz)),
+        MOVES_OF_A_GIGABYTE * u128::from(cycles),
+        Form::Mean,
+    )
+}
+
+/// A quotient of cycles, in ns.
+pub(crate) fn nanoseconds(cycles: u128, divisor: u64, khz: u64) -> Number {
+    Number::quotient(
+        cycles.saturating_mul(1_000_000),
+        u128::from(divisor).saturating_mul(u128::from(khz)),
+        Form::Mean,
+    )
+}
+
+// The numbers that are shown with a configuration and with a clock, one behind the other.
+fn more_of_channel(
+    cycles: u64,
+    channel: &ChannelStats,
+    config: Option<&Config>,
+    khz: Option<u64>,
+) -> (Number, Number) {
+    let rate = match khz {
+        Some(khz) => data_rate(cycles, channel, khz),
+        None => Number::absent(),
+    };
+    match config {
+        Some(_) => (refreshes(cycles, channel, config), rate),
+        None => (rate, Number::absent()),
+    }
+}
+
+fn channel_row(
+    cycles: u64,
+    channel: &ChannelStats,
+    config: Option<&Config>,
+    khz: Option<u64>,
+) -> Row {
+    let (tenth, eleventh) = more_of_channel(cycles, channel, config, khz);
     [
         Number::count(channel.rd),
         Number::count(channel.wr),
@@ -91,7 +152,9 @@ fn channel_row(cycles: u64, channel: &ChannelStats, config: Option<&Config>) -> 
         share(cycles, channel.idle),
         share(cycles, channel.refreshing),
         draining(cycles, channel),
-        refreshes(cycles, channel, config),
+        tenth,
+        eleventh,
+        Number::absent(),
         Number::absent(),
     ]
 }
@@ -102,12 +165,13 @@ pub(crate) fn channel_rows(
     cycles: u64,
     channels: &[ChannelStats],
     config: Option<&Config>,
+    khz: Option<u64>,
 ) -> Result<Vec<Row>, AllocError>
     ensures { IfOk result (λ rows. length rows.items ≡ length channels.now) }
 {
     let mut rows = Vec::new(alloc);
     for channel in channels {
-        rows.push(channel_row(cycles, channel, config))?;
+        rows.push(channel_row(cycles, channel, config, khz))?;
     }
     Ok(rows)
 }
@@ -123,7 +187,20 @@ fn finish(core: &CoreStats) -> (Number, Number) {
     }
 }
 
-fn core_row(cycles: u64, core: &CoreStats) -> Row {
+// The finish and the mean latency of a core in ns.
+fn times_of_core(core: &CoreStats, khz: Option<u64>) -> (Number, Number) {
+    let Some(khz) = khz else {
+        return (Number::absent(), Number::absent());
+    };
+    let finish = match core.finish {
+        Some(cycle) => nanoseconds(u128::from(cycle), 1, khz),
+        None => Number::absent(),
+    };
+    (finish, nanoseconds(core.read_latency, core.replies, khz))
+}
+
+fn core_row(cycles: u64, core: &CoreStats, khz: Option<u64>) -> Row {
+    let (finish_time, latency_time) = times_of_core(core, khz);
     let (finish, rate) = finish(core);
     [
         Number::count(core.retired),
@@ -137,6 +214,8 @@ fn core_row(cycles: u64, core: &CoreStats) -> Row {
         share(cycles, core.stop_window),
         share(cycles, core.stop_memory),
         share(cycles, core.stop_credit),
+        finish_time,
+        latency_time,
     ]
 }
 
@@ -145,12 +224,13 @@ pub(crate) fn core_rows(
     alloc: Global,
     cycles: u64,
     cores: &[CoreStats],
+    khz: Option<u64>,
 ) -> Result<Vec<Row>, AllocError>
     ensures { IfOk result (λ rows. length rows.items ≡ length cores.now) }
 {
     let mut rows = Vec::new(alloc);
     for core in cores {
-        rows.push(core_row(cycles, core))?;
+        rows.push(core_row(cycles, core, khz))?;
     }
     Ok(rows)
 }

@@ -3,59 +3,92 @@
 ghost use Rattle.std.specs.Prelude.{IfOk, OnOk, length, string_bytes};
 ghost use Rattle.show.specs.Screen.{Extends, IsScreen, channels_head, cores_head};
 
-use crate::rows::{CHANNEL_HEADINGS, CORE_HEADINGS, channel_rows, core_rows};
+use crate::options::Options;
+use crate::rows::{
+    CHANNEL_HEADINGS, CLOCKED_CHANNEL_HEADINGS, CORE_HEADINGS, channel_rows, core_rows, nanoseconds,
+};
 use crate::table::Table;
 use sim_base::config::Config;
 use statistics::stats::Stats;
 use std::alloc::{AllocError, Global};
 
+// The headings of the channels.
+fn channel_headings(config: Option<&Config>, khz: Option<u64>) -> &'static [&'static str] {
+    match (config, khz) {
+        (Some(_), Some(_)) => &CHANNEL_HEADINGS[..],
+        (Some(_), None) => &CHANNEL_HEADINGS[..10],
+        (None, Some(_)) => &CLOCKED_CHANNEL_HEADINGS[..],
+        (None, None) => &CHANNEL_HEADINGS[..9],
+    }
+}
+
+fn core_headings(khz: Option<u64>) -> &'static [&'static str] {
+    match khz {
+        Some(_) => &CORE_HEADINGS[..],
+        None => &CORE_HEADINGS[..11],
+    }
+}
+
 // The channels of a run, below the cycles.
 fn text_of_channels(
     alloc: Global,
     stats: &Stats,
-    all: bool,
+    options: Options,
     config: Option<&Config>,
 ) -> Result<String, AllocError>
     ensures { IfOk result (λ text. Extends (channels_head stats.now.cycles (length stats.now.channels)) (string_bytes text)) }
 {
     let (cycles, channels) = (stats.cycles, stats.channels.len());
-    let rows = channel_rows(alloc, cycles, &stats.channels, config)?;
-    let headings = if config.is_some() {
-        &CHANNEL_HEADINGS[..]
-    } else {
-        &CHANNEL_HEADINGS[..9]
-    };
+    let rows = channel_rows(alloc, cycles, &stats.channels, config, options.khz)?;
     let mut text = format!(in alloc;
         "cycles {cycles}\n\nChannels ({channels}): row hits in % of rd and wr, all else in % of the cycles\n"
     )?;
     let table = Table {
         label: "channel",
-        headings,
-        all,
+        headings: channel_headings(config, options.khz),
+        all: options.all,
     };
     table.put(alloc, &rows, &mut text)?;
     Ok(text)
 }
 
 // The cores of a run.
-fn text_of_cores(alloc: Global, stats: &Stats, all: bool) -> Result<String, AllocError>
+fn text_of_cores(alloc: Global, stats: &Stats, options: Options) -> Result<String, AllocError>
     ensures { IfOk result (λ text. Extends (cores_head (length stats.now.cores)) (string_bytes text)) }
 {
     let cores = stats.cores.len();
-    let rows = core_rows(alloc, stats.cycles, &stats.cores)?;
+    let rows = core_rows(alloc, stats.cycles, &stats.cores, options.khz)?;
     let mut text = format!(in alloc;
         "\nCores ({cores}): finish and latency in cycles, why no more was issued in % of the cycles\n"
     )?;
     let table = Table {
         label: "core",
-        headings: &CORE_HEADINGS,
-        all,
+        headings: core_headings(options.khz),
+        all: options.all,
     };
     table.put(alloc, &rows, &mut text)?;
     Ok(text)
 }
 
-/// What a run did, on one screen of lines of at most 100 characters: its cycles, a table of its channels and one of its cores.
+// The cycles in ns, where the clock is given.
+fn put_time(
+    alloc: Global,
+    cycles: u64,
+    khz: Option<u64>,
+    out: &mut String,
+) -> Result<(), AllocError>
+    ensures { OnOk result (Extends (string_bytes out.old) (string_bytes out.new)) }
+{
+    let Some(khz) = khz else {
+        return Ok(());
+    };
+    let time = nanoseconds(u128::from(cycles), 1, khz).to_string(alloc)?;
+    out.push_str("\nThe cycles take ")?;
+    out.push_str(time.as_str())?;
+    out.push_str(" ns\n")
+}
+
+/// What a run did, on one screen of lines of at most 100 characters, or 122 with a clock: its cycles, a table of its channels and one of its cores.
 ///
 /// - Of a channel: its RDs and WRs, the percentage of them that were row hits, the percentage of cycles in which its data bus was taken
 ///   (4 cycles for each RD and WR), the mean and the greatest length of its queue, and the percentages of cycles in which its queue was
@@ -64,21 +97,24 @@ fn text_of_cores(alloc: Global, stats: &Stats, all: bool) -> Result<String, Allo
 /// - Of a core: the entries that it retired, in total and per cycle, the cycle in which the last one retired, and the entries per cycle
 ///   up to that one, the reads that it issued, the mean latency in cycles of those that were answered, and, for each reason, the
 ///   percentage of cycles in which it issued no more for that reason.
+/// - Where the clock is given: of a channel the data that it moved in GB/s, 64 bytes for each RD and WR, of a core the finish and the mean latency
+///   in ns, and last the cycles in ns.
 ///
 /// Numbers have at most four digits, rounded half up, with `k` for a thousand, `M` for a million and so on. `-` stands where there is
 /// nothing to divide by, for the drain of a channel that never does, and for the finish of a core that has not finished. A table of more
-/// than 16 units has the least, the median and the greatest number of each column instead, unless `all` is set; the median of an even
+/// than 16 units has the least, the median and the greatest number of each column instead, unless all are asked for; the median of an even
 /// count is the lower of the two in the middle. Only memory can be refused.
 pub fn show_text(
     alloc: Global,
     stats: &Stats,
-    all: bool,
+    options: Options,
     config: Option<&Config>,
 ) -> Result<String, AllocError>
     ensures { IfOk result (λ text. IsScreen stats.now (string_bytes text)) }
 {
-    let mut text = text_of_channels(alloc, stats, all, config)?;
-    let cores = text_of_cores(alloc, stats, all)?;
+    let mut text = text_of_channels(alloc, stats, options, config)?;
+    let mut cores = text_of_cores(alloc, stats, options)?;
+    put_time(alloc, stats.cycles, options.khz, &mut cores)?;
     text.push_str(cores.as_str())?;
     Ok(text)
 }

@@ -83,38 +83,35 @@ one-unit (Channel a) (Core b) v h k = cc
 one-unit (Channel a) (Channel b) (Core c) h k = cc
 
 -- what is due at one unit is not due at another
-other-due : (r u v : MachineUnit) (w : Bool) → is_unit u v ≡ false → (is_unit r u && w) ≡ (not (is_unit r v && w) && (is_unit r u && w))
-other-due r u v w h = by (is_unit r u) (is_unit r v) w (λ a b. one-unit r v u b a)
+other-due : (r u v : MachineUnit) (w x : Bool) → is_unit u v ≡ false → (is_unit r u && w) ≡ (not (is_unit r v && x) && (is_unit r u && w))
+other-due r u v w x h = by (is_unit r u) (is_unit r v) w x (λ a b. one-unit r v u b a)
   where
-    by : (a b w : Bool) → (a ≡ true → b ≡ true → is_unit u v ≡ true) → (a && w) ≡ (not (b && w) && (a && w))
-    by false true true k = refl
-    by false true false k = refl
-    by false false true k = refl
-    by false false false k = refl
-    by true false true k = refl
-    by true false false k = refl
-    by true true false k = refl
-    by true true true k = let e : is_unit u v ≡ true = k refl refl in cc
+    by : (a b w x : Bool) → (a ≡ true → b ≡ true → is_unit u v ≡ true) → (a && w) ≡ (not (b && x) && (a && w))
+    by false true w true k = refl
+    by false true w false k = refl
+    by false false w x k = refl
+    by true false w x k = refl
+    by true true w x k = let e : is_unit u v ≡ true = k refl refl in cc
 
 or-parts : (a b : Bool) → (a || b) ≡ false → (a ≡ false) × (b ≡ false)
 or-parts true b h = cc
 or-parts false true h = cc
 or-parts false false h = (refl, refl)
 
--- taking out what is due elsewhere leaves it
-due-left : (channels from until : ℕ) (unit : MachineUnit) (units : List MachineUnit) (ms : List Message) → has_unit units unit ≡ false
-    → filter (is_due channels unit from until) (left_after channels from until units ms) ≡ filter (is_due channels unit from until) ms
-due-left channels from until unit [] ms h = refl
-due-left channels from until unit (u ∷ units) ms h =
+-- taking out what is due elsewhere in a span leaves it, whenever it arrives
+pub due-left : (channels from until a b : ℕ) (unit : MachineUnit) (units : List MachineUnit) (ms : List Message) → has_unit units unit ≡ false
+    → filter (is_due channels unit a b) (left_after channels from until units ms) ≡ filter (is_due channels unit a b) ms
+due-left channels from until a b unit [] ms h = refl
+due-left channels from until a b unit (u ∷ units) ms h =
     let both = or-parts (is_unit unit u) (has_unit units unit) h in
-    let due = is_due channels unit from until in
+    let due = is_due channels unit a b in
     let stays = λ (m : Message). not (is_due channels u from until m) in
-    due-left channels from until unit units (filter stays ms) both.1
-    ∙ sym (filter-both due stays due (λ m. other-due (receiver_of channels m.link) unit u (in_span from until m) both.0) ms)
+    due-left channels from until a b unit units (filter stays ms) both.1
+    ∙ sym (filter-both due stays due (λ m. other-due (receiver_of channels m.link) unit u (in_span a b m) (in_span from until m) both.0) ms)
 
 pub links-bring : (s : Config) (traces : List (List Entry)) (from until : ℕ) → LinksBring s traces from until
 links-bring s traces from until flight units unit h k =
-    due-left flight.channels from until unit units flight.messages k
+    due-left flight.channels from until from until unit units flight.messages k
     ∙ ap₂ (λ c ms. filter (is_due c unit from until) ms) h.channels_are (h.messages_are ∙ in_flight-late s traces from)
     ∙ due-mail s traces from until unit
 
@@ -122,7 +119,7 @@ not-or : (a b : Bool) → not (a || b) ≡ (not a && not b)
 not-or true b = refl
 not-or false b = refl
 
-any-and : (p : MachineUnit → Bool) (w : Bool) (units : List MachineUnit) → list_any (λ u. p u && w) units ≡ (list_any p units && w)
+pub any-and : (p : MachineUnit → Bool) (w : Bool) (units : List MachineUnit) → list_any (λ u. p u && w) units ≡ (list_any p units && w)
 any-and p w [] = refl
 any-and p w (u ∷ units) = ap (λ b. (p u && w) || b) (any-and p w units) ∙ spread (p u) (list_any p units) w
   where
@@ -134,7 +131,7 @@ any-and p w (u ∷ units) = ap (λ b. (p u && w) || b) (any-and p w units) ∙ s
     spread false b w = refl
 
 -- what stays is due at none of the units
-left-all : (channels from until : ℕ) (units : List MachineUnit) (ms : List Message)
+pub left-all : (channels from until : ℕ) (units : List MachineUnit) (ms : List Message)
     → left_after channels from until units ms ≡ filter (λ m. not (list_any (λ u. is_due channels u from until m) units)) ms
 left-all channels from until [] ms = sym (filter-each (λ (m : Message). true) ms (Each-all (λ (m : Message). true ≡ true) (λ m. refl) ms))
 left-all channels from until (u ∷ units) ms =

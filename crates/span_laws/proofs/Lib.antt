@@ -12,3 +12,4 @@ pub mod Merged
 pub mod Over
 pub mod Lasting
 pub mod Idle
+pub mod Silent

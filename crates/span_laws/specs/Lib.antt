@@ -5,3 +5,4 @@ pub mod Flight
 pub mod Tables
 pub mod Ends
 pub mod Quiet
+pub mod Units

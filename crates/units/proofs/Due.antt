@@ -1,13 +1,12 @@
 -- The messages that units take out of the links when a phase begins, and those that are left.
-use Rattle.std.proofs.Common.{◌≡◌, ℕ, zero, suc, ◌+◌, ◌-◌, ◌<◌, ◌≤◌, Bool, true, false, eqb, ltb, leb, not, ◌&&◌, List, refl, sym, ap, subst, ◌∙◌, arith}
+use Rattle.std.proofs.Common.{◌≡◌, ℕ, zero, suc, ◌+◌, ◌<◌, ◌≤◌, Bool, true, false, eqb, ltb, leb, not, ◌&&◌, List, refl, sym, ap, subst, ◌∙◌, arith}
 use Rattle.std.specs.Prelude.{filter}
 use Rattle.std.specs.List.{AllByRecursion as Each}
-use Rattle.std.proofs.lemmas.Bool.{cond-true, cond-false, and_parts}
+use Rattle.std.proofs.lemmas.Bool.{cond-true, cond-false}
 use Rattle.std.proofs.lemmas.Bool.Decides.{nat_tests}
 use Rattle.sim_base.specs.declared.config.Config.{Config}
 use Rattle.sim_base.specs.Counts.{is_in_flight, in_flight}
-use Rattle.sim_base.specs.History.{receiver, is_unit, is_to, messages, by_age}
-use Rattle.sim_base.specs.Locality.{TravelsFor}
+use Rattle.sim_base.specs.History.{receiver, is_unit, messages}
 use Rattle.sim_base.specs.Machine.{run}
 use Rattle.sim_base.specs.declared.message.Message.{Message}
 use Rattle.sim_base.specs.declared.message.Unit.{Unit as MachineUnit}
@@ -15,37 +14,16 @@ use Rattle.sim_base.specs.declared.message.Unit.TheVariants.{Core, Channel}
 use Rattle.sim_base.specs.declared.trace.Entry.{Entry}
 use Rattle.sim_base.proofs.Arrived.{Each-by_age}
 use Rattle.sim_base.proofs.Each.{Each-all, Each-filter}
-use Rattle.sim_base.proofs.Ordered.{filter-by_age, Each-weaker}
+use Rattle.sim_base.proofs.Ordered.{Each-weaker}
 use Rattle.sim_base.proofs.Spans.{length-run}
 use Rattle.links.specs.InFlight.{is_due}
-use Rattle.span_laws.specs.Mail.{mail_in}
-use Rattle.span_laws.proofs.Arrivals.{mail-known, mail-sent}
-use Rattle.units.specs.Units.{unit_count, unit_at, Exists}
+use Rattle.span_laws.specs.Units.{Exists}
+use Rattle.units.specs.Units.{unit_count, unit_at}
 use Rattle.units.specs.Parts.{late}
 use Rattle.units.specs.Flight.{left}
-use Rattle.units.proofs.Filters.{filter-filter, filter-same, filter-all, Each-taken, Each-both, implied}
+use Rattle.units.proofs.Filters.{filter-filter, filter-same, filter-all, Each-taken, Each-both}
 use Rattle.units.proofs.Standing.{core-at_place, channel-at_place}
 use Rattle.units.proofs.Travelling.{Goes, all-go}
-
-in_time : (arrival from until : ℕ) (u : Bool) → (not (ltb arrival from) && (u && (leb from arrival && ltb arrival until))) ≡ (u && (leb from arrival && ltb arrival until))
-in_time arrival from until u = grind (arith, nat_tests)
-
--- of the messages in flight at the beginning of a span, those that are due at a unit in it are its mail
-pub due-mail : (s : Config) (traces : List (List Entry)) (from until : ℕ) (u : MachineUnit) → from ≤ until → TravelsFor s (until - from)
-    → filter (is_due s.channels u from until) (in_flight s traces (run s traces from)) ≡ mail_in s traces until u from until
-unfolding in_flight
-due-mail s traces from until u l t =
-    let history = run s traces from in
-    let ms = messages s traces history in
-    filter-by_age (is_due s.channels u from until) (filter (is_in_flight history) ms)
-    ∙ ap by_age
-    (filter-filter (is_due s.channels u from until) (is_in_flight history) ms
-    ∙ filter-same _ (λ m. is_to s u m && (leb from m.arrival && ltb m.arrival until)) ms
-    (Each-all _ (λ m. ap (λ n. not (ltb m.arrival n) && (is_to s u m && (leb from m.arrival && ltb m.arrival until))) (length-run s traces from)
-    ∙ in_time m.arrival from until (is_to s u m)) ms)
-    ∙ sym (filter-filter (λ m. leb from m.arrival && ltb m.arrival until) (is_to s u) ms))
-    ∙ sym (mail-sent s traces from until u from)
-    ∙ sym (mail-known s traces from until u l t)
 
 -- a message is not due at any of the first units
 spared : Config → ℕ → ℕ → ℕ → Message → Bool
@@ -97,35 +75,6 @@ exists-at s place l = by (ltb place s.cores) refl
     by : (b : Bool) → ltb place s.cores ≡ b → Exists s (unit_at s place)
     by true e = subst (Exists s) (sym (cond-true _ _ _ e)) (grind (arith, nat_tests))
     by false e = subst (Exists s) (sym (cond-false _ _ _ e)) (grind (arith, nat_tests))
-
-not_less : (i j : ℕ) → i ≡ j → i < j → ⊥
-not_less i j e l = omega (arith, e, l)
-
--- a message is due at one unit alone, whatever the spans
-due-one : (s : Config) (from until a b i j : ℕ) (m : Message) → i < j → is_due s.channels (unit_at s j) a b m ≡ true → is_due s.channels (unit_at s i) from until m ≡ false
-due-one s from until a b i j m l e = by (is_unit (receiver s m.link) (unit_at s i)) refl
-  where
-    by : (c : Bool) → is_unit (receiver s m.link) (unit_at s i) ≡ c → is_due s.channels (unit_at s i) from until m ≡ false
-    by false f = ap (λ c. c && (leb from m.arrival && ltb m.arrival until)) f
-    by true f =
-        let same : unit_at s i ≡ unit_at s j = sym (same_unit _ _ f) ∙ same_unit _ _ (and_parts (is_unit (receiver s m.link) (unit_at s j)) _ e).0 in
-        let p : i ≡ j = sym (place-at s i) ∙ ap (place_of_unit s) same ∙ place-at s j in
-        absurd (not_less i j p l)
-
-spared-before : (s : Config) (from until a b k : ℕ) (m : Message) → is_due s.channels (unit_at s k) a b m ≡ true → (j : ℕ) → j ≤ k → spared s from until j m ≡ true
-unfolding spared
-spared-before s from until a b k m e zero l = refl
-spared-before s from until a b k m e (suc j) l =
-    ap (λ c. c && not (is_due s.channels (unit_at s j) from until m)) (spared-before s from until a b k m e j (omega arith))
-    ∙ ap not (due-one s from until a b j k m (omega arith) e)
-
--- what is due at a unit, in whatever span, is left by those before it
-pub left-due : (s : Config) (from until a b k : ℕ) (ms : List Message)
-    → filter (is_due s.channels (unit_at s k) a b) (left s from until k ms) ≡ filter (is_due s.channels (unit_at s k) a b) ms
-left-due s from until a b k ms =
-    ap (filter _) (left-spared s from until k ms)
-    ∙ filter-filter _ (spared s from until k) ms
-    ∙ filter-same _ _ ms (Each-all _ (λ m. implied (spared s from until k m) _ (λ e. spared-before s from until a b k m e k (omega arith))) ms)
 
 spared-none : (s : Config) (from until q : ℕ) (m : Message) → is_due s.channels (unit_at s q) from until m ≡ true → (k : ℕ) → q < k → spared s from until k m ≡ false
 unfolding spared

@@ -19,13 +19,14 @@ use Rattle.sim_base.proofs.Each.{Each-all, Each-flat_map_below}
 use Rattle.sim_base.proofs.Grows.{SentBy, links_differ, of_core-by, of_channel-by}
 use Rattle.sim_base.proofs.Ordered.{Apart, Sorted, Each-weaker, puts-swap, puts-append, Sorted-puts, filter-puts, filter-by_age}
 use Rattle.sim_base.proofs.Spans.{length-run}
+use Rattle.span_laws.specs.Units.{Exists, sent_of}
 use Rattle.units.specs.Flight.{fresh}
-use Rattle.units.specs.Parts.{sent_of, late}
-use Rattle.units.specs.Units.{unit_at, unit_count, Exists}
+use Rattle.units.specs.Parts.{late}
+use Rattle.units.specs.Units.{unit_at, unit_count}
 use Rattle.units.proofs.Due.{place-at, place_of_unit, exists-at}
 use Rattle.units.proofs.Filters.{filter-filter, filter-same, filter-all, implied}
 use Rattle.units.proofs.Standing.{core-at_place, channel-at_place}
-use Rattle.units.proofs.Travelling.{Goes, sent-goes, late-added}
+use Rattle.units.proofs.Travelling.{late-added}
 
 drop-append : {X : Type 0} (xs ys : List X) → drop (length xs) (xs ++ ys) ≡ ys
 drop-append [] ys = refl
@@ -76,13 +77,6 @@ sent-by s traces n (Channel channel) l = of_channel-by s (run s traces n) channe
 Each-behind : {X : Type 0} (P : X → Type 0) (xs ys : List X) → Each P (xs ++ ys) → Each P ys
 Each-behind P [] ys h = h
 Each-behind P (x ∷ xs) ys h = Each-behind P xs ys h.1
-
--- each goes to a unit
-pub fresh-goes : (s : Config) (traces : List (List Entry)) (from until place : ℕ) → place < unit_count s → from ≤ until → TravelsFor s (until - from) → Each (Goes s) (fresh s traces from until place)
-fresh-goes s traces from until place l k t =
-    let u = unit_at s place in
-    Each-behind (Goes s) (sent_of s traces from u) (fresh s traces from until place)
-    (subst (Each (Goes s)) (fresh-grows s traces from until place l k t) (sent-goes s traces until u (exists-at s place l)))
 
 fresh-by : (s : Config) (traces : List (List Entry)) (from until place : ℕ) → place < unit_count s → from ≤ until → TravelsFor s (until - from)
     → SentBy s (unit_at s place) (fresh s traces from until place)

@@ -27,8 +27,7 @@ use Rattle.statistics.proofs.Replies.{length-steps_of_core}
 use Rattle.laws.proofs.Legal.{length-channel_steps_of}
 use Rattle.laws.proofs.Receivers.{receiver_request, receiver_reply, receiver_credit, place_in}
 use Rattle.laws.proofs.Sent.{messages-none}
-use Rattle.units.specs.Units.{Exists}
-use Rattle.units.specs.Parts.{sent_of}
+use Rattle.span_laws.specs.Units.{Exists, sent_of}
 
 -- what was sent more, and holds of each
 pub record Added (P : Message → Type 0) (old new : List Message) : Type 0 where
@@ -144,11 +143,6 @@ core-goes : (s : Config) (traces : List (List Entry)) (n core : ℕ) → core < 
 unfolding messages_of_core
 core-goes s traces n core l =
     requests-each s (Goes s) (λ c cycle entry write address k. request-goes s c cycle entry write address k) core l (trace_of traces core) (steps_of_core core (run s traces n))
-
--- so does each that a unit sends
-pub sent-goes : (s : Config) (traces : List (List Entry)) (n : ℕ) (u : MachineUnit) → Exists s u → Each (Goes s) (sent_of s traces n u)
-sent-goes s traces n (unit.Core core) l = core-goes s traces n core l
-sent-goes s traces n (unit.Channel channel) l = channel-goes s traces n channel l
 
 pub all-go : (s : Config) (traces : List (List Entry)) (n : ℕ) → Each (Goes s) (messages s traces (run s traces n))
 unfolding messages

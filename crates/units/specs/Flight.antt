@@ -13,7 +13,7 @@ use Rattle.sim_base.specs.declared.message.Unit.{Unit as MachineUnit}
 use Rattle.sim_base.specs.declared.message.Unit.TheVariants.{Core, Channel}
 use Rattle.links.specs.InFlight.{is_due, receiver_of}
 use Rattle.sim_base.specs.declared.trace.Entry.{Entry}
-use Rattle.units.specs.Parts.{sent_of}
+use Rattle.span_laws.specs.Units.{sent_of}
 use Rattle.units.specs.Units.{unit_at}
 
 -- the messages that are left when each of the first units has taken those that arrive at it in a span

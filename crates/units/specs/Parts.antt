@@ -1,6 +1,5 @@
 -- What the units of a simulator stand for, each for its part of one run.
 --     IsPart s traces unit now part      a unit stands for its part of the first cycles of a run
---     sent_of s traces n unit      what a unit sends in the first cycles of a run
 --     IsReadyFor s traces unit part inbox from until      a unit stands for its part of a run, and these messages arrive at it in a span
 --     IsReady part inbox from until      the same for some run and some unit of it
 --     HasRun s traces unit from until part messages      a unit stands at the end of a span, and these are its messages in it
@@ -10,7 +9,6 @@
 --     IsSim s traces now phase parts links      what holds of a simulator
 use Rattle.std.specs.Prelude.{◌≡◌, ℕ, ◌^◌, ◌≤◌, nat_lt, not, List, ◌++◌, length, filter, slice_get, Some}
 use Rattle.sim_base.specs.declared.config.Config.{Config}
-use Rattle.sim_base.specs.History.{messages_of_core, messages_of_channel}
 use Rattle.sim_base.specs.Counts.{in_flight}
 use Rattle.sim_base.specs.Machine.{run}
 use Rattle.sim_base.specs.declared.message.Message.{Message}
@@ -22,8 +20,9 @@ use Rattle.core_window.specs.CoreViews.{view_of}
 use Rattle.span_laws.specs.Channels.{IsChannelAt}
 use Rattle.span_laws.specs.Cores.{IsCoreAt}
 use Rattle.span_laws.specs.Mail.{mail_in}
+use Rattle.span_laws.specs.Units.{Exists, sent_of}
 use Rattle.links.specs.InFlight.{InFlight}
-use Rattle.units.specs.Units.{unit_count, unit_at, Exists}
+use Rattle.units.specs.Units.{unit_count, unit_at}
 use Rattle.units.specs.declared.part.UnitState.{UnitState}
 use Rattle.units.specs.declared.part.UnitState.TheVariants as part
 
@@ -33,11 +32,6 @@ IsPart s traces (unit.Core core) now (part.Core c) = IsCoreAt s traces core now 
 IsPart s traces (unit.Channel channel) now (part.Channel c commands) = IsChannelAt s traces channel now c × (commands ≡ history_of s traces now channel)
 IsPart s traces (unit.Core core) now (part.Channel c commands) = ⊥
 IsPart s traces (unit.Channel channel) now (part.Core c) = ⊥
-
--- what a unit sends in the first n cycles of a run
-abbrev pub sent_of : Config → List (List Entry) → ℕ → MachineUnit → List Message
-sent_of s traces n (unit.Core core) = messages_of_core s traces (run s traces n) core
-sent_of s traces n (unit.Channel channel) = messages_of_channel s (run s traces n) channel
 
 -- A unit of a machine stands for its part of a run at the beginning of a span. The messages are those that arrive at it in
 -- the span.

@@ -2,8 +2,7 @@
 --     unit_count s      how many units a machine has
 --     unit_at s place      the unit at a place of this order
 --     units s      all of them
---     Exists s unit      a machine has this unit
-use Rattle.std.specs.Prelude.{ℕ, ◌+◌, ◌-◌, ◌<◌, nat_lt, List, map, if◌then◌else◌}
+use Rattle.std.specs.Prelude.{ℕ, ◌+◌, ◌-◌, nat_lt, List, map, if◌then◌else◌}
 use Rattle.sim_base.specs.declared.config.Config.{Config}
 use Rattle.sim_base.specs.History.{below}
 use Rattle.sim_base.specs.declared.message.Unit.{Unit as MachineUnit}
@@ -20,8 +19,3 @@ unit_at s place = if nat_lt place s.cores then Core place else Channel (place - 
 -- all units
 abbrev pub units : Config → List MachineUnit
 units s = map (unit_at s) (below (unit_count s))
-
--- a machine has a unit with this number
-abbrev pub Exists : Config → MachineUnit → Type 0
-Exists s (Core core) = core < s.cores
-Exists s (Channel channel) = channel < s.channels

@@ -5,6 +5,8 @@
 #[cfg(test)]
 mod command_lists;
 #[cfg(test)]
+mod compared;
+#[cfg(test)]
 mod drawn;
 #[cfg(test)]
 mod expect;

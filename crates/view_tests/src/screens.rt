@@ -4,6 +4,7 @@ use crate::expect::expect;
 use crate::stats_read::two_cores;
 use fixtures::small::small;
 use run_tables::read_stats;
+use show::options::Options;
 use show::show_text;
 use statistics::channels::ChannelStats;
 use statistics::cores::CoreStats;
@@ -79,6 +80,37 @@ Cores (17): finish and latency in cycles, why no more was issued in % of the cyc
       16    16.0k       16.0     499     32.0     16      160   84.0   16.0     0.0     0.0     0.0
 ";
 
+// With a clock of 1,250 MHz a cycle takes 0.8 ns: 20,000 are 16,000 ns, 17 are 13.6, and 45,678 / 637 of them 57.366. 649 RDs and WRs of 64 bytes are
+// 41,536 bytes in 16,000 ns, which is 2.596 GB/s.
+const CLOCKED: &str = "cycles 20000
+
+Channels (1): row hits in % of rd and wr, all else in % of the cycles
+ channel     rd     wr  hits %  bus %  queue mean  queue max  idle %  refresh due %  drain %   GB/s
+       0    637     12    94.3   13.0        6.17         31    20.1           10.0      1.3   2.60
+
+Cores (2): finish and latency in cycles, why no more was issued in % of the cycles
+    core  retired  per cycle  finish  by then  reads  latency    end  width  window  memory  credit  finish ns  latency ns
+       0    12.3k      0.617       -        -    640     71.7    0.0   25.0    45.0     0.0    30.0          -        57.4
+       1        0      0.000      17    0.000      0        -  100.0    0.0     0.0     0.0     0.0       13.6           -
+
+The cycles take 16.0k ns
+";
+
+const PLAIN: Options = Options {
+    all: false,
+    khz: None,
+};
+
+const EACH: Options = Options {
+    all: true,
+    khz: None,
+};
+
+const AT_1250_MHZ: Options = Options {
+    all: false,
+    khz: Some(1_250_000),
+};
+
 #[test]
 fn two_cores_and_a_channel(rt: HostRuntime) -> Result<(), Fail> {
     let alloc = rt.alloc();
@@ -87,13 +119,18 @@ fn two_cores_and_a_channel(rt: HostRuntime) -> Result<(), Fail> {
     };
     expect(
         &rt,
-        &show_text(alloc, &stats, false, None)?.as_str(),
+        &show_text(alloc, &stats, PLAIN, None)?.as_str(),
         &TWO_CORES,
     );
     expect(
         &rt,
-        &show_text(alloc, &stats, true, None)?.as_str(),
+        &show_text(alloc, &stats, EACH, None)?.as_str(),
         &TWO_CORES,
+    );
+    expect(
+        &rt,
+        &show_text(alloc, &stats, AT_1250_MHZ, None)?.as_str(),
+        &CLOCKED,
     );
     Ok(())
 }
@@ -104,7 +141,7 @@ fn no_cycles(rt: HostRuntime) -> Result<(), Fail> {
     let stats = Stats::of_parts(alloc, 0, &[CoreStats::new()], &[ChannelStats::new()])?;
     expect(
         &rt,
-        &show_text(alloc, &stats, false, None)?.as_str(),
+        &show_text(alloc, &stats, PLAIN, None)?.as_str(),
         &NO_CYCLES,
     );
     Ok(())
@@ -144,13 +181,13 @@ fn seventeen_cores(rt: HostRuntime) -> Result<(), Fail> {
     let config = small(alloc, &[], "")?;
     let by_number = [0, 1, 2, 3, 4, 5, 6, 7, 8, 9, 10, 11, 12, 13, 14, 15, 16];
     let mixed = [3, 16, 1, 0, 2, 5, 4, 7, 6, 9, 8, 11, 10, 13, 12, 15, 14];
-    for (order, all, want) in [
-        (by_number, false, SEVENTEEN),
-        (by_number, true, ALL_SEVENTEEN),
-        (mixed, false, SEVENTEEN),
+    for (order, options, want) in [
+        (by_number, PLAIN, SEVENTEEN),
+        (by_number, EACH, ALL_SEVENTEEN),
+        (mixed, PLAIN, SEVENTEEN),
     ] {
         let stats = run_of(alloc, &order)?;
-        let text = show_text(alloc, &stats, all, Some(&config))?;
+        let text = show_text(alloc, &stats, options, Some(&config))?;
         expect(&rt, &text.as_str(), &want);
     }
     Ok(())

@@ -4,13 +4,18 @@ use Rattle.std.proofs.lemmas.List.{length-drop}
 use Rattle.queue_columns.specs.Columns.{eligible_column}
 use Rattle.queue_columns.specs.Marks.{is_marked}
 use Rattle.bank_candidates.specs.Candidates.{wants}
-use Rattle.bank_candidates.proofs.Searches.{tested, none_more, found_here, found_none}
+use Rattle.bank_candidates.proofs.Searches.{tested, none_more, found_here, found_none, none_at_all}
 use Rattle.bank_candidates.proofs.Tagged.{left_is, same_length, none_tagged, marked_tag}
 use Rattle.bank_candidates.proofs.search.first_from.Goals as goal
 
 never : (t : Bool) → (t && false) ≡ false
 never true = refl
 never false = refl
+
+-- none is found where none may be wanted
+pub returns-then-not-may_be_wanted-clause-first : goal.returns-then-not-may_be_wanted-clause-first
+returns-then-not-may_be_wanted-clause-first c before =
+    none_at_all (wants c.args.bank c.args.write c.args.row) c.args.queue.now.requests.now (c.may_be_wanted.ensures c.if-not-may_be_wanted.true)
 
 pub offset_bounds-requests-at : goal.offset_bounds-requests-at
 offset_bounds-requests-at c =

@@ -2,7 +2,7 @@ use Rattle.std.proofs.Common.{ap, ◌≡◌, ◌∙◌, codes, refl}
 use Rattle.std.proofs.lemmas.Result.{IfOk-weaker}
 use Rattle.clap.specs.Simple.{app_of_fields}
 use Rattle.clap.specs.Words.{app_of, new_app}
-use Rattle.command_line.specs.CommandLine.{with_subcommand_required, with_version, run_app, check_app, map_app, show_app, page_app}
+use Rattle.command_line.specs.CommandLine.{with_subcommand_required, with_version, run_app, check_app, map_app, show_app, page_app, compare_app}
 use Rattle.command_line.proofs.CommandLemmas.{added}
 use Rattle.command_line.proofs.command_line.program.Goals as goal
 
@@ -14,4 +14,5 @@ returns c =
     let two = added c.check_command.result _ _ _ check_app one refl c.check_command.ensures c.in_ok-two.ensures in
     let three = added c.map_command.result _ _ _ map_app two refl c.map_command.ensures c.in_ok-three.ensures in
     let four = added c.show_command.result _ _ _ show_app three refl c.show_command.ensures c.in_ok-four.ensures in
-    IfOk-weaker c.with_command-5.result _ _ (λ r adds. added c.page_command.result _ _ _ page_app four refl c.page_command.ensures adds) c.with_command-5.ensures
+    let five = added c.page_command.result _ _ _ page_app four refl c.page_command.ensures c.in_ok-five.ensures in
+    IfOk-weaker c.with_command-6.result _ _ (λ r adds. added c.compare_command.result _ _ _ compare_app five refl c.compare_command.ensures adds) c.with_command-6.ensures

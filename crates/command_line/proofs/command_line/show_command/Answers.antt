@@ -7,4 +7,5 @@ pub returns : goal.returns
 returns c =
     let one = c.in_ok-arg.ensures.shape c.dir_arg.ensures.own ∙ ap₂ with_rule c.command.ensures.app c.dir_arg.ensures.rule in
     let two = c.in_ok-arg-2.ensures.shape c.all_arg.ensures.own ∙ ap₂ with_rule one c.all_arg.ensures.rule in
-    IfOk-weaker c.arg-3.result _ _ (λ r added. added.shape c.known_config_arg.ensures.own ∙ ap₂ with_rule two c.known_config_arg.ensures.rule) c.arg-3.ensures
+    let three = c.in_ok-arg-3.ensures.shape c.known_config_arg.ensures.own ∙ ap₂ with_rule two c.known_config_arg.ensures.rule in
+    IfOk-weaker c.arg-4.result _ _ (λ r added. added.shape c.mhz_arg.ensures.own ∙ ap₂ with_rule three c.mhz_arg.ensures.rule) c.arg-4.ensures

@@ -1,5 +1,5 @@
 use Rattle.std.proofs.Common.{◌≡◌, Err, rules}
-use Rattle.program.proofs.RefusedFacts.{not_read_at}
+use Rattle.answers.proofs.ManyFiles.{not_read_at}
 use Rattle.program.proofs.runs.read_texts.Goals as goal
 
 pub returns-in_err-text-clause-fault : goal.returns-in_err-text-clause-fault

@@ -1,6 +1,7 @@
 use Rattle.std.proofs.Common.{◌≡◌, Err, inl, ◌∷◌, map, rules}
 use Rattle.std.proofs.lemmas.Result.{IfOk-weaker, IfErr-weaker}
-use Rattle.program.proofs.HeldTexts.{texts_held, both_ok}
+use Rattle.answers.proofs.ManyFiles.{texts_held}
+use Rattle.program.proofs.HeldTexts.{both_ok}
 use Rattle.program.proofs.RefusedFacts.{not_read_later, run_texts, right_run, run_refused}
 use Rattle.program.proofs.runs.run_files.Goals as goal
 

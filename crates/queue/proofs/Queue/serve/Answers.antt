@@ -7,7 +7,7 @@ use Rattle.std.specs.List.{remove, position_or_len}
 use mir.Val.{bool_byte}
 use Rattle.sim_base.specs.Places.{is_line}
 use Rattle.sim_base.specs.declared.message.Request.{Request}
-use Rattle.queue_columns.specs.Columns.{blocked_count, AreCounted}
+use Rattle.queue_columns.specs.Columns.{blocked_count, slot_of_line, slot_of_row, AreCounted}
 use Rattle.queue.proofs.Counted.{none_asks, some_counted, counted_removed}
 use Rattle.queue_columns.proofs.Eligible.{length-eligible}
 use Rattle.queue.proofs.Kept.{writes_removed, blocked_removed, byte_is}
@@ -43,7 +43,19 @@ overflow_sub-alike c =
     let slot = c.line_slot-line.result in
     let below : slot < length q.lines.items = omega (arith, c.line_slot-line.ensures.within, c.self.invariant.masked) in
     let count_is : c.index.result.now ≡ get_or q.lines.items slot 0 = c.index.ensures ∙ get_or_default q.lines.items slot c.index.result.now 0 below in
-    omega (arith, count_is, some_counted q.mask n q.lines.items q.aged.requests r slot c.self.invariant.lines_are c.line_slot-line.ensures.value below exists request)
+    omega (arith, count_is, some_counted (slot_of_line q.mask) n q.lines.items q.aged.requests r slot c.self.invariant.lines_are c.line_slot-line.ensures.value below exists request)
+
+pub overflow_sub-others : goal.overflow_sub-others
+overflow_sub-others c =
+    let q = c.self.inside in
+    let n = c.args.slot in
+    let r = get_or c.requests.result.now n absent in
+    let exists : n < length q.aged.requests = omega (arith, ap (λ v. length v.requests) c.self.view_is, c.requires) in
+    let request : r ≡ get_or q.aged.requests n r = ap (λ xs. get_or xs n absent) c.requests.ensures ∙ get_or_default q.aged.requests n absent r exists in
+    let slot = c.row_slot_of-row.result in
+    let below : slot < length q.rows.items = omega (arith, c.row_slot_of-row.ensures.within, c.self.invariant.rows_masked) in
+    let count_is : c.index-2.result.now ≡ get_or q.rows.items slot 0 = c.index-2.ensures ∙ get_or_default q.rows.items slot c.index-2.result.now 0 below in
+    omega (arith, count_is, some_counted (slot_of_row q.row_mask) n q.rows.items q.aged.requests r slot c.self.invariant.rows_are c.row_slot_of-row.ensures.value below exists request)
 
 pub unblock_next-waited-requires-clause-blocked : goal.unblock_next-waited-requires-clause-blocked
 unblock_next-waited-requires-clause-blocked c =
@@ -70,7 +82,7 @@ unblock_next-waited-requires-clause-alike c none =
     let below : slot < length q.lines.items = omega (arith, c.line_slot-line.ensures.within, c.self.invariant.masked) in
     let count_is : c.index.result.now ≡ get_or q.lines.items slot 0 = c.index.ensures ∙ get_or_default q.lines.items slot c.index.result.now 0 below in
     let left = c.index.result.now - 1 in
-    let counted = counted_removed q.mask n q.lines.items q.aged.requests _ r slot left c.self.invariant.lines_are slot_is below exists request c.remove.ensures.requests (ap (λ k. k - 1) count_is) in
+    let counted = counted_removed (slot_of_line q.mask) n q.lines.items q.aged.requests _ r slot left c.self.invariant.lines_are slot_is below exists request c.remove.ensures.requests (ap (λ k. k - 1) count_is) in
     none_asks q.mask (set q.lines.items slot left) c.remove.new.self.requests r.place counted (omega (arith, below, slot_is, length-set q.lines.items slot left))
     (ap (λ k. get_or (set q.lines.items slot left) k 0) (sym slot_is) ∙ get_or-set_same q.lines.items slot left 0 below ∙ none)
 
@@ -139,9 +151,16 @@ left_over c =
     let below : slot < length q.lines.items = omega (arith, c.line_slot-line.ensures.within, kept.masked) in
     let count_is : c.index.result.now ≡ get_or q.lines.items slot 0 = c.index.ensures ∙ get_or_default q.lines.items slot c.index.result.now 0 below in
     let now = set q.lines.items slot (c.index.result.now - 1) in
-    let one_less : AreCounted q.mask now (remove q.aged.requests n) =
-    counted_removed q.mask n q.lines.items q.aged.requests (remove q.aged.requests n) r slot (c.index.result.now - 1) kept.lines_are c.line_slot-line.ensures.value below exists request refl
+    let one_less : AreCounted (slot_of_line q.mask) now (remove q.aged.requests n) =
+    counted_removed (slot_of_line q.mask) n q.lines.items q.aged.requests (remove q.aged.requests n) r slot (c.index.result.now - 1) kept.lines_are c.line_slot-line.ensures.value below exists request refl
     (ap (λ k. k - 1) count_is) in
+    let row = c.row_slot_of-row.result in
+    let row_below : row < length q.rows.items = omega (arith, c.row_slot_of-row.ensures.within, kept.rows_masked) in
+    let others_is : c.index-2.result.now ≡ get_or q.rows.items row 0 = c.index-2.ensures ∙ get_or_default q.rows.items row c.index-2.result.now 0 row_below in
+    let rows_now = set q.rows.items row (c.index-2.result.now - 1) in
+    let row_less : AreCounted (slot_of_row q.row_mask) rows_now (remove q.aged.requests n) =
+    counted_removed (slot_of_row q.row_mask) n q.rows.items q.aged.requests (remove q.aged.requests n) r row (c.index-2.result.now - 1) kept.rows_are c.row_slot_of-row.ensures.value row_below exists request refl
+    (ap (λ k. k - 1) others_is) in
     elim c.if-was_first.branch [
       | then-was_first w ↦
           let h = w.self-inside-is in
@@ -169,6 +188,9 @@ left_over c =
             mask = ap (λ s. s.mask) h;
             long = ap (λ s. length s.lines.items) h ∙ length-set q.lines.items slot (c.index.result.now - 1);
             counted = λ k within. ap (λ s. get_or s.lines.items k 0) h ∙ one_less k (omega (arith, within, ap (λ s. length s.lines.items) h));
+            row_mask = ap (λ s. s.row_mask) h;
+            rows_long = ap (λ s. length s.rows.items) h ∙ length-set q.rows.items row (c.index-2.result.now - 1);
+            rows_counted = λ k within. ap (λ s. get_or s.rows.items k 0) h ∙ row_less k (omega (arith, within, ap (λ s. length s.rows.items) h));
             waited = omega (arith, done, none, counts, rotated.waited, counted, kept.blocked_are, ap (λ s. s.blocked) h);
           }
       | else-was_first w ↦
@@ -193,6 +215,9 @@ left_over c =
             mask = ap (λ s. s.mask) h;
             long = ap (λ s. length s.lines.items) h ∙ length-set q.lines.items slot (c.index.result.now - 1);
             counted = λ k within. ap (λ s. get_or s.lines.items k 0) h ∙ one_less k (omega (arith, within, ap (λ s. length s.lines.items) h));
+            row_mask = ap (λ s. s.row_mask) h;
+            rows_long = ap (λ s. length s.rows.items) h ∙ length-set q.rows.items row (c.index-2.result.now - 1);
+            rows_counted = λ k within. ap (λ s. get_or s.rows.items k 0) h ∙ row_less k (omega (arith, within, ap (λ s. length s.rows.items) h));
             waited = omega (arith, done, one, counts, counted, kept.blocked_are, ap (λ s. s.blocked) h);
           }
     ]

@@ -1,11 +1,11 @@
--- The units wait, and each phase comes nearer to the limit.
-use Rattle.std.proofs.Common.{◌≡◌, ◌-◌, ◌≤◌, length}
-use Rattle.units.specs.Units.{unit_count}
-use Rattle.shards.specs.Wakes.{IsAsleep}
+-- The machine is in turns, with the channels behind the cores, and each turn of the channels comes nearer to the limit.
+use Rattle.std.proofs.Common.{◌-◌, ◌≤◌}
+use Rattle.shards.specs.Turns.{AreInTurns}
 use Rattle.shards.proofs.alone.run_to.Given as goal
 
-abbrev pub invariant-loop-now : goal.invariant-loop-now
-invariant-loop-now l = IsAsleep l.machine.config l.machine.traces.items 0 l.now l.slots l.words l.links × (l.now ≤ l.limit) × (length l.slots ≡ unit_count l.machine.config)
+abbrev pub invariant-loop-at : goal.invariant-loop-at
+invariant-loop-at l =
+    AreInTurns l.machine.config l.machine.traces.items l.at.cores_at l.at.channels_at l.slots l.words l.links × (l.at.channels_at ≤ l.at.cores_at) × (l.at.cores_at ≤ l.limit)
 
-abbrev pub decreases-loop-now : goal.decreases-loop-now
-decreases-loop-now l = l.limit - l.now
+abbrev pub decreases-loop-at : goal.decreases-loop-at
+decreases-loop-at l = l.limit - l.at.channels_at

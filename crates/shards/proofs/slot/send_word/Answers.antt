@@ -1,7 +1,7 @@
 -- What a unit tells of its silence, or of its next act.
 use Rattle.std.proofs.Common.{◌≤◌, subst, sym, arith}
 use Rattle.units.specs.Parts.{IsPart}
-use Rattle.shards.specs.Wakes.{IsSilent}
+use Rattle.span_laws.specs.Quiet.{IsSilent}
 use Rattle.units.proofs.Resting.{core-cycle, core-may_rest, channel-stands_at, channel-tells}
 use Rattle.shards.proofs.Waiting.{core-silent, word-silent, word-since}
 use Rattle.shards.proofs.slot.send_word.Goals as goal

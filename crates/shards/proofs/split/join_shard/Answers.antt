@@ -12,8 +12,8 @@ bring_up-requires-clause-wait c =
     let s = c.args.machine.now.config in
     let traces = c.args.machine.now.traces.items in
     let first = length c.args.parts.now.items in
-    subst (λ w. WaitAll s traces first c.args.now c.into_inner-slots.result.slots.items w) (sym c.deref.ensures.value)
-    (subst (λ (x : Shard). WaitAll s traces first c.args.now x.slots.items x.words.items) (sym c.into_inner-slots.ensures) c.requires.asleep.wait)
+    subst (λ w. WaitAll s traces first c.args.now c.args.now c.into_inner-slots.result.slots.items w) (sym c.deref.ensures.value)
+    (subst (λ (x : Shard). WaitAll s traces first c.args.now c.args.now x.slots.items x.words.items) (sym c.into_inner-slots.ensures) c.requires.asleep.wait)
 
 pub returns-clause-links : goal.returns-clause-links
 returns-clause-links c =

@@ -27,9 +27,9 @@ pub bring_up-requires-clause-wait : goal.bring_up-requires-clause-wait
 bring_up-requires-clause-wait c =
     let f = c.self.inside in
     let m = arc_value f.machine in
-    subst (λ n. WaitAll c.deref.result.now.config c.deref.result.now.traces.items n f.now f.slots.items c.deref-2.result.now) (sym (ap length c.in_ok-parts.ensures.items))
-    (subst (λ (x : Machine). WaitAll x.config x.traces.items 0 f.now f.slots.items c.deref-2.result.now) (sym c.deref.ensures)
-    (subst (λ z. WaitAll m.config m.traces.items 0 f.now f.slots.items z) (sym c.deref-2.ensures.value) c.self.invariant.asleep.wait))
+    subst (λ n. WaitAll c.deref.result.now.config c.deref.result.now.traces.items n f.now f.now f.slots.items c.deref-2.result.now) (sym (ap length c.in_ok-parts.ensures.items))
+    (subst (λ (x : Machine). WaitAll x.config x.traces.items 0 f.now f.now f.slots.items c.deref-2.result.now) (sym c.deref.ensures)
+    (subst (λ z. WaitAll m.config m.traces.items 0 f.now f.now f.slots.items z) (sym c.deref-2.ensures.value) c.self.invariant.asleep.wait))
 
 pub bring_up-requires-clause-stand : goal.bring_up-requires-clause-stand
 bring_up-requires-clause-stand c =

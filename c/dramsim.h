@@ -1,0 +1,114 @@
+/* A channel of DDR4 memory as dramsim simulates it, driven by a program in C.
+ *
+ * A channel is sent requests, run up to a cycle, and then gives its commands and replies one after the other: those of the channel
+ * that the configuration describes, for the requests that it was sent, whatever the steps in which it is run. Its memory does not grow
+ * with what was taken.
+ *
+ * What C owes, since nothing checks it:
+ * - A channel begins as DRAMSIM_CLOSED_CHANNEL, and nothing but these calls reads or writes it; it is not copied while it is open.
+ * - No pointer is null, and each leads to one value of its type (a text: `length` bytes), which nothing else uses during the call.
+ * - One call at a time for each channel; any number of channels, each in the thread that opened it.
+ * - malloc, realloc and free are those of the C library. No call comes from a signal handler.
+ */
+#ifndef DRAMSIM_H
+#define DRAMSIM_H
+
+#include <stdbool.h>
+#include <stddef.h>
+#include <stdint.h>
+
+#ifdef __cplusplus
+extern "C" {
+#endif
+
+/* What a call answers. */
+enum dramsim_status {
+    DRAMSIM_OK = 0,
+    DRAMSIM_MEMORY = 1,          /* memory was refused */
+    DRAMSIM_CLOSED = 2,          /* the channel is closed */
+    DRAMSIM_ALREADY_OPEN = 3,    /* the channel is open already */
+    DRAMSIM_CONFIGURATION = 4,   /* the configuration is refused: `dramsim check` and `dramsim run` say why */
+    DRAMSIM_NO_SUCH_CHANNEL = 5, /* the machine has no channel with this number */
+    DRAMSIM_NO_SUCH_CORE = 6,    /* the machine has no core with this number */
+    DRAMSIM_OTHER_CHANNEL = 7,   /* the address lies in another channel */
+    DRAMSIM_IN_THE_PAST = 8,     /* the request arrives in a cycle that is over */
+    DRAMSIM_OUT_OF_ORDER = 9,    /* a request sent earlier arrives later, or in the same cycle from the same core or a higher one */
+    DRAMSIM_ENTRY_PASSED = 10,   /* this entry of the core, or a later one, was asked for already; or it is 2^64 - 1 */
+    DRAMSIM_NO_CREDIT = 11,      /* as many requests wait or are on their way as there are credits of all cores */
+    DRAMSIM_END_PASSED = 12,     /* the run would end in a cycle that is over */
+    DRAMSIM_END_TOO_LATE = 13    /* the run would end after cycle 2^62 */
+};
+
+/* A channel. */
+struct dramsim_channel {
+    bool is_open;
+    void *at;
+};
+#define DRAMSIM_CLOSED_CHANNEL {false, NULL}
+
+/* A read or write of the line of 64 bytes at an address, for an entry of a core, and the cycle in which it arrives at the channel. */
+struct dramsim_request {
+    uint64_t address, arrival, entry;
+    uint16_t core;
+    bool is_write;
+};
+
+/* A command, with its cycle. What its kind does not name is 0. */
+enum dramsim_kind { DRAMSIM_ACT, DRAMSIM_RD, DRAMSIM_WR, DRAMSIM_PRE, DRAMSIM_PREA, DRAMSIM_REF };
+struct dramsim_command {
+    uint64_t cycle, entry;
+    uint32_t row, column, rank, group, bank;
+    uint16_t core;
+    uint8_t kind;
+};
+
+/* The data of a read, or a credit that comes back, with the cycle in which it arrives at the core: for the data of a read nCL + 4 cycles
+ * and the latency of the link after its RD, for a credit the latency of the link after the RD or WR. */
+enum dramsim_reply_kind { DRAMSIM_DATA, DRAMSIM_READ_CREDIT, DRAMSIM_WRITE_CREDIT };
+struct dramsim_reply {
+    uint64_t arrival, entry, core;
+    uint8_t kind;
+};
+
+/* Where a line lies. */
+struct dramsim_line_place {
+    uint32_t channel, rank, group, bank, row, column;
+};
+
+/* The statistics of the cycles that are over: the columns of stats.csv. `queued_low` and `queued_high` are one number of 128 bits. */
+struct dramsim_statistics {
+    uint64_t act, rd, wr, pre, prea, refs, hits, queued_low, queued_high, queued_max, idle, refreshing, draining;
+};
+
+/* Opens a closed channel: the one with a number, of the machine whose configuration a text states (docs/CONFIG.md), before its first
+ * cycle. OK, MEMORY, ALREADY_OPEN, CONFIGURATION or NO_SUCH_CHANNEL; where it is not OK the channel is as it was. */
+uint32_t dramsim_open(const uint8_t *text, size_t length, uint32_t number, struct dramsim_channel *channel);
+
+/* Sends a request. OK, MEMORY, CLOSED, or 6 to 11; where it is not OK the channel is as if there had been no call. */
+uint32_t dramsim_send(struct dramsim_channel *channel, const struct dramsim_request *request);
+
+/* Runs the channel over the cycles before `until`. OK, CLOSED, END_PASSED or END_TOO_LATE, which change nothing; MEMORY closes it. */
+uint32_t dramsim_run(struct dramsim_channel *channel, uint64_t until);
+
+/* The first command, or reply, of the cycles that are over which was not taken; it is taken then. False where there is none, or the
+ * channel is closed; the row is left as it was then. */
+bool dramsim_next_command(struct dramsim_channel *channel, struct dramsim_command *row);
+bool dramsim_next_reply(struct dramsim_channel *channel, struct dramsim_reply *row);
+
+/* The cycle where an open channel stands: this many are over. 0 where it is closed. */
+uint64_t dramsim_now(struct dramsim_channel *channel);
+
+/* Where the line of 64 bytes at an address lies in the memory of an open channel's machine: a request goes to the channel with the number
+ * `channel`. False where it is closed. */
+bool dramsim_place(struct dramsim_channel *channel, uint64_t address, struct dramsim_line_place *row);
+
+/* The statistics of an open channel. False where it is closed. */
+bool dramsim_stats(struct dramsim_channel *channel, struct dramsim_statistics *row);
+
+/* Closes a channel, whether it is open or not, and frees all of its memory. */
+void dramsim_close(struct dramsim_channel *channel);
+
+#ifdef __cplusplus
+}
+#endif
+#endif

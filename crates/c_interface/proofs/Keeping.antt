@@ -1,0 +1,102 @@
+-- A session that a channel keeps, and how its answers are passed on.
+use Rattle.std.proofs.Common.{◌≡◌, ◌⊎◌, inl, inr, ℕ, List, Bool, true, false, Option, Some, None, Result, Ok, Err, refl, sym, subst, ap, ◌∙◌, IfOk, IfErr, nat_lt, if◌then◌else◌}
+use Rattle.config_reader.specs.Document.{document_of}
+use Rattle.channel_session.specs.Sessions.{IsOpen, IsAnswer, no_past, number_refusal}
+use Rattle.channel_session.specs.declared.fault.SessionFault.{SessionFault}
+use Rattle.channel_session.specs.declared.fault.SessionFault.TheVariants.{Memory, NoSuchChannel}
+use Rattle.channel_session.specs.declared.session.Session.{Session}
+use Rattle.sim_base.specs.Values.{Values, values_of}
+use Rattle.sim_base.specs.declared.config.Config.{Config}
+use Rattle.sim_base.specs.declared.fault.Fault.{Fault}
+use Rattle.c_interface.specs.Channels.{IsWellAt, IsNewSession, open_refusal, IsMemory, IsOpenAnswer, IsCallAnswer}
+use Rattle.c_interface.specs.declared.fault.CallFault.{CallFault}
+use Rattle.c_interface.specs.declared.fault.CallFault.TheVariants as call
+
+-- a session that is new has some past
+pub new-is-open : (text : List ℕ) (number : ℕ) (session : Session) → IsNewSession text number session → IsOpen session
+new-is-open text number session h = record { past = no_past h.config number; is_session = h.past }
+
+-- the session of a channel that has one has some past
+abbrev IsThere : Option Session → Type 0
+IsThere (Some session) = Unit {0}
+IsThere None = ⊥
+
+well-some : (is_open : Bool) (session : Session) → IsWellAt is_open (Some session) → IsOpen session
+well-some true session h = h
+well-some false session h = absurd (subst IsThere h tt)
+
+pub well-open : (is_open : Bool) (value : Option Session) (session : Session) → Some session ≡ value → IsWellAt is_open value → IsOpen session
+well-open is_open value session is h = well-some is_open session (subst (IsWellAt is_open) (sym is) h)
+
+-- the answer of a session that refuses, and of one that does not, is that of the call
+abbrev IsDone : Result (Unit {0}) SessionFault → Type 0
+IsDone (Ok done) = Unit {0}
+IsDone (Err fault) = ⊥
+
+error-or : SessionFault → Result (Unit {0}) SessionFault → SessionFault
+error-or other (Ok done) = other
+error-or other (Err fault) = fault
+
+pub refused : (o : Option SessionFault) (fault : SessionFault) → IsAnswer {A = Unit {0}} o (Err fault) → IsCallAnswer {A = Unit {0}} o (Err (call.Session fault))
+unfolding error-or
+refused (Some other) fault h = ap (λ (r : Result (Unit {0}) SessionFault). Err (call.Session (error-or fault r))) h
+refused None fault h = ap call.Session h
+
+pub passed : (o : Option SessionFault) (done : Unit {0}) → IsAnswer {A = Unit {0}} o (Ok done) → IsCallAnswer {A = Unit {0}} o (Ok done)
+passed (Some other) done h = absurd (subst IsDone h tt)
+passed None done h = tt
+
+-- why a channel is not opened
+session-error-or : SessionFault → Result Session SessionFault → SessionFault
+session-error-or other (Ok session) = other
+session-error-or other (Err fault) = fault
+
+abbrev IsSessionDone : Result Session SessionFault → Type 0
+IsSessionDone (Ok session) = Unit {0}
+IsSessionDone (Err fault) = ⊥
+
+not-there : (there : Bool) (fault : SessionFault) → IsAnswer {A = Session} (if there then None else Some NoSuchChannel) (Err fault)
+    → IsMemory (call.Session fault) ⊎ ((if there then None else Some (call.Session NoSuchChannel)) ≡ Some (call.Session fault))
+unfolding session-error-or
+not-there true fault h = inl (inr (ap call.Session h))
+not-there false fault h = inr (ap (λ (r : Result Session SessionFault). Some (call.Session (session-error-or fault r))) (sym h))
+
+pub not-opened : (text : List ℕ) (number : ℕ) (config : Config) (fault : SessionFault) → document_of text ≡ Ok (values_of config)
+    → IsAnswer {A = Session} (number_refusal config number) (Err fault) → IsMemory (call.Session fault) ⊎ (open_refusal (document_of text) number ≡ Some (call.Session fault))
+not-opened text number config fault configured h =
+    subst (λ (d : Result Values Fault). IsMemory (call.Session fault) ⊎ (open_refusal d number ≡ Some (call.Session fault))) (sym configured) (not-there (nat_lt number config.channels) fault h)
+
+there-is : (there : Bool) (session : Session) → IsAnswer {A = Session} (if there then None else Some NoSuchChannel) (Ok session)
+    → (if there then None else Some (call.Session NoSuchChannel)) ≡ None
+there-is true session h = refl
+there-is false session h = absurd (subst IsSessionDone h tt)
+
+pub is-opened : (text : List ℕ) (number : ℕ) (config : Config) (session : Session) → document_of text ≡ Ok (values_of config)
+    → IsAnswer {A = Session} (number_refusal config number) (Ok session) → open_refusal (document_of text) number ≡ None
+is-opened text number config session configured h =
+    subst (λ (d : Result Values Fault). open_refusal d number ≡ None) (sym configured) (there-is (nat_lt number config.channels) session h)
+
+-- a box that is refused is refused for memory
+pub boxed-answer : {B : Type 0} (text : List ℕ) (number : ℕ) (r : Result B CallFault) → IfErr r (λ e. e ≡ call.Session Memory)
+    → open_refusal (document_of text) number ≡ None → IsOpenAnswer text number r
+boxed-answer text number (Ok owner) h is = is
+boxed-answer text number (Err e) h is = inl (inr h)
+
+-- a new session in a box
+pub new-boxed : {B : Type 0} (text : List ℕ) (number : ℕ) (value : B → Session) (session : Session) (r : Result B CallFault)
+    → IfOk r (λ owner. value owner ≡ session) → IsNewSession text number session → IfOk r (λ owner. IsNewSession text number (value owner))
+new-boxed text number value session (Ok owner) is h = subst (IsNewSession text number) (sym is) h
+new-boxed text number value session (Err fault) is h = tt
+
+-- a channel that a session with some past was put in
+pub well-put : (is_open : Bool) (value : Option Session) (session : Session) → is_open ≡ true → value ≡ Some session → IsOpen session → IsWellAt is_open value
+well-put is_open value session opened is h = subst (λ (b : Bool). IsWellAt b value) (sym opened) (subst (IsWellAt true) (sym is) h)
+
+-- one session is held
+session-or : Session → Option Session → Session
+session-or other (Some session) = session
+session-or other None = other
+
+pub same-session : (value : Option Session) (a b : Session) → Some a ≡ value → value ≡ Some b → a ≡ b
+unfolding session-or
+same-session value a b is was = ap (session-or a) is ∙ ap (session-or a) was

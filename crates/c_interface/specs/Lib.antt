@@ -1,0 +1,4 @@
+pub mod Owned
+pub mod Statuses
+pub mod Rows
+pub mod Channels

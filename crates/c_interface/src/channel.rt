@@ -1,0 +1,271 @@
+//! A channel that a program in C keeps.
+
+ghost use Rattle.std.specs.Prelude.{◌≡◌, ◌≢◌, ◌+◌, None, Some, Err, true, length, slice_get, option_map, IfOk, IfErr, OnOk, OnErr};
+ghost use Rattle.channel_session.specs.Sent.{message_of};
+ghost use Rattle.channel_session.specs.Keeps.{steps_of, waiting};
+ghost use Rattle.channel_session.specs.Sessions.{Past, IsSession, IsOpen, commands_of, with_sent, with_command, with_reply, refusal, end_refusal};
+ghost use Rattle.channel_session.specs.declared.session.Session.{Session};
+ghost use Rattle.channel_session.specs.declared.fault.SessionFault.TheVariants.{Memory};
+ghost use Rattle.c_interface.specs.Channels.{next_reply_of, IsWell, HasPast, StandsAt, IsClosed, IsNewSession, IsOpened, IsOpenAnswer, IsCallAnswer};
+ghost use Rattle.sim_base.specs.Places.{place_of};
+ghost use Rattle.statistics.specs.Channels.{channel_stats};
+ghost use Rattle.c_interface.specs.Rows.{reply_row};
+ghost use Rattle.c_interface.specs.declared.fault.CallFault.TheVariants as call;
+
+use crate::fault::CallFault;
+use crate::handle::Handle;
+use crate::rows::ReplyRow;
+use channel_session::fault::SessionFault;
+use channel_session::requests::SentRequest;
+use channel_session::session::Session;
+use config_reader::read_config;
+use sim_base::command::IssuedCommand;
+use sim_base::message::{ChannelId, Cycle};
+use sim_base::place::Place;
+use statistics::channels::ChannelStats;
+use std::alloc::Global;
+use std::mem::replace;
+
+/// A channel that a program in C keeps: it is closed, or it owns a session. C begins with one that is all zeros.
+#[repr(C)]
+#[derive(Drop)]
+pub struct KeptChannel {
+    is_open: bool,
+    handle: Handle,
+}
+
+/// A session in a box.
+fn boxed(alloc: Global, session: Session) -> Result<Box<Session>, CallFault>
+    ensures value { IfOk result (λ owner. owner.value ≡ session) }
+    ensures memory { IfErr result (λ e. e ≡ call.Session Memory) }
+{
+    match Box::new(alloc, session) {
+        Ok(owner) => Ok(owner),
+        Err(_) => Err(CallFault::Session(SessionFault::Memory)),
+    }
+}
+
+/// The session of the channel with a number, of the machine whose configuration a text states.
+fn opened(alloc: Global, text: &[u8], number: ChannelId) -> Result<Box<Session>, CallFault>
+    ensures opened { IfOk result (λ owner. IsNewSession text.now number owner.value) }
+    ensures answer { IsOpenAnswer text.now number result }
+{
+    let config = match read_config(alloc, text) {
+        Ok(config) => config,
+        Err(fault) => return Err(CallFault::Configuration(fault)),
+    };
+    match Session::open(alloc, &config, number) {
+        Ok(session) => boxed(alloc, session),
+        Err(fault) => Err(CallFault::Session(fault)),
+    }
+}
+
+/// The row of the next reply or credit of a session, if there is one. It is taken then.
+fn reply_of(session: &mut Session) -> Option<ReplyRow>
+    ensures next { (p : Past) → IsSession session.old p
+        → result ≡ option_map (reply_row p.s) (next_reply_of p session.old.cycle) }
+    ensures taken { (p : Past) → IsSession session.old p
+        → IsSession session.new (with_reply p (next_reply_of p session.old.cycle)) }
+    ensures open { IsOpen session.old → IsOpen session.new }
+{
+    match session.next_reply() {
+        Some(reply) => Some(ReplyRow::of(session.core_of(&reply), &reply)),
+        None => None,
+    }
+}
+
+impl KeptChannel {
+    /// Takes the session out, if the channel is open. The channel is closed then.
+    fn take(&mut self, alloc: Global) -> Option<Box<Session>>
+        requires well { IsWell self.old }
+        ensures session { option_map (λ session. session.value) result ≡ self.old.handle.value }
+        ensures well { IsWell self.new }
+        ensures closed { IsClosed self.new }
+        ensures same { IsClosed self.old → self.new ≡ self.old }
+    {
+        if !self.is_open {
+            return None;
+        }
+        let handle = replace(&mut self.handle, Handle::closed(alloc));
+        self.is_open = false;
+        Some(handle.into_box())
+    }
+
+    /// Puts a session in.
+    fn put(&mut self, session: Box<Session>)
+        ensures session { self.new.handle.value ≡ Some session.value }
+        ensures open { self.new.is_open ≡ true }
+    {
+        self.handle = Handle::of(session);
+        self.is_open = true;
+    }
+
+    /// Opens a closed channel: the one with a number, of the machine whose configuration a text states, before its first cycle. A
+    /// refusal leaves it closed. It is refused as `AlreadyOpen` where it is open, which leaves it as it was.
+    pub fn open(&mut self, alloc: Global, text: &[u8], number: ChannelId) -> Result<(), CallFault>
+        requires well { IsWell self.old }
+        ensures well { IsWell self.new }
+        ensures opened { OnOk result (IsOpened text.now number self.new) }
+        ensures answer { IsClosed self.old → IsOpenAnswer text.now number result }
+        ensures already { self.old.is_open ≡ true → result ≡ Err call.AlreadyOpen }
+        ensures same { OnErr result (self.new ≡ self.old) }
+    {
+        if self.is_open {
+            return Err(CallFault::AlreadyOpen);
+        }
+        let session = opened(alloc, text, number)?;
+        self.put(session);
+        Ok(())
+    }
+
+    /// Sends a request. It is refused as the session refuses it, or as `Closed`; that leaves the channel with the past that it had.
+    pub fn send(&mut self, alloc: Global, request: &SentRequest) -> Result<(), CallFault>
+        requires well { IsWell self.old }
+        ensures well { IsWell self.new }
+        ensures answer { (s : Session) (p : Past) → self.old.handle.value ≡ Some s → IsSession s p
+            → IsCallAnswer (refusal s (waiting p.s p.channel p.sent s.cycle) request.now) result }
+        ensures sent { (p : Past) → HasPast self.old p
+            → OnOk result (HasPast self.new (with_sent p (message_of p.s p.channel request.now))) }
+        ensures left { (p : Past) → HasPast self.old p → OnErr result (HasPast self.new p) }
+        ensures closed { IsClosed self.old → result ≡ Err call.Closed }
+    {
+        let Some(session) = self.take(alloc) else {
+            return Err(CallFault::Closed);
+        };
+        let mut session = session;
+        let result = session.send(request);
+        self.put(session);
+        match result {
+            Ok(()) => Ok(()),
+            Err(fault) => Err(CallFault::Session(fault)),
+        }
+    }
+
+    /// Runs the channel over the cycles before `until`. It is refused as the session refuses it, or as `Closed`; that leaves the
+    /// channel with the past that it had. Where memory is refused, it is closed.
+    pub fn run(&mut self, alloc: Global, until: Cycle) -> Result<(), CallFault>
+        requires well { IsWell self.old }
+        ensures well { IsWell self.new }
+        ensures answer { (s : Session) (p : Past) → self.old.handle.value ≡ Some s → IsSession s p
+            → IsCallAnswer (end_refusal s until) result }
+        ensures done { (p : Past) → HasPast self.old p → OnOk result (HasPast self.new p) }
+        ensures now { OnOk result (StandsAt self.new until) }
+        ensures left { (p : Past) → HasPast self.old p
+            → IfErr result (λ e. e ≢ call.Session Memory → HasPast self.new p) }
+        ensures lost { IfErr result (λ e. e ≡ call.Session Memory → IsClosed self.new) }
+        ensures closed { IsClosed self.old → result ≡ Err call.Closed }
+    {
+        let Some(session) = self.take(alloc) else {
+            return Err(CallFault::Closed);
+        };
+        let mut session = session;
+        match session.run(alloc, until) {
+            Ok(()) => {
+                self.put(session);
+                Ok(())
+            }
+            Err(SessionFault::Memory) => Err(CallFault::Session(SessionFault::Memory)),
+            Err(fault) => {
+                self.put(session);
+                Err(CallFault::Session(fault))
+            }
+        }
+    }
+
+    /// The next command of the cycles that are over, if there is one: the first that was not taken. It is taken then. A closed channel
+    /// has none.
+    pub fn next_command(&mut self, alloc: Global) -> Option<IssuedCommand>
+        requires well { IsWell self.old }
+        ensures well { IsWell self.new }
+        ensures next { (s : Session) (p : Past) → self.old.handle.value ≡ Some s → IsSession s p
+            → result ≡ slice_get (commands_of p s.cycle) (length p.commands) }
+        ensures taken { (p : Past) → HasPast self.old p → HasPast self.new (with_command p result) }
+        ensures closed { IsClosed self.old → result ≡ None }
+    {
+        let Some(session) = self.take(alloc) else {
+            return None;
+        };
+        let mut session = session;
+        let command = session.next_command();
+        self.put(session);
+        command
+    }
+
+    /// The next reply or credit that the channel sent in the cycles that are over, if there is one: the first that was not taken. It
+    /// is taken then. A closed channel has none.
+    pub fn next_reply(&mut self, alloc: Global) -> Option<ReplyRow>
+        requires well { IsWell self.old }
+        ensures well { IsWell self.new }
+        ensures next { (s : Session) (p : Past) → self.old.handle.value ≡ Some s → IsSession s p
+            → result ≡ option_map (reply_row p.s) (next_reply_of p s.cycle) }
+        ensures taken { (s : Session) (p : Past) → self.old.handle.value ≡ Some s → IsSession s p
+            → HasPast self.new (with_reply p (next_reply_of p s.cycle)) }
+        ensures closed { IsClosed self.old → result ≡ None }
+    {
+        let Some(session) = self.take(alloc) else {
+            return None;
+        };
+        let mut session = session;
+        let reply = reply_of(&mut session);
+        self.put(session);
+        reply
+    }
+
+    /// The cycle where an open channel stands: this many are over.
+    pub fn now(&mut self, alloc: Global) -> Option<Cycle>
+        requires well { IsWell self.old }
+        ensures well { IsWell self.new }
+        ensures now { result ≡ option_map (λ s. s.cycle) self.old.handle.value }
+        ensures kept { self.new.handle.value ≡ self.old.handle.value }
+    {
+        let Some(session) = self.take(alloc) else {
+            return None;
+        };
+        let now = session.now();
+        self.put(session);
+        Some(now)
+    }
+
+    /// Where the line at an address lies in the memory of an open channel's machine.
+    pub fn place_of(&mut self, alloc: Global, address: u64) -> Option<Place>
+        requires well { IsWell self.old }
+        ensures well { IsWell self.new }
+        ensures place { (s : Session) (p : Past) → self.old.handle.value ≡ Some s → IsSession s p
+            → result ≡ Some (place_of p.s address) }
+        ensures kept { self.new.handle.value ≡ self.old.handle.value }
+        ensures closed { IsClosed self.old → result ≡ None }
+    {
+        let Some(session) = self.take(alloc) else {
+            return None;
+        };
+        let place = session.place_of(address);
+        self.put(session);
+        Some(place)
+    }
+
+    /// The statistics of the cycles of an open channel that are over.
+    pub fn stats(&mut self, alloc: Global) -> Option<ChannelStats>
+        requires well { IsWell self.old }
+        ensures well { IsWell self.new }
+        ensures stats { (s : Session) (p : Past) → self.old.handle.value ≡ Some s → IsSession s p
+            → result ≡ Some (channel_stats p.s p.channel (steps_of p.s p.channel p.sent s.cycle) p.sent) }
+        ensures kept { self.new.handle.value ≡ self.old.handle.value }
+        ensures closed { IsClosed self.old → result ≡ None }
+    {
+        let Some(session) = self.take(alloc) else {
+            return None;
+        };
+        let stats = session.stats();
+        self.put(session);
+        Some(stats)
+    }
+
+    /// Closes the channel, whether it is open or not: all of its memory is freed.
+    pub fn close(&mut self, alloc: Global)
+        requires well { IsWell self.old }
+        ensures well { IsWell self.new }
+        ensures closed { IsClosed self.new }
+    {
+        drop(self.take(alloc));
+    }
+}

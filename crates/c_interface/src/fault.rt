@@ -1,0 +1,72 @@
+//! Why a call is refused, and the number that C is told.
+
+ghost use Rattle.std.specs.Prelude.{◌≡◌};
+ghost use Rattle.c_interface.specs.Statuses.{session_number, fault_number, status};
+
+use channel_session::fault::SessionFault;
+use sim_base::fault::Fault;
+
+/// Why a call is refused.
+#[derive(Clone, Copy, PartialEq, Eq, Debug)]
+pub enum CallFault {
+    /// The channel is closed.
+    Closed,
+    /// The channel is open already.
+    AlreadyOpen,
+    /// The configuration is refused.
+    Configuration(Fault),
+    /// The session refuses the call.
+    Session(SessionFault),
+}
+
+impl From<SessionFault> for CallFault {
+    ghost use Rattle.std.specs.Prelude.{◌≡◌};
+    ghost use Rattle.c_interface.specs.declared.fault.CallFault.TheVariants.{Session};
+
+    ghost from_gives = { λ fault call. call ≡ Session fault };
+
+    fn from(fault: SessionFault) -> CallFault {
+        CallFault::Session(fault)
+    }
+}
+
+/// The number of a session's refusal.
+fn session_number(fault: SessionFault) -> u32
+    ensures { result ≡ session_number fault }
+{
+    match fault {
+        SessionFault::Memory => 1,
+        SessionFault::NoSuchChannel => 5,
+        SessionFault::NoSuchCore => 6,
+        SessionFault::OtherChannel => 7,
+        SessionFault::InThePast => 8,
+        SessionFault::OutOfOrder => 9,
+        SessionFault::EntryPassed => 10,
+        SessionFault::NoCredit => 11,
+        SessionFault::EndPassed => 12,
+        SessionFault::EndTooLate => 13,
+    }
+}
+
+/// The number of a refusal, from 1 to 13.
+pub fn fault_number(fault: CallFault) -> u32
+    ensures { result ≡ fault_number fault }
+{
+    match fault {
+        CallFault::Configuration(Fault::Memory) => 1,
+        CallFault::Closed => 2,
+        CallFault::AlreadyOpen => 3,
+        CallFault::Configuration(_) => 4,
+        CallFault::Session(fault) => session_number(fault),
+    }
+}
+
+/// The status of a call: 0, or the number of its refusal.
+pub fn status(outcome: Result<(), CallFault>) -> u32
+    ensures { result ≡ status outcome }
+{
+    match outcome {
+        Ok(()) => 0,
+        Err(fault) => fault_number(fault),
+    }
+}

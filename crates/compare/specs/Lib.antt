@@ -1,0 +1,9 @@
+pub mod Cells
+pub mod Changes
+pub mod Comparison
+pub mod Cores
+pub mod Lines
+pub mod Measures
+pub mod Quotients
+pub mod Sums
+pub mod Texts

@@ -1,0 +1,31 @@
+-- The lines of a comparison.
+--     cells_text layout base measure run      the value of a run, and its change from the first one
+--     line_text layout base others measure      the line of a measure
+--     lines_text layout base others      a line for each
+use Rattle.std.specs.Prelude.{ℕ, List, ◌++◌, codes, flat_map}
+use Rattle.statistics.specs.Values.{RunStats}
+use Rattle.compare.specs.Cells.{cell_of}
+use Rattle.compare.specs.Measures.{value_of, decimals_of, label_of}
+use Rattle.compare.specs.Texts.{value_text, change_text, cell_text, label_text}
+use Rattle.compare.specs.declared.measures.TheConstants.{MEASURES}
+use Rattle.compare.specs.declared.layout.Layout.{Layout}
+use Rattle.compare.specs.declared.measures.Measure.{Measure}
+
+-- the value of a run, and its change from the first one
+unfoldable pub cells_text : Layout → RunStats → Measure → RunStats → List ℕ
+cells_text layout base measure run =
+    cell_text layout 12 (value_text layout (decimals_of measure) (cell_of measure base run).value)
+    ++ cell_text layout 10 (change_text layout (cell_of measure base run).change)
+
+-- the label of a measure, and the value of the first run
+unfoldable pub beginning_text : Layout → RunStats → Measure → List ℕ
+beginning_text layout base measure =
+    label_text layout (label_of measure) ++ cell_text layout 12 (value_text layout (decimals_of measure) (value_of measure base))
+
+-- the line of a measure
+unfoldable pub line_text : Layout → RunStats → List RunStats → Measure → List ℕ
+line_text layout base others measure = beginning_text layout base measure ++ flat_map (cells_text layout base measure) others ++ codes "\n"
+
+-- a line for each measure
+unfoldable pub lines_text : Layout → RunStats → List RunStats → List ℕ
+lines_text layout base others = flat_map (line_text layout base others) MEASURES

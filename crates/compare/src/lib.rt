@@ -1,0 +1,15 @@
+//! Runs beside the first of them, on one screen or as a table of CSV.
+#![tactic(auto)]
+
+mod cells;
+mod changes;
+mod comparison;
+mod cores;
+pub mod layout;
+mod lines;
+mod measures;
+mod quotients;
+mod sums;
+mod texts;
+
+pub use comparison::compare_text;

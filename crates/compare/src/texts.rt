@@ -1,0 +1,136 @@
+//! Values and changes as texts.
+
+ghost use Rattle.std.specs.Prelude.{◌≡◌, ◌^◌, ◌<◌, ◌≤◌, IfOk, IfSome, string_bytes};
+ghost use Rattle.compare.specs.Texts.{rounded, tenths_text, thousandths_text, fixed_text, missing_text, value_text, signed_text, change_text, cell_text, label_text};
+
+use crate::changes::Change;
+use crate::layout::Layout;
+use crate::measures::Decimals;
+use std::alloc::{AllocError, Global};
+
+/// The width of the labels, in characters: that of the longest one.
+const LABEL_WIDTH: usize = 22;
+
+// A number of billionths as one of units, rounded half up.
+fn rounded(value: u128, unit: u128) -> u128
+    requires some { 0 < unit }
+    requires few { unit ≤ 1000000000 }
+    requires small { value < 2 ^ 116 }
+    ensures { result ≡ rounded value unit }
+{
+    (value + unit / 2) / unit
+}
+
+fn tenths_text(alloc: Global, tenths: u128) -> Result<String, AllocError>
+    ensures { IfOk result (λ text. string_bytes text ≡ tenths_text tenths) }
+{
+    let (whole, tenth) = (tenths / 10, tenths % 10);
+    format!(in alloc; "{whole}.{tenth}")
+}
+
+fn thousandths_text(alloc: Global, thousandths: u128) -> Result<String, AllocError>
+    ensures { IfOk result (λ text. string_bytes text ≡ thousandths_text thousandths) }
+{
+    let whole = thousandths / 1_000;
+    let (tenth, hundredth, last) = (
+        thousandths / 100 % 10,
+        thousandths / 10 % 10,
+        thousandths % 10,
+    );
+    format!(in alloc; "{whole}.{tenth}{hundredth}{last}")
+}
+
+// A value with so many decimals, rounded half up.
+fn fixed_text(alloc: Global, decimals: Decimals, value: u128) -> Result<String, AllocError>
+    requires { value < 2 ^ 116 }
+    ensures { IfOk result (λ text. string_bytes text ≡ fixed_text decimals value) }
+{
+    match decimals {
+        Decimals::Zero => rounded(value, 1_000_000_000).to_string(alloc),
+        Decimals::One => tenths_text(alloc, rounded(value, 100_000_000)),
+        Decimals::Three => thousandths_text(alloc, rounded(value, 1_000_000)),
+    }
+}
+
+// What stands where there is nothing to show.
+fn missing_text(layout: Layout) -> &'static str
+    ensures { result.now ≡ missing_text layout }
+{
+    match layout {
+        Layout::Screen => "-",
+        Layout::Csv => "",
+    }
+}
+
+/// A value with so many decimals.
+pub(crate) fn value_text(
+    alloc: Global,
+    layout: Layout,
+    decimals: Decimals,
+    value: Option<u128>,
+) -> Result<String, AllocError>
+    requires { IfSome value (λ value. value < 2 ^ 116) }
+    ensures { IfOk result (λ text. string_bytes text ≡ value_text layout decimals value) }
+{
+    match value {
+        Some(value) => fixed_text(alloc, decimals, value),
+        None => String::from_str(alloc, missing_text(layout)),
+    }
+}
+
+// Tenths of a percent behind a sign, which 0 has not.
+fn signed_text(alloc: Global, sign: &str, tenths: u128) -> Result<String, AllocError>
+    ensures { IfOk result (λ text. string_bytes text ≡ signed_text sign.now tenths) }
+{
+    let text = tenths_text(alloc, tenths)?;
+    if tenths == 0 {
+        return Ok(text);
+    }
+    format!(in alloc; "{sign}{text}")
+}
+
+/// A change in percent.
+pub(crate) fn change_text(
+    alloc: Global,
+    layout: Layout,
+    change: Option<Change>,
+) -> Result<String, AllocError>
+    ensures { IfOk result (λ text. string_bytes text ≡ change_text layout change) }
+{
+    match change {
+        Some(Change::Rise(tenths)) => signed_text(alloc, "+", tenths),
+        Some(Change::Fall(tenths)) => signed_text(alloc, "-", tenths),
+        None => String::from_str(alloc, missing_text(layout)),
+    }
+}
+
+/// A cell behind others: flush right in a column of a screen, or behind a comma.
+pub(crate) fn cell_text(
+    alloc: Global,
+    layout: Layout,
+    width: usize,
+    text: &str,
+) -> Result<String, AllocError>
+    ensures { IfOk result (λ cell. string_bytes cell ≡ cell_text layout width text.now) }
+{
+    match layout {
+        Layout::Screen => {
+            let pad = " ".repeat(alloc, width.saturating_sub(text.len()))?;
+            format!(in alloc; "  {pad}{text}")
+        }
+        Layout::Csv => format!(in alloc; ",{text}"),
+    }
+}
+
+/// The first cell of a line.
+pub(crate) fn label_text(alloc: Global, layout: Layout, label: &str) -> Result<String, AllocError>
+    ensures { IfOk result (λ cell. string_bytes cell ≡ label_text layout label.now) }
+{
+    match layout {
+        Layout::Screen => {
+            let pad = " ".repeat(alloc, LABEL_WIDTH.saturating_sub(label.len()))?;
+            format!(in alloc; "{label}{pad}")
+        }
+        Layout::Csv => String::from_str(alloc, label),
+    }
+}

@@ -1,0 +1,12 @@
+-- The row of a place that is there.
+use Rattle.std.proofs.Common.{◌≡◌, Option, Some, None, ap}
+use Rattle.sim_base.specs.declared.place.Place.{Place}
+use Rattle.c_interface.specs.Rows.{place_row}
+
+place-or : Place → Option Place → Place
+place-or other (Some place) = place
+place-or other None = other
+
+pub same-row : (a b : Place) → Some a ≡ Some b → place_row a ≡ place_row b
+unfolding place-or
+same-row a b is = ap (λ (o : Option Place). place_row (place-or a o)) is

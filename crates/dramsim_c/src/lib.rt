@@ -1,0 +1,207 @@
+//! A channel of the simulator for programs in C: what `dramsim.h` declares.
+#![tactic(auto)]
+
+ghost use Rattle.std.specs.Prelude.{◌≡◌, ◌≢◌, ◌⊎◌, ◌+◌, true, false, None, Some, length, slice_get, option_map, is_some};
+ghost use Rattle.config_reader.specs.Document.{document_of};
+ghost use Rattle.channel_session.specs.Sent.{message_of};
+ghost use Rattle.channel_session.specs.Keeps.{steps_of, waiting};
+ghost use Rattle.channel_session.specs.Sessions.{Past, IsSession, commands_of, with_sent, with_command, with_reply, refusal, end_refusal};
+ghost use Rattle.channel_session.specs.declared.session.Session.{Session};
+ghost use Rattle.sim_base.specs.Places.{place_of};
+ghost use Rattle.statistics.specs.Channels.{channel_stats};
+ghost use Rattle.c_interface.specs.Channels.{next_reply_of, open_refusal, IsWell, HasPast, StandsAt, IsClosed, IsOpened};
+ghost use Rattle.c_interface.specs.Rows.{sent_request, command_row, reply_row, place_row, stats_row};
+ghost use Rattle.c_interface.specs.Statuses.{IsStatus, open_status};
+
+use c_interface::channel::KeptChannel;
+use c_interface::fault::status;
+use c_interface::rows::{CommandRow, PlaceRow, ReplyRow, RequestRow, StatsRow};
+use std::alloc::Global;
+
+/// Opens a closed channel: the one with a number, of the machine whose configuration a text states, before its first cycle. Any other
+/// status than 0 leaves it as it was.
+#[unsafe(no_mangle)]
+pub extern "C" fn dramsim_open(
+    alloc: Global,
+    text: &[u8],
+    number: u32,
+    channel: &mut KeptChannel,
+) -> u32
+    requires well { IsWell channel.old }
+    ensures well { IsWell channel.new }
+    ensures opened { result ≡ 0 → IsOpened text.now number channel.new }
+    ensures status { IsClosed channel.old → (result ≡ 1)
+        ⊎ (result ≡ open_status (open_refusal (document_of text.now) number)) }
+    ensures already { channel.old.is_open ≡ true → result ≡ 3 }
+    ensures same { result ≢ 0 → channel.new ≡ channel.old }
+{
+    status(channel.open(alloc, text, number))
+}
+
+/// Sends a request to an open channel. Any other status than 0 leaves its past as it was.
+#[unsafe(no_mangle)]
+pub extern "C" fn dramsim_send(
+    alloc: Global,
+    channel: &mut KeptChannel,
+    request: &RequestRow,
+) -> u32
+    requires well { IsWell channel.old }
+    ensures well { IsWell channel.new }
+    ensures status { (s : Session) (p : Past) → channel.old.handle.value ≡ Some s → IsSession s p
+        → IsStatus (refusal s (waiting p.s p.channel p.sent s.cycle) (sent_request request.now)) result }
+    ensures sent { (p : Past) → HasPast channel.old p → result ≡ 0
+        → HasPast channel.new (with_sent p (message_of p.s p.channel (sent_request request.now))) }
+    ensures left { (p : Past) → HasPast channel.old p → result ≢ 0 → HasPast channel.new p }
+    ensures closed { IsClosed channel.old → result ≡ 2 }
+{
+    status(channel.send(alloc, &request.to_request()))
+}
+
+/// Runs an open channel over the cycles before `until`. Status 1 (memory) closes it; any other than 0 leaves its past as it was.
+#[unsafe(no_mangle)]
+pub extern "C" fn dramsim_run(alloc: Global, channel: &mut KeptChannel, until: u64) -> u32
+    requires well { IsWell channel.old }
+    ensures well { IsWell channel.new }
+    ensures status { (s : Session) (p : Past) → channel.old.handle.value ≡ Some s → IsSession s p
+        → IsStatus (end_refusal s until) result }
+    ensures done { (p : Past) → HasPast channel.old p → result ≡ 0 → HasPast channel.new p }
+    ensures now { result ≡ 0 → StandsAt channel.new until }
+    ensures left { (p : Past) → HasPast channel.old p → result ≢ 1 → HasPast channel.new p }
+    ensures lost { result ≡ 1 → IsClosed channel.new }
+    ensures closed { IsClosed channel.old → result ≡ 2 }
+{
+    status(channel.run(alloc, until))
+}
+
+/// The next command of the cycles that are over, if there is one: the first that was not taken. It is taken then. Where there is none,
+/// or the channel is closed, the row is left as it was.
+#[unsafe(no_mangle)]
+pub extern "C" fn dramsim_next_command(
+    alloc: Global,
+    channel: &mut KeptChannel,
+    row: &mut CommandRow,
+) -> bool
+    requires well { IsWell channel.old }
+    ensures well { IsWell channel.new }
+    ensures found { (s : Session) (p : Past) → channel.old.handle.value ≡ Some s → IsSession s p
+        → result ≡ is_some (slice_get (commands_of p s.cycle) (length p.commands)) }
+    ensures row { (s : Session) (p : Past) → channel.old.handle.value ≡ Some s → IsSession s p → result ≡ true
+        → Some row.new ≡ option_map command_row (slice_get (commands_of p s.cycle) (length p.commands)) }
+    ensures taken { (s : Session) (p : Past) → channel.old.handle.value ≡ Some s → IsSession s p
+        → HasPast channel.new (with_command p (slice_get (commands_of p s.cycle) (length p.commands))) }
+    ensures none { result ≡ false → row.new ≡ row.old }
+    ensures closed { IsClosed channel.old → result ≡ false }
+{
+    match channel.next_command(alloc) {
+        Some(command) => {
+            *row = CommandRow::of(&command);
+            true
+        }
+        None => false,
+    }
+}
+
+/// The next reply or credit that was sent in the cycles that are over, if there is one: the first that was not taken. It is taken
+/// then. Where there is none, or the channel is closed, the row is left as it was.
+#[unsafe(no_mangle)]
+pub extern "C" fn dramsim_next_reply(
+    alloc: Global,
+    channel: &mut KeptChannel,
+    row: &mut ReplyRow,
+) -> bool
+    requires well { IsWell channel.old }
+    ensures well { IsWell channel.new }
+    ensures found { (s : Session) (p : Past) → channel.old.handle.value ≡ Some s → IsSession s p
+        → result ≡ is_some (next_reply_of p s.cycle) }
+    ensures row { (s : Session) (p : Past) → channel.old.handle.value ≡ Some s → IsSession s p → result ≡ true
+        → Some row.new ≡ option_map (reply_row p.s) (next_reply_of p s.cycle) }
+    ensures taken { (s : Session) (p : Past) → channel.old.handle.value ≡ Some s → IsSession s p
+        → HasPast channel.new (with_reply p (next_reply_of p s.cycle)) }
+    ensures none { result ≡ false → row.new ≡ row.old }
+    ensures closed { IsClosed channel.old → result ≡ false }
+{
+    match channel.next_reply(alloc) {
+        Some(reply) => {
+            *row = reply;
+            true
+        }
+        None => false,
+    }
+}
+
+/// The cycle where an open channel stands: this many are over. It is 0 where the channel is closed.
+#[unsafe(no_mangle)]
+pub extern "C" fn dramsim_now(alloc: Global, channel: &mut KeptChannel) -> u64
+    requires well { IsWell channel.old }
+    ensures well { IsWell channel.new }
+    ensures now { (s : Session) → channel.old.handle.value ≡ Some s → result ≡ s.cycle }
+    ensures kept { channel.new.handle.value ≡ channel.old.handle.value }
+    ensures closed { IsClosed channel.old → result ≡ 0 }
+{
+    match channel.now(alloc) {
+        Some(now) => now,
+        None => 0,
+    }
+}
+
+/// Where the line at an address lies in the memory of an open channel's machine. Where it is closed, the row is left as it was.
+#[unsafe(no_mangle)]
+pub extern "C" fn dramsim_place(
+    alloc: Global,
+    channel: &mut KeptChannel,
+    address: u64,
+    row: &mut PlaceRow,
+) -> bool
+    requires well { IsWell channel.old }
+    ensures well { IsWell channel.new }
+    ensures row { (s : Session) (p : Past) → channel.old.handle.value ≡ Some s → IsSession s p
+        → row.new ≡ place_row (place_of p.s address) }
+    ensures found { (s : Session) (p : Past) → channel.old.handle.value ≡ Some s → IsSession s p
+        → result ≡ true }
+    ensures kept { channel.new.handle.value ≡ channel.old.handle.value }
+    ensures none { result ≡ false → row.new ≡ row.old }
+    ensures closed { IsClosed channel.old → result ≡ false }
+{
+    match channel.place_of(alloc, address) {
+        Some(place) => {
+            *row = PlaceRow::of(place);
+            true
+        }
+        None => false,
+    }
+}
+
+/// The statistics of the cycles of an open channel that are over. Where it is closed, the row is left as it was.
+#[unsafe(no_mangle)]
+pub extern "C" fn dramsim_stats(
+    alloc: Global,
+    channel: &mut KeptChannel,
+    row: &mut StatsRow,
+) -> bool
+    requires well { IsWell channel.old }
+    ensures well { IsWell channel.new }
+    ensures row { (s : Session) (p : Past) → channel.old.handle.value ≡ Some s → IsSession s p
+        → row.new ≡ stats_row (channel_stats p.s p.channel (steps_of p.s p.channel p.sent s.cycle) p.sent) }
+    ensures found { (s : Session) → channel.old.handle.value ≡ Some s → result ≡ true }
+    ensures kept { channel.new.handle.value ≡ channel.old.handle.value }
+    ensures none { result ≡ false → row.new ≡ row.old }
+    ensures closed { IsClosed channel.old → result ≡ false }
+{
+    match channel.stats(alloc) {
+        Some(stats) => {
+            *row = StatsRow::of(&stats);
+            true
+        }
+        None => false,
+    }
+}
+
+/// Closes a channel, whether it is open or not: all of its memory is freed.
+#[unsafe(no_mangle)]
+pub extern "C" fn dramsim_close(alloc: Global, channel: &mut KeptChannel)
+    requires well { IsWell channel.old }
+    ensures well { IsWell channel.new }
+    ensures closed { IsClosed channel.new }
+{
+    channel.close(alloc);
+}

@@ -1,0 +1,102 @@
+-- A phase, in which units of both kinds go on together from one cycle.
+use Rattle.std.proofs.Common.{◌≡◌, ℕ, ◌+◌, ◌-◌, ◌≤◌, Bool, true, false, ltb, leb, not, ◌&&◌, List, [], length, refl, sym, ap, subst, ◌∙◌, arith}
+use Rattle.std.proofs.lemmas.Bool.Decides.{nat_tests}
+use Rattle.std.specs.Prelude.{filter}
+use Rattle.std.specs.List.{list_any}
+use Rattle.sim_base.specs.declared.config.Config.{Config}
+use Rattle.sim_base.specs.Counts.{in_flight}
+use Rattle.sim_base.specs.History.{is_unit}
+use Rattle.sim_base.specs.Locality.{TravelsFor}
+use Rattle.sim_base.specs.Machine.{run}
+use Rattle.sim_base.specs.declared.message.Message.{Message}
+use Rattle.sim_base.specs.declared.message.Unit.{Unit as MachineUnit}
+use Rattle.sim_base.specs.declared.message.Unit.TheVariants.{Core, Channel}
+use Rattle.sim_base.specs.declared.trace.Entry.{Entry}
+use Rattle.sim_base.proofs.Ordered.{Each-weaker}
+use Rattle.links.specs.InFlight.{InFlight, is_due, receiver_of}
+use Rattle.span_laws.specs.Flight.{left_after}
+use Rattle.span_laws.proofs.Flights.{any-and}
+use Rattle.span_laws.proofs.Flights as flights
+use Rattle.horizon_laws.proofs.Bringing.{unit-overdue}
+use Rattle.horizon_laws.proofs.Flights.{flights-meet}
+use Rattle.units.specs.Flight.{goes_among, among}
+use Rattle.units.specs.Parts.{late}
+use Rattle.units.specs.Units.{unit_at}
+use Rattle.units.proofs.Due.{flight-each}
+use Rattle.units.proofs.Filters.{filter-filter, filter-same}
+use Rattle.shards.specs.Wakes.{AllBrought, HaveGone, IsAsleep, IsBrought, WaitAll, units_from, links_after}
+use Rattle.shards.specs.declared.slot.Slot.{Slot}
+use Rattle.shards.proofs.Going.{units-places}
+use Rattle.shards.proofs.Sharing.{due-among}
+use Rattle.shards.proofs.Waiting.{due-flight, known-phase}
+
+-- nothing in flight is overdue
+none-in_flight : (s : Config) (traces : List (List Entry)) (now : ℕ) (u : MachineUnit) → filter (is_due s.channels u 0 now) (in_flight s traces (run s traces now)) ≡ []
+none-in_flight s traces now (Core core) = ap (filter (is_due s.channels (Core core) 0 now)) (sym (flights-meet s traces now)) ∙ unit-overdue s traces now now (Core core)
+none-in_flight s traces now (Channel channel) =
+    ap (filter (is_due s.channels (Channel channel) 0 now)) (sym (flights-meet s traces now)) ∙ unit-overdue s traces now now (Channel channel)
+
+-- what is in flight is brought to all units, in a phase that is no longer than any message travels
+pub phase-brought : (s : Config) (traces : List (List Entry)) (first now until : ℕ) (slots : List Slot) (words : List ℕ) (links : InFlight) → IsAsleep s traces first now slots words links → now ≤ until
+    → TravelsFor s (until - now) → AllBrought s traces first (length slots) now now until links
+phase-brought s traces first now until slots words links h l t k less =
+    let u = unit_at s (first + k) in
+    let flying = in_flight s traces (run s traces now) in
+    subst (IsBrought s traces now now until u) (sym h.flight)
+    (record {
+      channels_are = refl;
+      overdue = due-among s first (first + length slots) 0 now (first + k) flying (omega arith) (omega (arith, less)) ∙ none-in_flight s traces now u;
+      due = λ from to m. due-among s first (first + length slots) from to (first + k) flying (omega arith) (omega (arith, less)) ∙ due-flight s traces now from to u m;
+      known = known-phase s traces now until u l t;
+    })
+
+kept : (goes since soon : Bool) → since ≡ true → (goes && not (goes && (since && soon))) ≡ (not soon && goes)
+kept true true true e = refl
+kept true true false e = refl
+kept false true true e = refl
+kept false true false e = refl
+kept goes false soon e = cc
+
+-- when all have taken theirs, what comes later is left
+phase-left : (s : Config) (traces : List (List Entry)) (first count now until : ℕ) → left_after s.channels now until (units_from s first count) (among s first (first + count) (in_flight s traces (run s traces now)))
+    ≡ among s first (first + count) (late until (in_flight s traces (run s traces now)))
+phase-left s traces first count now until =
+    flights.left-all s.channels now until units (filter goes flying)
+    ∙ filter-filter stays goes flying
+    ∙ filter-same (λ m. goes m && stays m) (λ m. not (ltb m.arrival until) && goes m) flying (Each-weaker _ _ (λ m h. same m h.1) flying (flight-each s traces now))
+    ∙ sym (filter-filter goes (λ m. not (ltb m.arrival until)) flying)
+  where
+    units : List MachineUnit
+    units = units_from s first count
+
+    flying : List Message
+    flying = in_flight s traces (run s traces now)
+
+    goes : Message → Bool
+    goes m = goes_among s first (first + count) m
+
+    stays : Message → Bool
+    stays m = not (list_any (λ u. is_due s.channels u now until m) units)
+
+    same : (m : Message) → now ≤ m.arrival → (goes m && stays m) ≡ (not (ltb m.arrival until) && goes m)
+    same m l =
+        let since : leb now m.arrival ≡ true = grind (arith, nat_tests) in
+        ap (λ b. goes m && not b)
+        (any-and (λ u. is_unit (receiver_of s.channels m.link) u) (leb now m.arrival && ltb m.arrival until) units
+        ∙ ap (λ b. b && (leb now m.arrival && ltb m.arrival until)) (units-places s first count (receiver_of s.channels m.link)))
+        ∙ kept (goes m) (leb now m.arrival) (ltb m.arrival until) since
+
+-- so the phase is over for them
+pub phase-gone : (s : Config) (traces : List (List Entry)) (first now until : ℕ) (before slots : List Slot) (old words : List ℕ) (links after : InFlight) → IsAsleep s traces first now before old links
+    → length slots ≡ length before → length words ≡ length old → WaitAll s traces first until now slots words → after ≡ links_after s now until first (length before) links
+    → HaveGone s traces first now until slots words after
+phase-gone s traces first now until before slots old words links after h e f wait left =
+    record {
+      within = omega (arith, h.within, e);
+      words_count = f ∙ h.words_count ∙ sym e;
+      between = wait;
+      flight = left
+          ∙ ap {A = InFlight} {B = InFlight} (links_after s now until first (length before)) h.flight
+          ∙ ap {B = InFlight} (λ ms. record { channels = s.channels; messages = ms }) (phase-left s traces first (length before) now until)
+          ∙ ap {B = InFlight} (λ n. record { channels = s.channels; messages = among s first (first + n) (late until (in_flight s traces (run s traces now))) }) (sym e);
+    }

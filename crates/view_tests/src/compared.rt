@@ -1,0 +1,157 @@
+//! Comparisons that were worked out by hand.
+
+use crate::expect::expect;
+use compare::compare_text;
+use compare::layout::Layout;
+use statistics::channels::ChannelStats;
+use statistics::cores::CoreStats;
+use statistics::stats::Stats;
+use std::alloc::{AllocError, Global};
+use std::test::Fail;
+
+// Of the first run 800 entries in 1,000 cycles are 0.8, 10 hits of 25 are 40 %, 4 * 25 cycles 10 %, 1,200 / 20 is 60. Of the second 710 / 800 is
+// 0.8875, 10.9375 % above 0.8, 210 / 800 is 0.2625, 12.5 % below 0.3, and 6 is a seventh below 7; 41 / 800 is 5.125 %. The third has a core and a channel more, whose
+// cycles count: 4 * 25 of 2,000 are 5 %, 1,500 / 2,000 is 0.75; no read is answered, and no core that the first run has gains or loses.
+const THREE: &str = "run 1: base
+run 2: wide
+run 3: out/two channels
+
+                               run 1         run 2  change 2 %         run 3  change 3 %
+cycles                          1000           800       -20.0          1000         0.0
+entries/cycle                  0.800         0.888       +10.9         0.900       +12.5
+entries/cycle least            0.300         0.263       -12.5         0.100       -66.7
+entries/cycle greatest         0.500         0.625       +25.0         0.500         0.0
+reads                             20            21        +5.0            20         0.0
+writes                             5             4       -20.0             5         0.0
+row hits %                      40.0          60.0       +50.0          40.0         0.0
+data bus %                      10.0          12.5       +25.0           5.0       -50.0
+read latency                    60.0          57.0        -5.0             -           -
+queue mean                     2.500         2.500         0.0         0.750       -70.0
+queue max                          7             6       -14.3             9       +28.6
+refresh due %                    5.0           5.1        +2.5           5.0         0.0
+drain %                            -           1.0           -             -           -
+core that gained most              -             0       +25.0             -           -
+core that lost most                -             1       -12.5             -           -
+";
+
+const THREE_CSV: &str = "measure,run 1,run 2,change 2 %,run 3,change 3 %
+cycles,1000,800,-20.0,1000,0.0
+entries/cycle,0.800,0.888,+10.9,0.900,+12.5
+entries/cycle least,0.300,0.263,-12.5,0.100,-66.7
+entries/cycle greatest,0.500,0.625,+25.0,0.500,0.0
+reads,20,21,+5.0,20,0.0
+writes,5,4,-20.0,5,0.0
+row hits %,40.0,60.0,+50.0,40.0,0.0
+data bus %,10.0,12.5,+25.0,5.0,-50.0
+read latency,60.0,57.0,-5.0,,
+queue mean,2.500,2.500,0.0,0.750,-70.0
+queue max,7,6,-14.3,9,+28.6
+refresh due %,5.0,5.1,+2.5,5.0,0.0
+drain %,,1.0,,,
+core that gained most,,0,+25.0,,
+core that lost most,,1,-12.5,,
+";
+
+// Where the first run has no cycles, nothing is measured by it.
+const NO_CYCLES: &str = "run 1: none
+run 2: base
+
+                               run 1         run 2  change 2 %
+cycles                             0          1000           -
+entries/cycle                      -         0.800           -
+entries/cycle least                -         0.300           -
+entries/cycle greatest             -         0.500           -
+reads                              0            20           -
+writes                             0             5           -
+row hits %                         -          40.0           -
+data bus %                         -          10.0           -
+read latency                       -          60.0           -
+queue mean                         -         2.500           -
+queue max                          0             7           -
+refresh due %                      -           5.0           -
+drain %                            -             -           -
+core that gained most              -             -           -
+core that lost most                -             -           -
+";
+
+fn core_of(retired: u64, replies: u64, latency: u128) -> CoreStats {
+    CoreStats {
+        retired,
+        replies,
+        read_latency: latency,
+        ..CoreStats::new()
+    }
+}
+
+fn first(alloc: Global) -> Result<Stats, AllocError> {
+    let channel = ChannelStats {
+        rd: 20,
+        wr: 5,
+        hits: 10,
+        queued: 2_500,
+        queued_max: 7,
+        refreshing: 50,
+        ..ChannelStats::new()
+    };
+    let cores = [core_of(500, 10, 500), core_of(300, 10, 700)];
+    Stats::of_parts(alloc, 1_000, &cores, &[channel])
+}
+
+fn second(alloc: Global) -> Result<Stats, AllocError> {
+    let channel = ChannelStats {
+        rd: 21,
+        wr: 4,
+        hits: 15,
+        queued: 2_000,
+        queued_max: 6,
+        refreshing: 41,
+        draining: Some(8),
+        ..ChannelStats::new()
+    };
+    let cores = [core_of(500, 8, 400), core_of(210, 8, 512)];
+    Stats::of_parts(alloc, 800, &cores, &[channel])
+}
+
+fn third(alloc: Global) -> Result<Stats, AllocError> {
+    let one = ChannelStats {
+        rd: 10,
+        wr: 2,
+        hits: 3,
+        queued: 1_000,
+        queued_max: 3,
+        ..ChannelStats::new()
+    };
+    let two = ChannelStats {
+        rd: 10,
+        wr: 3,
+        hits: 7,
+        queued: 500,
+        queued_max: 9,
+        refreshing: 100,
+        ..ChannelStats::new()
+    };
+    let cores = [core_of(500, 0, 0), core_of(300, 0, 0), core_of(100, 0, 0)];
+    Stats::of_parts(alloc, 1_000, &cores, &[one, two])
+}
+
+#[test]
+fn three_runs(rt: HostRuntime) -> Result<(), Fail> {
+    let alloc = rt.alloc();
+    let runs = vec![in alloc; first(alloc)?, second(alloc)?, third(alloc)?]?;
+    let names = ["base", "wide", "out/two channels"];
+    for (layout, want) in [(Layout::Screen, THREE), (Layout::Csv, THREE_CSV)] {
+        let text = compare_text(alloc, layout, &names, &runs)?;
+        expect(&rt, &text.as_str(), &want);
+    }
+    Ok(())
+}
+
+#[test]
+fn a_first_run_of_no_cycles(rt: HostRuntime) -> Result<(), Fail> {
+    let alloc = rt.alloc();
+    let none = Stats::of_parts(alloc, 0, &[CoreStats::new()], &[ChannelStats::new()])?;
+    let runs = vec![in alloc; none, first(alloc)?]?;
+    let text = compare_text(alloc, Layout::Screen, &["none", "base"], &runs)?;
+    expect(&rt, &text.as_str(), &NO_CYCLES);
+    Ok(())
+}

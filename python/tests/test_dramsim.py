@@ -1,0 +1,144 @@
+"""Channels that Python drives, beside the program: python -m unittest discover python/tests, with DRAMSIM and DRAMSIM_LIBRARY set."""
+
+import random
+import sys
+import tempfile
+import tomllib
+import unittest
+from pathlib import Path
+
+sys.path.insert(0, str(Path(__file__).resolve().parents[1]))
+sys.path.insert(0, str(Path(__file__).resolve().parent))
+
+import dramsim
+import machine
+
+EXAMPLES = Path(__file__).resolve().parents[2] / "examples"
+SMALL = EXAMPLES / "profile_s.toml"
+LONGEST = 3000
+
+
+def traces_of(case: Path, cores: int) -> list[Path]:
+    """The traces of a worked case: the last one is that of each further core too."""
+    there = [path for path in (case / f"c{core}.trace" for core in range(cores)) if path.exists()]
+    return [case / f"c{core}.trace" if (case / f"c{core}.trace").exists() else there[-1] for core in range(cores)]
+
+
+def made_up(seed: int, folder: Path) -> tuple[Path, list[Path]]:
+    """A machine and traces that a seed makes."""
+    chance = random.Random(seed)
+    cores, channels, ranks = chance.randint(1, 3), chance.choice((1, 2)), chance.choice((1, 2))
+    fields = ["channel", "column", "rank", "group", "bank", "row"]
+    chance.shuffle(fields)
+    text = SMALL.read_text().splitlines()
+    values = dict(
+        cores=cores, channels=channels, columns=chance.choice((4, 16)), rows=8, window=chance.randint(1, 8), width=chance.randint(1, 3),
+        read_credits=chance.randint(1, 4), write_credits=chance.randint(1, 4), request_latency=chance.randint(1, 9),
+        reply_latency=chance.randint(1, 9), credit_latency=chance.randint(1, 9), nREFI=chance.choice((0, 200)),
+    )
+    lines = [f"{line.split(' = ')[0]} = {values.pop(line.split(' = ')[0])}" if line.split(" = ")[0] in values else line for line in text]
+    lines = [f"fields = {fields}".replace("'", '"') if line.startswith("fields") else line for line in lines]
+    lines += [f"ranks = {ranks}", "nRTRS = 2"]
+    if chance.random() < 0.5:
+        lines += ["write_high = 1", "write_low = 0"]
+    configuration = folder / "config.toml"
+    configuration.write_text("\n".join(lines) + "\n")
+    traces = []
+    for core in range(cores):
+        rows = [
+            f"{chance.choice((0, 0, 0, 3))} {64 * chance.randrange(2048)}" + (f" {64 * chance.randrange(2048)}" if chance.random() < 0.4 else "")
+            for _ in range(chance.randint(0, 40))
+        ]
+        traces.append(folder / f"c{core}.trace")
+        traces[-1].write_text("".join(row + "\n" for row in rows))
+    return configuration, traces
+
+
+class Machines(unittest.TestCase):
+    """Cores in Python over channels of the library issue the very commands of `dramsim run`, in steps of any length."""
+
+    def compare(self, configuration: Path, traces: list[Path], cycles: int) -> None:
+        keys = tomllib.loads(configuration.read_text())
+        tables = dramsim.run(configuration, traces, cycles)
+        commands, requests, statistics = machine.simulate(configuration, traces, cycles)
+        over = next(int(row["value"]) for row in tables.stats if row["name"] == "cycles")
+        rows = [row for row in machine.table(commands, keys) if int(row["cycle"]) < over]
+        self.assertEqual(rows, tables.commands)
+        if over == cycles:
+            for row in tables.stats:
+                if row["scope"] == "channel" and row["name"] in dramsim.Statistics._fields:
+                    self.assertEqual(getattr(statistics[int(row["id"])], row["name"]), int(row["value"]), row)
+        for number, sent in enumerate(requests):
+            for step in (7, 1000):
+                self.assertEqual(machine.replay(configuration, number, sent, cycles, step), commands[number])
+
+    def test_worked_cases(self) -> None:
+        tried = 0
+        for case in sorted((EXAMPLES / "cases").iterdir()):
+            cycles = int((case / "limit").read_text())
+            configuration = case / "config.toml"
+            keys = tomllib.loads(configuration.read_text())
+            if cycles <= LONGEST and keys["cores"] <= 16:
+                with self.subTest(case=case.name):
+                    self.compare(configuration, traces_of(case, keys["cores"]), cycles)
+                    tried += 1
+        self.assertGreater(tried, 25)
+
+    def test_made_up_machines(self) -> None:
+        for seed in range(50):
+            with self.subTest(seed=seed), tempfile.TemporaryDirectory() as folder:
+                self.compare(*made_up(seed, Path(folder)), 700)
+
+
+class Refusals(unittest.TestCase):
+    """Each refusal has its name, and leaves the channel as it was."""
+
+    def refused(self, status: dramsim.Status, call, *words, **named) -> None:
+        with self.assertRaises(dramsim.Refused) as raised:
+            call(*words, **named)
+        self.assertEqual(raised.exception.status, status)
+
+    def test_open(self) -> None:
+        self.refused(dramsim.Status.CONFIGURATION, dramsim.Channel, b"cores = 1")
+        self.refused(dramsim.Status.NO_SUCH_CHANNEL, dramsim.Channel, SMALL, 1)
+
+    def test_requests(self) -> None:
+        with dramsim.Channel(SMALL) as channel:
+            channel.run(10)
+            channel.send(0, arrival=12, entry=3)
+            self.refused(dramsim.Status.NO_SUCH_CORE, channel.send, 0, arrival=13, entry=4, core=1)
+            self.refused(dramsim.Status.IN_THE_PAST, channel.send, 0, arrival=9, entry=4)
+            self.refused(dramsim.Status.OUT_OF_ORDER, channel.send, 0, arrival=12, entry=4)
+            self.refused(dramsim.Status.ENTRY_PASSED, channel.send, 0, arrival=13, entry=3)
+            self.refused(dramsim.Status.END_PASSED, channel.run, 9)
+            self.refused(dramsim.Status.END_TOO_LATE, channel.run, 2**62 + 1)
+            channel.run(40)
+            # ACT in 12, RD nRCD = 3 later; the data nCL + 4 and the link of 2 after that, the credit the link of 2.
+            self.assertEqual([(command.cycle, command.kind.name) for command in channel.commands()], [(12, "ACT"), (15, "RD")])
+            self.assertEqual([(reply.arrival, reply.kind.name) for reply in channel.replies()], [(25, "DATA"), (17, "READ_CREDIT")])
+
+    def test_credits(self) -> None:
+        with dramsim.Channel(SMALL) as channel:
+            # One core has 4 credits for reads and 4 for writes.
+            for entry in range(8):
+                channel.send(64 * entry, arrival=entry, entry=entry)
+            self.refused(dramsim.Status.NO_CREDIT, channel.send, 0, arrival=8, entry=8)
+
+    def test_closed(self) -> None:
+        channel = dramsim.Channel(SMALL)
+        channel.close()
+        channel.close()
+        self.refused(dramsim.Status.CLOSED, channel.run, 1)
+        self.refused(dramsim.Status.CLOSED, channel.send, 0, arrival=0, entry=0)
+        self.assertEqual(list(channel.commands()), [])
+        self.assertEqual(channel.now, 0)
+
+    def test_run(self) -> None:
+        trace = EXAMPLES / "rows" / "read.trace"
+        with self.assertRaises(dramsim.Refused) as raised:
+            dramsim.run(SMALL, [trace, trace], 10)
+        self.assertEqual(raised.exception.lines.splitlines()[0], "fault 7: trace count")
+
+
+if __name__ == "__main__":
+    unittest.main()
