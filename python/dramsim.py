@@ -1,7 +1,8 @@
 """dramsim for Python: a channel of DDR4 memory that a program drives, and whole runs.
 
 A `Channel` stands on the shared library that `./dramsim --library DIR` makes (`libdramsim.so`), which is found in `DRAMSIM_LIBRARY`, or
-beside this file. A run calls the program `dramsim`, which is found in `DRAMSIM`, or on the path.
+beside this file. A run calls the program `dramsim`, which is found in `DRAMSIM`, or on the path. `configure` calls `machines/configure` of
+the repository, which is found in `DRAMSIM_HOME`, or around this file.
 """
 
 from __future__ import annotations
@@ -11,11 +12,12 @@ import ctypes
 import enum
 import os
 import subprocess
+import sys
 import tempfile
 from pathlib import Path
 from typing import Iterable, Iterator, NamedTuple, Sequence
 
-__all__ = ["Channel", "Command", "Kind", "Place", "Reply", "ReplyKind", "Refused", "Statistics", "Status", "Tables", "run"]
+__all__ = ["Channel", "Command", "Kind", "Place", "Reply", "ReplyKind", "Refused", "Statistics", "Status", "Tables", "configure", "run"]
 
 
 class Status(enum.IntEnum):
@@ -290,17 +292,36 @@ class Tables(NamedTuple):
         return tuple(pandas.DataFrame(rows) for rows in self)
 
 
+def configure(preset: str, machine: str, **keys: int | str) -> bytes:
+    """The text of a configuration: a machine whose links are in nanoseconds and cores in GHz, with the clock of a preset.
+
+    Both are names, as `ddr4_2400_8gb_x8` and `four_cores`, or paths with a `/`; each of `keys` is set by hand (docs/CONFIG.md).
+    """
+    home = Path(os.environ.get("DRAMSIM_HOME") or Path(__file__).resolve().parents[1])
+    words = [sys.executable, str(home / "machines" / "configure"), preset, machine, *(f"{key}={value}" for key, value in keys.items())]
+    done = subprocess.run(words, capture_output=True)
+    if done.returncode != 0:
+        raise Refused(done.returncode, done.stderr.decode().strip())
+    return done.stdout
+
+
 def run(
-    configuration: str | os.PathLike[str],
+    configuration: str | os.PathLike[str] | bytes,
     traces: Iterable[str | os.PathLike[str]],
     cycles: int,
     workers: int = 1,
     *,
     options: Sequence[str] = (),
 ) -> Tables:
-    """Runs the program on a configuration and a trace for each core, up to a cycle, and gives its tables."""
+    """Runs the program on a configuration and a trace for each core, up to a cycle, and gives its tables.
+
+    `configuration` is a path, or the text of a file as bytes; `options` are further words of `dramsim run`.
+    """
     program = os.environ.get("DRAMSIM", "dramsim")
     with tempfile.TemporaryDirectory() as folder:
+        if isinstance(configuration, bytes):
+            text, configuration = configuration, Path(folder) / "config.toml"
+            configuration.write_bytes(text)
         words = [program, "run", os.fspath(configuration), "--cycles", str(cycles), "--workers", str(workers), "--out", folder]
         done = subprocess.run([*words, *options, *map(os.fspath, traces)], capture_output=True, text=True)
         if done.returncode != 0:

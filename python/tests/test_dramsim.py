@@ -1,4 +1,7 @@
-"""Channels that Python drives, beside the program: python -m unittest discover python/tests, with DRAMSIM and DRAMSIM_LIBRARY set."""
+"""Runs, and channels that Python drives, beside the program: python -m unittest discover python/tests, with DRAMSIM and DRAMSIM_LIBRARY set.
+
+`Runs` needs the program alone.
+"""
 
 import random
 import sys
@@ -90,6 +93,42 @@ class Machines(unittest.TestCase):
                 self.compare(*made_up(seed, Path(folder)), 700)
 
 
+class Runs(unittest.TestCase):
+    """Whole runs, on a configuration of a file or of a preset."""
+
+    def test_tables(self) -> None:
+        # A read that is issued in cycle 0: ACT in 2, RD nRCD = 3 later.
+        tables = dramsim.run(SMALL, [EXAMPLES / "rows" / "read.trace"], 64)
+        self.assertEqual([(row["cycle"], row["command"]) for row in tables.commands], [("2", "ACT"), ("5", "RD")])
+        self.assertEqual(tables.stats[0], {"scope": "run", "id": "0", "name": "cycles", "value": "64"})
+
+    def test_workers(self) -> None:
+        traces = sorted((EXAMPLES / "ddr4_2400").glob("*.trace"))
+        runs = [dramsim.run(EXAMPLES / "ddr4_2400.toml", traces, 3000, workers, options=["--share", "always"]) for workers in (1, 3)]
+        self.assertEqual(runs[0], runs[1])
+
+    def test_faults(self) -> None:
+        trace = EXAMPLES / "rows" / "read.trace"
+        with self.assertRaises(dramsim.Refused) as raised:
+            dramsim.run(SMALL, [trace, trace], 10)
+        self.assertEqual(raised.exception.status, 2)
+        self.assertEqual(raised.exception.lines.splitlines()[0], "fault 7: trace count")
+
+    def test_configure(self) -> None:
+        text = dramsim.configure("ddr4_2400_8gb_x8", "four_cores", window=64)
+        keys = tomllib.loads(text.decode())
+        # A link of 10 ns at 1,200 MHz.
+        self.assertEqual((keys["request_latency"], keys["window"], keys["cores"]), (12, 64, 4))
+        tables = dramsim.run(text, [EXAMPLES / "rows" / "read.trace"] * 4, 100)
+        self.assertEqual(sum(row["command"] == "RD" for row in tables.commands), 4)
+
+    def test_no_preset(self) -> None:
+        with self.assertRaises(dramsim.Refused) as raised:
+            dramsim.configure("ddr5_9000", "four_cores")
+        self.assertEqual(raised.exception.status, 2)
+        self.assertIn("ddr5_9000", raised.exception.lines)
+
+
 class Refusals(unittest.TestCase):
     """Each refusal has its name, and leaves the channel as it was."""
 
@@ -132,12 +171,6 @@ class Refusals(unittest.TestCase):
         self.refused(dramsim.Status.CLOSED, channel.send, 0, arrival=0, entry=0)
         self.assertEqual(list(channel.commands()), [])
         self.assertEqual(channel.now, 0)
-
-    def test_run(self) -> None:
-        trace = EXAMPLES / "rows" / "read.trace"
-        with self.assertRaises(dramsim.Refused) as raised:
-            dramsim.run(SMALL, [trace, trace], 10)
-        self.assertEqual(raised.exception.lines.splitlines()[0], "fault 7: trace count")
 
 
 if __name__ == "__main__":
